@@ -1,12 +1,16 @@
 -- SPDX-License-Identifier: Apache-2.0
 -- What is read of an argument of each form is spelled so, and what is spelled so is read. Those of SET stand in ReadingTargets.
-use Rattle.mgrammar.proofs.GrammarWords.{◌≡◌, ℕ, zero, suc, ◌<◌, Bool, true, false, eqb, List, [], ◌∷◌, ◌++◌, length, Option, Some, None, inl, inr, refl, sym, ap, subst, ◌∙◌, append_assoc, arith, replicate, eqb-true, nat_tests, length-replicate, is_name_rest, AllAre, IsName, ExprTree, ReferenceTree, ParameterTree, once, onward, until, ArgTree, breaks, shown, kill_one, kill_others, new_one, new_others, tested, loop, kill_argument, new_argument, if_argument, for_argument, write_argument, spell_expr, spell_reference, spell_list, spell_names, spell_parameter, spell_arg, max_depth, WellExpr, WellReference, WellList, WellParameter, WellPlain, ◌>>=◌, run_of, after_run, name_at, past, list_at, expr_at, readers_at, reference_with, is_bang, write_argument_by, write_argument_at, names_at, kill_argument_at, new_argument_at, if_argument_at, limit_by, increment_by, parameter_at, for_argument_at}
-use Rattle.mgrammar.proofs.ReadingBasics.{Takes, Again, Stops, Begins, Begins-stops, Begins-append, Begins-weaker, bind_some, chosen, some_is, run_parts, run_again, past_takes, not_past, name_takes, name_again}
-use Rattle.mgrammar.proofs.ReadingLists.{joined_by, enclosed, is_comma, list_takes, list_again}
+use Rattle.mgrammar.proofs.GrammarWords.{FormTree, Read, cond, ◌≡◌, ℕ, zero, suc, ◌<◌, Bool, true, false, eqb, List, [], ◌∷◌, ◌++◌, length, Option, Some, None, refl, sym, ap, subst, ◌∙◌, append_assoc, arith, replicate, eqb-true, nat_tests, length-replicate, is_name_rest, AllAre, IsName, ExprTree, ReferenceTree, ParameterTree, once, onward, until, ArgTree, breaks, shown, kill_one, kill_others, new_one, new_others, tested, loop, kill_argument, new_argument, if_argument, for_argument, write_argument, spell_expr, spell_reference, spell_list, spell_names, spell_parameter, spell_arg, max_depth, WellExpr, WellReference, WellList, WellParameter, WellPlain, ◌>>=◌, run_of, after_run, name_at, past, list_at, expr_at, readers_at, reference_with, is_bang, write_argument_by, write_argument_at, names_at, kill_argument_at, new_argument_at, if_argument_at, limit_by, increment_by, parameter_at, for_argument_at}
+use Rattle.mgrammar.proofs.ReadingBasics.{Takes, Again, Stops, Begins, Begins-stops, Begins-append, Begins-weaker, bind_some, some_is, run_parts, run_again, past_takes, not_past, name_takes, name_again}
+use Rattle.mgrammar.proofs.ReadingLists.{joined_by, listed_or_one, bracketed_again, is_comma, list_takes, list_again}
 use Rattle.mgrammar.proofs.ReadingReferences.{OperandEnds, Ends, begins_reference, name_begins_reference, reference_takes, reference_again, reference_begins}
 use Rattle.mgrammar.proofs.ReadingPrimaries.{reference_tests}
 use Rattle.mgrammar.proofs.ReadingExprs.{begins_operand, expr_begins, inner_takes, within_takes, below_takes, inner_again, within_again, below_again, expr_takes, expr_again}
 use Rattle.mgrammar.proofs.ReadingTargets.{variable_begins, is_equals}
+
+-- what was read of an argument of a form
+abbrev pub ArgIs : FormTree → List ℕ → ArgTree × List ℕ → Type 0
+ArgIs f cs x = (cs ≡ spell_arg x.0 ++ x.1) × WellPlain f x.0
 
 -- ---- short forms
 
@@ -54,13 +58,13 @@ write_argument_takes_by : (r cs : List ℕ) (x : ArgTree × List ℕ) → run_of
 write_argument_takes_by [] cs x h e =
     let b = bind_some (expr_at max_depth cs) (λ y. Some (shown y.0, y.1)) x e in
     let t = whole_takes cs b.0 b.1 in
-    subst (λ (y : ArgTree × List ℕ). (cs ≡ spell_arg y.0 ++ y.1) × WellPlain write_argument y.0) (some_is (shown b.0.0, b.0.1) x b.2) t
+    subst (ArgIs write_argument cs) (some_is (shown b.0.0, b.0.1) x b.2) t
 write_argument_takes_by (b ∷ bs) cs x h e =
     let r = run_parts is_bang cs in
     let copies : b ∷ bs ≡ replicate (length (b ∷ bs)) 33 = all_copies 33 (b ∷ bs) (subst (AllAre is_bang) h r.1) in
     let parts : cs ≡ replicate (length (b ∷ bs)) 33 ++ after_run is_bang cs = r.0 ∙ ap (λ (y : List ℕ). y ++ after_run is_bang cs) (h ∙ copies) in
     let long : 0 < length (b ∷ bs) = omega arith in
-    subst (λ (y : ArgTree × List ℕ). (cs ≡ spell_arg y.0 ++ y.1) × WellPlain write_argument y.0) (some_is (breaks (length (b ∷ bs)), after_run is_bang cs) x e) (parts, long)
+    subst (ArgIs write_argument cs) (some_is (breaks (length (b ∷ bs)), after_run is_bang cs) x e) (parts, long)
 
 pub write_argument_takes : Takes spell_arg (WellPlain write_argument) write_argument_at
 unfolding write_argument_at
@@ -79,19 +83,37 @@ write_argument_again a rest w s = absurd w
 
 -- ---- names in brackets
 
-names_take : (c : ℕ) (cs : List ℕ) (x : List (List ℕ) × List ℕ) → c ≡ 40 → names_at cs ≡ Some x → (c ∷ cs ≡ spell_names x.0 ++ x.1) × WellList IsName x.0
-unfolding names_at
-names_take c cs x at e =
-    let b = bind_some (list_at name_at cs) (λ y. past 41 y.1 >>= λ rest. Some (y.0, rest)) x e in
-    let k = bind_some (past 41 b.0.1) (λ rest. Some (b.0.0, rest)) x b.2 in
-    let t = list_takes (λ n. n) IsName name_at name_takes cs b.0 b.1 in
-    let z = past_takes 41 b.0.1 k.0 k.1 in
-    subst (λ (y : List (List ℕ) × List ℕ). (c ∷ cs ≡ spell_names y.0 ++ y.1) × WellList IsName y.0) {x = (b.0.0, k.0)} (some_is (b.0.0, k.0) x k.2)
-    (enclosed c cs (spell_list (λ n. n) b.0.0) b.0.1 k.0 at t.0 z, t.1)
+abbrev closed : List (List ℕ) × List ℕ → Option (List ℕ) → Option (List (List ℕ) × List ℕ)
+closed y o = o >>= λ rest. Some (y.0, rest)
 
-names_again : (names : List (List ℕ)) (rest : List ℕ) → WellList IsName names → names_at (spell_list (λ n. n) names ++ 41 ∷ rest) ≡ Some (names, rest)
+abbrev made_of : {B : Type 0} → (List (List ℕ) → B) → List (List ℕ) × List ℕ → Option (B × List ℕ)
+made_of made y = Some (made y.0, y.1)
+
+-- the list of the names, and the tree made of it, at once
+names_made : {B : Type 0} (made : List (List ℕ) → B) (o : Option (List (List ℕ) × List ℕ)) → ((o >>= λ y. closed y (past 41 y.1)) >>= made_of made) ≡ (o >>= λ y. past 41 y.1 >>= λ rest. Some (made y.0, rest))
+names_made made None = refl
+names_made made (Some y) = made_closed (past 41 y.1)
+  where
+    made_closed : (o : Option (List ℕ)) → (closed y o >>= made_of made) ≡ (o >>= λ rest. Some (made y.0, rest))
+    made_closed None = refl
+    made_closed (Some rest) = refl
+
+-- names in brackets, or one thing, as KILL and NEW have them
+module _ {A : Type 0} (form : FormTree) (spell : A → List ℕ) (W : A → Type 0) (single : List ℕ → Read A) (others : List (List ℕ) → ArgTree) (one : A → ArgTree) where
+  names_or_one : Takes spell W single → (c : ℕ) (cs : List ℕ) (x : ArgTree × List ℕ)
+      → cond (eqb c 40) (names_at cs >>= made_of others) (single (c ∷ cs) >>= λ v. Some (one v.0, v.1)) ≡ Some x
+      → ((names : List (List ℕ)) (rest : List ℕ) → c ∷ cs ≡ spell_names names ++ rest → WellList IsName names → ArgIs form (c ∷ cs) (others names, rest))
+      → ((v : A) (rest : List ℕ) → c ∷ cs ≡ spell v ++ rest → W v → ArgIs form (c ∷ cs) (one v, rest)) → ArgIs form (c ∷ cs) x
+  unfolding names_at
+  names_or_one takes c cs x e =
+      listed_or_one (λ n. n) IsName name_at others spell W single one (ArgIs form (c ∷ cs)) name_takes takes c cs x
+      (ap (λ o. cond (eqb c 40) o (single (c ∷ cs) >>= λ v. Some (one v.0, v.1))) (sym (names_made others (list_at name_at cs))) ∙ e)
+
+names_again : (others : List (List ℕ) → ArgTree) (read : List ℕ → Read ArgTree) → ((cs : List ℕ) → read (40 ∷ cs) ≡ (names_at cs >>= made_of others))
+    → (names : List (List ℕ)) (rest : List ℕ) → WellList IsName names → read (spell_names names ++ rest) ≡ Some (others names, rest)
 unfolding names_at
-names_again names rest w = rw (list_again (λ n. n) IsName name_at (Stops is_name_rest) (λ cs. refl) name_again names (41 ∷ rest) w (refl, refl)) refl
+names_again others read opens =
+    bracketed_again (λ n. n) IsName name_at (Stops is_name_rest) others read (λ cs. opens cs ∙ names_made others (list_at name_at cs)) (λ cs. (refl, refl)) name_again
 
 -- ---- KILL and NEW
 
@@ -99,59 +121,35 @@ pub kill_argument_takes : Takes spell_arg (WellPlain kill_argument) kill_argumen
 unfolding kill_argument_at
 kill_argument_takes [] x e = absurd cc
 kill_argument_takes (c ∷ cs) x e =
-    elim (chosen (eqb c 40) (names_at cs >>= λ x. Some (kill_others x.0, x.1)) (reference_with (readers_at max_depth) (c ∷ cs) >>= λ v. Some (kill_one v.0, v.1)) (Some x) e) [
-      | inl p ↦
-          let b = bind_some (names_at cs) (λ x. Some (kill_others x.0, x.1)) x p.1 in
-          subst (λ (y : ArgTree × List ℕ). (c ∷ cs ≡ spell_arg y.0 ++ y.1) × WellPlain kill_argument y.0) {x = (kill_others b.0.0, b.0.1)} (some_is (kill_others b.0.0, b.0.1) x b.2) (names_take c cs b.0 (eqb-true _ _ p.0) b.1)
-      | inr p ↦
-          let b = bind_some (reference_with (readers_at max_depth) (c ∷ cs)) (λ v. Some (kill_one v.0, v.1)) x p.1 in
-          subst (λ (y : ArgTree × List ℕ). (c ∷ cs ≡ spell_arg y.0 ++ y.1) × WellPlain kill_argument y.0) {x = (kill_one b.0.0, b.0.1)} (some_is (kill_one b.0.0, b.0.1) x b.2) (variable_takes (c ∷ cs) b.0 b.1)
-    ]
+    names_or_one kill_argument spell_reference (WellReference max_depth) (reference_with (readers_at max_depth)) kill_others kill_one variable_takes c cs x e (λ names rest q w. (q, w)) (λ v rest q w. (q, w))
 
 kill_one_step : (cs : List ℕ) (v : ReferenceTree) (rest : List ℕ) → Begins begins_reference cs → reference_with (readers_at max_depth) cs ≡ Some (v, rest) → kill_argument_at cs ≡ Some (kill_one v, rest)
 unfolding kill_argument_at
 kill_one_step [] v rest b h = absurd b
 kill_one_step (c ∷ cs) v rest b h = rw ((reference_tests c b).2, h) refl
 
-kill_others_step : (cs : List ℕ) (names : List (List ℕ)) (rest : List ℕ) → names_at cs ≡ Some (names, rest) → kill_argument_at (40 ∷ cs) ≡ Some (kill_others names, rest)
-unfolding kill_argument_at
-kill_others_step cs names rest h = rw h refl
-
 pub kill_argument_again : Again spell_arg (WellPlain kill_argument) OperandEnds kill_argument_at
+unfolding kill_argument_at
 kill_argument_again (kill_one v) rest w s =
     kill_one_step (spell_reference v ++ rest) v rest (Begins-append begins_reference (spell_reference v) rest (reference_begins max_depth v w)) (variable_again v rest w s)
-kill_argument_again (kill_others names) rest w s =
-    ap (λ (y : List ℕ). kill_argument_at (40 ∷ y)) (append_assoc (spell_list (λ n. n) names) (41 ∷ []) rest)
-    ∙ kill_others_step (spell_list (λ n. n) names ++ 41 ∷ rest) names rest (names_again names rest w)
+kill_argument_again (kill_others names) rest w s = names_again kill_others kill_argument_at (λ cs. refl) names rest w
 kill_argument_again a rest w s = absurd w
 
 pub new_argument_takes : Takes spell_arg (WellPlain new_argument) new_argument_at
 unfolding new_argument_at
 new_argument_takes [] x e = absurd cc
 new_argument_takes (c ∷ cs) x e =
-    elim (chosen (eqb c 40) (names_at cs >>= λ x. Some (new_others x.0, x.1)) (name_at (c ∷ cs) >>= λ n. Some (new_one n.0, n.1)) (Some x) e) [
-      | inl p ↦
-          let b = bind_some (names_at cs) (λ x. Some (new_others x.0, x.1)) x p.1 in
-          subst (λ (y : ArgTree × List ℕ). (c ∷ cs ≡ spell_arg y.0 ++ y.1) × WellPlain new_argument y.0) {x = (new_others b.0.0, b.0.1)} (some_is (new_others b.0.0, b.0.1) x b.2) (names_take c cs b.0 (eqb-true _ _ p.0) b.1)
-      | inr p ↦
-          let b = bind_some (name_at (c ∷ cs)) (λ n. Some (new_one n.0, n.1)) x p.1 in
-          subst (λ (y : ArgTree × List ℕ). (c ∷ cs ≡ spell_arg y.0 ++ y.1) × WellPlain new_argument y.0) {x = (new_one b.0.0, b.0.1)} (some_is (new_one b.0.0, b.0.1) x b.2) (name_takes (c ∷ cs) b.0 b.1)
-    ]
+    names_or_one new_argument (λ n. n) IsName name_at new_others new_one name_takes c cs x e (λ names rest q w. (q, w)) (λ v rest q w. (q, w))
 
 new_one_step : (n rest : List ℕ) → IsName n → Stops is_name_rest rest → new_argument_at (n ++ rest) ≡ Some (new_one n, rest)
 unfolding new_argument_at
 new_one_step [] rest w s = absurd w
 new_one_step (c ∷ n) rest w s = rw ((reference_tests c (name_begins_reference c w.0)).2, name_again (c ∷ n) rest w s) refl
 
-new_others_step : (cs : List ℕ) (names : List (List ℕ)) (rest : List ℕ) → names_at cs ≡ Some (names, rest) → new_argument_at (40 ∷ cs) ≡ Some (new_others names, rest)
-unfolding new_argument_at
-new_others_step cs names rest h = rw h refl
-
 pub new_argument_again : Again spell_arg (WellPlain new_argument) (Stops is_name_rest) new_argument_at
+unfolding new_argument_at
 new_argument_again (new_one n) rest w s = new_one_step n rest w s
-new_argument_again (new_others names) rest w s =
-    ap (λ (y : List ℕ). new_argument_at (40 ∷ y)) (append_assoc (spell_list (λ n. n) names) (41 ∷ []) rest)
-    ∙ new_others_step (spell_list (λ n. n) names ++ 41 ∷ rest) names rest (names_again names rest w)
+new_argument_again (new_others names) rest w s = names_again new_others new_argument_at (λ cs. refl) names rest w
 new_argument_again a rest w s = absurd w
 
 -- ---- conditions of IF
@@ -160,7 +158,7 @@ pub if_argument_takes : Takes spell_arg (WellPlain if_argument) if_argument_at
 unfolding if_argument_at
 if_argument_takes cs x e =
     let b = bind_some (expr_at max_depth cs) (λ y. Some (tested y.0, y.1)) x e in
-    subst (λ (y : ArgTree × List ℕ). (cs ≡ spell_arg y.0 ++ y.1) × WellPlain if_argument y.0) (some_is (tested b.0.0, b.0.1) x b.2) (whole_takes cs b.0 b.1)
+    subst (ArgIs if_argument cs) (some_is (tested b.0.0, b.0.1) x b.2) (whole_takes cs b.0 b.1)
 
 pub if_argument_again : Again spell_arg (WellPlain if_argument) Ends if_argument_at
 unfolding if_argument_at
@@ -238,7 +236,7 @@ for_argument_takes cs x e =
     let equals = past_takes 61 n.0.1 k.0 k.1 in
     let all = list_takes spell_parameter WellParameter parameter_at parameter_takes k.0 b.0 b.1 in
     let made : ArgTree × List ℕ = (loop n.0.0 b.0.0, b.0.1) in
-    subst (λ (y : ArgTree × List ℕ). (cs ≡ spell_arg y.0 ++ y.1) × WellPlain for_argument y.0) {x = made} (some_is made x b.2)
+    subst (ArgIs for_argument cs) {x = made} (some_is made x b.2)
     (joined_by 61 cs n.0.0 n.0.1 k.0 (spell_list spell_parameter b.0.0) b.0.1 name.0 equals all.0, (name.1, all.1))
 
 loop_step : (cs n t u : List ℕ) (ps : List ParameterTree) (rest : List ℕ) → name_at cs ≡ Some (n, t) → past 61 t ≡ Some u → list_at parameter_at u ≡ Some (ps, rest) → for_argument_at cs ≡ Some (loop n ps, rest)

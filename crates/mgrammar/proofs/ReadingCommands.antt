@@ -9,7 +9,7 @@ use Rattle.mgrammar.proofs.ReadingExprs.{begins_operand, expr_begins}
 use Rattle.mgrammar.proofs.ReadingTargets.{set_argument_takes, set_argument_again, set_argument_begins}
 use Rattle.mgrammar.proofs.ReadingArguments.{is_colon, Follows, write_argument_takes, write_argument_again, kill_argument_takes, kill_argument_again, kill_argument_begins, new_argument_takes, new_argument_again, new_argument_begins, if_argument_takes, if_argument_again, if_argument_begins, for_argument_takes, for_argument_again, for_argument_begins}
 use Rattle.mgrammar.proofs.ReadingLocks.{lock_argument_takes, lock_argument_again, lock_argument_begins}
-use Rattle.mgrammar.proofs.ReadingIndirection.{plain_well, which, settled_takes, settled_again, operand_takes, operand_again, new_argument_plain, hiding_stops, do_argument_plain, entrance_stops, goto_argument_plain, leap_stops}
+use Rattle.mgrammar.proofs.ReadingIndirection.{plain_well, which, settled_takes, settled_again, operand_takes, operand_again, hiding_apart, entrance_apart, leap_apart}
 use Rattle.mgrammar.proofs.ReadingEntries.{condition_read, condition_spelled, do_argument_takes, do_argument_again, do_argument_begins, goto_argument_takes, goto_argument_again, goto_argument_begins, xecute_argument_takes, xecute_argument_again, xecute_argument_begins}
 
 -- ---- the laws of each form
@@ -98,8 +98,8 @@ is_form kill_argument = record {
   begins = form_begins kill_argument (λ a w. as_arg a (kill_argument_begins a w));
 }
 is_form new_argument = record {
-  takes = operand_takes new_argument new_argument_at new_argument_plain refl new_argument_takes;
-  again = several_again new_argument (operand_again new_argument new_argument_at new_argument_plain hiding_stops (λ a rest w s. new_argument_again a rest w (name_ends rest s)));
+  takes = operand_takes new_argument new_argument_at hiding_apart refl new_argument_takes;
+  again = several_again new_argument (operand_again new_argument new_argument_at hiding_apart (λ a rest w s. new_argument_again a rest w (name_ends rest s)));
   begins = form_begins new_argument (λ a w. as_arg a (new_argument_begins a w));
 }
 is_form if_argument = record {
@@ -118,13 +118,13 @@ is_form write_argument = record {
   begins = form_begins write_argument write_argument_begins;
 }
 is_form do_argument = record {
-  takes = operand_takes do_argument do_argument_at do_argument_plain refl do_argument_takes;
-  again = several_again do_argument (operand_again do_argument do_argument_at do_argument_plain entrance_stops do_argument_again);
+  takes = operand_takes do_argument do_argument_at entrance_apart refl do_argument_takes;
+  again = several_again do_argument (operand_again do_argument do_argument_at entrance_apart do_argument_again);
   begins = form_begins do_argument (λ a w. as_arg a (do_argument_begins a w));
 }
 is_form goto_argument = record {
-  takes = operand_takes goto_argument goto_argument_at goto_argument_plain refl goto_argument_takes;
-  again = several_again goto_argument (operand_again goto_argument goto_argument_at goto_argument_plain leap_stops goto_argument_again);
+  takes = operand_takes goto_argument goto_argument_at leap_apart refl goto_argument_takes;
+  again = several_again goto_argument (operand_again goto_argument goto_argument_at leap_apart goto_argument_again);
   begins = form_begins goto_argument (λ a w. as_arg a (goto_argument_begins a w));
 }
 is_form xecute_argument = record {

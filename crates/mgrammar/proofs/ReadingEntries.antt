@@ -6,7 +6,7 @@ use Rattle.mgrammar.proofs.ReadingBasics.{Takes, Again, Stops, Stops-weaker, Beg
 use Rattle.mgrammar.proofs.ReadingLists.{joined, joined_by}
 use Rattle.mgrammar.proofs.ReadingReferences.{Ends, operand_ends, name_or_open, named, name_in_front}
 use Rattle.mgrammar.proofs.ReadingExprs.{begins_operand, expr_begins}
-use Rattle.mgrammar.proofs.ReadingArguments.{whole_takes, whole_again, is_colon, is_caret, Follows, names_begin}
+use Rattle.mgrammar.proofs.ReadingArguments.{ArgIs, whole_takes, whole_again, is_colon, is_caret, Follows, names_begin}
 
 -- ---- postconditionals
 
@@ -98,7 +98,7 @@ expr_stops (Some e) rest s = (refl, refl)
 pub do_argument_takes : Takes spell_arg (WellPlain do_argument) do_argument_at
 unfolding do_argument_at
 do_argument_takes cs x e =
-    conditioned_takes spell_entry WellEntry entry_at do_one (λ y. (cs ≡ spell_arg y.0 ++ y.1) × WellPlain do_argument y.0) cs x entry_takes e (λ a c rest p w v. (p, (w, v)))
+    conditioned_takes spell_entry WellEntry entry_at do_one (ArgIs do_argument cs) cs x entry_takes e (λ a c rest p w v. (p, (w, v)))
 
 pub do_argument_again : Again spell_arg (WellPlain do_argument) Follows do_argument_at
 unfolding do_argument_at
@@ -108,7 +108,7 @@ do_argument_again a rest w s = absurd w
 pub goto_argument_takes : Takes spell_arg (WellPlain goto_argument) goto_argument_at
 unfolding goto_argument_at
 goto_argument_takes cs x e =
-    conditioned_takes spell_entry WellEntry entry_at go_to (λ y. (cs ≡ spell_arg y.0 ++ y.1) × WellPlain goto_argument y.0) cs x entry_takes e (λ a c rest p w v. (p, (w, v)))
+    conditioned_takes spell_entry WellEntry entry_at go_to (ArgIs goto_argument cs) cs x entry_takes e (λ a c rest p w v. (p, (w, v)))
 
 pub goto_argument_again : Again spell_arg (WellPlain goto_argument) Follows goto_argument_at
 unfolding goto_argument_at
@@ -118,7 +118,7 @@ goto_argument_again a rest w s = absurd w
 pub xecute_argument_takes : Takes spell_arg (WellPlain xecute_argument) xecute_argument_at
 unfolding xecute_argument_at
 xecute_argument_takes cs x e =
-    conditioned_takes spell_expr (WellExpr max_depth) (expr_at max_depth) executed (λ y. (cs ≡ spell_arg y.0 ++ y.1) × WellPlain xecute_argument y.0) cs x whole_takes e (λ a c rest p w v. (p, (w, v)))
+    conditioned_takes spell_expr (WellExpr max_depth) (expr_at max_depth) executed (ArgIs xecute_argument cs) cs x whole_takes e (λ a c rest p w v. (p, (w, v)))
 
 pub xecute_argument_again : Again spell_arg (WellPlain xecute_argument) Follows xecute_argument_at
 unfolding xecute_argument_at

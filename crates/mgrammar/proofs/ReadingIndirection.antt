@@ -92,10 +92,15 @@ module _ (f : FormTree) (read : List ℕ → Read ArgTree) where
 
 -- ---- one that begins as neither
 
-module _ (f : FormTree) (read : List ℕ → Read ArgTree) (never : (a : ArgTree) → WellPlain f a → bare_arg a ≡ None) where
+-- an argument that is no `@` with its operand alone, and that no `@` begins
+pub record IsApart (a : ArgTree) : Type 0 where
+  pub bare : bare_arg a ≡ None
+  pub stops : (rest : List ℕ) → Stops (λ c. eqb c 64) (spell_arg a ++ rest)
+
+module _ (f : FormTree) (read : List ℕ → Read ArgTree) (apart : (a : ArgTree) → WellPlain f a → IsApart a) where
   operand_takes_by : may_be_indirect f ≡ true → Takes spell_arg (WellPlain f) read → (cs : List ℕ) (o : Option (List ℕ)) (x : ArgTree × List ℕ) → past 64 cs ≡ o → operand_by read f cs o ≡ Some x
       → (cs ≡ spell_arg x.0 ++ x.1) × WellArg f x.0
-  operand_takes_by m takes cs None x h e = let t = takes cs x e in (t.0, plain_well f x.0 t.1 (never x.0 t.1))
+  operand_takes_by m takes cs None x h e = let t = takes cs x e in (t.0, plain_well f x.0 t.1 (apart x.0 t.1).bare)
   operand_takes_by m takes cs (Some behind) x h e =
       let b = bind_some ((readers_at max_depth).below behind) (λ p. Some (indirect_args f p.0, p.1)) x e in
       let t = below_takes max_depth behind b.0 b.1 in
@@ -106,11 +111,11 @@ module _ (f : FormTree) (read : List ℕ → Read ArgTree) (never : (a : ArgTree
   pub operand_takes : may_be_indirect f ≡ true → Takes spell_arg (WellPlain f) read → Takes spell_arg (WellArg f) (operand_or read f)
   operand_takes m takes cs x e = operand_takes_by m takes cs (past 64 cs) x refl e
 
-  pub operand_again : ((a : ArgTree) (rest : List ℕ) → WellPlain f a → Stops (λ c. eqb c 64) (spell_arg a ++ rest)) → Again spell_arg (WellPlain f) Follows read → Again spell_arg (WellArg f) Follows (operand_or read f)
-  operand_again begins again a rest w s =
+  pub operand_again : Again spell_arg (WellPlain f) Follows read → Again spell_arg (WellArg f) Follows (operand_or read f)
+  operand_again again a rest w s =
       elim (which f a w) [
         | inl g ↦ subst (λ (y : ArgTree). operand_or read f (spell_arg y ++ rest) ≡ Some (y, rest)) (sym g.1) (given g.0 g.2)
-        | inr v ↦ rw (not_past 64 (spell_arg a ++ rest) (begins a rest v.0), again a rest v.0 s) refl
+        | inr v ↦ rw (not_past 64 (spell_arg a ++ rest) ((apart a v.0).stops rest), again a rest v.0 s) refl
       ]
     where
       given : (p : PrimaryTree) → WellBelow max_depth p → operand_or read f (64 ∷ (spell_primary p ++ rest)) ≡ Some (indirect_args f p, rest)
@@ -122,16 +127,6 @@ name_no_at c h = grind (arith, nat_tests)
 name_stops : (name rest : List ℕ) → IsName name → Stops (λ c. eqb c 64) (name ++ rest)
 name_stops name rest w = Begins-stops is_name_start (λ c. eqb c 64) (name ++ rest) name_no_at (Begins-append is_name_start name rest (named name w))
 
-pub new_argument_plain : (a : ArgTree) → WellPlain new_argument a → bare_arg a ≡ None
-new_argument_plain (new_one name) w = refl
-new_argument_plain (new_others names) w = refl
-new_argument_plain a w = absurd w
-
-pub hiding_stops : (a : ArgTree) (rest : List ℕ) → WellPlain new_argument a → Stops (λ c. eqb c 64) (spell_arg a ++ rest)
-hiding_stops (new_one name) rest w = name_stops name rest w
-hiding_stops (new_others names) rest w = refl
-hiding_stops a rest w = absurd w
-
 entry_stops : (e : EntryTree) (c rest : List ℕ) → WellEntry e → Stops (λ c. eqb c 64) ((spell_entry e ++ c) ++ rest)
 entry_stops (at_label label) c rest w = Begins-stops is_name_start (λ c. eqb c 64) ((label ++ c) ++ rest) name_no_at (Begins-append is_name_start (label ++ c) rest (Begins-append is_name_start label c (named label w)))
 entry_stops (at_label_in label routine) c rest w =
@@ -139,18 +134,15 @@ entry_stops (at_label_in label routine) c rest w =
     (Begins-append is_name_start ((label ++ 94 ∷ routine) ++ c) rest (Begins-append is_name_start (label ++ 94 ∷ routine) c (Begins-append is_name_start label (94 ∷ routine) (named label w.0))))
 entry_stops (at_routine routine) c rest w = refl
 
-pub do_argument_plain : (a : ArgTree) → WellPlain do_argument a → bare_arg a ≡ None
-do_argument_plain (do_one e c) w = refl
-do_argument_plain a w = absurd w
+pub hiding_apart : (a : ArgTree) → WellPlain new_argument a → IsApart a
+hiding_apart (new_one name) w = record { bare = refl; stops = λ rest. name_stops name rest w }
+hiding_apart (new_others names) w = record { bare = refl; stops = λ rest. refl }
+hiding_apart a w = absurd w
 
-pub entrance_stops : (a : ArgTree) (rest : List ℕ) → WellPlain do_argument a → Stops (λ c. eqb c 64) (spell_arg a ++ rest)
-entrance_stops (do_one e c) rest w = entry_stops e (spell_condition c) rest w.0
-entrance_stops a rest w = absurd w
+pub entrance_apart : (a : ArgTree) → WellPlain do_argument a → IsApart a
+entrance_apart (do_one e c) w = record { bare = refl; stops = λ rest. entry_stops e (spell_condition c) rest w.0 }
+entrance_apart a w = absurd w
 
-pub goto_argument_plain : (a : ArgTree) → WellPlain goto_argument a → bare_arg a ≡ None
-goto_argument_plain (go_to e c) w = refl
-goto_argument_plain a w = absurd w
-
-pub leap_stops : (a : ArgTree) (rest : List ℕ) → WellPlain goto_argument a → Stops (λ c. eqb c 64) (spell_arg a ++ rest)
-leap_stops (go_to e c) rest w = entry_stops e (spell_condition c) rest w.0
-leap_stops a rest w = absurd w
+pub leap_apart : (a : ArgTree) → WellPlain goto_argument a → IsApart a
+leap_apart (go_to e c) w = record { bare = refl; stops = λ rest. entry_stops e (spell_condition c) rest w.0 }
+leap_apart a w = absurd w

@@ -140,12 +140,12 @@ module _ {A : Type 0} (f : A → List ℕ) (P : A → Type 0) (item : List ℕ �
         ∙ rw (again x (spell_more f xs ++ rest) w.0 (more_follows xs rest s.0), more_again xs rest w.1 s.0 s.1) refl
 
 -- a list in brackets, or one item, of which a tree is made
-pub listed_or_one : {A B : Type 0} (spell : A → List ℕ) (P W : A → Type 0) (item single : List ℕ → Read A) (made : List A → B) (alone : A → B) (Q : B × List ℕ → Type 0)
-    → Takes spell P item → Takes spell W single → (c : ℕ) (cs : List ℕ) (x : B × List ℕ)
+pub listed_or_one : {A B C : Type 0} (spell : A → List ℕ) (P : A → Type 0) (item : List ℕ → Read A) (made : List A → B) (spell_one : C → List ℕ) (W : C → Type 0) (single : List ℕ → Read C) (alone : C → B) (Q : B × List ℕ → Type 0)
+    → Takes spell P item → Takes spell_one W single → (c : ℕ) (cs : List ℕ) (x : B × List ℕ)
     → cond (eqb c 40) (list_at item cs >>= λ y. past 41 y.1 >>= λ rest. Some (made y.0, rest)) (single (c ∷ cs) >>= λ v. Some (alone v.0, v.1)) ≡ Some x
     → ((ys : List A) (rest : List ℕ) → c ∷ cs ≡ (40 ∷ (spell_list spell ys ++ 41 ∷ [])) ++ rest → WellList P ys → Q (made ys, rest))
-    → ((v : A) (rest : List ℕ) → c ∷ cs ≡ spell v ++ rest → W v → Q (alone v, rest)) → Q x
-listed_or_one spell P W item single made alone Q takes singly c cs x e listed is =
+    → ((v : C) (rest : List ℕ) → c ∷ cs ≡ spell_one v ++ rest → W v → Q (alone v, rest)) → Q x
+listed_or_one spell P item made spell_one W single alone Q takes singly c cs x e listed is =
     elim (chosen (eqb c 40) (list_at item cs >>= λ y. past 41 y.1 >>= λ rest. Some (made y.0, rest)) (single (c ∷ cs) >>= λ v. Some (alone v.0, v.1)) (Some x) e) [
       | inl p ↦
           let b = bind_some (list_at item cs) (λ y. past 41 y.1 >>= λ rest. Some (made y.0, rest)) x p.1 in
@@ -158,3 +158,11 @@ listed_or_one spell P W item single made alone Q takes singly c cs x e listed is
           let t = singly (c ∷ cs) b.0 b.1 in
           subst Q {x = (alone b.0.0, b.0.1)} (some_is (alone b.0.0, b.0.1) x b.2) (is b.0.0 b.0.1 t.0 t.1)
     ]
+
+-- a list in brackets that is spelled so is read, by what reads one behind its bracket
+pub bracketed_again : {A B : Type 0} (spell : A → List ℕ) (P : A → Type 0) (item : List ℕ → Read A) (F : List ℕ → Type 0) (made : List A → B) (read : List ℕ → Read B)
+    → ((cs : List ℕ) → read (40 ∷ cs) ≡ (list_at item cs >>= λ y. past 41 y.1 >>= λ rest. Some (made y.0, rest))) → ((rest : List ℕ) → F (44 ∷ rest) × F (41 ∷ rest)) → Again spell P F item
+    → (xs : List A) (rest : List ℕ) → WellList P xs → read ((40 ∷ (spell_list spell xs ++ 41 ∷ [])) ++ rest) ≡ Some (made xs, rest)
+bracketed_again spell P item F made read opens follows again xs rest w =
+    let l = list_again spell P item F (λ cs. (follows cs).0) again xs (41 ∷ rest) w ((follows rest).1, refl) in
+    ap (λ (y : List ℕ). read (40 ∷ y)) (append_assoc (spell_list spell xs) (41 ∷ []) rest) ∙ opens (spell_list spell xs ++ 41 ∷ rest) ∙ rw l refl

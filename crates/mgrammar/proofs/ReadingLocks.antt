@@ -1,13 +1,13 @@
 -- SPDX-License-Identifier: Apache-2.0
 -- What is read of an argument of LOCK is spelled so, and what is spelled so is read.
-use Rattle.mgrammar.proofs.GrammarWords.{◌≡◌, ℕ, ◌-◌, Bool, true, false, cond, eqb, List, [], ◌∷◌, ◌++◌, Option, Some, None, inl, inr, refl, sym, ap, subst, ◌∙◌, append_assoc, arith, ◌||◌, eqb-true, nat_tests, ExprTree, ReferenceTree, LockKindTree, anew, adding, giving_back, LockedTree, lock_one, lock_several, ArgTree, locked, lock_argument, spell_reference, spell_list, spell_kind, spell_locked, spell_condition, spell_arg, max_depth, is_named, WellLockRef, WellLocked, WellPlain, Read, ◌>>=◌, past, list_at, after_sign, readers_at, reference_with, conditioned, lock_ref_with, locked_at, kind_of, lock_argument_at}
+use Rattle.mgrammar.proofs.GrammarWords.{◌≡◌, ℕ, ◌-◌, Bool, true, false, cond, eqb, List, [], ◌∷◌, ◌++◌, Option, Some, None, inl, inr, refl, sym, ap, subst, ◌∙◌, append_assoc, arith, ◌||◌, eqb-true, nat_tests, ExprTree, ReferenceTree, LockKindTree, anew, adding, giving_back, LockedTree, lock_one, lock_several, ArgTree, locked, lock_argument, spell_reference, spell_kind, spell_locked, spell_condition, spell_arg, max_depth, is_named, WellLockRef, WellLocked, WellPlain, Read, ◌>>=◌, after_sign, readers_at, reference_with, conditioned, lock_ref_with, locked_at, kind_of, lock_argument_at}
 use Rattle.mgrammar.proofs.ReadingBasics.{Takes, Again, Begins, Begins-append, Begins-weaker, bind_some, chosen, some_is}
-use Rattle.mgrammar.proofs.ReadingLists.{listed_or_one, list_again}
+use Rattle.mgrammar.proofs.ReadingLists.{listed_or_one, bracketed_again}
 use Rattle.mgrammar.proofs.ReadingReferences.{OperandEnds, begins_reference, reference_takes, reference_again, reference_begins}
 use Rattle.mgrammar.proofs.ReadingPrimaries.{reference_tests}
 use Rattle.mgrammar.proofs.ReadingExprs.{begins_operand, inner_takes, below_takes, inner_again, below_again}
 use Rattle.mgrammar.proofs.ReadingTargets.{variable_begins}
-use Rattle.mgrammar.proofs.ReadingArguments.{Follows}
+use Rattle.mgrammar.proofs.ReadingArguments.{ArgIs, Follows}
 use Rattle.mgrammar.proofs.ReadingEntries.{conditioned_takes, conditioned_again}
 
 -- ---- names
@@ -42,12 +42,8 @@ locked_takes : Takes spell_locked WellLocked locked_at
 unfolding locked_at
 locked_takes [] x e = absurd cc
 locked_takes (c ∷ cs) x e =
-    listed_or_one spell_reference (WellLockRef (max_depth - 1)) (WellLockRef max_depth) listed (lock_ref_with (readers_at max_depth)) lock_several lock_one (LockedIs (c ∷ cs))
+    listed_or_one spell_reference (WellLockRef (max_depth - 1)) listed lock_several spell_reference (WellLockRef max_depth) (lock_ref_with (readers_at max_depth)) lock_one (LockedIs (c ∷ cs))
     (name_takes (max_depth - 1)) (name_takes max_depth) c cs x e (λ ys rest q w. (q, w)) (λ v rest q w. (q, w))
-
-list_step : (cs : List ℕ) (rs : List ReferenceTree) (rest : List ℕ) → list_at listed cs ≡ Some (rs, 41 ∷ rest) → locked_at (40 ∷ cs) ≡ Some (lock_several rs, rest)
-unfolding locked_at
-list_step cs rs rest h = rw h refl
 
 one_step : (cs : List ℕ) (v : ReferenceTree) (rest : List ℕ) → Begins begins_reference cs → lock_ref_with (readers_at max_depth) cs ≡ Some (v, rest) → locked_at cs ≡ Some (lock_one v, rest)
 unfolding locked_at
@@ -55,11 +51,11 @@ one_step [] v rest b h = absurd b
 one_step (c ∷ cs) v rest b h = rw ((reference_tests c b).2, h) refl
 
 locked_again : Again spell_locked WellLocked OperandEnds locked_at
+unfolding locked_at
 locked_again (lock_one v) rest w s =
     one_step (spell_reference v ++ rest) v rest (Begins-append begins_reference (spell_reference v) rest (reference_begins max_depth v w.0)) (name_again max_depth v rest w s)
 locked_again (lock_several rs) rest w s =
-    let l = list_again spell_reference (WellLockRef (max_depth - 1)) listed OperandEnds (λ cs. refl) (name_again (max_depth - 1)) rs (41 ∷ rest) w (refl, refl) in
-    ap locked_at (ap (λ (y : List ℕ). 40 ∷ y) (append_assoc (spell_list spell_reference rs) (41 ∷ []) rest)) ∙ list_step (spell_list spell_reference rs ++ 41 ∷ rest) rs rest l
+    bracketed_again spell_reference (WellLockRef (max_depth - 1)) listed OperandEnds lock_several locked_at (λ cs. refl) (λ cs. (refl, refl)) (name_again (max_depth - 1)) rs rest w
 
 -- ---- a sign in front
 
@@ -90,8 +86,7 @@ kind_again k names rest w = (refl, refl)
 pub lock_argument_takes : Takes spell_arg (WellPlain lock_argument) lock_argument_at
 unfolding lock_argument_at
 lock_argument_takes cs x e =
-    let Is : ArgTree × List ℕ → Type 0 = λ y. (cs ≡ spell_arg y.0 ++ y.1) × WellPlain lock_argument y.0 in
-    conditioned_takes spell_locked WellLocked locked_at (locked (kind_of cs)) Is (after_sign cs) x locked_takes e
+    conditioned_takes spell_locked WellLocked locked_at (locked (kind_of cs)) (ArgIs lock_argument cs) (after_sign cs) x locked_takes e
     (λ a c rest p w v. (kind_parts cs ∙ ap (λ (y : List ℕ). spell_kind (kind_of cs) ++ y) p ∙ regroup (spell_kind (kind_of cs)) (spell_locked a) (spell_condition c) rest, (w, v)))
   where
     regroup : (k a c rest : List ℕ) → k ++ ((a ++ c) ++ rest) ≡ ((k ++ a) ++ c) ++ rest

@@ -1,8 +1,8 @@
 -- SPDX-License-Identifier: Apache-2.0
 -- What is read of the left side of an set_argument is spelled so, and what is spelled so is read.
-use Rattle.mgrammar.proofs.GrammarWords.{◌≡◌, ℕ, ◌<◌, ◌-◌, Bool, true, eqb, List, [], ◌∷◌, ◌++◌, Option, Some, None, inl, inr, refl, sym, ap, subst, ◌∙◌, append_assoc, arith, eqb-true, nat_tests, is_letter, AllAre, ExprTree, PrimaryTree, no_exprs, ReferenceTree, indirect, TargetTree, variable, piece, DestinationTree, one, several, ArgTree, assign, indirect_args, FormTree, spell_expr, spell_primary, spell_reference, spell_list, spell_place, spell_target, spell_destination, spell_arg, set_argument, is_piece, max_depth, bare_primary, bare_destination, WellBelow, WellReference, WellOptional, WellTarget, WellDestination, WellArg, Read, ◌>>=◌, run_of, after_run, past, list_at, Readers, reference_with, expr_at, readers_at, place_with, piece_with, piece_by, target_with, destination_at, given_by, set_argument_by, set_argument_at}
+use Rattle.mgrammar.proofs.GrammarWords.{◌≡◌, ℕ, ◌<◌, ◌-◌, Bool, true, eqb, List, [], ◌∷◌, ◌++◌, Option, Some, None, inl, inr, refl, sym, ap, subst, ◌∙◌, append_assoc, arith, eqb-true, nat_tests, is_letter, AllAre, ExprTree, PrimaryTree, no_exprs, ReferenceTree, indirect, TargetTree, variable, piece, DestinationTree, one, several, ArgTree, assign, indirect_args, FormTree, spell_expr, spell_primary, spell_reference, spell_place, spell_target, spell_destination, spell_arg, set_argument, is_piece, max_depth, bare_primary, bare_destination, WellBelow, WellReference, WellOptional, WellTarget, WellDestination, WellArg, Read, ◌>>=◌, run_of, after_run, past, Readers, reference_with, expr_at, readers_at, place_with, piece_with, piece_by, target_with, destination_at, given_by, set_argument_by, set_argument_at}
 use Rattle.mgrammar.proofs.ReadingBasics.{Takes, Again, Stops, Begins, Begins-append, Begins-stops, Begins-weaker, bind_some, chosen, some_is, both_are, run_parts, run_again, past_takes, not_past}
-use Rattle.mgrammar.proofs.ReadingLists.{joined_by, listed_or_one, is_comma, list_again}
+use Rattle.mgrammar.proofs.ReadingLists.{joined_by, listed_or_one, bracketed_again, is_comma}
 use Rattle.mgrammar.proofs.ReadingTrees.{WellInner}
 use Rattle.mgrammar.proofs.ReadingReferences.{OperandEnds, Ends, TakesFree, AgainFree, WellWithin, begins_reference, reference_takes, reference_again, reference_begins, bare_spelled, bare_well, bare_reference_is}
 use Rattle.mgrammar.proofs.ReadingPrimaries.{reference_tests}
@@ -96,7 +96,7 @@ unfolding destination_at
 destination_takes [] x e = absurd cc
 destination_takes (c ∷ cs) x e =
     let takes = λ (d : ℕ). target_takes d (readers_at d) (inner_takes d) (within_takes d) (below_takes d) in
-    listed_or_one spell_target (WellTarget (max_depth - 1)) (WellTarget max_depth) listed (target_with (readers_at max_depth)) several one (DestinationIs (c ∷ cs))
+    listed_or_one spell_target (WellTarget (max_depth - 1)) listed several spell_target (WellTarget max_depth) (target_with (readers_at max_depth)) one (DestinationIs (c ∷ cs))
     (takes (max_depth - 1)) (takes max_depth) c cs x e (λ ys rest q w. (q, w)) (λ t rest q w. (q, w))
 
 -- what was read of an argument of SET
@@ -183,10 +183,6 @@ module _ (d : ℕ) (r : Readers) (lt : 0 < d) (again : Again spell_expr (WellInn
       ap (target_with r) parts ∙ piece_step r word (spell_reference v ++ 44 ∷ (spell_expr delimiter ++ (spell_place place ++ 41 ∷ rest))) (piece word v delimiter place, rest) w.0.1 w.0.0
       (inside_again word v delimiter place rest w)
 
-list_step : (cs : List ℕ) (ts : List TargetTree) (rest : List ℕ) → list_at listed cs ≡ Some (ts, 41 ∷ rest) → destination_at (40 ∷ cs) ≡ Some (several ts, rest)
-unfolding destination_at
-list_step cs ts rest h = rw h refl
-
 -- a text that begins with no bracket
 one_step : (cs : List ℕ) (t : TargetTree) (rest : List ℕ) → Stops (λ c. eqb c 40) cs → target_with (readers_at max_depth) cs ≡ Some (t, rest) → destination_at cs ≡ Some (one t, rest)
 unfolding destination_at target_with
@@ -199,12 +195,12 @@ target_stops d (variable v) rest w =
 target_stops d (piece word name delimiter place) rest w = refl
 
 destination_again : Again spell_destination WellDestination OperandEnds destination_at
+unfolding destination_at
 destination_again (one t) rest w s =
     one_step (spell_target t ++ rest) t rest (target_stops max_depth t rest w) (target_again max_depth (readers_at max_depth) (omega arith) (inner_again max_depth) (within_again max_depth) (below_again max_depth) t rest w s)
 destination_again (several ts) rest w s =
     let again = target_again (max_depth - 1) (readers_at (max_depth - 1)) (omega arith) (inner_again (max_depth - 1)) (within_again (max_depth - 1)) (below_again (max_depth - 1)) in
-    let l = list_again spell_target (WellTarget (max_depth - 1)) listed OperandEnds (λ cs. refl) again ts (41 ∷ rest) w (refl, refl) in
-    ap destination_at (ap (λ (y : List ℕ). 40 ∷ y) (append_assoc (spell_list spell_target ts) (41 ∷ []) rest)) ∙ list_step (spell_list spell_target ts ++ 41 ∷ rest) ts rest l
+    bracketed_again spell_target (WellTarget (max_depth - 1)) listed OperandEnds several destination_at (λ cs. refl) (λ cs. (refl, refl)) again ts rest w
 
 assignment_step : (cs t u : List ℕ) (destination : DestinationTree) (value : ExprTree) (rest : List ℕ) → destination_at cs ≡ Some (destination, t) → past 61 t ≡ Some u → expr_at max_depth u ≡ Some (value, rest)
     → set_argument_at cs ≡ Some (assign destination value, rest)

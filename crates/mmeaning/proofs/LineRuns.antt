@@ -118,9 +118,12 @@ turned a zero p t = fail Zsteps
 turned a (suc n) p t = commands (at a n p) t.body >>= after_turn (at a n p) t
 
 -- only where the state is known
-pub opened : (a : Text) (n : ℕ) (p : Position) (t : Turning) (locals : Locals) (naked : Option Node) (test : Bool) (out : Text) (steps : ℕ)
-    → (shut a n).turn p t (record { locals = locals; naked = naked; test = test; out = out; steps = steps })
-    ≡ turned a n p t (record { locals = locals; naked = naked; test = test; out = out; steps = steps })
+abbrev pub Opens : {A : Type 0} → Act A → Act A → Type 0
+Opens f g =
+    (locals : Locals) (naked : Option Node) (test : Bool) (out : Text) (steps : ℕ) → f (record { locals = locals; naked = naked; test = test; out = out; steps = steps })
+    ≡ g (record { locals = locals; naked = naked; test = test; out = out; steps = steps })
+
+pub opened : (a : Text) (n : ℕ) (p : Position) (t : Turning) → Opens ((shut a n).turn p t) (turned a n p t)
 unfolding shut
 opened a zero p t locals naked test out steps = refl
 opened a (suc n) p t locals naked test out steps = refl
@@ -129,9 +132,7 @@ abbrev pub entered : Text → ℕ → Position → List CommandTree → Act Comp
 entered a zero p cs = fail Zsteps
 entered a (suc n) p cs = commands (at a n p) cs >>= after_level (at a n p)
 
-pub text_opened : (a : Text) (n : ℕ) (p : Position) (cs : List CommandTree) (locals : Locals) (naked : Option Node) (test : Bool) (out : Text) (steps : ℕ)
-    → (shut a n).enter p cs (record { locals = locals; naked = naked; test = test; out = out; steps = steps })
-    ≡ entered a n p cs (record { locals = locals; naked = naked; test = test; out = out; steps = steps })
+pub text_opened : (a : Text) (n : ℕ) (p : Position) (cs : List CommandTree) → Opens ((shut a n).enter p cs) (entered a n p cs)
 unfolding shut
 text_opened a zero p cs locals naked test out steps = refl
 text_opened a (suc n) p cs locals naked test out steps = refl
@@ -140,9 +141,7 @@ abbrev pub listed : Text → ℕ → Position → List ArgTree → Act Completio
 listed a zero p args = fail Zsteps
 listed a (suc n) p args = arguments (at a n p) args
 
-pub list_opened : (a : Text) (n : ℕ) (p : Position) (args : List ArgTree) (locals : Locals) (naked : Option Node) (test : Bool) (out : Text) (steps : ℕ)
-    → (shut a n).list p args (record { locals = locals; naked = naked; test = test; out = out; steps = steps })
-    ≡ listed a n p args (record { locals = locals; naked = naked; test = test; out = out; steps = steps })
+pub list_opened : (a : Text) (n : ℕ) (p : Position) (args : List ArgTree) → Opens ((shut a n).list p args) (listed a n p args)
 unfolding shut
 list_opened a zero p args locals naked test out steps = refl
 list_opened a (suc n) p args locals naked test out steps = refl
@@ -152,9 +151,7 @@ abbrev pub found : Text → ℕ → Depth → ReferenceTree → ExprsTree → Ac
 found a zero d r subscripts = fail Zsteps
 found a (suc n) d r subscripts = through (inside a n d) r subscripts
 
-pub name_found : (a : Text) (n : ℕ) (d : Depth) (r : ReferenceTree) (subscripts : ExprsTree) (locals : Locals) (naked : Option Node) (test : Bool) (out : Text) (steps : ℕ)
-    → finds a n d r subscripts (record { locals = locals; naked = naked; test = test; out = out; steps = steps })
-    ≡ found a n d r subscripts (record { locals = locals; naked = naked; test = test; out = out; steps = steps })
+pub name_found : (a : Text) (n : ℕ) (d : Depth) (r : ReferenceTree) (subscripts : ExprsTree) → Opens (finds a n d r subscripts) (found a n d r subscripts)
 unfolding finds
 name_found a zero d r subscripts locals naked test out steps = refl
 name_found a (suc n) d r subscripts locals naked test out steps = refl

@@ -4,8 +4,8 @@ use Rattle.mmemory.proofs.MemoryWords.{◌≡◌, ℕ, zero, suc, ◌+◌, ◌<�
 
 -- ---- one row
 
-pub put_fits : (at : ℕ) (row : Row) (rows : List Row) → at ≤ length rows → length rows < 64 → put_in at row rows ≡ insert rows at row
-put_fits at row rows within room = rw (le-leb at (length rows) within, lt-ltb (length rows) 64 room)
+pub put_fits : (at : ℕ) (row : Row) (rows : List Row) → at ≤ length rows → length rows < 128 → put_in at row rows ≡ insert rows at row
+put_fits at row rows within room = rw (le-leb at (length rows) within, lt-ltb (length rows) 128 room)
 
 taken_fits : (at : ℕ) (rows : List Row) → at < length rows → 1 < length rows → taken at rows ≡ remove rows at
 taken_fits at rows within more = rw (lt-ltb at (length rows) within, lt-ltb 1 (length rows) more)
@@ -32,12 +32,12 @@ set_rows (suc k) row (x ∷ rows) within =
     let rest : set rows k row ≡ take k rows ++ row ∷ drop (k + 1) rows = set_rows k row rows (omega arith) in
     rw (add-one (suc k)) (ap (λ l. x ∷ l) (rw (add-one k) at rest))
 
-pub put_taken : (at : ℕ) (row : Row) (rows : List Row) → at ≤ length rows → length rows < 64 → 0 < length rows → taken at (put_in at row rows) ≡ rows
+pub put_taken : (at : ℕ) (row : Row) (rows : List Row) → at ≤ length rows → length rows < 128 → 0 < length rows → taken at (put_in at row rows) ≡ rows
 put_taken at row rows within room some =
     let len = length-insert rows at row within in
     rw (put_fits at row rows within room) (taken_fits at (insert rows at row) (omega arith) (omega arith) ∙ remove_inserted at row rows within)
 
-pub taken_put : (at : ℕ) (rows : List Row) → at < length rows → length rows ≤ 64 → put_in at (get_or rows at []) (remove rows at) ≡ rows
+pub taken_put : (at : ℕ) (rows : List Row) → at < length rows → length rows ≤ 128 → put_in at (get_or rows at []) (remove rows at) ≡ rows
 taken_put at rows within room =
     let len = length-remove rows at within in
     put_fits at (get_or rows at []) (remove rows at) (omega arith) (omega arith) ∙ insert_removed at rows [] within
@@ -119,10 +119,10 @@ module _ (head tail : List Row) where
   halves_rows (x ∷ n) zero within is = sym (append_assoc head tail (joined n)) ∙ ap (λ r. r ++ joined n) (sym is)
   halves_rows (x ∷ n) (suc k) within is = ap (λ l. x ++ l) (halves_rows n k (omega arith) is)
 
-  pub joined_back : (n : List (List Row)) (k : ℕ) → k < length n → get_or n k [] ≡ head ++ tail → length head + length tail ≤ 64 → joined_at k (insert (set n k head) (k + 1) tail) ≡ n
+  pub joined_back : (n : List (List Row)) (k : ℕ) → k < length n → get_or n k [] ≡ head ++ tail → length head + length tail ≤ 128 → joined_at k (insert (set n k head) (k + 1) tail) ≡ n
   joined_back n k within is room =
       let low : suc k < length (halves n k) = omega (arith, halves_length n k within) in
-      rw (add-one k) (rw (lt-ltb (suc k) (length (halves n k)) low, first_half n k within, second_half n k within, le-leb (length head + length tail) 64 room) (one_again n k within is))
+      rw (add-one k) (rw (lt-ltb (suc k) (length (halves n k)) low, first_half n k within, second_half n k within, le-leb (length head + length tail) 128 room) (one_again n k within is))
 
   pub joined_rows : (n : List (List Row)) (k : ℕ) → k < length n → get_or n k [] ≡ head ++ tail → joined (insert (set n k head) (k + 1) tail) ≡ joined n
   joined_rows n k within is = rw (add-one k) (halves_rows n k within is)

@@ -25,7 +25,7 @@ some_at [] k within = absurd (omega arith)
 some_at (c ∷ chunks) zero within = some_length (chunk_rows c) c.some
 some_at (c ∷ chunks) (suc k) within = some_at chunks k (omega arith)
 
-pub short_at : (chunks : List Chunk) (k : ℕ) → length (get_or (nest chunks) k []) ≤ 64
+pub short_at : (chunks : List Chunk) (k : ℕ) → length (get_or (nest chunks) k []) ≤ 128
 short_at [] k = omega arith
 short_at (c ∷ chunks) zero = c.fits.0
 short_at (c ∷ chunks) (suc k) = short_at chunks k
@@ -42,7 +42,7 @@ module _ (p : Plain) (k at : ℕ) where
   abbrev pub after_it : List Row
   after_it = joined (drop (k + 1) p.chunks)
 
-  pub made_put : (row : Row) → k < length p.chunks → at ≤ length rows → length rows < 64 → 0 < length rows
+  pub made_put : (row : Row) → k < length p.chunks → at ≤ length rows → length rows < 128 → 0 < length rows
       → Makes p (with_chunks p (over k (put_in at row) p.chunks)) (DropRow k at) (front p.chunks k at ++ row ∷ back p.chunks k at)
   made_put row within low room some = record {
     back = λ i. with_chunks p (over_back (taken at) (put_in at row) p.chunks k (put_taken at row rows low room some) i);
@@ -58,7 +58,7 @@ module _ (p : Plain) (k at : ℕ) where
     rows_are = over_rows (λ r. set r at row) p.chunks k within ∙ changed_rows at row rows before_it after_it low;
   }
 
-  pub made_cut : k < length p.chunks → at < length rows → length rows ≤ 64
+  pub made_cut : k < length p.chunks → at < length rows → length rows ≤ 128
       → Makes p (with_chunks p (over k (λ r. remove r at) p.chunks)) (PutRow k at (get_or rows at [])) (front p.chunks k at ++ back p.chunks k (at + 1))
   made_cut within low room = record {
     back = λ i. with_chunks p (over_back (put_in at (get_or rows at [])) (λ r. remove r at) p.chunks k (taken_put at rows low room) i);
@@ -82,7 +82,7 @@ module _ (p : Plain) (k : ℕ) where
     rows_are = inserted_rows p.chunks k row;
   }
 
-  pub made_two : (head tail : List Row) → k < length p.chunks → get_or p.chunks k [] ≡ head ++ tail → length head + length tail ≤ 64
+  pub made_two : (head tail : List Row) → k < length p.chunks → get_or p.chunks k [] ≡ head ++ tail → length head + length tail ≤ 128
       → Makes p (with_chunks p (insert (set p.chunks k head) (k + 1) tail)) (Join k) (plain_rows p)
   made_two head tail within is room = record {
     back = λ i. with_chunks p (joined_back head tail p.chunks k within is room i);
@@ -90,7 +90,7 @@ module _ (p : Plain) (k : ℕ) where
     rows_are = joined_rows head tail p.chunks k within is;
   }
 
-pub made_halves : (p : Plain) (k : ℕ) (new : List (List Row)) (two : HalvedAt p.chunks new k) → k < length p.chunks → length two.head + length two.tail ≤ 64 → Makes p (with_chunks p new) (Join k) (plain_rows p)
+pub made_halves : (p : Plain) (k : ℕ) (new : List (List Row)) (two : HalvedAt p.chunks new k) → k < length p.chunks → length two.head + length two.tail ≤ 128 → Makes p (with_chunks p new) (Join k) (plain_rows p)
 made_halves p k new two low room = subst (λ chunks. Makes p (with_chunks p chunks) (Join k) (plain_rows p)) (sym two.are) (made_two p k two.head two.tail low two.both room)
 
 -- ---- a chunk that takes the rows of the next one
@@ -101,7 +101,7 @@ get_removed (x ∷ xs) zero d = refl
 get_removed (x ∷ xs) (suc k) d = get_removed xs k d
 
 pub join_made : (chunks : List Chunk) (k : ℕ) (first second was new tail : Chunk) (rest : List Chunk) → k + 1 < length chunks → first ≡ get_or chunks k first → second ≡ get_or chunks (k + 1) second
-    → length (chunk_rows first) + length (chunk_rows second) ≤ 64 → rest ≡ remove chunks (k + 1) → tail ≡ get_or chunks (k + 1) tail → was ≡ get_or rest k was → chunk_rows new ≡ chunk_rows was ++ chunk_rows tail
+    → length (chunk_rows first) + length (chunk_rows second) ≤ 128 → rest ≡ remove chunks (k + 1) → tail ≡ get_or chunks (k + 1) tail → was ≡ get_or rest k was → chunk_rows new ≡ chunk_rows was ++ chunk_rows tail
     → nest (set rest k new) ≡ joined_at k (nest chunks)
 join_made chunks k first second was new tail rest low f s room rest_is t w rows_are =
     let n = nest chunks in
@@ -109,7 +109,7 @@ join_made chunks k first second was new tail rest low f s room rest_is t w rows_
     let head : get_or n k [] ≡ chunk_rows first = shown_at chunk_rows chunks k [] first (omega arith) f in
     let next : get_or n (k + 1) [] ≡ chunk_rows second = shown_at chunk_rows chunks (k + 1) [] second low s in
     let other : get_or n (k + 1) [] ≡ chunk_rows tail = shown_at chunk_rows chunks (k + 1) [] tail low t in
-    let fits : length (get_or n k []) + length (get_or n (k + 1) []) ≤ 64 = rw (head, next) room in
+    let fits : length (get_or n k []) + length (get_or n (k + 1) []) ≤ 128 = rw (head, next) room in
     let left : nest rest ≡ remove n (k + 1) = ap nest rest_is ∙ nest_removed chunks (k + 1) in
     let short : k < length rest = rw rest_is (omega (arith, length-remove chunks (k + 1) low)) in
     let here : get_or n k [] ≡ chunk_rows was =
@@ -117,9 +117,9 @@ join_made chunks k first second was new tail rest low f s room rest_is t w rows_
     let rows : chunk_rows new ≡ get_or n k [] ++ get_or n (k + 1) [] = rows_are ∙ (λ i. sym here i ++ sym other i) in
     map-set chunk_rows rest k new ∙ (λ i. set (left i) k (rows i)) ∙ sym (tested within fits)
   where
-    tested : k + 1 < length (nest chunks) → length (get_or (nest chunks) k []) + length (get_or (nest chunks) (k + 1) []) ≤ 64
+    tested : k + 1 < length (nest chunks) → length (get_or (nest chunks) k []) + length (get_or (nest chunks) (k + 1) []) ≤ 128
         → joined_at k (nest chunks) ≡ set (remove (nest chunks) (k + 1)) k (get_or (nest chunks) k [] ++ get_or (nest chunks) (k + 1) [])
-    tested a b = rw (lt-ltb (k + 1) (length (nest chunks)) a, le-leb _ 64 b)
+    tested a b = rw (lt-ltb (k + 1) (length (nest chunks)) a, le-leb _ 128 b)
 
 -- ---- a chunk that is made two
 
@@ -135,5 +135,5 @@ halves_made chunks kept made k was new tail same low w both is =
       parts = (some_length (chunk_rows new) new.some, some_length (chunk_rows tail) tail.some);
     }
 
-pub halves_fit : (chunks : List Chunk) (k : ℕ) (head tail : List Row) → get_or (nest chunks) k [] ≡ head ++ tail → length head + length tail ≤ 64
+pub halves_fit : (chunks : List Chunk) (k : ℕ) (head tail : List Row) → get_or (nest chunks) k [] ≡ head ++ tail → length head + length tail ≤ 128
 halves_fit chunks k head tail is = omega (arith, short_at chunks k, ap length is, length-append head tail)

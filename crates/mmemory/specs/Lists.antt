@@ -10,7 +10,7 @@ joined = flat_map (λ rows. rows)
 
 -- a chunk with one more row, unless it is full
 abbrev pub put_in : ℕ → Row → List Row → List Row
-put_in at row rows = if leb at (length rows) && ltb (length rows) 64 then insert rows at row else rows
+put_in at row rows = if leb at (length rows) && ltb (length rows) 128 then insert rows at row else rows
 
 -- a chunk without a row that is not its only one
 abbrev pub taken : ℕ → List Row → List Row
@@ -23,6 +23,6 @@ over k f chunks = set chunks k (f (get_or chunks k []))
 -- the chunks with one joined to the one behind it, if both fit into one
 abbrev pub joined_at : ℕ → List (List Row) → List (List Row)
 joined_at k chunks =
-    if ltb (k + 1) (length chunks) && leb (length (get_or chunks k []) + length (get_or chunks (k + 1) [])) 64
+    if ltb (k + 1) (length chunks) && leb (length (get_or chunks k []) + length (get_or chunks (k + 1) [])) 128
     then set (remove chunks (k + 1)) k (get_or chunks k [] ++ get_or chunks (k + 1) [])
     else chunks

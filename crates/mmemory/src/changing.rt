@@ -18,7 +18,7 @@ impl Tree {
     pub(crate) fn put_at(&mut self, place: Place, row: Row) -> Step
         requires chunk { place.chunk < length (tree_nest self.old) }
         requires row { place.row ≤ length (rows_at (tree_nest self.old) place) }
-        requires room { length (rows_at (tree_nest self.old) place) < 64 }
+        requires room { length (rows_at (tree_nest self.old) place) < 128 }
         ensures { let n = tree_nest self.old in Makes (plain self.old) (plain self.new) result (before n place ++ row ∷ after n place) }
     {
         self.chunks[place.chunk].put(place.row, row);

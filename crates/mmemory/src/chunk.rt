@@ -4,18 +4,23 @@ ghost use Rattle.std.specs.Prelude.{◌≡◌, ◌≢◌, ◌+◌, ◌<◌, ◌�
 ghost use Rattle.std.specs.List.{remove};
 ghost use Rattle.mmemory.specs.Lists.{put_in, taken};
 
+use crate::lead::Lead;
+use crate::marks::Marks;
 use sqlite_value::row::Row;
 use std::alloc::{AllocError, Global};
 use std::mem;
 
-pub(crate) const CHUNK_LIMIT: usize = 64;
+pub(crate) const CHUNK_LIMIT: usize = 128;
 
-/// Up to 64 rows, with room for all of them from the start.
+/// Up to 128 rows, with room for all of them from the start. How its first row begins, and the marks of all,
+/// lead a search, and nothing rests on them.
 #[derive(Drop)]
 pub(crate) struct Chunk {
     pub rows: Vec<Row>,
+    pub lead: Lead,
+    pub marks: Marks,
     pub ghost some: { rows.items ≢ [] },
-    pub ghost fits: { (length rows.items ≤ 64) × (64 ≤ vec_capacity rows) },
+    pub ghost fits: { (length rows.items ≤ 128) × (128 ≤ vec_capacity rows) },
 }
 
 impl Chunk {
@@ -24,8 +29,20 @@ impl Chunk {
         ensures { IfOk result (λ c. c.rows.items ≡ row ∷ []) }
     {
         let mut rows = Vec::with_capacity(alloc, CHUNK_LIMIT)?;
+        let marks = Marks::new(alloc, CHUNK_LIMIT)?;
         rows.push(row).unwrap();
-        Ok(Chunk { rows })
+        Ok(Chunk::of_rows(rows, marks))
+    }
+
+    // A chunk of these rows.
+    fn of_rows(rows: Vec<Row>, mut marks: Marks) -> Chunk
+        requires some { rows.items ≢ [] }
+        requires fits { (length rows.items ≤ 128) × (128 ≤ vec_capacity rows) }
+        ensures { result.rows.items ≡ rows.items }
+    {
+        marks.make(rows.as_slice());
+        let lead = Lead::of(rows[0].get(0));
+        Chunk { rows, lead, marks }
     }
 
     // Puts a row in, unless the chunk is full.
@@ -34,6 +51,8 @@ impl Chunk {
     {
         if at <= self.rows.len() && self.rows.len() < CHUNK_LIMIT {
             self.rows.insert(at, row).unwrap();
+            self.marks.put(at, self.rows.as_slice());
+            self.lead = Lead::of(self.rows[0].get(0));
         }
     }
 
@@ -44,7 +63,10 @@ impl Chunk {
         ensures rows { self.new.rows.items ≡ remove self.old.rows.items at }
         ensures row { result ≡ slice_index_or self.old.rows.items at [] }
     {
-        self.rows.remove(at)
+        let row = self.rows.remove(at);
+        self.marks.take(at);
+        self.lead = Lead::of(self.rows[0].get(0));
+        row
     }
 
     // Drops a row that is not the only one.
@@ -62,7 +84,11 @@ impl Chunk {
         ensures rows { self.new.rows.items ≡ slice_set self.old.rows.items at row }
         ensures row { result ≡ slice_index_or self.old.rows.items at [] }
     {
-        mem::replace(&mut self.rows[at], row)
+        let old = mem::replace(&mut self.rows[at], row);
+        self.marks.take(at);
+        self.marks.put(at, self.rows.as_slice());
+        self.lead = Lead::of(self.rows[0].get(0));
+        old
     }
 
     // Takes the rows of the second half off.
@@ -72,20 +98,23 @@ impl Chunk {
         ensures err { OnErr result (self.new.rows.items ≡ self.old.rows.items) }
     {
         let mut rows = Vec::with_capacity(alloc, CHUNK_LIMIT)?;
+        let marks = Marks::new(alloc, CHUNK_LIMIT)?;
         let at = self.rows.len() / 2;
         while self.rows.len() > at {
             rows.push(self.rows.pop().unwrap()).unwrap();
         }
         rows.reverse();
-        Ok(Chunk { rows })
+        self.marks.make(self.rows.as_slice());
+        Ok(Chunk::of_rows(rows, marks))
     }
 
     // Takes the rows of the chunk behind it.
     pub(crate) fn join(&mut self, tail: Chunk)
-        requires { length self.old.rows.items + length tail.rows.items ≤ 64 }
+        requires { length self.old.rows.items + length tail.rows.items ≤ 128 }
         ensures { self.new.rows.items ≡ self.old.rows.items ++ tail.rows.items }
     {
-        let Chunk { mut rows } = tail;
+        let Chunk { mut rows, .. } = tail;
         self.rows.append(&mut rows).unwrap();
+        self.marks.make(self.rows.as_slice());
     }
 }

@@ -24,14 +24,14 @@ impl Tree {
         let Some(found) = self.chunks.get(chunk) else {
             return Place { chunk, row: 0 };
         };
-        let row = row_edge(found.rows.as_slice(), probe);
+        let row = row_edge(found.rows.as_slice(), &found.marks, probe);
         Place { chunk, row }
     }
 
     // The rows of the chunk of a place.
     pub(crate) fn rows_at(&self, place: Place) -> &[Row]
         ensures rows { result.now ≡ rows_at (tree_nest self.now) place }
-        ensures small { length result.now ≤ 64 }
+        ensures small { length result.now ≤ 128 }
     {
         match self.chunks.get(place.chunk) {
             Some(chunk) => chunk.rows.as_slice(),

@@ -1,7 +1,8 @@
 // SPDX-License-Identifier: Apache-2.0
-//! A store in memory for a connection of `sqlite`, whose times do not grow with its tables.
+//! A store in memory for a connection of `sqlite`.
 //!
-//! Trees are changed in place, and a log says how to take each change back.
+//! Trees are changed in place, and a log says how to take each change back. That times hardly grow
+//! with the tables is measured, and not proved.
 #![tactic(auto)]
 
 mod alter;
@@ -10,8 +11,11 @@ mod chunk;
 mod cursor;
 mod edits;
 mod finding;
+mod guess;
 mod held;
+mod lead;
 mod making;
+mod marks;
 pub mod memory;
 mod moments;
 mod place;

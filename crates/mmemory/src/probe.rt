@@ -5,6 +5,9 @@ ghost use Rattle.mmemory.specs.Plain.{chunk_rows};
 ghost use Rattle.mmemory.specs.Probe.{passes, meets, IsEdge};
 
 use crate::chunk::Chunk;
+use crate::guess::Guess;
+use crate::lead::Lead;
+use crate::marks::Marks;
 use sqlite_value::keys::Order;
 use sqlite_value::order::compare;
 use sqlite_value::row::Row;
@@ -19,7 +22,29 @@ pub(crate) enum Probe<'a> {
     BelowEntry(Order, &'a Row),
 }
 
-impl Probe<'_> {
+impl<'a> Probe<'a> {
+    // The first column of what is sought.
+    fn first(self) -> ValueRef<'a> {
+        match self {
+            Probe::BelowKey(_, key) | Probe::UpToKey(_, key) | Probe::BelowEntry(_, key) => key.get(
+                0,
+            ),
+            Probe::BelowRowid(id) => id,
+        }
+    }
+
+    // Where chunks cease to be below it, as their leads say.
+    fn guess(self, chunks: &[Chunk]) -> Guess {
+        let lead = match self {
+            Probe::UpToKey(_, key) if key.is_empty() => Lead::LAST,
+            _ => Lead::of(self.first()),
+        };
+        Guess {
+            below: chunks.partition_point(|it| it.lead.is_below(lead)),
+            up_to: chunks.partition_point(|it| !lead.is_below(it.lead)),
+        }
+    }
+
     fn passes(self, row: &Row) -> bool
         ensures { result ≡ passes self.entry row.now }
     {
@@ -48,10 +73,11 @@ pub(crate) fn chunk_edge(chunks: &[Chunk], probe: Probe<'_>) -> usize
     ensures within { result ≤ length chunks.now }
     ensures edge { IsEdge (λ c. passes probe.entry (get_or (chunk_rows c) 0 [])) chunks.now result }
 {
+    let guess = probe.guess(chunks);
     let mut low = 0;
     let mut high = chunks.len();
     while low < high {
-        let middle = low + (high - low) / 2;
+        let middle = guess.next(low, high);
         if probe.passes(&chunks[middle].rows[0]) {
             low = middle + 1;
         } else {
@@ -62,14 +88,15 @@ pub(crate) fn chunk_edge(chunks: &[Chunk], probe: Probe<'_>) -> usize
 }
 
 // How many rows the test passes, up to one that fails.
-pub(crate) fn row_edge(rows: &[Row], probe: Probe<'_>) -> usize
+pub(crate) fn row_edge(rows: &[Row], marks: &Marks, probe: Probe<'_>) -> usize
     ensures within { result ≤ length rows.now }
     ensures edge { IsEdge (passes probe.entry) rows.now result }
 {
+    let guess = marks.guess(probe.first());
     let mut low = 0;
     let mut high = rows.len();
     while low < high {
-        let middle = low + (high - low) / 2;
+        let middle = guess.next(low, high);
         if probe.passes(&rows[middle]) {
             low = middle + 1;
         } else {

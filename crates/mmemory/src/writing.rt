@@ -33,7 +33,7 @@ impl Held {
         requires tree { tree < length self.old.trees.items }
         requires chunk { place.chunk < length (nest_at self.old tree) }
         requires row { place.row ≤ length (rows_at (nest_at self.old tree) place) }
-        requires room { length (rows_at (nest_at self.old tree) place) < 64 }
+        requires room { length (rows_at (nest_at self.old tree) place) < 128 }
         requires shaped { let n = nest_at self.old tree in IsShaped (shape_at self.old tree) (before n place ++ row ∷ after n place) }
         ensures ok { let n = nest_at self.old tree in OnOk result (Writes self.old self.new tree (before n place ++ row ∷ after n place)) }
         ensures err { OnErr result (Keeps self.old self.new) }
@@ -106,7 +106,7 @@ impl Held {
         requires tree { tree < length self.old.trees.items }
         requires chunk { place.chunk < length (nest_at self.old tree) }
         requires row { place.row ≤ length (rows_at (nest_at self.old tree) place) }
-        requires full { length (rows_at (nest_at self.old tree) place) ≡ 64 }
+        requires full { length (rows_at (nest_at self.old tree) place) ≡ 128 }
         requires shaped { let n = nest_at self.old tree in IsShaped (shape_at self.old tree) (before n place ++ row ∷ after n place) }
         ensures ok { let n = nest_at self.old tree in OnOk result (Writes self.old self.new tree (before n place ++ row ∷ after n place)) }
         ensures err { OnErr result (Keeps self.old self.new) }

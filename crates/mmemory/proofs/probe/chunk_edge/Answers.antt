@@ -13,7 +13,7 @@ loop-low-preserved-then-passes c =
       low = omega arith;
       high = was.high;
       last = λ k part is found.
-          let same : k ≡ c.loop-low.low + (c.loop-low.high - c.loop-low.low) / 2 = omega arith in
+          let same : k ≡ c.next-middle.result = omega arith in
           let here : it ≡ part = one_at c.args.chunks.now _ it part (omega arith) c.index-chunks-middle.is (rw same at found) in
           sym (ap (λ (x : Chunk). passes c.args.probe (get_or (chunk_rows x) 0 [])) here) ∙ test;
       first = was.first;

@@ -9,7 +9,7 @@ invariant-loop-rows l = record {
   one : 0 < l.at;
   short : l.at < length l.fn.self.rows.items;
   count : length l.self.rows.items + length l.rows.items ≡ length l.fn.self.rows.items;
-  room : 64 ≤ vec_capacity l.rows;
+  room : 128 ≤ vec_capacity l.rows;
 }
 
 abbrev pub decreases-loop-rows : goal.decreases-loop-rows

@@ -1,0 +1,68 @@
+// SPDX-License-Identifier: Apache-2.0
+// What leads a search within a chunk. Nothing that is proved rests on it.
+use crate::guess::Guess;
+use crate::lead::{common, mark};
+use sqlite_value::row::Row;
+use sqlite_value::value::ValueRef;
+use std::alloc::{AllocError, Global};
+
+/// Of each row of a chunk four bytes of its first column, after those that all rows begin with.
+#[derive(Drop)]
+pub(crate) struct Marks {
+    skip: usize,
+    marks: Vec<u32>,
+}
+
+impl Marks {
+    // The marks of no row, with room for some.
+    pub(crate) fn new(alloc: Global, room: usize) -> Result<Marks, AllocError> {
+        Ok(Marks {
+            skip: 0,
+            marks: Vec::with_capacity(alloc, room)?,
+        })
+    }
+
+    // The marks of these rows.
+    pub(crate) fn make(&mut self, rows: &[Row]) {
+        self.skip = begins_alike(rows);
+        self.marks.clear();
+        for row in rows {
+            let _ = self.marks.push(mark(row.get(0), self.skip));
+        }
+    }
+
+    // The marks of these rows, one of which is new.
+    pub(crate) fn put(&mut self, at: usize, rows: &[Row]) {
+        let is_within = 0 < at && at < rows.len().saturating_sub(1);
+        if !is_within && begins_alike(rows) < self.skip {
+            self.make(rows);
+            return;
+        }
+        if at < rows.len() && at <= self.marks.len() {
+            let _ = self.marks.insert(at, mark(rows[at].get(0), self.skip));
+        }
+    }
+
+    pub(crate) fn take(&mut self, at: usize) {
+        if at < self.marks.len() {
+            self.marks.remove(at);
+        }
+    }
+
+    // Where the rows cease to be below a value.
+    pub(crate) fn guess(&self, value: ValueRef<'_>) -> Guess {
+        let sought = mark(value, self.skip);
+        Guess {
+            below: self.marks.partition_point(|it| *it < sought),
+            up_to: self.marks.partition_point(|it| *it <= sought),
+        }
+    }
+}
+
+// How many bytes all rows begin with, if they are in order.
+fn begins_alike(rows: &[Row]) -> usize {
+    match (rows.first(), rows.last()) {
+        (Some(first), Some(last)) => common(first.get(0), last.get(0)),
+        _ => 0,
+    }
+}

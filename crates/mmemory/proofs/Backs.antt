@@ -1,6 +1,6 @@
 -- SPDX-License-Identifier: Apache-2.0
 -- A change of chunks: its rows, and what takes it back.
-use Rattle.mmemory.proofs.MemoryWords.{◌≡◌, ℕ, zero, suc, ◌+◌, ◌<◌, ◌≤◌, List, [], ◌∷◌, ◌++◌, length, take, drop, set, get_or, refl, sym, ap, ◌∙◌, arith, add-one, append_assoc, insert, remove, lt-ltb, le-leb, append-nil, length-insert, length-remove, flat_map-append, Row, joined, put_in, taken, over, joined_at}
+use Rattle.mmemory.proofs.MemoryWords.{set-get_or, set-set, ◌≡◌, ℕ, zero, suc, ◌+◌, ◌<◌, ◌≤◌, List, [], ◌∷◌, ◌++◌, length, take, drop, set, get_or, refl, sym, ap, ◌∙◌, arith, add-one, append_assoc, insert, remove, lt-ltb, le-leb, append-nil, length-insert, length-remove, flat_map-append, Row, joined, put_in, taken, over, joined_at}
 
 -- ---- one row
 
@@ -21,9 +21,7 @@ insert_removed zero (x ∷ rows) d within = refl
 insert_removed (suc k) (x ∷ rows) d within = ap (λ l. x ∷ l) (insert_removed k rows d (omega arith))
 
 pub set_back : {A : Type 0} (at : ℕ) (row : A) (rows : List A) (d : A) → set (set rows at row) at (get_or rows at d) ≡ rows
-set_back at row [] d = refl
-set_back zero row (x ∷ rows) d = refl
-set_back (suc k) row (x ∷ rows) d = ap (λ l. x ∷ l) (set_back k row rows d)
+set_back at row rows d = set-set rows at row (get_or rows at d) ∙ set-get_or rows at d
 
 pub set_rows : {A : Type 0} (at : ℕ) (row : A) (rows : List A) → at < length rows → set rows at row ≡ take at rows ++ row ∷ drop (at + 1) rows
 set_rows at row [] within = absurd (omega arith)

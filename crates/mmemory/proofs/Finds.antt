@@ -1,6 +1,6 @@
 -- SPDX-License-Identifier: Apache-2.0
 -- A search over chunks and rows.
-use Rattle.mmemory.proofs.MemoryWords.{◌≡◌, ℕ, ◌+◌, ◌-◌, ◌≤◌, max, Bool, List, [], length, take, drop, get_or, refl, subst, take-nil, drop-nil, length-map, Row, all-append, Chunk, joined, front, back, chunk_rows, nest, IsEdge, Falls, Splits}
+use Rattle.mmemory.proofs.MemoryWords.{◌≡◌, ℕ, ◌+◌, ◌-◌, ◌≤◌, max, Bool, List, [], length, take, drop, get_or, refl, subst, length-map, Row, all-append, Chunk, joined, front, back, chunk_rows, nest, IsEdge, Falls, Splits}
 use Rattle.mmemory.proofs.Nests.{around}
 use Rattle.mmemory.proofs.Splits.{up_left, up_right, rows_passed, rows_failed, parts_passed, parts_failed, edge_map}
 use Rattle.mmemory.proofs.Some.{chunks_some}
@@ -24,6 +24,3 @@ tree_found test chunks past row at rows up within edge at_is are inside last =
       passed = all-append _ (joined (take at n)) (take row here) (rw at_is (parts_passed test (λ x. x) [] refl n past up within2 (chunks_some chunks) edge2)) (rows_passed test here row up2 inside2 last2);
       failed = all-append _ (drop row here) (joined (drop (at + 1) n)) (rows_failed test here row up2 inside2 last2) (rw at_is (parts_failed test (λ x. x) [] refl n past up within2 (chunks_some chunks) edge2));
     }
-
-pub none_found : (test : Row → Bool) (n : List (List Row)) (at row : ℕ) → length n ≤ at → n ≡ [] → Splits test (front n at 0) (back n at 0)
-none_found test n at row high is = rw is (simp (take-nil, drop-nil) (record { passed = tt; failed = tt }))

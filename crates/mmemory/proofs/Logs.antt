@@ -1,6 +1,6 @@
 -- SPDX-License-Identifier: Apache-2.0
 -- A log with one more change.
-use Rattle.mmemory.proofs.MemoryWords.{if◌then◌else◌, Result, Ok, Err, OnOk, OnErr, IsOk, is_ok, All, ◌≡◌, ◌⊎◌, ℕ, zero, suc, ◌+◌, ◌<◌, ◌≤◌, true, false, cond, eqb, List, [], ◌∷◌, ◌++◌, length, map, drop, set, get_or, refl, sym, ap, subst, ◌∙◌, arith, inl, inr, eq-eqb, ne_eqb, cases_eq, drop-append-le, map-set, set-get_or, get_or-set_same, length-map, length-append, map-set_same, ∥∥₁_map, ∥∥₁_elim, Row, with_tree, IsShaped, get_or-set_cases, Tree, Undo, Held, Plain, nest, plain, no_plain, heading, plain_rows, undone_step, Makes, HalvedAt, State, state_of, undone_one, undone, headings, rows_of, IsInOrder, AreInOrder, now, Keeps, Writes, shape_at, nest_at, Heading}
+use Rattle.mmemory.proofs.MemoryWords.{if◌then◌else◌, Result, Ok, Err, OnOk, OnErr, IsOk, is_ok, All, ◌≡◌, ◌⊎◌, ℕ, zero, suc, ◌+◌, ◌<◌, ◌≤◌, true, false, cond, eqb, List, [], ◌∷◌, ◌++◌, length, map, drop, set, get_or, refl, sym, ap, subst, ◌∙◌, arith, inl, inr, eq-eqb, ne_eqb, cases_eq, drop-append-le, map-set, set-get_or, get_or-set_same, length-map, length-append, map-set_same, ∥∥₁_map, ∥∥₁_elim, Row, with_tree, IsShaped, get_or-set_cases, Tree, Undo, Held, Plain, nest, plain, no_plain, heading, plain_rows, undone_step, Makes, State, state_of, undone_one, undone, headings, rows_of, IsInOrder, AreInOrder, now, Keeps, Writes, shape_at, nest_at, Heading}
 use Rattle.std.specs.Prelude.{slice_index}
 use Rattle.sqlite_trees.specs.Props.{IsShaped-prop}
 use mathlib.Core.Path.{fun_ext}
@@ -42,6 +42,10 @@ order_less log all u was new are is old = ∥∥₁_map old (λ h n. elim (cases
 
 pub when_ok : {X E A : Type 0} (r : Result X E) (a b : A) → IsOk r → (if is_ok r then a else b) ≡ a
 when_ok r a b ok = ap (λ t. if t then a else b) ok
+
+-- one more change in a log that had room
+pub pushed : {X E : Type 0} (old room new : List Undo) (u : Undo) (r : Result X E) → IsOk r → room ≡ old → new ≡ (if is_ok r then room ++ u ∷ [] else room) → new ≡ old ++ u ∷ []
+pushed old room new u r ok same is = is ∙ when_ok r _ _ ok ∙ ap (λ l. l ++ u ∷ []) same
 
 -- ---- one tree
 
@@ -117,10 +121,14 @@ module _ (h : Held) (log : List Undo) (same : log ≡ h.log.items) where
   pub within_same : All (λ n. n ≤ length log) h.marks.items
   within_same = subst (λ l. All (λ n. n ≤ length l) h.marks.items) (sym same) h.within
 
+-- the chunks of a tree, by its number
+pub nest_here : (h : Held) (t : ℕ) (y : Tree) → t < length h.trees.items → y ≡ get_or h.trees.items t y → nest_at h t ≡ nest y.chunks.items
+nest_here h t y low is = ap (λ (p : Plain). p.chunks) (shown_at plain h.trees.items t no_plain y low is)
+
 -- what a change makes of a tree, by the number of the tree
 pub made_at : (h : Held) (t : ℕ) (y x : Tree) (step : Step) (rows : List (List Row) → List Row) → t < length h.trees.items → y ≡ get_or h.trees.items t y
     → Makes (plain y) (plain x) step (rows (nest y.chunks.items)) → Makes (plain y) (plain x) step (rows (nest_at h t))
-made_at h t y x step rows low is = subst (λ n. Makes (plain y) (plain x) step (rows n)) (sym (ap (λ (p : Plain). p.chunks) (shown_at plain h.trees.items t no_plain y low is)))
+made_at h t y x step rows low is = subst (λ n. Makes (plain y) (plain x) step (rows n)) (sym (nest_here h t y low is))
 
 pub wrote : (old new : Held) (t : ℕ) (y x : Tree) (step : Step) (rows : List Row) → t < length old.trees.items → y ≡ get_or old.trees.items t y → Makes (plain y) (plain x) step rows
     → new.trees.items ≡ set old.trees.items t x → new.version ≡ old.version → new.log.items ≡ old.log.items ++ OfTree t step ∷ [] → new.marks.items ≡ old.marks.items → Writes old new t rows
@@ -185,13 +193,13 @@ wrote_same old new t w = record {
   version_is = w.version_is;
 }
 
-pub halved : (h : Held) (t : ℕ) (y x : Tree) (at : ℕ) → t < length h.trees.items → y ≡ get_or h.trees.items t y → HalvedAt (nest y.chunks.items) (nest x.chunks.items) at
-    → HalvedAt (nest_at h t) ((get_or (map plain (set h.trees.items t x)) t no_plain).chunks) at
-halved h t y x at low is two =
-    let was : nest_at h t ≡ nest y.chunks.items = ap (λ (p : Plain). p.chunks) (shown_at plain h.trees.items t no_plain y low is) in
+-- what holds of the chunks of a tree before a change and after it
+pub both_seen : (h : Held) (t : ℕ) (y x : Tree) → t < length h.trees.items → y ≡ get_or h.trees.items t y → (P : List (List Row) → List (List Row) → Type 0) → P (nest y.chunks.items) (nest x.chunks.items)
+    → P (nest_at h t) ((get_or (map plain (set h.trees.items t x)) t no_plain).chunks)
+both_seen h t y x low is P both =
     let made : (get_or (map plain (set h.trees.items t x)) t no_plain).chunks ≡ nest x.chunks.items =
     ap (λ (ps : List Plain). (get_or ps t no_plain).chunks) (map-set plain h.trees.items t x) ∙ ap (λ (p : Plain). p.chunks) (get_or-set_same (map plain h.trees.items) t (plain x) no_plain (omega (arith, low, length-map h.trees.items plain))) in
-    subst (λ n. HalvedAt n ((get_or (map plain (set h.trees.items t x)) t no_plain).chunks) at) (sym was) (subst (λ n. HalvedAt (nest y.chunks.items) n at) (sym made) two)
+    subst (λ n. P n ((get_or (map plain (set h.trees.items t x)) t no_plain).chunks)) (sym (nest_here h t y low is)) (subst (P (nest y.chunks.items)) (sym made) both)
 
 -- ---- one change after another
 

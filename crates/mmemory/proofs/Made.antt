@@ -1,6 +1,7 @@
 -- SPDX-License-Identifier: Apache-2.0
 -- What each change makes of a tree.
-use Rattle.mmemory.proofs.MemoryWords.{◌≡◌, ℕ, zero, suc, ◌+◌, ◌<◌, ◌≤◌, min, List, [], ◌∷◌, ◌++◌, length, take, drop, set, get_or, refl, sym, ap, subst, ◌∙◌, arith, add-one, insert, remove, map-set, length-map, length-append, map-append, take-map, drop-map, take_min, drop_min, lt-ltb, le-leb, length-remove, Row, Chunk, DropRow, PutRow, SetRow, DropChunk, PutChunk, Join, joined, put_in, taken, over, joined_at, front, back, Plain, chunk_rows, nest, with_chunks, plain_rows, Makes, HalvedAt}
+use Rattle.mmemory.proofs.MemoryWords.{◌≡◌, ℕ, zero, suc, ◌+◌, ◌<◌, ◌≤◌, min, List, [], ◌∷◌, ◌++◌, length, take, drop, set, get_or, refl, sym, ap, subst, ◌∙◌, arith, add-one, insert, remove, map-set, length-map, length-append, map-append, take-map, drop-map, take_min, drop_min, lt-ltb, le-leb, length-remove, Row, Chunk, Tree, DropRow, PutRow, SetRow, DropChunk, PutChunk, Join, joined, put_in, taken, over, joined_at, front, back, Plain, plain, chunk_rows, nest, tree_nest, with_chunks, plain_rows, Makes, HalvedAt}
+use Rattle.mmemory.specs.declared.step.Step.{Step}
 use Rattle.mmemory.proofs.Shown.{shown_at}
 use Rattle.mmemory.proofs.Some.{some_length}
 use Rattle.mmemory.proofs.Backs.{put_fits, remove_inserted, insert_removed, set_back, put_taken, taken_put, over_back, over_rows, put_rows, cut_rows, changed_rows, inserted_rows, gone_rows, joined_back, joined_rows}
@@ -92,6 +93,19 @@ module _ (p : Plain) (k : ℕ) where
 
 pub made_halves : (p : Plain) (k : ℕ) (new : List (List Row)) (two : HalvedAt p.chunks new k) → k < length p.chunks → length two.head + length two.tail ≤ 128 → Makes p (with_chunks p new) (Join k) (plain_rows p)
 made_halves p k new two low room = subst (λ chunks. Makes p (with_chunks p chunks) (Join k) (plain_rows p)) (sym two.are) (made_two p k two.head two.tail low two.both room)
+
+-- ---- a tree of which a chunk was changed
+
+module _ (t : Tree) (k : ℕ) (was new : Chunk) (within : k < length (tree_nest t)) (at : was ≡ get_or t.chunks.items k was) where
+  low : k < length t.chunks.items
+  low = omega (arith, within, length-map t.chunks.items chunk_rows)
+
+  pub rows_were : (i : ℕ) → get_or (get_or (tree_nest t) k []) i [] ≡ get_or (chunk_rows was) i []
+  rows_were i = ap (λ r. get_or r i []) (shown_at chunk_rows t.chunks.items k [] was low at)
+
+  pub made_over : (f : List Row → List Row) (step : Step) (rows : List Row) → chunk_rows new ≡ f (chunk_rows was)
+      → Makes (plain t) (with_chunks (plain t) (over k f (tree_nest t))) step rows → Makes (plain t) (with_chunks (plain t) (nest (set t.chunks.items k new))) step rows
+  made_over f step rows is = subst (λ chunks. Makes (plain t) (with_chunks (plain t) chunks) step rows) (sym (changed f t.chunks.items k was new low at is))
 
 -- ---- a chunk that takes the rows of the next one
 

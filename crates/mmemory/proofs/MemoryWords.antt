@@ -5,8 +5,9 @@ pub use Rattle.std.proofs.Math.Logic.{∥∥₁_elim, ∥∥₁_map}
 pub use Rattle.std.proofs.Math.Seq.{drop-append-add, drop-nil, map-set_same, take-append-add, take-append_seam, take-nil}
 pub use Rattle.std.proofs.lemmas.Bool.{cases_eq, le-leb, leb-false, leb-true, lt-ltb}
 pub use Rattle.std.proofs.lemmas.Grind.{common_steps, flat_map-append}
-pub use Rattle.std.proofs.lemmas.List.{append-nil, drop-append-le, drop-map, drop_min, get_or-set_same, length-append, length-drop, length-map, length-replicate, map-append, map-set, replicate_more, set-get_or, take-append-drop, take-append-le, take-map, take_min, take_more}
+pub use Rattle.std.proofs.lemmas.List.{append-nil, drop-append-le, drop-map, drop_min, get_or-set_same, length-append, length-drop, length-map, length-replicate, map-append, map-set, replicate_more, set-get_or, set-set, take-append-drop, take-append-le, take-map, take_min, take_more}
 pub use Rattle.std.proofs.lemmas.List.Edits.{length-insert, length-remove}
+pub use Rattle.std.proofs.lemmas.Option.{slice_get-get_or}
 pub use Rattle.std.specs.List.{AllByRecursion, flat_map, insert, remove}
 pub use Rattle.std.specs.Prelude.{IfSome, if◌then◌else◌}
 pub use Rattle.sqlite_trees.proofs.Doubt.{no_doubt}
@@ -27,10 +28,10 @@ pub use Rattle.sqlite_value.specs.Keys.{entry_cmp, prefix_cmp}
 pub use Rattle.sqlite_value.specs.Order.{Row, value_cmp}
 pub use Rattle.sqlite_value.specs.Value.{owned}
 pub use Rattle.sqlite_value.specs.declared.keys.Order.{Order}
-pub use Rattle.mmemory.specs.Changes.{Describes, HalvedAt, Makes, is_moved}
+pub use Rattle.mmemory.specs.Changes.{Describes, Fits, HalvedAt, Halves, IsMoved, Makes, is_moved, rows_after}
 pub use Rattle.mmemory.specs.Held.{Keeps, KeepsPast, KeepsShown, Pads, Puts, Relabels, Writes, moment, nest_at, now, shape_at}
 pub use Rattle.mmemory.specs.Lists.{joined, joined_at, over, put_in, taken}
-pub use Rattle.mmemory.specs.Memory.{all_kept, current, left_of, marks_of, memory_view, view_of}
+pub use Rattle.mmemory.specs.Memory.{all_kept, current, left_from, left_of, marks_of, memory_view, view_of}
 pub use Rattle.mmemory.specs.Nest.{after, after_row, back, before, front, rows_at}
 pub use Rattle.mmemory.specs.Plain.{Plain, chunk_rows, heading, nest, no_plain, plain, plain_rows, put_back, tree_nest, tree_rows, undone_step, with_chunks}
 pub use Rattle.mmemory.specs.Probe.{Falls, IsEdge, Skips, Splits, passes}

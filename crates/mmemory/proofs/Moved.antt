@@ -1,8 +1,8 @@
 -- SPDX-License-Identifier: Apache-2.0
 -- A place of a chunk that is made two.
-use Rattle.mmemory.proofs.MemoryWords.{◌≡◌, ℕ, zero, suc, ◌+◌, ◌-◌, ◌<◌, ◌≤◌, Bool, true, false, leb, cond, List, [], ◌∷◌, ◌++◌, length, take, drop, get_or, refl, sym, ap, subst, ◌∙◌, arith, add-one, append_assoc, leb-true, leb-false, take-append-le, drop-append-le, length-append, take-append-add, drop-append-add, Row, joined, Held, Place, Tree, front, back, rows_at, Plain, plain, no_plain, tree_nest, HalvedAt, is_moved, Keeps, nest_at}
+use Rattle.mmemory.proofs.MemoryWords.{◌≡◌, ℕ, zero, suc, ◌+◌, ◌-◌, ◌<◌, ◌≤◌, Bool, true, false, leb, cond, List, [], ◌∷◌, ◌++◌, length, take, drop, get_or, refl, sym, ap, subst, ◌∙◌, arith, add-one, append_assoc, leb-true, leb-false, take-append-le, drop-append-le, length-append, take-append-add, drop-append-add, Row, joined, Held, Place, Tree, rows_at, Plain, plain, no_plain, tree_nest, HalvedAt, IsMoved, is_moved, Keeps, nest_at, IsShaped, shape_at, before, after, Writes}
 use Rattle.mmemory.proofs.Shown.{shown_at}
-use Rattle.mmemory.proofs.Logs.{same_count}
+use Rattle.mmemory.proofs.Logs.{same_count, same_shape, then_wrote}
 use Rattle.mmemory.proofs.Nests.{from_place, up_to_place}
 use Rattle.mmemory.proofs.Backs.{halves, first_half, second_half}
 
@@ -16,12 +16,6 @@ module _ (head tail : List Row) where
   halves_behind [] k within = absurd (omega arith)
   halves_behind (x ∷ n) zero within = refl
   halves_behind (x ∷ n) (suc k) within = halves_behind n k (omega arith)
-
--- the rows around a place of two chunks that were one
-pub record IsMoved (old new : List (List Row)) (k row : ℕ) (at : ℕ × ℕ) : Type 0 where
-  pub front_is : front new at.0 at.1 ≡ front old k row
-  pub back_is : back new at.0 at.1 ≡ back old k row
-  pub inside : at.1 ≤ length (get_or new at.0 [])
 
 module _ (old new : List (List Row)) (k row : ℕ) (two : HalvedAt old new k) (low : k < length old) (within : row ≤ length (get_or old k [])) where
   now_is : new ≡ halves two.head two.tail old k
@@ -75,3 +69,13 @@ moved_at old new t p q found rows keeps two within low small is are at =
     let here : nest_at new t ≡ tree_nest found = ap (λ (it : Plain). it.chunks) (shown_at plain new.trees.items t no_plain found there is) in
     let head : length rows ≡ length two.head = ap length (are ∙ ap (λ n. get_or n p.chunk []) (sym here) ∙ head_is (nest_at old t) (nest_at new t) p.chunk p.row two low small) in
     place_moved (nest_at old t) (nest_at new t) p.chunk p.row two low small _ (at ∙ ap (is_moved p.chunk p.row) head)
+
+-- a row that goes in at such a place
+module _ (old mid : Held) (t : ℕ) (p q : Place) (row : Row) (kept : Keeps old mid) (m : IsMoved (nest_at old t) (nest_at mid t) p.chunk p.row (q.chunk, q.row)) where
+  pub fits_moved : IsShaped (shape_at old t) (before (nest_at old t) p ++ row ∷ after (nest_at old t) p) → IsShaped (shape_at mid t) (before (nest_at mid t) q ++ row ∷ after (nest_at mid t) q)
+  fits_moved shaped =
+      subst (λ s. IsShaped s (before (nest_at mid t) q ++ row ∷ after (nest_at mid t) q)) (sym (same_shape old mid kept.headings_are t))
+      (subst (IsShaped (shape_at old t)) (λ i. sym m.front_is i ++ row ∷ sym m.back_is i) shaped)
+
+  pub wrote_moved : (new : Held) → Writes mid new t (before (nest_at mid t) q ++ row ∷ after (nest_at mid t) q) → Writes old new t (before (nest_at old t) p ++ row ∷ after (nest_at old t) p)
+  wrote_moved new w = then_wrote old mid new t _ kept (subst (Writes mid new t) (λ i. m.front_is i ++ row ∷ m.back_is i) w)

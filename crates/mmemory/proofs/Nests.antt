@@ -1,6 +1,6 @@
 -- SPDX-License-Identifier: Apache-2.0
 -- The rows around a place.
-use Rattle.mmemory.proofs.MemoryWords.{◌≡◌, ℕ, zero, suc, ◌+◌, ◌-◌, ◌≤◌, min, List, [], ◌∷◌, ◌++◌, length, take, drop, get_or, slice_get, Some, None, refl, sym, ap, ◌∙◌, arith, add-one, append_assoc, flat_map, take-append-drop, append-nil, length-drop, drop_min, take-nil, drop-nil, flat_map-append, Row, Place, joined, rows_at, before, after, after_row}
+use Rattle.mmemory.proofs.MemoryWords.{◌≡◌, ℕ, zero, suc, ◌+◌, ◌≤◌, List, [], ◌∷◌, ◌++◌, length, take, drop, get_or, slice_get, Some, refl, sym, ap, ◌∙◌, arith, add-one, append_assoc, flat_map, take-append-drop, append-nil, take-nil, drop-nil, flat_map-append, Row, Place, joined, before, after}
 
 module _ {A : Type 0} (f : A → List Row) (d : A) (none : f d ≡ []) where
   -- a list from a place on: what stands there, and the rest
@@ -46,21 +46,8 @@ take_at (y ∷ xs) (suc k) x found =
     let rest : take (k + 1) xs ≡ take k xs ++ x ∷ [] = take_at xs k x found in
     rw (add-one (suc k)) (ap (λ l. y ∷ l) (rw (add-one k) at rest))
 
-pub past_end : {A : Type 0} (xs : List A) (k : ℕ) → slice_get xs k ≡ None → length xs ≤ k
-past_end [] k none = omega arith
-past_end (x ∷ xs) zero none = absurd (cc)
-past_end (x ∷ xs) (suc k) none = omega (arith, past_end xs k none)
-
 pub take_past : {A : Type 0} (n : ℕ) (xs : List A) → length xs ≤ n → take n xs ≡ xs
 take_past zero [] h = refl
 take_past (suc n) [] h = refl
 take_past zero (x ∷ xs) h = absurd (omega arith)
 take_past (suc n) (x ∷ xs) h = ap (λ l. x ∷ l) (take_past n xs (omega arith))
-
--- the rest of a list, as a slice of it has it
-pub rest_of : {A : Type 0} (at : ℕ) (xs : List A) → take (length xs - min at (length xs)) (drop (min at (length xs)) xs) ≡ drop at xs
-rest_of at xs = take_past _ (drop (min at (length xs)) xs) (omega (arith, length-drop (min at (length xs)) xs)) ∙ drop_min at xs
-
-module _ (n : List (List Row)) (p : Place) where
-  pub row_on : (row : Row) → slice_get (rows_at n p) p.row ≡ Some row → after n p ≡ row ∷ after_row n p (p.row + 1)
-  row_on row found = rw (drop_at (rows_at n p) p.row row found)

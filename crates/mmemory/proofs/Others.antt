@@ -1,6 +1,6 @@
 -- SPDX-License-Identifier: Apache-2.0
 -- Trees that are made, replaced and described, with what the log has to take that back.
-use Rattle.mmemory.proofs.MemoryWords.{◌≡◌, ℕ, zero, suc, ◌+◌, ◌-◌, ◌<◌, ◌≤◌, List, [], ◌∷◌, ◌++◌, length, map, take, drop, replicate, set, get_or, refl, sym, ap, subst, ◌∙◌, arith, ∥∥₁_map, take-append_seam, append-nil, map-append, map-set, length-map, length-append, Row, Object, Shape, Absent, Table, Index, Pageless, FrozenTable, FrozenIndex, Heading, no_heading, shape_in, reals_in, reals_unless_absent, padded, snapshot_of, catalog_tree, version_tree, set_at, with_version, description, Trees, with_tree, IsShaped, Tree, Undo, Put, Shorten, Held, Plain, plain, no_plain, heading, plain_rows, Describes, State, state_of, undone_one, undone, headings, rows_of, shown, IsInOrder, AreInOrder, Labels, now, moment, KeepsPast, KeepsShown, Pads, Puts}
+use Rattle.mmemory.proofs.MemoryWords.{◌≡◌, ℕ, zero, suc, ◌+◌, ◌-◌, ◌<◌, ◌≤◌, List, [], ◌∷◌, ◌++◌, length, map, take, drop, replicate, set, get_or, refl, sym, ap, subst, ◌∙◌, arith, ∥∥₁_map, take-append_seam, append-nil, map-append, map-set, length-map, length-append, Row, Object, Shape, Absent, Table, Index, Pageless, FrozenTable, FrozenIndex, Heading, no_heading, shape_in, reals_in, reals_unless_absent, padded, snapshot_of, catalog_tree, version_tree, set_at, with_version, description, Trees, with_tree, IsShaped, Tree, Undo, Put, Shorten, Held, Plain, plain, no_plain, heading, plain_rows, Describes, State, state_of, undone_one, undone, headings, rows_of, shown, IsInOrder, AreInOrder, Labels, now, moment, KeepsPast, KeepsShown, Pads, Puts, Relabels}
 use mathlib.Core.Path.{fun_ext}
 use Rattle.mmemory.specs.declared.step.Step.{Step}
 use Rattle.mmemory.specs.declared.undo.Undo.TheVariants.{Step as OfTree}
@@ -178,7 +178,7 @@ module _ (trees : List Tree) (v t : ℕ) (y x : Tree) (step : Step) (reals : ℕ
       let kind : (plain x).shape ≡ (get_or (map plain trees) t no_plain).shape = ap (λ (p : Plain). p.shape) d.new_is ∙ ap (λ (p : Plain). p.shape) (sym there) in
       put_order trees v t y x low (subst (λ k. IsShaped k (plain_rows (plain x))) (sym kind) (subst (IsShaped (get_or (map plain trees) t no_plain).shape) (sym same_rows) (all t))) all
 
-  pub labels_as : (o : Object) → reals ≡ o.reals → described ≡ description o → Labels (state_of trees v) (state_of (set trees t x) v) t o
+  labels_as : (o : Object) → reals ≡ o.reals → described ≡ description o → Labels (state_of trees v) (state_of (set trees t x) v) t o
   labels_as o reals_are described_is =
       let was = state_of trees v in
       let at : get_or (headings was) t no_heading ≡ heading (plain y) = shown_at heading (map plain trees) t no_heading (plain y) under (sym (shown_at plain trees t (plain y) y low is)) in
@@ -193,3 +193,13 @@ module _ (trees : List Tree) (v t : ℕ) (y x : Tree) (step : Step) (reals : ℕ
         rows_are = put_rows trees v t y x low ∙ stays_at (rows_of was) t (plain_rows (plain x)) same_rows;
         version_is = refl;
       }
+
+pub relabels_in : (old new : Held) (t : ℕ) (y x : Tree) (step : Step) (reals : ℕ) (described : Row) (low : t < length old.trees.items) (is : y ≡ get_or old.trees.items t y) (d : Describes (plain y) (plain x) step reals described)
+    (o : Object) → reals ≡ o.reals → described ≡ description o → new.trees.items ≡ set old.trees.items t x → new.version ≡ old.version → new.log.items ≡ old.log.items ++ OfTree t step ∷ [] → new.marks.items ≡ old.marks.items
+    → Relabels old new t o
+relabels_in old new t y x step reals described low is d o reals_are described_is trees version logged marks =
+    let same : now new ≡ state_of (set old.trees.items t x) old.version = λ i. state_of (trees i) (version i) in
+    record {
+      keeps = kept_by old new (OfTree t step) logged (ap (undone_one (OfTree t step)) same ∙ label_undone old.trees.items old.version t y x step reals described low is d) marks;
+      labels = subst (λ s. Labels (now old) s t o) (sym same) (labels_as old.trees.items old.version t y x step reals described low is d o reals_are described_is);
+    }

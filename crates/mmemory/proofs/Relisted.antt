@@ -1,7 +1,7 @@
 -- SPDX-License-Identifier: Apache-2.0
 -- Trees that are listed as other objects, one after another.
-use Rattle.mmemory.proofs.MemoryWords.{◌≡◌, ℕ, zero, suc, ◌+◌, ◌<◌, ◌≤◌, List, [], ◌∷◌, length, take, drop, get_or, Result, Ok, Err, OnOk, OnErr, is_err, true, false, true≢false, refl, sym, ap, ◌∙◌, arith, AllByRecursion, take_more, length-map, Object, View, StoreError, Relists, MayRelist, FailsToRelist, shape_in, relists_more, Held, Memory, plain, heading, headings, shown, undone, now, moment, KeepsPast, KeepsShown, Relabels, memory_view, current, marks_of, all_kept}
-use Rattle.mmemory.proofs.Views.{shape_at, present_within, beside, relabelled, seen}
+use Rattle.mmemory.proofs.MemoryWords.{◌≡◌, ℕ, zero, suc, ◌+◌, ◌<◌, ◌≤◌, List, [], ◌∷◌, length, take, drop, get_or, Result, Ok, Err, OnOk, OnErr, is_err, true, false, true≢false, refl, sym, ap, ◌∙◌, arith, inl, AllByRecursion, take_more, length-map, Object, StoreError, Relists, MayRelist, FailsToRelist, shape_in, relists_more, Held, Memory, plain, heading, headings, shown, undone, now, moment, KeepsPast, KeepsShown, Relabels, memory_view, current, marks_of, all_kept, View}
+use Rattle.mmemory.proofs.Views.{shape_at, present_within, beside, relabelled, fails}
 
 pub each_at : {X : Type 0} (P : X → Type 0) (xs : List X) (at : ℕ) (d : X) → AllByRecursion P xs → at < length xs → P (get_or xs at d)
 each_at P [] at d all within = absurd (omega arith)
@@ -34,16 +34,19 @@ went_back old new back len is h past at longer marks = record {
 }
 
 pub fails_to_relist : (old new : Memory) (e : StoreError) → KeepsShown old.held new.held → FailsToRelist (memory_view old) (memory_view new) e
-fails_to_relist old new e h = let same = seen old new h in record {
-  shape = ap (λ (v : View). v.committed_shape) same;
-  reals = ap (λ (v : View). v.committed_reals) same;
-  numbered = refl;
-  was_open = λ o. o;
-  committed = λ _. ap (λ (v : View). v.committed) same;
-  marks = λ _. ap (λ (v : View). v.marks) same;
-  unchanged = λ _. same;
-  refused = λ _ _. same;
-}
+fails_to_relist old new e h =
+    let it = fails old new (Err e) h in
+    let kept = it.kept in
+    record {
+      shape = kept.committed_shape;
+      reals = kept.committed_reals;
+      numbered = refl;
+      was_open = λ o. o;
+      committed = kept.committed;
+      marks = kept.marks;
+      unchanged = it.unchanged;
+      refused = λ clean same. it.refused clean (inl same);
+    }
 
 pub of_ok : {X E P : Type 0} (r : Result X E) → is_err r ≡ false → OnOk r P → P
 of_ok (Ok x) is h = h

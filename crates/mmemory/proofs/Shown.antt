@@ -1,6 +1,6 @@
 -- SPDX-License-Identifier: Apache-2.0
 -- Lists by their places.
-use Rattle.mmemory.proofs.MemoryWords.{◌≡◌, ◌≢◌, ℕ, zero, suc, ◌<◌, ◌≤◌, List, [], ◌∷◌, length, map, drop, get_or, slice_get, Some, refl, sym, ap, arith}
+use Rattle.mmemory.proofs.MemoryWords.{◌≡◌, ◌≢◌, ℕ, zero, suc, ◌<◌, ◌≤◌, List, [], ◌∷◌, length, map, drop, get_or, refl, sym, ap, arith}
 
 pub drop_past : {A : Type 0} (n : ℕ) (xs : List A) → length xs ≤ n → drop n xs ≡ []
 drop_past zero [] h = refl
@@ -18,16 +18,6 @@ pub not_shown : {T X : Type 0} (f : T → X) (parts : List T) (k : ℕ) (d : X) 
 not_shown f [] k d past = refl
 not_shown f (x ∷ parts) zero d past = absurd (omega arith)
 not_shown f (x ∷ parts) (suc k) d past = not_shown f parts k d (omega arith)
-
-pub one_at : {A : Type 0} (xs : List A) (k : ℕ) (x y : A) → k < length xs → x ≡ get_or xs k x → slice_get xs k ≡ Some y → x ≡ y
-one_at [] k x y within is found = absurd (omega arith)
-one_at (z ∷ xs) zero x y within is found = cc
-one_at (z ∷ xs) (suc k) x y within is found = one_at xs k x y (omega arith) is found
-
-pub none_at : {A : Type 0} (xs : List A) (k : ℕ) (x : A) → length xs ≤ k → slice_get xs k ≡ Some x → ⊥
-none_at [] k x past found = cc
-none_at (y ∷ xs) zero x past found = omega arith
-none_at (y ∷ xs) (suc k) x past found = none_at xs k x (omega arith) found
 
 -- the first of some, whatever would stand there if there were none
 pub first_of : {A : Type 0} (xs : List A) (x d : A) → xs ≢ [] → x ≡ get_or xs 0 x → x ≡ get_or xs 0 d

@@ -1,6 +1,6 @@
 -- SPDX-License-Identifier: Apache-2.0
 -- A search by halves finds where the rows cease to pass.
-use Rattle.mmemory.proofs.MemoryWords.{◌≡◌, ◌≢◌, ℕ, zero, suc, ◌+◌, ◌-◌, ◌<◌, ◌≤◌, max, Bool, true, false, List, [], ◌∷◌, ◌++◌, length, map, take, drop, get_or, slice_get, Some, refl, sym, ap, subst, ◌∙◌, arith, add-one, true≢false, inl, inr, eq-or-lt_of_le, flat_map, AllByRecursion, take-append-drop, Row, IsAscending, all-append, all_weaker, not_true, IsEdge, Falls}
+use Rattle.mmemory.proofs.MemoryWords.{slice_get-get_or, ◌≡◌, ◌≢◌, ℕ, zero, suc, ◌+◌, ◌-◌, ◌<◌, ◌≤◌, max, Bool, true, false, List, [], ◌∷◌, ◌++◌, length, map, take, drop, get_or, slice_get, Some, refl, sym, ap, subst, ◌∙◌, arith, add-one, true≢false, inl, inr, eq-or-lt_of_le, flat_map, AllByRecursion, take-append-drop, Row, IsAscending, all-append, all_weaker, not_true, IsEdge, Falls}
 use Rattle.mmemory.proofs.Shown.{drop_past}
 use Rattle.mmemory.proofs.Nests.{around, from_place, drop_at, take_at}
 
@@ -26,11 +26,6 @@ pub begun : {A : Type 0} (xs : List A) (d : A) → xs ≢ [] → xs ≡ get_or x
 begun [] d h = absurd (h refl)
 begun (x ∷ xs) d h = refl
 
-pub get_within : {A : Type 0} (xs : List A) (k : ℕ) (d : A) → k < length xs → slice_get xs k ≡ Some (get_or xs k d)
-get_within [] k d h = absurd (omega arith)
-get_within (x ∷ xs) zero d h = refl
-get_within (x ∷ xs) (suc k) d h = get_within xs k d (omega arith)
-
 pub all_at : {A : Type 0} (P : A → Type 0) (xs : List A) (k : ℕ) (d : A) → k < length xs → AllByRecursion P xs → P (get_or xs k d)
 all_at P [] k d within h = absurd (omega arith)
 all_at P (x ∷ xs) zero d within h = h.0
@@ -49,7 +44,7 @@ module _ (test : Row → Bool) where
   pub rows_passed : (rows : List Row) (at : ℕ) → Falls test rows → at ≤ length rows → IsEdge test rows at → AllByRecursion (λ r. test r ≡ true) (take at rows)
   rows_passed rows zero up within edge = tt
   rows_passed rows (suc k) up within edge =
-      let here = get_within rows k [] (omega arith) in
+      let here = slice_get-get_or rows k [] (omega arith) in
       let row = get_or rows k [] in
       let passes : test row ≡ true = edge.last k row (omega arith) here in
       let up2 = subst (Falls test) (sym (take-append-drop k rows) ∙ ap (λ l. take k rows ++ l) (drop_at rows k row here)) up in
@@ -60,7 +55,7 @@ module _ (test : Row → Bool) where
   rows_failed rows at up within edge = elim (eq-or-lt_of_le within) [
     | inl same ↦ rw (drop_past at rows (omega arith)) tt
     | inr below ↦
-        let here = get_within rows at [] below in
+        let here = slice_get-get_or rows at [] below in
         let row = get_or rows at [] in
         let up2 = subst (Falls test) (sym (take-append-drop at rows) ∙ ap (λ l. take at rows ++ l) (drop_at rows at row here)) up in
         rw (drop_at rows at row here) (failed_after (take at rows) row (drop (at + 1) rows) up2 (edge.first row here))
@@ -80,7 +75,7 @@ module _ (test : Row → Bool) where
         go (suc k) is =
             let low : k < length xs = omega arith in
             let here : max (suc k) 1 - 1 ≡ k = omega arith in
-            rw here (passed_before _ _ _ (led k low) (edge.last k (get_or xs k d) (omega arith) (get_within xs k d low)))
+            rw here (passed_before _ _ _ (led k low) (edge.last k (get_or xs k d) (omega arith) (slice_get-get_or xs k d low)))
 
     failed_from : AllByRecursion (λ r. test r ≡ false) (flat_map f (drop at xs))
     failed_from = elim (eq-or-lt_of_le within) [
@@ -88,7 +83,7 @@ module _ (test : Row → Bool) where
       | inr low ↦
           subst (AllByRecursion (λ r. test r ≡ false))
           (sym (from_place f d none xs at ∙ ap (λ l. l ++ flat_map f (drop (at + 1) xs)) (begun (f (get_or xs at d)) [] (all_at _ xs at d low some))))
-          (failed_after _ _ _ (led at low) (edge.first (get_or xs at d) (get_within xs at d low)))
+          (failed_after _ _ _ (led at low) (edge.first (get_or xs at d) (slice_get-get_or xs at d low)))
     ]
 
     pub parts_failed : AllByRecursion (λ r. test r ≡ false) (flat_map f (drop (max at 1 - 1 + 1) xs))

@@ -1,8 +1,9 @@
 -- SPDX-License-Identifier: Apache-2.0
 -- From the trees of a store to what it shows.
-use Rattle.mmemory.proofs.MemoryWords.{All, ◌≡◌, ◌≢◌, ℕ, zero, suc, ◌+◌, ◌-◌, ◌^◌, ◌<◌, ◌≤◌, pos, true, false, cond, eqb, List, [], ◌∷◌, ◌++◌, length, map, replicate, get_or, set, Option, Some, option_map, Result, Ok, Err, OnOk, OnErr, IfErr, refl, sym, ap, subst, ◌∙◌, arith, eq-eqb, ne_eqb, inl, inr, cases_eq, length-append, length-replicate, length-map, Row, StoreError, Object, Shape, Absent, Table, with_tree, put_row, without_rowid, View, Snapshot, KeepsSchema, SetsTree, OnlyWrites, IsFailure, padded, catalog_tree, version_tree, with_version, description, object_row, set_at, SetsObject, Relists, Heading, no_heading, shape_in, reals_in, reals_unless_absent, objects_from, objects_from-set, objects_from-unset, named, unnumbered, under_version, versioned_edit, versioned_object, get_or-set_cases, present_reals, Tree, Memory, snapshot_of, Plain, plain, heading, plain_rows, State, headings, rows_of, shown, WithTree, Labels, now, moment, KeepsPast, Keeps, KeepsShown, Writes, Puts, Held, current, marks_of, view_of, memory_view}
+use Rattle.mmemory.proofs.MemoryWords.{All, ◌≡◌, ◌≢◌, ℕ, zero, suc, ◌+◌, ◌-◌, ◌^◌, ◌<◌, ◌≤◌, pos, true, false, cond, eqb, List, [], ◌∷◌, ◌++◌, length, map, replicate, get_or, set, Option, Some, option_map, Result, Ok, Err, OnErr, IfErr, refl, sym, ap, subst, ◌∙◌, arith, eq-eqb, ne_eqb, inl, inr, cases_eq, length-append, length-replicate, length-map, Row, StoreError, Object, Shape, Absent, Table, with_tree, put_row, without_rowid, View, Snapshot, SetsTree, OnlyWrites, IsFailure, padded, catalog_tree, version_tree, with_version, description, object_row, set_at, SetsObject, Relists, Heading, no_heading, shape_in, reals_in, reals_unless_absent, objects_from, objects_from-set, objects_from-unset, named, unnumbered, under_version, versioned_edit, versioned_object, get_or-set_cases, present_reals, Tree, Memory, snapshot_of, Plain, plain, heading, plain_rows, State, headings, rows_of, shown, WithTree, Labels, now, moment, KeepsPast, Keeps, KeepsShown, Writes, Puts, Held, current, marks_of, view_of, memory_view}
 use mathlib.Core.Path.{fun_ext}
 use Rattle.mmemory.proofs.Shown.{shown_at, not_shown}
+use Rattle.mmemory.proofs.Logs.{after_error}
 
 -- ---- numbers that no tree has
 
@@ -147,29 +148,6 @@ module _ (old new : Memory) where
   pub sets_frame : (tree : ℕ) (edit : List Row → List Row) → SetsTree (memory_view old) (memory_view new) tree edit → OnlyWrites (memory_view old) (memory_view new)
   sets_frame tree edit h = λ i. record (h.is i) { trees = (memory_view new).trees; cursors = (memory_view new).cursors }
 
-  schema_same : memory_view new ≡ record (memory_view old) { cursors = (memory_view new).cursors } → KeepsSchema (memory_view old) (memory_view new)
-  schema_same h = record {
-    shape = ap (λ (v : View). v.shape) h;
-    reals = ap (λ (v : View). v.reals) h;
-    committed_shape = ap (λ (v : View). v.committed_shape) h;
-    committed_reals = ap (λ (v : View). v.committed_reals) h;
-    numbered = refl;
-  }
-
-  pub sets_keeps : (tree : ℕ) (edit : List Row → List Row) (r : Result (Unit {0}) StoreError) → OnOk r (SetsTree (memory_view old) (memory_view new) tree edit) → OnErr r (KeepsShown old.held new.held)
-      → KeepsSchema (memory_view old) (memory_view new) × ((memory_view new).committed ≡ (memory_view old).committed)
-  sets_keeps tree edit (Ok x) h _ = (
-    record {
-      shape = ap (λ (v : View). v.shape) h.is;
-      reals = ap (λ (v : View). v.reals) h.is;
-      committed_shape = ap (λ (v : View). v.committed_shape) h.is;
-      committed_reals = ap (λ (v : View). v.committed_reals) h.is;
-      numbered = refl;
-    },
-    ap (λ (v : View). v.committed) h.is,
-  )
-  sets_keeps tree edit (Err e) _ h = (schema_same (seen h), ap (λ (v : View). v.committed) (seen h))
-
   pub fails : (r : Result (Unit {0}) StoreError) → OnErr r (KeepsShown old.held new.held) → IfErr r (IsFailure (memory_view old) (memory_view new))
   fails (Ok x) h = tt
   fails (Err e) h = let same = seen h in record {
@@ -186,6 +164,9 @@ module _ (old new : Memory) where
     unchanged = λ _. same;
     refused = λ _ _. same;
   }
+
+  pub fails_kept : (r : Result (Unit {0}) StoreError) → Keeps old.held new.held → IfErr r (IsFailure (memory_view old) (memory_view new))
+  fails_kept r h = fails r (after_error r (seen_same old.held new.held h))
 
 -- the shape of a tree that a call can name
 pub shape_at : (s : Memory) (t : ℕ) → t < 2 ^ 32 → (memory_view s).shape t ≡ shape_in (headings (current s)) t

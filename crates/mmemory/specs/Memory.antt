@@ -23,7 +23,7 @@ use Rattle.mmemory.specs.Held.{now, moment}
 abbrev pub current : Memory → State
 current s = now s.held
 
-abbrev left_from : Direction → List (List Row) → Place → List Row
+abbrev pub left_from : Direction → List (List Row) → Place → List Row
 left_from Forward n p = after n p
 left_from Backward n p = reverse (before n p)
 

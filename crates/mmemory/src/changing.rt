@@ -4,8 +4,9 @@ ghost use Rattle.std.specs.Prelude.{◌≡◌, ◌+◌, ◌<◌, ◌≤◌, ◌+
 ghost use Rattle.mmemory.specs.Nest.{rows_at, before, after, after_row};
 ghost use Rattle.mmemory.specs.Lists.{joined};
 ghost use Rattle.mmemory.specs.Plain.{plain, tree_nest, tree_rows};
-ghost use Rattle.mmemory.specs.Changes.{Makes, HalvedAt};
+ghost use Rattle.mmemory.specs.Changes.{Makes, HalvedAt, Fits, Halves, rows_after};
 
+use crate::change::Change;
 use crate::chunk::Chunk;
 use crate::place::Place;
 use crate::step::Step;
@@ -15,7 +16,7 @@ use std::alloc::{AllocError, Global};
 
 impl Tree {
     // Puts a row in at a place of a chunk that is not full.
-    pub(crate) fn put_at(&mut self, place: Place, row: Row) -> Step
+    fn put_at(&mut self, place: Place, row: Row) -> Step
         requires chunk { place.chunk < length (tree_nest self.old) }
         requires row { place.row ≤ length (rows_at (tree_nest self.old) place) }
         requires room { length (rows_at (tree_nest self.old) place) < 128 }
@@ -26,7 +27,7 @@ impl Tree {
     }
 
     // Puts a row in place of another.
-    pub(crate) fn set_at(&mut self, place: Place, row: Row) -> Step
+    fn set_at(&mut self, place: Place, row: Row) -> Step
         requires chunk { place.chunk < length (tree_nest self.old) }
         requires row { place.row < length (rows_at (tree_nest self.old) place) }
         ensures { let n = tree_nest self.old in Makes (plain self.old) (plain self.new) result (before n place ++ row ∷ after_row n place (place.row + 1)) }
@@ -36,7 +37,7 @@ impl Tree {
     }
 
     // Takes a row out.
-    pub(crate) fn take_at(&mut self, place: Place) -> Step
+    fn take_at(&mut self, place: Place) -> Step
         requires chunk { place.chunk < length (tree_nest self.old) }
         requires row { place.row < length (rows_at (tree_nest self.old) place) }
         ensures { let n = tree_nest self.old in Makes (plain self.old) (plain self.new) result (before n place ++ after_row n place (place.row + 1)) }
@@ -51,12 +52,7 @@ impl Tree {
     }
 
     // Puts a row in as a chunk of its own.
-    pub(crate) fn add_chunk(
-        &mut self,
-        alloc: Global,
-        at: usize,
-        row: Row,
-    ) -> Result<Step, AllocError>
+    fn add_chunk(&mut self, alloc: Global, at: usize, row: Row) -> Result<Step, AllocError>
         requires { at ≤ length (tree_nest self.old) }
         ensures ok { let n = tree_nest self.old in IfOk result (λ step. Makes (plain self.old) (plain self.new) step (joined (take at n) ++ row ∷ joined (drop at n))) }
         ensures err { OnErr result (plain self.new ≡ plain self.old) }
@@ -68,7 +64,7 @@ impl Tree {
     }
 
     // Makes two chunks of one.
-    pub(crate) fn split(&mut self, alloc: Global, at: usize) -> Result<Step, AllocError>
+    fn split(&mut self, alloc: Global, at: usize) -> Result<Step, AllocError>
         requires chunk { at < length (tree_nest self.old) }
         requires rows { 1 < length (get_or (tree_nest self.old) at []) }
         ensures ok { IfOk result (λ step. Makes (plain self.old) (plain self.new) step (tree_rows self.old)) }
@@ -79,5 +75,21 @@ impl Tree {
         let tail = self.chunks[at].split(alloc)?;
         self.chunks.insert(at + 1, tail).unwrap();
         Ok(Step::Join(at))
+    }
+
+    // Makes a change, and gives what takes it back.
+    pub(crate) fn change(&mut self, alloc: Global, change: Change) -> Result<Step, AllocError>
+        requires { Fits change (tree_nest self.old) }
+        ensures ok { IfOk result (λ step. Makes (plain self.old) (plain self.new) step (rows_after change (tree_nest self.old))) }
+        ensures halves { IfOk result (λ _. Halves change (tree_nest self.old) (tree_nest self.new)) }
+        ensures err { OnErr result (plain self.new ≡ plain self.old) }
+    {
+        match change {
+            Change::Put(place, row) => Ok(self.put_at(place, row)),
+            Change::Set(place, row) => Ok(self.set_at(place, row)),
+            Change::Take(place) => Ok(self.take_at(place)),
+            Change::Begin(at, row) => self.add_chunk(alloc, at, row),
+            Change::Split(at) => self.split(alloc, at),
+        }
     }
 }

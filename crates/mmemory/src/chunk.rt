@@ -12,8 +12,8 @@ use std::mem;
 
 pub(crate) const CHUNK_LIMIT: usize = 128;
 
-/// Up to 128 rows, with room for all of them from the start. How its first row begins, and the marks of all,
-/// lead a search, and nothing rests on them.
+/// Up to 128 rows, with room for all of them from the start. How the first of them begins and the
+/// marks of all lead a search, and nothing that is proved rests on them.
 #[derive(Drop)]
 pub(crate) struct Chunk {
     pub rows: Vec<Row>,

@@ -6,6 +6,7 @@ ghost use Rattle.sqlite_trees.specs.Tree.{rowid, put_row, insert_entry, remove_e
 ghost use Rattle.mmemory.specs.States.{rows_of};
 ghost use Rattle.mmemory.specs.Held.{now, Keeps, Writes, shape_at};
 
+use crate::change::Change;
 use crate::held::Held;
 use crate::probe::Probe;
 use sqlite_trees::store::Shape;
@@ -25,7 +26,7 @@ impl Held {
         let new = row.copy(self.alloc)?;
         let (place, hit) = self.trees[tree].seek(Probe::BelowRowid(row.get(0)));
         if hit {
-            return self.set_at(tree, place, new);
+            return self.change(tree, Change::Set(place, new));
         }
         self.add(tree, place, new)
     }
@@ -40,7 +41,7 @@ impl Held {
         if !hit {
             return Ok(());
         }
-        self.take_at(tree, place)
+        self.change(tree, Change::Take(place))
     }
 
     pub(crate) fn insert(
@@ -77,6 +78,6 @@ impl Held {
         if !hit {
             return Ok(());
         }
-        self.take_at(tree, place)
+        self.change(tree, Change::Take(place))
     }
 }

@@ -3,7 +3,7 @@
 use sqlite_value::value::ValueRef;
 
 /// The first 32 bytes of a value, as two numbers. Values mostly order as these do.
-#[derive(Clone, Copy, Debug)]
+#[derive(Clone, Copy)]
 pub(crate) struct Lead {
     pub high: u128,
     pub low: u128,

@@ -6,6 +6,7 @@
 #![tactic(auto)]
 
 mod alter;
+mod change;
 mod changing;
 mod chunk;
 mod cursor;

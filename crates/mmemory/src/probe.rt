@@ -56,6 +56,13 @@ impl<'a> Probe<'a> {
         }
     }
 
+    // Whether the first row of a chunk passes.
+    fn passes_first(self, chunk: &Chunk) -> bool
+        ensures { result ≡ passes self.entry (get_or (chunk_rows chunk.now) 0 []) }
+    {
+        self.passes(&chunk.rows[0])
+    }
+
     // Whether the row is what is sought.
     pub(crate) fn meets(self, row: &Row) -> bool
         ensures { result ≡ meets self.entry row.now }
@@ -78,7 +85,7 @@ pub(crate) fn chunk_edge(chunks: &[Chunk], probe: Probe<'_>) -> usize
     let mut high = chunks.len();
     while low < high {
         let middle = guess.next(low, high);
-        if probe.passes(&chunks[middle].rows[0]) {
+        if probe.passes_first(&chunks[middle]) {
             low = middle + 1;
         } else {
             high = middle;

@@ -10,8 +10,8 @@ seek-hit-requires c =
     let was = rw c.requires.table at (shaped_rows c.args.self.now c.args.tree c.index.result.now c.requires.tree c.index.ensures) in
     falls_below_rowid (owned c.get.result) (tree_rows c.index.result.now) was.0
 
-pub set_at-requires-clause-shaped : goal.set_at-requires-clause-shaped
-set_at-requires-clause-shaped c =
+pub change-requires-clause-shaped : goal.change-requires-clause-shaped
+change-requires-clause-shaped c =
     let h = c.args.self.now in
     let it = rw c.if-hit.true at c.seek-hit.ensures in
     let made = put_over h c.args.tree c.index.result.now c.requires.tree c.index.ensures c.seek-hit.result.0 c.get.result c.in_ok-new.new c.args.row.now c.in_ok-new.ensures c.get.ensures it in
@@ -23,7 +23,7 @@ returns-then-hit-clause-ok c =
     let h = c.args.self.now in
     let it = rw c.if-hit.true at c.seek-hit.ensures in
     let made = put_over h c.args.tree c.index.result.now c.requires.tree c.index.ensures c.seek-hit.result.0 c.get.result c.in_ok-new.new c.args.row.now c.in_ok-new.ensures c.get.ensures it in
-    subst (λ rows. OnOk c.set_at.result (Writes h c.set_at.new.self c.args.tree rows)) made c.set_at.ensures.ok
+    subst (λ rows. OnOk c.change.result (Writes h c.change.new.self c.args.tree rows)) made c.change.ensures.ok
 
 pub add-requires-clause-shaped : goal.add-requires-clause-shaped
 add-requires-clause-shaped c =

@@ -1,14 +1,12 @@
 -- SPDX-License-Identifier: Apache-2.0
-use Rattle.mmemory.proofs.MemoryWords.{◌≡◌, ◌++◌, ◌∷◌, [], set, refl, ap, ◌∙◌, arith, state_of}
+use Rattle.mmemory.proofs.MemoryWords.{set, refl, arith, state_of}
 use Rattle.mmemory.specs.declared.undo.Undo.TheVariants.{Step}
-use Rattle.mmemory.proofs.Logs.{order_same, within_same, within_more, when_ok}
-use Rattle.mmemory.proofs.Others.{order_by, kept_by, label_undone, label_order, labels_as}
+use Rattle.mmemory.proofs.Logs.{order_same, within_same, within_more, pushed}
+use Rattle.mmemory.proofs.Others.{order_by, label_undone, label_order, relabels_in}
 use Rattle.mmemory.proofs.held.Held.relabel.Goals as goal
 
 pub invariant_of-self : goal.invariant_of-self
-invariant_of-self c =
-    let h = c.args.self.now in
-    record { ordered = order_same h c.reserve.new.self.items c.reserve.ensures.items; within = within_same h c.reserve.new.self.items c.reserve.ensures.items; rising = h.rising }
+invariant_of-self c = record { ordered = order_same c.args.self.now _ c.reserve.ensures.items; within = within_same c.args.self.now _ c.reserve.ensures.items; rising = c.args.self.now.rising }
 
 pub invariant_of-self-2 : goal.invariant_of-self-2
 invariant_of-self-2 c =
@@ -20,8 +18,7 @@ invariant_of-self-2 c =
     let step = c.describe-step.result in
     let u = Step t step in
     let d = c.describe-step.ensures in
-    let logged : c.push.new.self.items ≡ h.log.items ++ u ∷ [] =
-    c.push.ensures.items ∙ when_ok c.push.result _ _ (c.push.ensures.succeeds (omega (arith, c.in_ok-reserve.ensures.ok))) ∙ ap (λ l. l ++ u ∷ []) c.reserve.ensures.items in
+    let logged = pushed h.log.items c.reserve.new.self.items c.push.new.self.items u c.push.result (c.push.ensures.succeeds (omega (arith, c.in_ok-reserve.ensures.ok))) c.reserve.ensures.items c.push.ensures.items in
     let is = c.index_mut.ensures.value in
     record {
       ordered = order_by h c.push.new.self.items u (state_of (set trees t x) h.version) logged
@@ -32,17 +29,5 @@ invariant_of-self-2 c =
 
 pub returns-clause-ok : goal.returns-clause-ok
 returns-clause-ok c =
-    let h = c.args.self.now in
-    let t = c.args.tree in
-    let trees = h.trees.items in
-    let y = c.index_mut.result.now in
-    let x = c.describe-step.new.self in
-    let step = c.describe-step.result in
-    let u = Step t step in
-    let d = c.describe-step.ensures in
-    let logged : c.push.new.self.items ≡ h.log.items ++ u ∷ [] = (rw c.unwrap.ensures at c.push.ensures.items) ∙ ap (λ l. l ++ u ∷ []) c.reserve.ensures.items in
-    let is = c.index_mut.ensures.value in
-    record {
-      keeps = kept_by h _ u logged (label_undone trees h.version t y x step _ _ c.requires is d) refl;
-      labels = labels_as trees h.version t y x step _ _ c.requires is d c.args.object.now refl c.in_ok-described.ensures;
-    }
+    relabels_in c.args.self.now _ c.args.tree c.index_mut.result.now c.describe-step.new.self c.describe-step.result _ _ c.requires c.index_mut.ensures.value c.describe-step.ensures c.args.object.now refl c.in_ok-described.ensures
+    refl refl (pushed _ _ _ _ c.push.result (c.push.ensures.succeeds (omega (arith, c.in_ok-reserve.ensures.ok))) c.reserve.ensures.items c.push.ensures.items) refl

@@ -17,8 +17,8 @@ returns-then-not-hit-clause-ok c =
     let it = rw c.if-not-hit.true at c.seek-hit.ensures in
     wrote_none h c.args.tree _ (entry_not h c.args.tree c.index.result.now c.requires.tree c.index.ensures c.seek-hit.result.0 c.args.order c.args.entry was it)
 
-pub take_at-requires-clause-shaped : goal.take_at-requires-clause-shaped
-take_at-requires-clause-shaped c =
+pub change-requires-clause-shaped : goal.change-requires-clause-shaped
+change-requires-clause-shaped c =
     let h = c.args.self.now in
     let was = rw c.requires.index at (shaped_rows h c.args.tree c.index.result.now c.requires.tree c.index.ensures) in
     let it = rw c.if-not-hit.false at c.seek-hit.ensures in
@@ -31,4 +31,4 @@ returns-clause-ok c =
     let was = rw c.requires.index at (shaped_rows h c.args.tree c.index.result.now c.requires.tree c.index.ensures) in
     let it = rw c.if-not-hit.false at c.seek-hit.ensures in
     let made = entry_cut h c.args.tree c.index.result.now c.requires.tree c.index.ensures c.seek-hit.result.0 c.args.order c.args.entry was it in
-    subst (λ rows. OnOk c.take_at.result (Writes h c.take_at.new.self c.args.tree rows)) made c.take_at.ensures.ok
+    subst (λ rows. OnOk c.change.result (Writes h c.change.new.self c.args.tree rows)) made c.change.ensures.ok

@@ -1,13 +1,11 @@
 -- SPDX-License-Identifier: Apache-2.0
-use Rattle.mmemory.proofs.MemoryWords.{◌≡◌, ◌<◌, ◌++◌, ◌∷◌, [], length, set, get_or, refl, sym, ap, subst, ◌∙◌, arith, Tree, Put, state_of}
-use Rattle.mmemory.proofs.Logs.{order_same, within_same, within_more, when_ok, after_error}
+use Rattle.mmemory.proofs.MemoryWords.{◌≡◌, ◌<◌, [], length, set, get_or, refl, sym, ap, subst, ◌∙◌, arith, Tree, Put, state_of}
+use Rattle.mmemory.proofs.Logs.{order_same, within_same, within_more, pushed, after_error}
 use Rattle.mmemory.proofs.Others.{order_by, put_undone, put_order, empty_fits, puts_in, padded_shown, shown_kept}
 use Rattle.mmemory.proofs.held.Held.replace.Goals as goal
 
 pub invariant_of-self : goal.invariant_of-self
-invariant_of-self c =
-    let h = c.make_room.new.self in
-    record { ordered = order_same h c.reserve.new.self.items c.reserve.ensures.items; within = within_same h c.reserve.new.self.items c.reserve.ensures.items; rising = h.rising }
+invariant_of-self c = record { ordered = order_same c.make_room.new.self _ c.reserve.ensures.items; within = within_same c.make_room.new.self _ c.reserve.ensures.items; rising = c.make_room.new.self.rising }
 
 pub returns-in_err-reserve-clause-err : goal.returns-in_err-reserve-clause-err
 returns-in_err-reserve-clause-err c =
@@ -24,8 +22,7 @@ invariant_of-self-2 c =
     let u = Put t y in
     let low : t < length trees = c.in_ok-make_room.ensures.room in
     let is : y ≡ get_or trees t y = subst (λ (w : Tree). w ≡ get_or trees t w) (sym c.replace-old.ensures.value) c.index_mut.ensures.value in
-    let logged : c.push.new.self.items ≡ h.log.items ++ u ∷ [] =
-    c.push.ensures.items ∙ when_ok c.push.result _ _ (c.push.ensures.succeeds (omega (arith, c.in_ok-reserve.ensures.ok))) ∙ ap (λ l. l ++ u ∷ []) c.reserve.ensures.items in
+    let logged = pushed h.log.items c.reserve.new.self.items c.push.new.self.items u c.push.result (c.push.ensures.succeeds (omega (arith, c.in_ok-reserve.ensures.ok))) c.reserve.ensures.items c.push.ensures.items in
     let none : x.chunks.items ≡ [] = ap (λ (w : Tree). w.chunks.items) c.replace-old.ensures.after ∙ c.requires in
     record {
       ordered = order_by h c.push.new.self.items u (state_of (set trees t x) h.version) logged (put_undone trees h.version t y x low is) (put_order trees h.version t y x low (empty_fits x none));
@@ -35,14 +32,8 @@ invariant_of-self-2 c =
 
 pub returns-clause-ok : goal.returns-clause-ok
 returns-clause-ok c =
-    let old = c.args.self.now in
-    let h = c.make_room.new.self in
-    let t = c.args.tree in
-    let trees = h.trees.items in
-    let y = c.replace-old.result in
-    let x = c.replace-old.new.dest in
-    let u = Put t y in
     let room = c.in_ok-make_room.ensures in
-    let is : y ≡ get_or trees t y = subst (λ (w : Tree). w ≡ get_or trees t w) (sym c.replace-old.ensures.value) c.index_mut.ensures.value in
-    let logged : c.push.new.self.items ≡ h.log.items ++ u ∷ [] = (rw c.unwrap.ensures at c.push.ensures.items) ∙ ap (λ l. l ++ u ∷ []) c.reserve.ensures.items in
-    puts_in old h _ t y x c.args.new c.replace-old.ensures.after room.ok room.room is refl refl logged refl
+    let h = c.make_room.new.self in
+    let is = subst (λ (w : Tree). w ≡ get_or h.trees.items c.args.tree w) (sym c.replace-old.ensures.value) c.index_mut.ensures.value in
+    puts_in c.args.self.now h _ c.args.tree c.replace-old.result c.replace-old.new.dest c.args.new c.replace-old.ensures.after room.ok room.room is refl refl
+    (pushed _ _ _ _ c.push.result (c.push.ensures.succeeds (omega (arith, c.in_ok-reserve.ensures.ok))) c.reserve.ensures.items c.push.ensures.items) refl

@@ -1,20 +1,17 @@
 -- SPDX-License-Identifier: Apache-2.0
-use Rattle.mmemory.proofs.MemoryWords.{◌≡◌, ◌++◌, ◌∷◌, [], refl, ap, ◌∙◌, arith, Version, state_of, undone_one, now}
-use Rattle.mmemory.proofs.Logs.{order_same, within_same, within_more, when_ok}
+use Rattle.mmemory.proofs.MemoryWords.{◌≡◌, refl, arith, Version, state_of, undone_one, now}
+use Rattle.mmemory.proofs.Logs.{order_same, within_same, within_more, pushed}
 use Rattle.mmemory.proofs.Others.{order_by, kept_by}
 use Rattle.mmemory.proofs.held.Held.set_version.Goals as goal
 
 pub invariant_of-self : goal.invariant_of-self
-invariant_of-self c =
-    let h = c.args.self.now in
-    record { ordered = order_same h c.reserve.new.self.items c.reserve.ensures.items; within = within_same h c.reserve.new.self.items c.reserve.ensures.items; rising = h.rising }
+invariant_of-self c = record { ordered = order_same c.args.self.now _ c.reserve.ensures.items; within = within_same c.args.self.now _ c.reserve.ensures.items; rising = c.args.self.now.rising }
 
 pub invariant_of-self-2 : goal.invariant_of-self-2
 invariant_of-self-2 c =
     let h = c.args.self.now in
     let u = Version c.replace-old.result in
-    let logged : c.push.new.self.items ≡ h.log.items ++ u ∷ [] =
-    c.push.ensures.items ∙ when_ok c.push.result _ _ (c.push.ensures.succeeds (omega (arith, c.in_ok-reserve.ensures.ok))) ∙ ap (λ l. l ++ u ∷ []) c.reserve.ensures.items in
+    let logged = pushed h.log.items c.reserve.new.self.items c.push.new.self.items u c.push.result (c.push.ensures.succeeds (omega (arith, c.in_ok-reserve.ensures.ok))) c.reserve.ensures.items c.push.ensures.items in
     let back : undone_one u (state_of h.trees.items c.replace-old.new.dest) ≡ now h = λ i. state_of h.trees.items (c.replace-old.ensures.value i) in
     record {
       ordered = order_by h c.push.new.self.items u (state_of h.trees.items c.replace-old.new.dest) logged back (λ all. all);
@@ -24,8 +21,5 @@ invariant_of-self-2 c =
 
 pub returns-clause-past : goal.returns-clause-past
 returns-clause-past c =
-    let h = c.args.self.now in
-    let u = Version c.replace-old.result in
-    let logged : c.push.new.self.items ≡ h.log.items ++ u ∷ [] = (rw c.unwrap.ensures at c.push.ensures.items) ∙ ap (λ l. l ++ u ∷ []) c.reserve.ensures.items in
-    let back : undone_one u (state_of h.trees.items c.replace-old.new.dest) ≡ now h = λ i. state_of h.trees.items (c.replace-old.ensures.value i) in
-    kept_by h _ u logged back refl
+    let logged = pushed _ _ _ _ c.push.result (c.push.ensures.succeeds (omega (arith, c.in_ok-reserve.ensures.ok))) c.reserve.ensures.items c.push.ensures.items in
+    kept_by c.args.self.now _ (Version c.replace-old.result) logged (λ i. state_of c.args.self.now.trees.items (c.replace-old.ensures.value i)) refl

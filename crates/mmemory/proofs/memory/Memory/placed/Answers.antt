@@ -1,7 +1,7 @@
 -- SPDX-License-Identifier: Apache-2.0
-use Rattle.mmemory.proofs.MemoryWords.{◌≡◌, order_of, shape_in, sorted_shape, tree_nest, tree_rows, headings, nest_at, current}
-use Rattle.mmemory.proofs.Words.{falls_below_key, falls_up_to_key, sought_forward, sought_backward}
-use Rattle.mmemory.proofs.Seen.{nest_seen, kind_seen, rows_shaped}
+use Rattle.mmemory.proofs.MemoryWords.{order_of, sorted_shape, tree_rows}
+use Rattle.mmemory.proofs.Words.{falls_below_key, falls_up_to_key}
+use Rattle.mmemory.proofs.Seen.{rows_shaped, forward_seen, backward_seen}
 use Rattle.mmemory.proofs.memory.Memory.placed.Goals as goal
 
 pub find-place-requires : goal.find-place-requires
@@ -18,20 +18,11 @@ find-place-requires-in-Backward c =
 
 pub returns-in-Forward : goal.returns-in-Forward
 returns-in-Forward c =
-    let h = c.args.self.now.held in
-    let it = c.in-Some.found.now in
     let found = rw c.deref.ensures.value at c.in-Some.ensures.lookup in
-    let nests : nest_at h c.args.tree ≡ tree_nest it = nest_seen h c.args.tree it found.3.0 found.1 in
-    let kind : shape_in (headings (current c.args.self.now)) c.args.tree ≡ it.shape = kind_seen h c.args.tree it found.3.0 found.1 in
-    let splits = rw c.order-order.ensures at c.find-place.ensures.splits in
-    rw (c.in-Forward.is, nests, kind) (sought_forward (order_of it.shape) c.args.key.now (tree_nest it) c.find-place.result splits)
+    rw c.in-Forward.is (forward_seen c.args.self.now.held c.args.tree c.in-Some.found.now found.3.0 found.1 _ c.order-order.ensures c.args.key.now c.find-place.result c.find-place.ensures.splits)
 
 pub returns-in-Backward : goal.returns-in-Backward
 returns-in-Backward c =
-    let h = c.args.self.now.held in
-    let it = c.in-Some.found.now in
     let found = rw c.deref.ensures.value at c.in-Some.ensures.lookup in
-    let nests : nest_at h c.args.tree ≡ tree_nest it = nest_seen h c.args.tree it found.3.0 found.1 in
-    let kind : shape_in (headings (current c.args.self.now)) c.args.tree ≡ it.shape = kind_seen h c.args.tree it found.3.0 found.1 in
-    let splits = rw c.order-order.ensures at c.find-place-in-Backward.ensures.splits in
-    rw (c.in-Backward.is, nests, kind) (sought_backward (order_of it.shape) c.args.key.now (tree_nest it) c.find-place-in-Backward.result splits)
+    rw c.in-Backward.is
+    (backward_seen c.args.self.now.held c.args.tree c.in-Some.found.now found.3.0 found.1 _ c.order-order.ensures c.args.key.now c.find-place-in-Backward.result c.find-place-in-Backward.ensures.splits)

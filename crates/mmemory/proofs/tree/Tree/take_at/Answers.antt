@@ -1,8 +1,8 @@
 -- SPDX-License-Identifier: Apache-2.0
-use Rattle.mmemory.proofs.MemoryWords.{◌≡◌, ◌<◌, ◌+◌, ◌++◌, [], length, get_or, set, sym, ap, subst, ◌∙◌, arith, length-map, PutRow, PutChunk, before, after_row, rows_at, plain, chunk_rows, nest, tree_nest, with_chunks, Makes}
+use Rattle.mmemory.proofs.MemoryWords.{◌≡◌, ◌<◌, ◌+◌, ◌++◌, [], length, set, sym, ap, subst, ◌∙◌, arith, length-map, PutRow, PutChunk, before, after_row, rows_at, plain, chunk_rows, nest, tree_nest, with_chunks, Makes}
 use Rattle.std.specs.List.{remove as removed}
 use Rattle.mmemory.proofs.Shown.{shown_at}
-use Rattle.mmemory.proofs.Made.{changed, made_cut, made_none, nest_removed, short_at}
+use Rattle.mmemory.proofs.Made.{rows_were, made_over, made_cut, made_none, nest_removed, short_at}
 use Rattle.mmemory.proofs.tree.Tree.take_at.Goals as goal
 
 pub returns-then-len-eq1 : goal.returns-then-len-eq1
@@ -23,11 +23,10 @@ pub returns : goal.returns
 returns c =
     let t = c.args.self.now in
     let p = c.args.place in
-    let n = tree_nest t in
-    let rows = before n p ++ after_row n p (p.row + 1) in
-    let low : p.chunk < length t.chunks.items = omega (arith, c.requires.chunk, length-map t.chunks.items chunk_rows) in
-    let is = changed (λ r. removed r p.row) t.chunks.items p.chunk c.index_mut.result.now c.take-old.new.self low c.index_mut.ensures.value c.take-old.ensures.rows in
-    let old : get_or (rows_at n p) p.row [] ≡ c.take-old.result = ap (λ r. get_or r p.row []) (shown_at chunk_rows t.chunks.items p.chunk [] c.index_mut.result.now low c.index_mut.ensures.value) ∙ sym c.take-old.ensures.row in
-    subst (λ row. Makes (plain t) (with_chunks (plain t) (nest (set t.chunks.items p.chunk c.take-old.new.self))) (PutRow p.chunk p.row row) rows) old
-    (subst (λ chunks. Makes (plain t) (with_chunks (plain t) chunks) (PutRow p.chunk p.row (get_or (rows_at n p) p.row [])) rows) (sym is)
+    let was = c.index_mut.result.now in
+    let new = c.take-old.new.self in
+    let rows = before (tree_nest t) p ++ after_row (tree_nest t) p (p.row + 1) in
+    subst (λ row. Makes (plain t) (with_chunks (plain t) (nest (set t.chunks.items p.chunk new))) (PutRow p.chunk p.row row) rows)
+    (rows_were t p.chunk was new c.requires.chunk c.index_mut.ensures.value p.row ∙ sym c.take-old.ensures.row)
+    (made_over t p.chunk was new c.requires.chunk c.index_mut.ensures.value (λ r. removed r p.row) _ rows c.take-old.ensures.rows
     (made_cut (plain t) p.chunk p.row c.requires.chunk c.requires.row (short_at t.chunks.items p.chunk)))

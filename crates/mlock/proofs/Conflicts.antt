@@ -1,13 +1,13 @@
 -- SPDX-License-Identifier: Apache-2.0
 -- Whether a name conflicts with those that are held, by the holdings.
-use Rattle.mlock.proofs.LockWords.{◌≡◌, ◌<◌, ℕ, Bool, true, false, not, nat_eq, ◌&&◌, ◌||◌, List, [], ◌∷◌, map, length, Option, Some, None, ◌⊎◌, inl, inr, refl, sym, ap, ◌∙◌, subst, is_some, slice_get, true≢false, slice_get_within, get_or_from_slice_get, slice_get-get_or, Any-from_list_any, list_any_at, and_parts, and_from, false_from_ne_true, or_left, or_right, or_cases, keys, contains_key-keys, get-from_entries, is_some-find, list_any, eq_by_cmp, eq_by_cmp_equiv, both_ways, place_from_lookup, lookup_from_place, IndexMap, IsUnique, beq, is_node_within, LockName, Held, held, held_cmp, is_within, is_conflict, has_conflict, Locks, held_cmp_total, lock_name_cmp_total, name_above, is_other, Holding, lock_of, locks_of, IsFree, name_eq, is_under}
+use Rattle.mlock.proofs.LockWords.{◌≡◌, ◌<◌, ℕ, Bool, true, false, not, nat_eq, ◌&&◌, ◌||◌, List, [], ◌∷◌, map, length, Option, Some, None, ◌⊎◌, inl, inr, refl, sym, ap, ◌∙◌, append-nil, subst, is_some, slice_get, true≢false, slice_get_within, get_or_from_slice_get, slice_get-get_or, Any-from_list_any, list_any_at, and_parts, and_from, false_from_ne_true, or_left, or_right, or_cases, keys, contains_key-keys, get-from_entries, is_some-find, list_any, eq_by_cmp, eq_by_cmp_equiv, both_ways, place_from_lookup, lookup_from_place, IndexMap, IsUnique, LockName, Held, held, held_cmp, is_within, is_conflict, has_conflict, Locks, held_cmp_total, lock_name_cmp_total, name_above, is_other, Holding, lock_of, locks_of, IsFree, name_eq, is_under}
 use Rattle.std.specs.FinMap.{get}
 use Rattle.indexmap.specs.IndexMap as index
 use Rattle.mlock.proofs.Above.{above_within, above_or_same}
-use Rattle.mlock.proofs.Names.{of_within}
+use Rattle.mlock.proofs.Levels.{absent_from}
 use Rattle.mlock.proofs.Steps.{same_lock, tied_itself}
 use Rattle.mlock.proofs.Sums.{under_other}
-use Rattle.mlock.proofs.Under.{both_within, is_same}
+use Rattle.mlock.proofs.Under.{both_within, is_same, of_inside}
 use Rattle.mlock.proofs.Views.{no}
 
 abbrev Entry : Type 0
@@ -21,24 +21,16 @@ fewer p q xs h none = false_from_ne_true (list_any q xs) (λ e.
     true≢false (sym (list_any_at p xs k x within (ap p at ∙ h x is)) ∙ none))
 
 pub within_itself : (n : LockName) → is_within n n ≡ true
-within_itself n = by_kind n.global
-  where
-    by_kind : (g : Bool) → (beq g g && is_node_within n.node n.node) ≡ true
-    by_kind true = of_within n.node n.node (inl refl)
-    by_kind false = of_within n.node n.node (inl refl)
+within_itself n = of_inside n n (record { kind = refl; account = refl; name = refl; more = []; subscripts = sym (append-nil n.node.subscripts) })
 
 itself_conflicts : (t u : ℕ) (n : LockName) → (u ≡ t → ⊥) → is_conflict (held t n) (held u n) ≡ true
 itself_conflicts t u n other =
     ap (λ b. not b && (is_within n n || is_within n n)) (no t u (λ e. other (sym e))) ∙ ap (λ b. b || is_within n n) (within_itself n)
 
-none_of : (o : Option ℕ) → is_some o ≡ false → o ≡ None
-none_of None e = refl
-none_of (Some c) e = absurd (cc)
-
 -- a name that conflicts with none that is held is held by no other terminal
 pub free_of : (l : Locks) (t : ℕ) (n : LockName) → has_conflict l (held t n) ≡ false → IsFree l t n
 free_of l t n none u other =
-    none_of (get l (held u n)) (contains_key-keys l (held u n)
+    absent_from (get l (held u n)) (contains_key-keys l (held u n)
     ∙ fewer (is_conflict (held t n)) (eq_by_cmp held_cmp (held u n)) (keys l)
     (λ k e. ap (is_conflict (held t n)) (sym (same_lock (held u n) k e)) ∙ itself_conflicts t u n other) none)
 

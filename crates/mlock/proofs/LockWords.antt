@@ -16,6 +16,7 @@ pub use Rattle.std.specs.Map.{keys_of, lookup, lookup_key}
 pub use Rattle.std.specs.Ordering.{eq_by_cmp, is_eq, nat_cmp, ordering_then}
 pub use mathlib.Core.Bool.{beq}
 pub use Rattle.mspec.proofs.KeyRanges.{within}
+pub use Rattle.mspec.proofs.NodesWithin.{of_within, within_of}
 pub use Rattle.mspec.proofs.LockOrders.{held_cmp_exact, held_cmp_total, lock_name_cmp_exact, lock_name_cmp_total}
 pub use Rattle.mspec.specs.Globals.{is_node_within}
 pub use Rattle.mspec.specs.LockConflict.{Held, LockName, Locks, count, counted, given_back, has_conflict, held, held_cmp, is_conflict, is_within, lock_name_cmp, max_count, one_more, released, taken}

@@ -1,7 +1,7 @@
 -- SPDX-License-Identifier: Apache-2.0
 -- Names below other names, and the name next above one.
-use Rattle.mlock.proofs.LockWords.{◌≡◌, ◌<◌, ◌≤◌, ◌+◌, ◌-◌, ℕ, true, false, not, List, [], ◌∷◌, ◌++◌, length, take, ◌⊎◌, inl, inr, refl, sym, ap, ◌∙◌, subst, arith, append-nil, append_assoc, length-append, true≢false, Equal-is, eq_by_cmp_equiv, both_ways, take-append_seam, take-append-add, cases_eq, and_parts, and_from, false_from_ne_true, beq, is_node_within, LockName, lock_name_cmp, is_within, Text, within, lock_name_cmp_total, lock_name_cmp_exact, IsAbove, name_eq, is_under}
-use Rattle.mlock.proofs.Names.{of_within, within_of, parts, beq_same, same_beq}
+use Rattle.mlock.proofs.LockWords.{◌≡◌, ◌<◌, ◌≤◌, ◌+◌, ◌-◌, ℕ, true, false, not, List, [], ◌∷◌, ◌++◌, length, take, ◌⊎◌, inl, inr, sym, ap, ◌∙◌, subst, arith, append-nil, append_assoc, length-append, true≢false, Equal-is, eq_by_cmp_equiv, both_ways, take-append_seam, take-append-add, cases_eq, and_parts, and_from, false_from_ne_true, beq, is_node_within, LockName, lock_name_cmp, is_within, Text, of_within, within_of, within, lock_name_cmp_total, lock_name_cmp_exact, IsAbove, name_eq, is_under}
+use Rattle.mlock.proofs.Names.{parts, beq_same, same_beq}
 
 -- the second name is the first with more subscripts
 pub record Inside (a b : LockName) : Type 0 where

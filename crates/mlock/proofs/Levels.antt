@@ -1,6 +1,6 @@
 -- SPDX-License-Identifier: Apache-2.0
 -- Tallies of one name, and of all the names above one.
-use Rattle.mlock.proofs.LockWords.{◌≡◌, ◌+◌, ◌*◌, ℕ, Bool, true, false, cond, ◌&&◌, nat_eq, Option, Some, None, refl, sym, ap, ◌∙◌, subst, arith, unwrap_or, is_some, IsSome, true≢false, inl, inr, and_parts, false_from_ne_true, cases_Bool, nat_tests, IndexMap, get, Updates, LockName, IsAbove, Tally, name_eq, is_under, no_names, with_one, is_none, tally_at, HasEntry}
+use Rattle.mlock.proofs.LockWords.{◌||◌, ◌≡◌, ◌+◌, ◌*◌, ℕ, Bool, true, false, cond, ◌&&◌, nat_eq, Option, Some, None, refl, sym, ap, ◌∙◌, subst, arith, unwrap_or, is_some, IsSome, true≢false, inl, inr, and_parts, false_from_ne_true, cases_Bool, nat_tests, IndexMap, get, Updates, LockName, IsAbove, Tally, name_eq, is_under, no_names, with_one, is_none, tally_at, HasEntry}
 use Rattle.mlock.proofs.Names.{at_test}
 use Rattle.mlock.proofs.Under.{is_same, above_is, not_itself, others_above, from_above}
 
@@ -75,6 +75,12 @@ rest_is false t x y e = e
 
 -- ---- the names above one
 
+-- one step and another, at most one of which changes anything
+twofold : (f : Tally → Tally) (x y z : Tally) (p q : Bool) → (p ≡ true → q ≡ false) → y ≡ cond p (f x) x → z ≡ cond q (f y) y → z ≡ cond (p || q) (f x) x
+twofold f x y z true q apart e g = g ∙ ap (λ b. cond b (f y) y) (apart refl) ∙ e
+twofold f x y z false true apart e g = g ∙ ap f e
+twofold f x y z false false apart e g = g ∙ e
+
 module _ (above below : LockName) (next : IsAbove above below) where
   pub next_is : (n : LockName) → name_eq above n ≡ true → (is_under n above ≡ false) × (is_under n below ≡ true)
   next_is n e = let same = is_same above n e in (subst (λ k. is_under k above ≡ false) same (not_itself above), subst (λ k. is_under k below ≡ true) same (above_is above below next))
@@ -83,27 +89,23 @@ module _ (above below : LockName) (next : IsAbove above below) where
   pub not_next : (n : LockName) → is_under n above ≡ true → name_eq above n ≡ false
   not_next n is = false_from_ne_true (name_eq above n) (λ e. true≢false (sym is ∙ (next_is n e).0))
 
+  -- the names above a name are the next one, and those above that
+  under_is : (n : LockName) → is_under n below ≡ (name_eq above n || is_under n above)
+  under_is n = at_test (name_eq above n) (λ b. is_under n below ≡ (b || is_under n above)) (λ e. (next_is n e).1) (λ e. others_above above below next n e)
+
+  is_under_or : (n : LockName) → is_under n below ≡ (is_under n above || name_eq above n)
+  is_under_or n =
+      at_test (is_under n above) (λ b. is_under n below ≡ (b || name_eq above n)) (λ e. from_above above below next n e)
+      (λ e. under_is n ∙ ap (λ u. name_eq above n || u) e ∙ elim (name_eq above n) as (λ b. (b || false) ≡ b) [ true ↦ refl | false ↦ refl ])
+
   module _ (f : Tally → Tally) (old mid new : LockName → Tally) where
     pub all_counted : ((n : LockName) → mid n ≡ cond (name_eq above n) (f (old n)) (old n)) → ((n : LockName) → new n ≡ cond (is_under n above) (f (mid n)) (mid n))
         → (n : LockName) → new n ≡ cond (is_under n below) (f (old n)) (old n)
-    all_counted first rest n = elim (cases_Bool (name_eq above n)) [
-      | inl e ↦
-          let is = next_is n e in
-          rest n ∙ ap (λ b. cond b (f (mid n)) (mid n)) is.0 ∙ first n ∙ ap (λ b. cond b (f (old n)) (old n)) e ∙ sym (ap (λ b. cond b (f (old n)) (old n)) is.1)
-      | inr e ↦
-          let same : mid n ≡ old n = first n ∙ ap (λ b. cond b (f (old n)) (old n)) e in
-          rest n ∙ ap (λ x. cond (is_under n above) (f x) x) same ∙ ap (λ b. cond b (f (old n)) (old n)) (sym (others_above above below next n e))
-    ]
+    all_counted first rest n = twofold f (old n) (mid n) (new n) (name_eq above n) (is_under n above) (λ e. (next_is n e).0) (first n) (rest n) ∙ ap (λ b. cond b (f (old n)) (old n)) (sym (under_is n))
 
     pub all_taken_off : ((n : LockName) → old n ≡ cond (name_eq above n) (f (mid n)) (mid n)) → ((n : LockName) → mid n ≡ cond (is_under n above) (f (new n)) (new n))
         → (n : LockName) → old n ≡ cond (is_under n below) (f (new n)) (new n)
-    all_taken_off first rest n = elim (cases_Bool (name_eq above n)) [
-      | inl e ↦
-          let is = next_is n e in
-          let same : mid n ≡ new n = rest n ∙ ap (λ b. cond b (f (new n)) (new n)) is.0 in
-          first n ∙ ap (λ b. cond b (f (mid n)) (mid n)) e ∙ ap f same ∙ sym (ap (λ b. cond b (f (new n)) (new n)) is.1)
-      | inr e ↦ first n ∙ ap (λ b. cond b (f (mid n)) (mid n)) e ∙ rest n ∙ ap (λ b. cond b (f (new n)) (new n)) (sym (others_above above below next n e))
-    ]
+    all_taken_off first rest n = twofold f (new n) (mid n) (old n) (is_under n above) (name_eq above n) (not_next n) (rest n) (first n) ∙ ap (λ b. cond b (f (new n)) (new n)) (sym (is_under_or n))
 
   -- what holds of the names above the name holds of those above the next one, which the first step left alone
   pub levels_left : (P : LockName → Type 0) → ((n : LockName) → is_under n below ≡ true → P n) → (n : LockName) → is_under n above ≡ true → P n

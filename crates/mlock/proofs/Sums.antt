@@ -1,12 +1,9 @@
 -- SPDX-License-Identifier: Apache-2.0
 -- What is counted below a name, when the holdings change, and what it tells.
-use Rattle.mlock.proofs.LockWords.{◌≡◌, ◌<◌, ◌≤◌, ◌+◌, ◌-◌, ◌*◌, ◌^◌, ℕ, zero, suc, Bool, true, false, cond, not, ◌&&◌, ◌||◌, nat_eq, List, [], ◌∷◌, ◌++◌, length, Some, refl, sym, ap, ◌∙◌, subst, arith, nat_lt, slice_get, unwrap_or, mul-le-mul_left, mul-le-mul_right, and_parts, and_from, or_parts, sum_by, list_any, swap_remove, nat_tests, slice_get_within, get_or_from_slice_get, LockName, Holding, Tally, is_under, with_one, is_only, below_sum, tally_of, too_large, HasRoom}
+use Rattle.mlock.proofs.LockWords.{Entry, ◌≡◌, ◌<◌, ◌≤◌, ◌+◌, ◌-◌, ◌*◌, ◌^◌, ℕ, zero, suc, Bool, true, false, cond, not, ◌&&◌, ◌||◌, nat_eq, List, [], ◌∷◌, ◌++◌, length, Some, refl, sym, ap, ◌∙◌, subst, arith, nat_lt, slice_get, unwrap_or, mul-le-mul_left, mul-le-mul_right, and_parts, and_from, or_parts, sum_by, list_any, swap_remove, nat_tests, slice_get_within, get_or_from_slice_get, LockName, Holding, Tally, is_under, with_one, is_only, below_sum, tally_of, too_large, HasRoom}
 use Rattle.std.proofs.lemmas.List.Sums.{sum_by-cons, sum_by_push, sum_by-swap_remove}
 use Rattle.mlock.proofs.Names.{at_test}
 use Rattle.indexmap.specs.Layout.{set_value_at}
-
-abbrev Entry : Type 0
-Entry = LockName × Holding
 
 abbrev term : (ℕ → ℕ) → LockName → Entry → ℕ
 term w n e = cond (is_under n e.0) (w e.1.terminal) 0

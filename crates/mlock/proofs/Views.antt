@@ -1,15 +1,12 @@
 -- SPDX-License-Identifier: Apache-2.0
 -- What calls of the map of holdings do to the locks that it holds.
-use Rattle.mlock.proofs.LockWords.{◌≡◌, ◌<◌, ◌≤◌, ℕ, Bool, true, false, cond, not, ◌&&◌, List, [], ◌∷◌, Option, Some, None, map, nat_eq, length, refl, sym, ap, ◌∙◌, subst, arith, Ordering, Less, Equal, Greater, and_right, insert, remove, empty, retain_keys, get-insert, get-remove, get-from_entries, get-retain_keys, get-empty, same_map, find, AllByRecursion, IsDistinct, lookup, keys_of, is_eq, nat_cmp, ordering_then, eq_by_cmp, eq_by_cmp_equiv, nat_tests, place_from_lookup, slice_get_within, none-some, IndexMap, IsUnique, Updates, LockName, Held, held, Locks, lock_name_cmp, held_cmp, released, count, max_count, lock_name_cmp_total, held_cmp_total, held_cmp_exact, Holding, lock_of, locks_of, own_count, AreCounts, name_eq}
+use Rattle.mlock.proofs.LockWords.{Entry, ◌≡◌, ◌<◌, ◌≤◌, ℕ, Bool, true, false, cond, not, ◌&&◌, List, [], ◌∷◌, Option, Some, None, map, nat_eq, length, refl, sym, ap, ◌∙◌, subst, arith, Ordering, Less, Equal, Greater, and_right, insert, remove, empty, retain_keys, get-insert, get-remove, get-from_entries, get-retain_keys, get-empty, same_map, find, AllByRecursion, IsDistinct, lookup, keys_of, is_eq, nat_cmp, ordering_then, eq_by_cmp, eq_by_cmp_equiv, nat_tests, place_from_lookup, slice_get_within, none-some, IndexMap, IsUnique, Updates, LockName, Held, held, Locks, lock_name_cmp, held_cmp, released, count, max_count, lock_name_cmp_total, held_cmp_total, held_cmp_exact, Holding, lock_of, locks_of, own_count, AreCounts, name_eq}
 use Rattle.std.specs.Prelude.{option_map, unwrap_or, slice_get, ⊤}
 use Rattle.std.specs.FinMap.{get}
 use Rattle.std.proofs.lemmas.Map.Keys.{IsDistinct-head, IsDistinct-tail}
 use Rattle.indexmap.specs.IndexMap as index
 use Rattle.mlock.proofs.Names.{at_test}
 use Rattle.mlock.proofs.Under.{is_same}
-
-abbrev Entry : Type 0
-Entry = LockName × Holding
 
 yes : (t u : ℕ) → t ≡ u → nat_eq t u ≡ true
 yes t u e = grind (arith, nat_tests)

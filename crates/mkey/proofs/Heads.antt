@@ -4,7 +4,7 @@ use Rattle.mkey.proofs.KeyWords.{ℕ, zero, suc, Fits, w8, ◌≡◌, ◌+◌, �
 use Rattle.std.proofs.Math.Facts.{Fits-lt-pow}
 use Rattle.std.specs.Cmp.{nat_cmp_is, ranked}
 use Rattle.std.proofs.lemmas.Bool.{cases_order}
-use Rattle.mkey.proofs.NumberBytes.{byte_pos}
+use Rattle.mspec.proofs.Basics.{byte_pos}
 
 -- each is below 256
 pub record AreBytes (bytes : List ℕ) : Type 0 where

@@ -36,8 +36,8 @@ abbrev pub with_subs : Node → List Text → Node
 with_subs n xs = record { account = n.account; name = n.name; subscripts = xs }
 
 -- the key of a node with more subscripts
-key_behind : (n : Node) (xs ys : List Text) → key_bytes significant_digits (with_subs n (xs ++ ys)) ≡ key_bytes significant_digits (with_subs n xs) ++ subscripts_bytes significant_digits ys
-key_behind n xs ys =
+pub key_of_more : (n : Node) (xs ys : List Text) → key_bytes significant_digits (with_subs n (xs ++ ys)) ≡ key_bytes significant_digits (with_subs n xs) ++ subscripts_bytes significant_digits ys
+key_of_more n xs ys =
     ap (λ b. text_bytes n.account ++ (text_bytes n.name ++ b)) (flat_map-append (subscript_bytes significant_digits) xs ys)
     ∙ ap (λ b. text_bytes n.account ++ b) (sym (append_assoc (text_bytes n.name) (subscripts_bytes significant_digits xs) (subscripts_bytes significant_digits ys)))
     ∙ sym (append_assoc (text_bytes n.account) (local_bytes significant_digits n.name xs) (subscripts_bytes significant_digits ys))
@@ -49,9 +49,6 @@ pub record Walked (n : Node) (bytes rest : List ℕ) (last : Option ℕ) : Type 
   pub subscripts : n.subscripts ≡ passed ++ more
   pub behind : rest ≡ subscripts_bytes significant_digits more
   pub at : MatchOption last (passed ≡ []) (IsLastAt (with_subs n passed) bytes)
-
-pub walk_begins : (n : Node) (bytes rest : List ℕ) → rest ≡ subscripts_bytes significant_digits n.subscripts → Walked n bytes rest None
-walk_begins n bytes rest e = record { passed = []; more = n.subscripts; subscripts = refl; behind = e; at = refl }
 
 no_bytes : (s : Text) (more : List ℕ) → subscript_bytes significant_digits s ++ more ≡ [] → ⊥
 no_bytes s more e =
@@ -79,7 +76,7 @@ walk_on n bytes rest last len is some walked long = by_more walked.more walked.s
       where
         whole : bytes ≡ key_bytes significant_digits (with_subs n walked.passed) ++ rest
         whole =
-            sym is ∙ ap (λ xs. key_bytes significant_digits (with_subs n xs)) list ∙ key_behind n walked.passed (s ∷ more)
+            sym is ∙ ap (λ xs. key_bytes significant_digits (with_subs n xs)) list ∙ key_of_more n walked.passed (s ∷ more)
             ∙ ap (λ b. key_bytes significant_digits (with_subs n walked.passed) ++ b) (sym e)
 
         begins : length bytes - length rest ≡ length (key_bytes significant_digits (with_subs n walked.passed))

@@ -1,9 +1,12 @@
 -- SPDX-License-Identifier: Apache-2.0
 -- Keys of nodes that begin alike.
-use Rattle.mkey.proofs.KeyWords.{ℕ, ◌≡◌, Bool, true, nat_eq, ◌&&◌, Option, None, List, [], ◌∷◌, ◌++◌, length, drop, refl, sym, ◌∙◌, ap, inl, inr, append_assoc, append-nil, bytes_decides, starts_with, drop-append_seam, Decides-eqb, flat_map-append, starts_is, is_node_within, is_beside, text_bytes, subscript_bytes, subscripts_bytes, local_bytes, key_bytes, NoneEmpty, IsWithin, significant_digits, text_eq, is_within, child_of, keys_of_subtrees_begin_alike, child_under}
+use Rattle.mkey.proofs.KeyWords.{ℕ, ◌≡◌, Bool, true, nat_eq, ◌&&◌, Option, None, List, ◌++◌, length, drop, refl, sym, ◌∙◌, ap, bytes_decides, starts_with, drop-append_seam, Decides-eqb, starts_is, is_node_within, is_beside, subscripts_bytes, key_bytes, NoneEmpty, significant_digits, text_eq, is_within, child_of, keys_of_subtrees_begin_alike, child_under}
 use Rattle.std.proofs.Common.{false}
 use Rattle.std.specs.Prelude.{if◌then◌else◌}
 use Rattle.mspec.specs.Node.{Text, Node}
+use Rattle.mspec.proofs.Basics.{all_true}
+use Rattle.mspec.proofs.NodesWithin.{of_within}
+use Rattle.mkey.proofs.KeyWalks.{key_of_more}
 use Rattle.mkey.proofs.SubsKeys.{same_truth, split_within}
 
 abbrev key : Node → List ℕ
@@ -12,11 +15,6 @@ key = key_bytes significant_digits
 pub both_true : (a b : Bool) → (a && b) ≡ true → (a ≡ true) × (b ≡ true)
 both_true true b e = (refl, e)
 both_true false b e = absurd (cc)
-
-pub all_true : (a b c : Bool) → a ≡ true → b ≡ true → c ≡ true → (a && (b && c)) ≡ true
-all_true true true c e f g = g
-all_true true false c e f g = f
-all_true false b c e f g = e
 
 -- ---- one node within another
 
@@ -37,23 +35,14 @@ joined_node n m more account name e =
     all_true (text_eq n.account m.account) (text_eq n.name m.name) (is_within n.subscripts m.subscripts) ((bytes_decides n.account m.account).1 account) ((bytes_decides n.name m.name).1 name)
     ((starts_is bytes_decides m.subscripts n.subscripts (is_within n.subscripts m.subscripts) refl).1 more e)
 
-within_told : (n m : Node) → IsWithin n m → is_node_within n m ≡ true
-within_told n m (inl same) = joined_node n m [] (ap (λ x. x.account) same) (ap (λ x. x.name) same) (ap (λ x. x.subscripts) (sym same) ∙ sym (append-nil n.subscripts))
-within_told n m (inr above) = joined_node n m (above.longer.0 ∷ above.longer.1) above.account above.name above.longer.2
-
 -- ---- the bytes of their keys
 
 -- the key of a node within another is the other's with the subscripts behind it
 pub key_within : (n m : Node) → is_node_within n m ≡ true → key m ≡ key n ++ subscripts_bytes significant_digits (drop (length n.subscripts) m.subscripts)
 key_within n m e =
     let split = split_node n m e in
-    let more : List Text = drop (length n.subscripts) m.subscripts in
-    let own : List ℕ = subscripts_bytes significant_digits n.subscripts in
-    let rest : List ℕ = subscripts_bytes significant_digits more in
-    (λ i. text_bytes (sym split.account i) ++ (text_bytes (sym split.name i) ++ subscripts_bytes significant_digits (split.subscripts i)))
-    ∙ ap (λ b. text_bytes n.account ++ (text_bytes n.name ++ b)) (flat_map-append (subscript_bytes significant_digits) n.subscripts more)
-    ∙ ap (λ b. text_bytes n.account ++ b) (sym (append_assoc (text_bytes n.name) own rest))
-    ∙ sym (append_assoc (text_bytes n.account) (local_bytes significant_digits n.name n.subscripts) rest)
+    (λ i. key (record { account = sym split.account i; name = sym split.name i; subscripts = split.subscripts i }))
+    ∙ key_of_more n n.subscripts (drop (length n.subscripts) m.subscripts)
 
 pub key_behind : (n m : Node) → is_node_within n m ≡ true → drop (length (key n)) (key m) ≡ subscripts_bytes significant_digits (drop (length n.subscripts) m.subscripts)
 key_behind n m e = ap (drop (length (key n))) (key_within n m e) ∙ drop-append_seam (key n) (subscripts_bytes significant_digits (drop (length n.subscripts) m.subscripts))
@@ -63,7 +52,7 @@ pub starts_node : (n m : Node) → NoneEmpty n.subscripts → NoneEmpty m.subscr
 starts_node n m some_n some_m r e =
     let of_bytes = starts_is Decides-eqb (key m) (key n) r e in
     same_truth r (is_node_within n m)
-    (λ t. within_told n m ((keys_of_subtrees_begin_alike significant_digits n m some_n some_m).0 (drop (length (key n)) (key m), of_bytes.0 t)))
+    (λ t. of_within n m ((keys_of_subtrees_begin_alike significant_digits n m some_n some_m).0 (drop (length (key n)) (key m), of_bytes.0 t)))
     (λ t. of_bytes.1 (subscripts_bytes significant_digits (drop (length n.subscripts) m.subscripts)) (key_within n m t))
 
 -- ---- the subscript of one behind the other

@@ -1,10 +1,8 @@
 -- SPDX-License-Identifier: Apache-2.0
 -- The bytes of a machine's number, high byte first.
-use Rattle.mkey.proofs.KeyWords.{ℕ, zero, suc, ◌≡◌, ◌+◌, ◌*◌, ◌/◌, ◌%◌, ◌^◌, ◌<◌, List, [], ◌∷◌, ◌++◌, length, get_or, take, drop, refl, sym, ◌∙◌, ap, ap₂, arith, add-one, append_assoc, ℤ, div-add-mod', one-le-pow, pow-suc, div-one, mod-eq_of_lt, mod_below, div-mul-add, mod-mul-add, mul-add-lt, pow-add, take_more, take-append_seam, big_endian, raised, number_bytes}
+use Rattle.mkey.proofs.KeyWords.{ℕ, zero, suc, ◌≡◌, ◌+◌, ◌*◌, ◌/◌, ◌%◌, ◌^◌, ◌<◌, List, ◌∷◌, ◌++◌, take, drop, refl, sym, ◌∙◌, ap, ap₂, arith, append_assoc, ℤ, div-add-mod', pow-suc, div-one, mod-eq_of_lt, mod_below, div-mul-add, mod-mul-add, mul-add-lt, pow-add, take-append_seam, big_endian, raised, number_bytes}
+use Rattle.mspec.proofs.Basics.{byte_pos}
 use Rattle.std.specs.Int.{byte_at, bytes_high_first}
-
-pub byte_pos : (k : ℕ) → 0 < 256 ^ k
-byte_pos k = one-le-pow k 256 (omega arith)
 
 -- the first byte of n in one byte more than w holds, and the rest
 record Cut (n w : ℕ) : Type 0 where
@@ -58,32 +56,6 @@ bytes_of_fitting k n below = low_bytes k n ∙ ap (big_endian k) (mod-eq_of_lt b
 pub bytes_of_number : (u : ℤ) (n : ℕ) → n ≡ raised u → n < 256 ^ 16 → bytes_high_first 16 n ≡ number_bytes u
 unfolding number_bytes
 bytes_of_number u n is below = bytes_of_fitting 16 n below ∙ ap (big_endian 16) is
-
--- a number with one more byte behind it
-pub push_byte : (k n b : ℕ) → b < 256 → n < 256 ^ k → big_endian (suc k) (n * 256 + b) ≡ big_endian k n ++ b ∷ []
-push_byte zero n b low below = ap (λ x. x ∷ []) (alone n b below)
-  where
-    alone : (n b : ℕ) → n < 1 → (n * 256 + b) / 1 ≡ b
-    alone n b below = omega arith
-push_byte (suc k) n b low below =
-    let w : ℕ = 256 ^ k in
-    let some : 0 < w = byte_pos k in
-    let less : n % w < w = mod_below n w some in
-    let small : n % w * 256 + b < w * 256 = omega (arith, less) in
-    let whole : n / w * (w * 256) + (n % w * 256 + b) ≡ n * 256 + b = around (n / w) (n % w) w n b (div-add-mod' n w) in
-    let first : (n * 256 + b) / 256 ^ suc k ≡ n / w = ap (λ m. (n * 256 + b) / m) (more_bytes k) ∙ ap (λ m. m / (w * 256)) (sym whole) ∙ div-mul-add (n / w) (w * 256) (n % w * 256 + b) small in
-    let rest : (n * 256 + b) % 256 ^ suc k ≡ n % w * 256 + b = ap (λ m. (n * 256 + b) % m) (more_bytes k) ∙ ap (λ m. m % (w * 256)) (sym whole) ∙ mod-mul-add (n / w) (w * 256) (n % w * 256 + b) small in
-    ap₂ (λ x bytes. x ∷ bytes) first (ap (big_endian (suc k)) rest ∙ push_byte k (n % w) b low less)
-  where
-    around : (q r w n b : ℕ) → q * w + r ≡ n → q * (w * 256) + (r * 256 + b) ≡ n * 256 + b
-    around q r w n b e = let spread : (q * w + r) * 256 + b ≡ n * 256 + b = ap (λ m. m * 256 + b) e in omega arith
-
-pub byte_below : (k n b : ℕ) → b < 256 → n < 256 ^ k → n * 256 + b < 256 ^ (k + 1)
-byte_below k n b low below = let more : 256 ^ (k + 1) ≡ 256 ^ k * 256 = ap (λ m. 256 ^ m) (add-one k) ∙ more_bytes k in omega arith
-
-pub byte_pushed : (k n b : ℕ) (bytes : List ℕ) → k < length bytes → get_or bytes k 0 ≡ b → b < 256 → n < 256 ^ k → big_endian k n ≡ take k bytes → big_endian (k + 1) (n * 256 + b) ≡ take (k + 1) bytes
-byte_pushed k n b bytes inside is low below e =
-    ap (λ m. big_endian m (n * 256 + b)) (add-one k) ∙ push_byte k n b low below ∙ ap (λ t. t ++ b ∷ []) e ∙ ap (λ x. take k bytes ++ x ∷ []) (sym is) ∙ sym (take_more bytes k 0 inside)
 
 -- the bytes of two numbers, one behind the other
 pub joined_bytes : (k j t n m : ℕ) → t ≡ k + j → n < 256 ^ k → m < 256 ^ j → big_endian t (n * 256 ^ j + m) ≡ big_endian k n ++ big_endian j m

@@ -1,14 +1,15 @@
 -- SPDX-License-Identifier: Apache-2.0
 -- Bytes of lists of subscripts that begin alike.
-use Rattle.mkey.proofs.KeyWords.{ℕ, suc, ◌≡◌, ◌<◌, ◌++◌, Bool, true, nat_eq, List, [], ◌∷◌, length, drop, Some, None, refl, sym, ◌∙◌, ap, ap₂, arith, slice_get, bytes_decides, slice_cmp, starts_with, nat_cmp, is_ne, Ordering, drop-append_seam, Decides-eqb, nat_tests, flat_map-append, All-push, starts_is, subscript_bytes, subscripts_bytes, NoneEmpty, canonical_value, subscripts_cmp, significant_digits, round, round_size, nearest, rounding_unit, digits_before, numeric_value, literal_size, size_text, is_within, child_of, tag_of, subscripts_order, subscripts_split, subscript_split, IsFront, BeginsWithNo, IsSub, AreSubs, head_number, IsSubsKeyOf, beyond, behind_below}
+use Rattle.mkey.proofs.KeyWords.{ℕ, suc, ◌≡◌, ◌<◌, ◌++◌, Bool, true, nat_eq, List, [], ◌∷◌, length, drop, Option, Some, None, MatchOption, refl, sym, ◌∙◌, ap, ap₂, arith, slice_get, bytes_decides, slice_cmp, starts_with, nat_cmp, is_ne, Ordering, drop-append_seam, Decides-eqb, nat_tests, flat_map-append, All-push, starts_is, subscript_bytes, subscripts_bytes, NoneEmpty, canonical_value, subscripts_cmp, significant_digits, round, round_size, nearest, rounding_unit, digits_before, numeric_value, literal_size, size_text, is_within, child_of, tag_of, subscripts_order, subscripts_split, subscript_split, BeginsWithNo, IsSub, AreSubs, head_number, IsSubsKeyOf, beyond, behind_below}
 use Rattle.std.proofs.Common.{◌==◌, false}
 use Rattle.std.specs.Prelude.{if◌then◌else◌}
 use Rattle.std.specs.Fmt.{digits}
 use Rattle.mspec.specs.Node.{Text}
+use Rattle.mkey.specs.Front.{IsFirst}
 use Rattle.mkey.proofs.Children.{at_front}
 use Rattle.mkey.proofs.Heads.{AreBytes, head_decides}
 use Rattle.mkey.proofs.SubscriptFronts.{nothing_begins}
-use Rattle.mkey.proofs.SubscriptLists.{sub_behind}
+use Rattle.mkey.proofs.SubscriptLists.{some_all, sub_behind}
 
 pub same_truth : (a b : Bool) → (a ≡ true → b ≡ true) → (b ≡ true → a ≡ true) → a ≡ b
 same_truth true b f g = sym (f refl)
@@ -36,14 +37,11 @@ its_bytes = refl
 pub beyond_bytes : (xs : List Text) → subscripts_bytes significant_digits (behind_below xs) ≡ subscripts_bytes significant_digits xs ++ 2 ∷ 255 ∷ 0 ∷ []
 beyond_bytes xs = flat_map-append (subscript_bytes significant_digits) xs (beyond ∷ []) ∙ ap (λ b. subscripts_bytes significant_digits xs ++ b) its_bytes
 
-some_each : (xs : List Text) → AreSubs xs → NoneEmpty xs
-some_each xs subs = λ k d inside. (subs.0.each k d inside).some
-
 pub beyond_key : (xs : List Text) (bytes : List ℕ) → AreSubs xs → bytes ≡ subscripts_bytes significant_digits xs ++ 2 ∷ 255 ∷ 0 ∷ [] → IsSubsKeyOf (behind_below xs) bytes
-beyond_key xs bytes subs e = (All-push (λ s. 0 < length s) xs beyond (some_each xs subs) (omega arith), beyond_bytes xs ∙ sym e)
+beyond_key xs bytes subs e = (All-push (λ s. 0 < length s) xs beyond (some_all xs subs) (omega arith), beyond_bytes xs ∙ sym e)
 
 pub key_of_subs : (xs : List Text) (bytes : List ℕ) → AreSubs xs → bytes ≡ subscripts_bytes significant_digits xs → IsSubsKeyOf xs bytes
-key_of_subs xs bytes subs e = (some_each xs subs, sym e)
+key_of_subs xs bytes subs e = (some_all xs subs, sym e)
 
 -- ---- the subscript next behind a list
 
@@ -63,20 +61,15 @@ child_is xs ys h = ap (λ b. if b then slice_get ys (length xs) else None) h ∙
 
 -- what is read behind the bytes of xs is the child of ys
 module _ (xs ys : List Text) (subs : AreSubs ys) (h : is_within xs ys ≡ true) (rest : List ℕ) (is : rest ≡ subscripts_bytes significant_digits (drop (length xs) ys)) where
-  pub none_read : BeginsWithNo IsSub (subscript_bytes significant_digits) rest → None ≡ child_of xs ys
-  none_read none = here (drop (length xs) ys) (split_within xs ys h) is ∙ sym (child_is xs ys h)
+  pub child_read : (o : Option Text) → MatchOption o (BeginsWithNo IsSub (subscript_bytes significant_digits) rest) (IsFirst rest) → o ≡ child_of xs ys
+  child_read o found = here o found (drop (length xs) ys) (split_within xs ys h) is ∙ sym (child_is xs ys h)
     where
-      here : (d : List Text) → ys ≡ xs ++ d → rest ≡ subscripts_bytes significant_digits d → None ≡ slice_get d 0
-      here [] split e = refl
-      here (s ∷ d) split e = absurd (none s (subscripts_bytes significant_digits d) (sub_behind xs ys s d subs split) e)
-
-  pub one_read : (t : Text) (n : ℕ) → IsSub t → IsFront rest (subscript_bytes significant_digits t) n → Some t ≡ child_of xs ys
-  one_read t n sub front = here (drop (length xs) ys) (split_within xs ys h) is ∙ sym (child_is xs ys h)
-    where
-      here : (d : List Text) → ys ≡ xs ++ d → rest ≡ subscripts_bytes significant_digits d → Some t ≡ slice_get d 0
-      here [] split e = absurd (nothing_begins significant_digits t (drop n rest) sub (sym e ∙ front.is))
-      here (s ∷ d) split e =
-          ap Some (subscript_split significant_digits t s (drop n rest) (subscripts_bytes significant_digits d) sub.0.some (sub_behind xs ys s d subs split).0.some (sym front.is ∙ e)).0
+      here : (o : Option Text) → MatchOption o (BeginsWithNo IsSub (subscript_bytes significant_digits) rest) (IsFirst rest) → (d : List Text) → ys ≡ xs ++ d → rest ≡ subscripts_bytes significant_digits d → o ≡ slice_get d 0
+      here None none [] split e = refl
+      here None none (s ∷ d) split e = absurd (none s (subscripts_bytes significant_digits d) (sub_behind xs ys s d subs split) e)
+      here (Some t) first [] split e = absurd (nothing_begins significant_digits t (drop first.1.0 rest) first.0 (sym e ∙ first.1.1.is))
+      here (Some t) first (s ∷ d) split e =
+          ap Some (subscript_split significant_digits t s (drop first.1.0 rest) (subscripts_bytes significant_digits d) first.0.0.some (sub_behind xs ys s d subs split).0.some (sym first.1.1.is ∙ e)).0
 
 never : (n m : ℕ) → (suc n == 0) ≡ (suc m == 0)
 never n m = grind (arith, nat_tests)
@@ -90,10 +83,10 @@ none_of_bytes (s ∷ xs) =
 -- ---- the order by heads
 
 -- the head that a key has is that of the bytes which are seen of it
-pub head_seen : (head : ℕ) (bytes seen : List ℕ) (own xs : List Text) → head ≡ head_number 16 bytes → subscripts_bytes significant_digits own ≡ bytes → own ≡ xs → seen ≡ subscripts_bytes significant_digits xs → head ≡ head_number 16 seen
-head_seen head bytes seen own xs of_bytes are is seen_are = of_bytes ∙ ap (head_number 16) (sym are ∙ ap (subscripts_bytes significant_digits) is ∙ sym seen_are)
+pub head_seen : (head : ℕ) (bytes seen : List ℕ) (own xs : List Text) → head ≡ head_number 32 bytes → subscripts_bytes significant_digits own ≡ bytes → own ≡ xs → seen ≡ subscripts_bytes significant_digits xs → head ≡ head_number 32 seen
+head_seen head bytes seen own xs of_bytes are is seen_are = of_bytes ∙ ap (head_number 32) (sym are ∙ ap (subscripts_bytes significant_digits) is ∙ sym seen_are)
 
 -- keys stand in the order of their heads where those differ
-pub keys_by_head : (xs ys : List Text) (a b : List ℕ) (order : Ordering) → NoneEmpty xs → NoneEmpty ys → a ≡ subscripts_bytes significant_digits xs → b ≡ subscripts_bytes significant_digits ys → AreBytes a → AreBytes b → order ≡ nat_cmp (head_number 16 a) (head_number 16 b) → is_ne order ≡ true → order ≡ subscripts_cmp significant_digits xs ys
+pub keys_by_head : (xs ys : List Text) (a b : List ℕ) (order : Ordering) → NoneEmpty xs → NoneEmpty ys → a ≡ subscripts_bytes significant_digits xs → b ≡ subscripts_bytes significant_digits ys → AreBytes a → AreBytes b → order ≡ nat_cmp (head_number 32 a) (head_number 32 b) → is_ne order ≡ true → order ≡ subscripts_cmp significant_digits xs ys
 keys_by_head xs ys a b order some_x some_y is_a is_b are_a are_b e differ =
-    head_decides 16 a b order are_a are_b e differ ∙ ap₂ (slice_cmp nat_cmp) is_a is_b ∙ subscripts_order significant_digits xs ys some_x some_y
+    head_decides 32 a b order are_a are_b e differ ∙ ap₂ (slice_cmp nat_cmp) is_a is_b ∙ subscripts_order significant_digits xs ys some_x some_y

@@ -1,6 +1,6 @@
 -- SPDX-License-Identifier: Apache-2.0
 -- The subscript that bytes begin with.
-use Rattle.mkey.proofs.KeyWords.{ℕ, zero, suc, ◌≡◌, ◌≢◌, ◌+◌, ◌^◌, ◌<◌, ◌≤◌, Option, Some, None, List, [], ◌∷◌, ◌++◌, length, take, drop, refl, sym, ◌∙◌, ap, subst, arith, length-append, add-one, ◌%◌, ℤ, unsigned_abs, nat_cmp, Equal, take-append_seam, tied_itself, nat_cmp_total, big_endian, raised, number_bytes, text_bytes, subscript_by, subscript_bytes, IsAscii, IsNumber, numeric_value, number_text, IsCanonical, canonical_value, bytes_order, raised_below, raised_order, same_bytes, text_split, both_Equal, canonical_of_value, value_of_canonical, IsFront, BeginsWithNo, BeginsWithNumber, IsSub}
+use Rattle.mkey.proofs.KeyWords.{ℕ, zero, suc, ◌≡◌, ◌+◌, ◌^◌, ◌<◌, ◌≤◌, Option, Some, None, List, [], ◌∷◌, ◌++◌, length, take, drop, refl, sym, ◌∙◌, ap, subst, arith, length-append, add-one, ◌%◌, ℤ, unsigned_abs, nat_cmp, Equal, take-append_seam, tied_itself, nat_cmp_total, big_endian, raised, number_bytes, text_bytes, subscript_by, subscript_bytes, IsNumber, numeric_value, number_text, IsCanonical, canonical_value, bytes_order, raised_below, raised_order, same_bytes, text_split, both_Equal, canonical_of_value, value_of_canonical, IsFront, BeginsWithNo, BeginsWithNumber, IsSub}
 use Rattle.std.proofs.Common.{take-append-drop}
 use Rattle.std.specs.FinMap.{nat_cmp-IsAntisymmetric, int_cmp-IsAntisymmetric}
 use Rattle.mspec.specs.Act.{Text}
@@ -134,9 +134,6 @@ other kept s rest more e = by_value (canonical_value kept s) refl e
     by_value (Some u) is e = let no : ◌≡◌ {A = ℕ} 2 1 = cc in absurd (omega (arith, no))
     by_value None is e = record { none = is; bytes = cc }
 
-pub no_letters : (kept : ℕ) (rest : List ℕ) → BeginsWithNo IsAscii text_bytes rest → NoSub kept (2 ∷ rest)
-no_letters kept rest none s more sub e = none s more sub.1 (other kept s rest more e).bytes
-
 pub other_letters : (kept : ℕ) (rest : List ℕ) (t : Text) (n : ℕ) → IsFront rest (text_bytes t) n → (IsSub t → canonical_value kept t ≡ None → ⊥) → NoSub kept (2 ∷ rest)
 other_letters kept rest t n front none s more sub e =
     let at = other kept s rest more e in
@@ -152,15 +149,6 @@ letters_found kept rest t n front none =
       is = ap (λ b. 2 ∷ b) front.is ∙ ap (λ b. b ++ drop n rest) (sym bytes) ∙ ap (λ m. subscript_bytes kept t ++ drop m (2 ∷ rest)) (sym (add-one n));
     }
 
--- ---- other tags
-
-pub no_tag : (kept : ℕ) (b : ℕ) (rest : List ℕ) → b ≢ 1 → b ≢ 2 → NoSub kept (b ∷ rest)
-no_tag kept b rest one two s more sub e = by_value (canonical_value kept s) e
-  where
-    by_value : (o : Option ℤ) → b ∷ rest ≡ subscript_by s o ++ more → ⊥
-    by_value (Some u) e = one (cc)
-    by_value None e = two (cc)
-
 pub nothing_begins : (kept : ℕ) → NoSub kept []
 nothing_begins kept s more sub e = by_value (canonical_value kept s) e
   where
@@ -175,10 +163,3 @@ unfolding number_bytes
 number_long kept s rest more e =
     let at = numeric kept s rest more e in
     ap (λ o. length (subscript_by s o)) at.canonical ∙ ap suc (length-big_endian 16 (raised at.value))
-
-pub letters_long : (kept : ℕ) (b : ℕ) (s : Text) (rest more : List ℕ) → b ≢ 1 → b ∷ rest ≡ subscript_bytes kept s ++ more → (rest ≡ text_bytes s ++ more) × (length (subscript_bytes kept s) ≡ 1 + length (text_bytes s))
-letters_long kept b s rest more other e = by_value (canonical_value kept s) refl e
-  where
-    by_value : (o : Option ℤ) → canonical_value kept s ≡ o → b ∷ rest ≡ subscript_by s o ++ more → (rest ≡ text_bytes s ++ more) × (length (subscript_bytes kept s) ≡ 1 + length (text_bytes s))
-    by_value (Some u) is e = absurd (other (cc))
-    by_value None is e = (cc, ap (λ o. length (subscript_by s o)) is ∙ omega arith)

@@ -8,22 +8,9 @@ use Rattle.mspec.specs.Act.{Text, Node}
 some_each : (xs : List Text) → All IsSub xs → NoneEmpty xs
 some_each xs all = λ k d inside. (all k d inside).0.some
 
-some_all : (ys : List Text) → AreSubs ys → NoneEmpty ys
+-- none of a store's is empty
+pub some_all : (ys : List Text) → AreSubs ys → NoneEmpty ys
 some_all ys all = λ k d inside. (all.0.each k d inside).some
-
--- what is behind the subscripts that were read
-behind_read : (kept : ℕ) (xs ys : List Text) (rest bytes : List ℕ) → All IsSub xs → AreSubs ys → bytes ≡ subscripts_bytes kept xs ++ rest → bytes ≡ subscripts_bytes kept ys → IsBehind kept xs rest ys
-behind_read kept xs ys rest bytes subs all is e = subscripts_split kept xs ys rest (some_each xs subs) (some_all ys all) (sym is ∙ e)
-
-pub too_many_subs : (kept : ℕ) (xs ys : List Text) (rest bytes : List ℕ) → All IsSub xs → AreSubs ys → bytes ≡ subscripts_bytes kept xs ++ rest → bytes ≡ subscripts_bytes kept ys → length xs ≡ 15 → 0 < length rest → ⊥
-too_many_subs kept xs ys rest bytes subs all is e full some = by_more behind.more behind.subscripts behind.bytes
-  where
-    behind : IsBehind kept xs rest ys
-    behind = behind_read kept xs ys rest bytes subs all is e
-
-    by_more : (more : List Text) → ys ≡ xs ++ more → rest ≡ subscripts_bytes kept more → ⊥
-    by_more [] list rest_is = omega (arith, ap length rest_is)
-    by_more (s ∷ more) list rest_is = omega (arith, ap length list, length-append xs (s ∷ more), all.0.few)
 
 -- what holds of each of a list holds of each of its end
 All-drop-back : {X : Type 0} (P : X → Type 0) (xs ys : List X) → All P (xs ++ ys) → All P ys
@@ -37,15 +24,24 @@ sub_behind xs ys s more all e =
     let ascii : All IsAscii (s ∷ more) = All-drop-back IsAscii xs (s ∷ more) (subst (All IsAscii) e all.1) in
     (All-head IsSubscript s more each, All-head IsAscii s more ascii)
 
-pub no_more_subs : (kept : ℕ) (xs ys : List Text) (rest bytes : List ℕ) → All IsSub xs → AreSubs ys → bytes ≡ subscripts_bytes kept xs ++ rest → bytes ≡ subscripts_bytes kept ys → BeginsWithNo IsSub (subscript_bytes kept) rest → 0 < length rest → ⊥
-no_more_subs kept xs ys rest bytes subs all is e none some = by_more behind.more behind.subscripts behind.bytes
-  where
-    behind : IsBehind kept xs rest ys
-    behind = behind_read kept xs ys rest bytes subs all is e
+-- subscripts that were read, and something behind them
+module _ (kept : ℕ) (xs ys : List Text) (rest bytes : List ℕ) (subs : All IsSub xs) (all : AreSubs ys) (is : bytes ≡ subscripts_bytes kept xs ++ rest) (e : bytes ≡ subscripts_bytes kept ys) (some : 0 < length rest) where
+  -- one more subscript begins there
+  one_behind : ((s : Text) (more : List Text) → ys ≡ xs ++ s ∷ more → rest ≡ subscripts_bytes kept (s ∷ more) → ⊥) → ⊥
+  one_behind none = by_more behind.more behind.subscripts behind.bytes
+    where
+      behind : IsBehind kept xs rest ys
+      behind = subscripts_split kept xs ys rest (some_each xs subs) (some_all ys all) (sym is ∙ e)
 
-    by_more : (more : List Text) → ys ≡ xs ++ more → rest ≡ subscripts_bytes kept more → ⊥
-    by_more [] list rest_is = omega (arith, ap length rest_is)
-    by_more (s ∷ more) list rest_is = none s (subscripts_bytes kept more) (sub_behind xs ys s more all list) rest_is
+      by_more : (more : List Text) → ys ≡ xs ++ more → rest ≡ subscripts_bytes kept more → ⊥
+      by_more [] list rest_is = omega (arith, some, ap length rest_is)
+      by_more (s ∷ more) list rest_is = none s more list rest_is
+
+  pub too_many_subs : length xs ≡ 15 → ⊥
+  too_many_subs full = one_behind (λ s more list rest_is. omega (arith, ap length list, length-append xs (s ∷ more), all.0.few))
+
+  pub no_more_subs : BeginsWithNo IsSub (subscript_bytes kept) rest → ⊥
+  no_more_subs none = one_behind (λ s more list rest_is. none s (subscripts_bytes kept more) (sub_behind xs ys s more all list) rest_is)
 
 pub one_more_sub : (kept : ℕ) (xs : List Text) (s : Text) (rest bytes : List ℕ) (n : ℕ) → bytes ≡ subscripts_bytes kept xs ++ rest → IsFront rest (subscript_bytes kept s) n → bytes ≡ subscripts_bytes kept (xs ++ s ∷ []) ++ drop n rest
 one_more_sub kept xs s rest bytes n is front =

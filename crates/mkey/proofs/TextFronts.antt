@@ -1,9 +1,10 @@
 -- SPDX-License-Identifier: Apache-2.0
 -- The text that bytes begin with.
-use Rattle.mkey.proofs.KeyWords.{ℕ, ◌≡◌, ◌≢◌, ◌+◌, ◌-◌, ◌<◌, ◌≤◌, Option, Some, None, MatchOption, List, [], ◌∷◌, ◌++◌, map, length, get_or, drop, All, refl, sym, ◌∙◌, ap, subst, arith, append_assoc, append-nil, add-one, true, drop-cons, map-append, nat_tests, All-nil, All-cons, AllAre, IsName, is_name_rest, is_name_start, text_bytes, IsAscii, text_split, IsFront, BeginsWithNo}
+use Rattle.mkey.proofs.KeyWords.{ℕ, ◌≡◌, ◌≢◌, ◌+◌, ◌-◌, ◌<◌, ◌≤◌, Option, Some, None, MatchOption, List, [], ◌∷◌, ◌++◌, map, length, get_or, drop, All, refl, sym, ◌∙◌, ap, subst, arith, append_assoc, append-nil, add-one, drop-cons, map-append, All-nil, All-cons, AllAre, IsName, is_name_rest, text_bytes, IsAscii, text_split, IsFront, BeginsWithNo}
 use Rattle.std.proofs.Common.{false, IsTrue}
 use Rattle.std.proofs.Math.ListN.{drop_of_length-le}
 use Rattle.mspec.specs.Act.{Text}
+use Rattle.mspec.proofs.Basics.{rest_is_ascii, start_is_ascii}
 
 -- each case of an option, told in other words
 pub match_map : {A : Type 0} {P P' : Type 0} {Q Q' : A → Type 0} (o : Option A) → (P → P') → ((a : A) → Q a → Q' a) → MatchOption o P Q → MatchOption o P' Q'
@@ -87,19 +88,13 @@ not_so h = absurd (cc)
 pub other_found : (P : Text → Type 0) (bytes : List ℕ) (t : Text) (n : ℕ) → IsFront bytes (text_bytes t) n → (P t → ⊥) → BeginsWithNo P text_bytes bytes
 other_found P bytes t n front other s rest is e = other (subst P (text_split s t rest (drop n bytes) (sym e ∙ front.is)).0 is)
 
-word_ascii : (c : ℕ) → is_name_rest c ≡ true → c < 128
-word_ascii c h = grind (arith, nat_tests)
-
-start_ascii : (c : ℕ) → is_name_start c ≡ true → c < 128
-start_ascii c h = grind (arith, nat_tests)
-
 words_ascii : (cs : Text) → AllAre is_name_rest cs → IsAscii cs
 words_ascii [] all = All-nil (λ c. c < 128)
-words_ascii (c ∷ cs) all = All-cons (λ c. c < 128) c cs (word_ascii c all.0) (words_ascii cs all.1)
+words_ascii (c ∷ cs) all = All-cons (λ c. c < 128) c cs (rest_is_ascii c all.0) (words_ascii cs all.1)
 
 name_ascii : (s : Text) → IsName s → IsAscii s
 name_ascii [] name = absurd name
-name_ascii (c ∷ cs) name = All-cons (λ c. c < 128) c cs (start_ascii c name.0) (words_ascii cs name.1)
+name_ascii (c ∷ cs) name = All-cons (λ c. c < 128) c cs (start_is_ascii c name.0) (words_ascii cs name.1)
 
 -- bytes that begin with no text begin with no name
 pub no_name : (bytes : List ℕ) → BeginsWithNo IsAscii text_bytes bytes → BeginsWithNo IsName text_bytes bytes

@@ -2,7 +2,8 @@
 -- What bytes begin with.
 use Rattle.std.specs.Prelude.{◌≡◌, ◌≤◌, ℕ, ℤ, List, ◌++◌, length, take, drop, All}
 use Rattle.mspec.specs.Act.{Text}
-use Rattle.mspec.specs.KeyBytes.{number_bytes, IsSubscript, AreSubscripts, IsAscii}
+use Rattle.mspec.specs.Number.{significant_digits}
+use Rattle.mspec.specs.KeyBytes.{number_bytes, subscript_bytes, IsSubscript, AreSubscripts, IsAscii}
 
 -- the bytes begin with these, which are `count` of them
 pub record IsFront (bytes front : List ℕ) (count : ℕ) : Type 0 where
@@ -16,6 +17,10 @@ BeginsWithNo P bytes_of bytes = (s : Text) (rest : List ℕ) → P s → bytes �
 -- a text that is a subscript of a store
 abbrev pub IsSub : Text → Type 0
 IsSub s = IsSubscript s × IsAscii s
+
+-- the first subscript of a store that the bytes are
+abbrev pub IsFirst : List ℕ → Text → Type 0
+IsFirst bytes s = IsSub s × ((count : ℕ) × IsFront bytes (subscript_bytes significant_digits s) count)
 
 abbrev pub AreSubs : List Text → Type 0
 AreSubs subscripts = AreSubscripts subscripts × All IsAscii subscripts

@@ -1,6 +1,6 @@
 // SPDX-License-Identifier: Apache-2.0
-// The first sixteen bytes of a key as a number, by which most keys are told apart.
-ghost use Rattle.std.specs.Prelude.{◌≡◌, drop};
+// The first bytes of a key as a number, by which most keys are told apart.
+ghost use Rattle.std.specs.Prelude.{◌≡◌, ◌<◌, ◌^◌, drop};
 ghost use Rattle.std.specs.Ordering.{nat_cmp};
 ghost use Rattle.mkey.specs.Head.{head_number};
 
@@ -9,12 +9,15 @@ use crate::order::{WORD_BYTES, first_word};
 use std::cmp::Ordering;
 use std::marker::Model;
 
-// The first sixteen bytes, with zeros behind fewer. Contracts see the number that they are. It is held as two words, since a
-// number of sixteen bytes would lie at a multiple of sixteen, with a gap in each key.
+// The bytes of half a head.
+const HALF_BYTES: usize = 16;
+
+// The first thirty-two bytes, with zeros behind fewer: all that two subscripts that are numbers have, but for the last digits of
+// the second. Contracts see the number that they are.
 #[derive(Debug, Drop)]
 pub struct Head {
-    high: u64,
-    low: u64,
+    front: Half,
+    back: Half,
 }
 
 impl Model for Head {
@@ -22,24 +25,65 @@ impl Model for Head {
 
     ghost Value = { ℕ };
 
-    ghost view = { λ head. head.high * 256 ^ 8 + head.low };
+    ghost view = { λ head. head.front * 256 ^ 16 + head.back };
 
-    ghost invariant = { λ head. head.low < 256 ^ 8 };
+    ghost invariant = { λ head. head.back < 256 ^ 16 };
 }
 
 impl Head {
     // The head of these bytes.
     pub fn of(bytes: &[u8]) -> Head
-        ensures { result ≡ head_number 16 bytes.now }
+        ensures { result ≡ head_number 32 bytes.now }
     {
         Head {
+            front: Half::of(bytes),
+            back: back_half(bytes),
+        }
+    }
+
+    // The order of the two numbers.
+    pub fn order(&self, other: &Head) -> Ordering
+        ensures { result ≡ nat_cmp self.now other.now }
+    {
+        let order = self.front.order(&other.front);
+        if order.is_ne() {
+            return order;
+        }
+        self.back.order(&other.back)
+    }
+}
+
+// Sixteen bytes as a number. It is held as two words, since a number of sixteen bytes would lie at a multiple of sixteen, with a
+// gap in each key.
+#[derive(Debug, Drop)]
+struct Half {
+    high: u64,
+    low: u64,
+}
+
+impl Model for Half {
+    ghost use Rattle.std.specs.Prelude.{ℕ, ◌+◌, ◌*◌, ◌^◌, ◌<◌};
+
+    ghost Value = { ℕ };
+
+    ghost view = { λ half. half.high * 256 ^ 8 + half.low };
+
+    ghost invariant = { λ half. half.low < 256 ^ 8 };
+}
+
+impl Half {
+    // The number that the first sixteen of these bytes are.
+    fn of(bytes: &[u8]) -> Half
+        ensures { result ≡ head_number 16 bytes.now }
+    {
+        Half {
             high: word(bytes),
             low: second_word(bytes),
         }
     }
 
     // The order of the two numbers.
-    pub fn order(&self, other: &Head) -> Ordering
+    fn order(&self, other: &Half) -> Ordering
         ensures { result ≡ nat_cmp self.now other.now }
     {
         let order = self.high.cmp(&other.high);
@@ -82,4 +126,14 @@ fn second_word(bytes: &[u8]) -> u64
         return 0;
     }
     word(behind(bytes, WORD_BYTES))
+}
+
+// The half of the bytes behind the first sixteen.
+fn back_half(bytes: &[u8]) -> Half
+    ensures { result ≡ head_number 16 (drop 16 bytes.now) }
+{
+    if bytes.len() <= HALF_BYTES {
+        return Half { high: 0, low: 0 };
+    }
+    Half::of(behind(bytes, HALF_BYTES))
 }

@@ -21,7 +21,7 @@ use crate::encoding::{push_text, push_texts, push_values, texts_room, values_roo
 use crate::fault::KeyFault;
 use crate::order::compare;
 use crate::subs::{subs_ok, values_ok};
-use crate::values::read_value;
+use crate::values::first_value;
 use mnum::Bytes7;
 use mvalue::Value;
 use std::alloc::{AllocError, Global};
@@ -235,10 +235,8 @@ impl NodeKey {
         if !bytes.starts_with(key) {
             return Ok(None);
         }
-        match read_value(alloc, behind(bytes, key.len()))? {
-            None => Ok(None),
-            Some((value, _)) => Ok(Some(value)),
-        }
+        let child = first_value(alloc, behind(bytes, key.len()))?;
+        Ok(child)
     }
 }
 

@@ -17,7 +17,7 @@ use crate::decoding::behind;
 use crate::encoding::{push_values, values_room};
 use crate::head::Head;
 use crate::order::compare;
-use crate::values::read_value;
+use crate::values::first_value;
 use mvalue::Value;
 use std::alloc::{AllocError, Global};
 use std::cmp::Ordering;
@@ -33,7 +33,7 @@ pub struct SubsKey {
     head: Head,
     bytes: Vec<u8>,
     ghost of_subs: { IsSubsKey bytes.items } by { IsSubsKey-prop bytes.items },
-    ghost head_of: { head ≡ head_number 16 bytes.items },
+    ghost head_of: { head ≡ head_number 32 bytes.items },
 }
 
 impl Model for SubsKey {
@@ -134,11 +134,8 @@ impl SubsKey {
         if !self.is_within(above) {
             return Ok(None);
         }
-        let rest = behind(self.as_bytes(), above.as_bytes().len());
-        match read_value(alloc, rest)? {
-            None => Ok(None),
-            Some((value, _)) => Ok(Some(value)),
-        }
+        let child = first_value(alloc, behind(self.as_bytes(), above.as_bytes().len()))?;
+        Ok(child)
     }
 }
 

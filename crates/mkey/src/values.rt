@@ -1,7 +1,7 @@
 // SPDX-License-Identifier: Apache-2.0
 // Subscripts read back as values: a number is read as it is, and no text of it is made.
 ghost use Rattle.std.specs.Prelude.{◌∷◌, IfOk, MatchOption};
-ghost use Rattle.mkey.specs.Front.{IsFront, BeginsWithNo, IsSub};
+ghost use Rattle.mkey.specs.Front.{IsFront, IsFirst, BeginsWithNo, IsSub};
 ghost use Rattle.mspec.specs.KeyBytes.{subscript_bytes};
 ghost use Rattle.mspec.specs.Number.{significant_digits};
 
@@ -46,5 +46,18 @@ pub fn read_value(alloc: Global, bytes: &[u8]) -> Result<Option<(Value, usize)>,
         [1, rest @ ..] => Ok(numeric_value(rest)),
         [2, rest @ ..] => letters_value(alloc, rest),
         _ => Ok(None),
+    }
+}
+
+// The subscript that the bytes begin with, if they begin with one.
+#[inline]
+pub fn first_value(alloc: Global, bytes: &[u8]) -> Result<Option<Value>, AllocError>
+    ensures { IfOk result (λ found. MatchOption found
+        (BeginsWithNo IsSub (subscript_bytes significant_digits) bytes.now)
+        (IsFirst bytes.now)) }
+{
+    match read_value(alloc, bytes)? {
+        None => Ok(None),
+        Some((value, _)) => Ok(Some(value)),
     }
 }

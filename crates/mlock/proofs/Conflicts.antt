@@ -1,17 +1,15 @@
 -- SPDX-License-Identifier: Apache-2.0
 -- Whether a name conflicts with those that are held, by the holdings.
-use Rattle.mlock.proofs.LockWords.{◌≡◌, ◌<◌, ℕ, Bool, true, false, not, nat_eq, ◌&&◌, ◌||◌, List, [], ◌∷◌, map, length, Option, Some, None, ◌⊎◌, inl, inr, refl, sym, ap, ◌∙◌, subst, is_some, slice_get, true≢false, slice_get_within, get_or_from_slice_get, slice_get-get_or, Any-from_list_any, list_any_at, and_parts, and_from, false_from_ne_true, or_left, or_right, or_cases, keys, contains_key-keys, get-from_entries, is_some-find, list_any, eq_by_cmp, eq_by_cmp_equiv, both_ways, place_from_lookup, lookup_from_place, IndexMap, IsUnique, beq, is_node_within, LockName, Held, held, held_cmp, is_within, is_conflict, has_conflict, Locks, held_cmp_total, lock_name_cmp_total, name_above, is_other, Holding, lock_of, locks_of, IsFree, name_eq, is_under}
+use Rattle.mlock.proofs.LockWords.{Entry, ◌≡◌, ◌<◌, ℕ, Bool, true, false, not, nat_eq, ◌&&◌, ◌||◌, List, [], ◌∷◌, map, length, Option, Some, None, ◌⊎◌, inl, inr, refl, sym, ap, ◌∙◌, append-nil, subst, is_some, slice_get, true≢false, slice_get_within, get_or_from_slice_get, slice_get-get_or, Any-from_list_any, list_any_at, and_parts, and_from, false_from_ne_true, or_left, or_right, or_cases, keys, contains_key-keys, get-from_entries, is_some-find, list_any, eq_by_cmp, eq_by_cmp_equiv, both_ways, place_from_lookup, lookup_from_place, IndexMap, IsUnique, LockName, Held, held, held_cmp, is_within, is_conflict, has_conflict, Locks, held_cmp_total, lock_name_cmp_total, name_above, is_other, Holding, lock_of, locks_of, IsFree, name_eq, is_under}
 use Rattle.std.specs.FinMap.{get}
 use Rattle.indexmap.specs.IndexMap as index
 use Rattle.mlock.proofs.Above.{above_within, above_or_same}
-use Rattle.mlock.proofs.Names.{of_within}
+use Rattle.mlock.proofs.Levels.{absent_from}
+use Rattle.mlock.proofs.Names.{at_test}
 use Rattle.mlock.proofs.Steps.{same_lock, tied_itself}
 use Rattle.mlock.proofs.Sums.{under_other}
-use Rattle.mlock.proofs.Under.{both_within, is_same}
+use Rattle.mlock.proofs.Under.{both_within, is_same, of_inside}
 use Rattle.mlock.proofs.Views.{no}
-
-abbrev Entry : Type 0
-Entry = LockName × Holding
 
 -- ---- names that conflict with none
 
@@ -21,24 +19,16 @@ fewer p q xs h none = false_from_ne_true (list_any q xs) (λ e.
     true≢false (sym (list_any_at p xs k x within (ap p at ∙ h x is)) ∙ none))
 
 pub within_itself : (n : LockName) → is_within n n ≡ true
-within_itself n = by_kind n.global
-  where
-    by_kind : (g : Bool) → (beq g g && is_node_within n.node n.node) ≡ true
-    by_kind true = of_within n.node n.node (inl refl)
-    by_kind false = of_within n.node n.node (inl refl)
+within_itself n = of_inside n n (record { kind = refl; account = refl; name = refl; more = []; subscripts = sym (append-nil n.node.subscripts) })
 
 itself_conflicts : (t u : ℕ) (n : LockName) → (u ≡ t → ⊥) → is_conflict (held t n) (held u n) ≡ true
 itself_conflicts t u n other =
     ap (λ b. not b && (is_within n n || is_within n n)) (no t u (λ e. other (sym e))) ∙ ap (λ b. b || is_within n n) (within_itself n)
 
-none_of : (o : Option ℕ) → is_some o ≡ false → o ≡ None
-none_of None e = refl
-none_of (Some c) e = absurd (cc)
-
 -- a name that conflicts with none that is held is held by no other terminal
 pub free_of : (l : Locks) (t : ℕ) (n : LockName) → has_conflict l (held t n) ≡ false → IsFree l t n
 free_of l t n none u other =
-    none_of (get l (held u n)) (contains_key-keys l (held u n)
+    absent_from (get l (held u n)) (contains_key-keys l (held u n)
     ∙ fewer (is_conflict (held t n)) (eq_by_cmp held_cmp (held u n)) (keys l)
     (λ k e. ap (is_conflict (held t n)) (sym (same_lock (held u n) k e)) ∙ itself_conflicts t u n other) none)
 
@@ -130,12 +120,6 @@ module _ {S : Type 0} (m : IndexMap LockName Holding S) (n : LockName) (t : ℕ)
           by_side (inr found) =
               true≢false (sym (ap (λ k. is_other t (index.get name_eq m k)) found.2 ∙ held_there i e at other) ∙ above found.0 found.1)
 
-      by_within : (i : ℕ) (e : Entry) → slice_get m.entries i ≡ Some e → not (nat_eq t e.1.terminal) ≡ true → (b : Bool) → is_within e.0 n ≡ b → is_within n e.0 ≡ true → ⊥
-      by_within i e at other true back is = refuted_above i e at other back
-      by_within i e at other false back is =
-          true≢false
-          (sym (any_at (under_other n t) m.entries i e at (and_from (is_under n e.0) (not (nat_eq t e.1.terminal)) (and_from (is_within n e.0) (not (is_within e.0 n)) is (ap not back)) other)) ∙ below)
-
       refuted : list_any conflicts_with m.entries ≡ true → ⊥
       refuted e =
           let f = at_any conflicts_with m.entries e in
@@ -143,5 +127,7 @@ module _ {S : Type 0} (m : IndexMap LockName Holding S) (n : LockName) (t : ℕ)
           by_side f.0 f.1 f.2 is.0 (or_cases (is_within n f.1.0) (is_within f.1.0 n) is.1)
         where
           by_side : (i : ℕ) (d : Entry) → slice_get m.entries i ≡ Some d → not (nat_eq t d.1.terminal) ≡ true → (is_within n d.0 ≡ true) ⊎ (is_within d.0 n ≡ true) → ⊥
-          by_side i d at other (inl is) = by_within i d at other (is_within d.0 n) refl is
+          by_side i d at other (inl is) =
+              at_test (is_within d.0 n) (λ b. ⊥) (λ back. refuted_above i d at other back)
+              (λ back. true≢false (sym (any_at (under_other n t) m.entries i d at (and_from (is_under n d.0) (not (nat_eq t d.1.terminal)) (and_from (is_within n d.0) (not (is_within d.0 n)) is (ap not back)) other)) ∙ below))
           by_side i d at other (inr is) = refuted_above i d at other is

@@ -1,7 +1,8 @@
 -- SPDX-License-Identifier: Apache-2.0
 -- Tallies of one name, and of all the names above one.
-use Rattle.mlock.proofs.LockWords.{◌≡◌, ◌+◌, ◌*◌, ℕ, Bool, true, false, cond, ◌&&◌, nat_eq, Option, Some, None, refl, sym, ap, ◌∙◌, subst, arith, unwrap_or, is_some, IsSome, true≢false, inl, inr, and_parts, false_from_ne_true, cases_Bool, nat_tests, IndexMap, get, Updates, LockName, IsAbove, Tally, name_eq, is_under, no_names, with_one, is_none, tally_at, HasEntry}
-use Rattle.mlock.proofs.Under.{is_same, same_is, above_is, not_itself, others_above, from_above}
+use Rattle.mlock.proofs.LockWords.{◌||◌, ◌≡◌, ◌+◌, ◌*◌, ℕ, Bool, true, false, cond, ◌&&◌, nat_eq, Option, Some, None, refl, sym, ap, ◌∙◌, subst, arith, unwrap_or, is_some, IsSome, true≢false, inl, inr, and_parts, false_from_ne_true, cases_Bool, nat_tests, IndexMap, get, Updates, LockName, IsAbove, Tally, name_eq, is_under, no_names, with_one, is_none, tally_at, HasEntry}
+use Rattle.mlock.proofs.Names.{at_test}
+use Rattle.mlock.proofs.Under.{is_same, above_is, not_itself, others_above, from_above}
 
 -- ---- the entry of one name
 
@@ -10,46 +11,35 @@ absent_from None e = refl
 absent_from (Some x) e = absurd (cc)
 
 module _ {S : Type 0} (m n : IndexMap LockName Tally S) (k : LockName) where
-  or_none : (b : Bool) (w o : Option Tally) → unwrap_or (cond b w o) no_names ≡ cond b (unwrap_or w no_names) (unwrap_or o no_names)
-  or_none true w o = refl
-  or_none false w o = refl
-
   -- the tallies after an entry is written or taken away
   pub written : (w : Option Tally) → Updates name_eq m n k w → (q : LockName) → tally_at n q ≡ cond (name_eq k q) (unwrap_or w no_names) (tally_at m q)
-  written w u q = ap (λ o. unwrap_or o no_names) (u.0 q) ∙ or_none (name_eq k q) w (get name_eq m q)
+  written w u q =
+      ap (λ o. unwrap_or o no_names) (u.0 q)
+      ∙ elim (name_eq k q) as (λ b. unwrap_or (cond b w (get name_eq m q)) no_names ≡ cond b (unwrap_or w no_names) (tally_at m q)) [ true ↦ refl | false ↦ refl ]
 
   pub keeps : (w : Tally) → Updates name_eq m n k (Some w) → (q : LockName) → HasEntry m q → HasEntry n q
   keeps w u q some = subst IsSome (sym (u.0 q)) (elim (name_eq k q) as (λ b. IsSome (cond b (Some w) (get name_eq m q))) [ true ↦ refl | false ↦ some ])
 
   -- an entry of no name changes no tally
   pub made_same : Updates name_eq m n k (Some no_names) → get name_eq m k ≡ None → (q : LockName) → tally_at n q ≡ tally_at m q
-  made_same u none q = written (Some no_names) u q ∙ by_test (name_eq k q) (is_same k q)
-    where
-      by_test : (b : Bool) → (b ≡ true → k ≡ q) → cond b no_names (tally_at m q) ≡ tally_at m q
-      by_test true same = sym (ap (λ o. unwrap_or o no_names) (ap (get name_eq m) (sym (same refl)) ∙ none))
-      by_test false same = refl
-
-  pub has_made : Updates name_eq m n k (Some no_names) → HasEntry n k
-  has_made u = subst IsSome (sym (u.0 k ∙ ap (λ b. cond b (Some no_names) (get name_eq m k)) (same_is k k refl))) refl
+  made_same u none q =
+      written (Some no_names) u q
+      ∙ at_test (name_eq k q) (λ b. cond b no_names (tally_at m q) ≡ tally_at m q) (λ e. sym (ap (λ o. unwrap_or o no_names) (ap (get name_eq m) (sym (is_same k q e)) ∙ none))) (λ e. refl)
 
   module _ (t : ℕ) where
     -- one name more at this one
     pub counted : ((q : LockName) → tally_at n q ≡ cond (name_eq k q) (with_one t (tally_at m k)) (tally_at m q))
         → (q : LockName) → tally_at n q ≡ cond (name_eq k q) (with_one t (tally_at m q)) (tally_at m q)
-    counted is q = is q ∙ by_test (name_eq k q) (is_same k q)
-      where
-        by_test : (b : Bool) → (b ≡ true → k ≡ q) → cond b (with_one t (tally_at m k)) (tally_at m q) ≡ cond b (with_one t (tally_at m q)) (tally_at m q)
-        by_test true same = ap (λ p. with_one t (tally_at m p)) (same refl)
-        by_test false same = refl
+    counted is q =
+        is q
+        ∙ at_test (name_eq k q) (λ b. cond b (with_one t (tally_at m k)) (tally_at m q) ≡ cond b (with_one t (tally_at m q)) (tally_at m q)) (λ e. ap (λ p. with_one t (tally_at m p)) (is_same k q e)) (λ e. refl)
 
     -- one name less at this one
     pub taken_off : (rest : Tally) → with_one t rest ≡ tally_at m k → ((q : LockName) → tally_at n q ≡ cond (name_eq k q) rest (tally_at m q))
         → (q : LockName) → tally_at m q ≡ cond (name_eq k q) (with_one t (tally_at n q)) (tally_at n q)
-    taken_off rest one is q = by_test (name_eq k q) (is_same k q) (is q)
-      where
-        by_test : (b : Bool) → (b ≡ true → k ≡ q) → tally_at n q ≡ cond b rest (tally_at m q) → tally_at m q ≡ cond b (with_one t (tally_at n q)) (tally_at n q)
-        by_test true same is = ap (tally_at m) (sym (same refl)) ∙ sym one ∙ ap (with_one t) (sym is)
-        by_test false same is = sym is
+    taken_off rest one is q =
+        at_test (name_eq k q) (λ b. tally_at n q ≡ cond b rest (tally_at m q) → tally_at m q ≡ cond b (with_one t (tally_at n q)) (tally_at n q))
+        (λ e here. ap (tally_at m) (sym (is_same k q e)) ∙ sym one ∙ ap (with_one t) (sym here)) (λ e here. sym here) (is q)
 
 -- an entry that is left as it was, and then taken away
 pub twice_written : {S : Type 0} (m l n : IndexMap LockName Tally S) (k : LockName) (v w : Tally) → ((q : LockName) → tally_at l q ≡ cond (name_eq k q) v (tally_at m q))
@@ -85,6 +75,12 @@ rest_is false t x y e = e
 
 -- ---- the names above one
 
+-- one step and another, at most one of which changes anything
+twofold : (f : Tally → Tally) (x y z : Tally) (p q : Bool) → (p ≡ true → q ≡ false) → y ≡ cond p (f x) x → z ≡ cond q (f y) y → z ≡ cond (p || q) (f x) x
+twofold f x y z true q apart e g = g ∙ ap (λ b. cond b (f y) y) (apart refl) ∙ e
+twofold f x y z false true apart e g = g ∙ ap f e
+twofold f x y z false false apart e g = g ∙ e
+
 module _ (above below : LockName) (next : IsAbove above below) where
   pub next_is : (n : LockName) → name_eq above n ≡ true → (is_under n above ≡ false) × (is_under n below ≡ true)
   next_is n e = let same = is_same above n e in (subst (λ k. is_under k above ≡ false) same (not_itself above), subst (λ k. is_under k below ≡ true) same (above_is above below next))
@@ -93,27 +89,23 @@ module _ (above below : LockName) (next : IsAbove above below) where
   pub not_next : (n : LockName) → is_under n above ≡ true → name_eq above n ≡ false
   not_next n is = false_from_ne_true (name_eq above n) (λ e. true≢false (sym is ∙ (next_is n e).0))
 
+  -- the names above a name are the next one, and those above that
+  under_is : (n : LockName) → is_under n below ≡ (name_eq above n || is_under n above)
+  under_is n = at_test (name_eq above n) (λ b. is_under n below ≡ (b || is_under n above)) (λ e. (next_is n e).1) (λ e. others_above above below next n e)
+
+  is_under_or : (n : LockName) → is_under n below ≡ (is_under n above || name_eq above n)
+  is_under_or n =
+      at_test (is_under n above) (λ b. is_under n below ≡ (b || name_eq above n)) (λ e. from_above above below next n e)
+      (λ e. under_is n ∙ ap (λ u. name_eq above n || u) e ∙ elim (name_eq above n) as (λ b. (b || false) ≡ b) [ true ↦ refl | false ↦ refl ])
+
   module _ (f : Tally → Tally) (old mid new : LockName → Tally) where
     pub all_counted : ((n : LockName) → mid n ≡ cond (name_eq above n) (f (old n)) (old n)) → ((n : LockName) → new n ≡ cond (is_under n above) (f (mid n)) (mid n))
         → (n : LockName) → new n ≡ cond (is_under n below) (f (old n)) (old n)
-    all_counted first rest n = elim (cases_Bool (name_eq above n)) [
-      | inl e ↦
-          let is = next_is n e in
-          rest n ∙ ap (λ b. cond b (f (mid n)) (mid n)) is.0 ∙ first n ∙ ap (λ b. cond b (f (old n)) (old n)) e ∙ sym (ap (λ b. cond b (f (old n)) (old n)) is.1)
-      | inr e ↦
-          let same : mid n ≡ old n = first n ∙ ap (λ b. cond b (f (old n)) (old n)) e in
-          rest n ∙ ap (λ x. cond (is_under n above) (f x) x) same ∙ ap (λ b. cond b (f (old n)) (old n)) (sym (others_above above below next n e))
-    ]
+    all_counted first rest n = twofold f (old n) (mid n) (new n) (name_eq above n) (is_under n above) (λ e. (next_is n e).0) (first n) (rest n) ∙ ap (λ b. cond b (f (old n)) (old n)) (sym (under_is n))
 
     pub all_taken_off : ((n : LockName) → old n ≡ cond (name_eq above n) (f (mid n)) (mid n)) → ((n : LockName) → mid n ≡ cond (is_under n above) (f (new n)) (new n))
         → (n : LockName) → old n ≡ cond (is_under n below) (f (new n)) (new n)
-    all_taken_off first rest n = elim (cases_Bool (name_eq above n)) [
-      | inl e ↦
-          let is = next_is n e in
-          let same : mid n ≡ new n = rest n ∙ ap (λ b. cond b (f (new n)) (new n)) is.0 in
-          first n ∙ ap (λ b. cond b (f (mid n)) (mid n)) e ∙ ap f same ∙ sym (ap (λ b. cond b (f (new n)) (new n)) is.1)
-      | inr e ↦ first n ∙ ap (λ b. cond b (f (mid n)) (mid n)) e ∙ rest n ∙ ap (λ b. cond b (f (new n)) (new n)) (sym (others_above above below next n e))
-    ]
+    all_taken_off first rest n = twofold f (new n) (mid n) (old n) (is_under n above) (name_eq above n) (not_next n) (rest n) (first n) ∙ ap (λ b. cond b (f (new n)) (new n)) (sym (is_under_or n))
 
   -- what holds of the names above the name holds of those above the next one, which the first step left alone
   pub levels_left : (P : LockName → Type 0) → ((n : LockName) → is_under n below ≡ true → P n) → (n : LockName) → is_under n above ≡ true → P n

@@ -2,7 +2,7 @@
 -- The words that most proofs of this crate have, in one place.
 pub use Rattle.std.proofs.Common.{All, Bool, Equal, Err, Greater, IfOk, IfSome, IsSome, Less, List, None, Ok, OnOk, Option, Ordering, Result, Some, [], ap, append-nil, append_assoc, arith, cond, drop, false, get_or, get_or-set_other, get_or-take, inl, inr, is_some, length, length-append, length-set, length-take-le, map, mul-le-mul_left, mul-le-mul_right, nat_eq, nat_lt, not, refl, slice_get, slice_index_or, slice_set, subst, suc, sym, take, take-append-drop, take_all, true, true≢false, unwrap_or, zero, ℕ, ◌&&◌, ◌*◌, ◌++◌, ◌+◌, ◌-◌, ◌<◌, ◌^◌, ◌||◌, ◌∙◌, ◌∷◌, ◌≡◌, ◌≤◌, ◌⊎◌}
 pub use Rattle.std.proofs.Math.Seq.{take-append-add, take-append_seam}
-pub use Rattle.std.proofs.lemmas.Bool.{and_from, and_parts, and_right, cases_Bool, cases_eq, false_from_ne_true, or_cases, or_left, or_parts, or_right}
+pub use Rattle.std.proofs.lemmas.Bool.{and_from, and_parts, and_right, cases_Bool, cases_eq, cases_lt, false_from_ne_true, or_cases, or_left, or_parts, or_right}
 pub use Rattle.std.proofs.lemmas.Bool.Decides.{nat_tests}
 pub use Rattle.std.proofs.lemmas.List.Folds.{Any-from_list_any, list_any_at, list_any_none}
 pub use Rattle.std.proofs.lemmas.Map.Entries.{lookup_from_place, place_from_lookup}
@@ -16,6 +16,7 @@ pub use Rattle.std.specs.Map.{keys_of, lookup, lookup_key}
 pub use Rattle.std.specs.Ordering.{eq_by_cmp, is_eq, nat_cmp, ordering_then}
 pub use mathlib.Core.Bool.{beq}
 pub use Rattle.mspec.proofs.KeyRanges.{within}
+pub use Rattle.mspec.proofs.NodesWithin.{of_within, within_of}
 pub use Rattle.mspec.proofs.LockOrders.{held_cmp_exact, held_cmp_total, lock_name_cmp_exact, lock_name_cmp_total}
 pub use Rattle.mspec.specs.Globals.{is_node_within}
 pub use Rattle.mspec.specs.LockConflict.{Held, LockName, Locks, count, counted, given_back, has_conflict, held, held_cmp, is_conflict, is_within, lock_name_cmp, max_count, one_more, released, taken}
@@ -23,7 +24,7 @@ pub use Rattle.mspec.specs.Node.{Node, Text}
 pub use Rattle.indexmap.proofs.CallerLemmas.{insert_entry-new, keys-with_value_at, updates-with_value_at}
 pub use Rattle.indexmap.specs.IndexMap.{IndexMap, IsUnique, Updates, get, with_value_at}
 pub use Rattle.mlock.specs.Above.{IsAbove, is_other, name_above}
-pub use Rattle.mlock.specs.Holdings.{AreCounts, IsFree, lock_of, locks_in, locks_of, own_count}
+pub use Rattle.mlock.specs.Holdings.{Entry, AreCounts, IsFree, lock_of, locks_in, locks_of, own_count}
 pub use Rattle.mlock.specs.Tallies.{HasEntry, HasRoom, IsRecounted, Kept, below_sum, is_none, is_only, is_under, name_eq, no_names, tally_at, tally_of, too_large, with_one}
 pub use Rattle.mlock.specs.declared.locks.Holding.{Holding}
 pub use Rattle.mlock.specs.declared.tally.Tally.{Tally}

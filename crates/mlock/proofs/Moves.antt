@@ -1,14 +1,11 @@
 -- SPDX-License-Identifier: Apache-2.0
 -- What the moves of the holdings keep, and what they do to the locks.
-use Rattle.mlock.proofs.LockWords.{◌≡◌, ◌<◌, ◌+◌, ◌-◌, ◌^◌, ℕ, true, false, cond, nat_eq, List, [], ◌∷◌, ◌++◌, Some, None, length, get_or, ◌⊎◌, inl, inr, refl, sym, ap, ◌∙◌, subst, arith, slice_get, slice_set, slice_index_or, get_or-take, get_or-set_other, length-take-le, length-set, insert, remove, eq_by_cmp_equiv, swap_remove, IsDistinct, keys_of, cases_eq, lookup_from_place, slice_get_within, slice_get-get_or, get_or_from_slice_get, IndexMap, IsUnique, Updates, with_value_at, keys-with_value_at, updates-with_value_at, LockName, Locks, held, one_more, released, lock_name_cmp_total, Holding, Tally, locks_of, name_eq, is_under, with_one, tally_at, tally_of, too_large, HasRoom, Kept, IsRecounted}
+use Rattle.mlock.proofs.LockWords.{Entry, ◌≡◌, ◌<◌, ◌+◌, ◌-◌, ◌^◌, ℕ, true, false, cond, nat_eq, List, [], ◌∷◌, ◌++◌, Some, None, length, get_or, ◌⊎◌, inl, inr, refl, sym, ap, ◌∙◌, subst, arith, slice_get, slice_set, slice_index_or, get_or-take, get_or-set_other, length-take-le, length-set, insert, remove, eq_by_cmp_equiv, swap_remove, IsDistinct, keys_of, cases_eq, lookup_from_place, slice_get_within, slice_get-get_or, get_or_from_slice_get, IndexMap, IsUnique, Updates, with_value_at, keys-with_value_at, updates-with_value_at, LockName, Locks, held, one_more, released, lock_name_cmp_total, Holding, Tally, locks_of, name_eq, is_under, with_one, tally_at, tally_of, too_large, HasRoom, Kept, IsRecounted}
 use Rattle.indexmap.specs.IndexMap as index
 use Rattle.mlock.proofs.Levels.{rest_is}
 use Rattle.mlock.proofs.Steps.{count_none}
 use Rattle.mlock.proofs.Sums.{pushed, pushed_small, swapped, swapped_small, rewritten_same, rewritten_small, has_room}
 use Rattle.mlock.proofs.Views.{IsOwn, inserted, removed, released_after}
-
-abbrev Entry : Type 0
-Entry = LockName × Holding
 
 module _ {S R : Type 0} where
   -- ---- a name that is held

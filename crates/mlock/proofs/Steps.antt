@@ -4,6 +4,7 @@ use Rattle.mlock.proofs.LockWords.{◌≡◌, ◌+◌, ◌-◌, ◌<◌, ◌≤�
 use Rattle.std.specs.FinMap.{get}
 use Rattle.std.proofs.lemmas.List.Elements.{All-head, All-tail}
 use Rattle.indexmap.specs.IndexMap as index
+use Rattle.mlock.proofs.Names.{at_test}
 use Rattle.mlock.proofs.Views.{got, own_is, other_is, counts_insert, counts_remove, count_few}
 
 -- ---- of the locks alone
@@ -13,11 +14,9 @@ same_lock q h e = held_cmp_exact q h ((Equal-is (held_cmp q h)).0 e)
 
 -- what has at one lock what it had, and no other change, is unchanged
 restored : (l m : Locks) (h : Held) (o : Option ℕ) → get l h ≡ o → ((q : Held) → get m q ≡ cond (eq_by_cmp held_cmp q h) o (get l q)) → m ≡ l
-restored l m h o e is = same_map held_cmp_total held_cmp_exact m l (λ q. is q ∙ by_test q (eq_by_cmp held_cmp q h) (same_lock q h))
-  where
-    by_test : (q : Held) (b : Bool) → (b ≡ true → q ≡ h) → cond b o (get l q) ≡ get l q
-    by_test q true same = sym (ap (get l) (same refl) ∙ e)
-    by_test q false same = refl
+restored l m h o e is =
+    same_map held_cmp_total held_cmp_exact m l
+    (λ q. is q ∙ at_test (eq_by_cmp held_cmp q h) (λ b. cond b o (get l q) ≡ get l q) (λ tied. sym (ap (get l) (same_lock q h tied) ∙ e)) (λ other. refl))
 
 given_by : (l : Locks) (t : ℕ) (n : LockName) (o : Option ℕ) → get l (held t n) ≡ o → given_back l t n ≡ cond (nat_lt 1 (unwrap_or o 0)) (insert l (held t n) (unwrap_or o 0 - 1)) (remove l (held t n))
 given_by l t n o e = ap (λ c. cond (nat_lt 1 (unwrap_or c 0)) (insert l (held t n) (unwrap_or c 0 - 1)) (remove l (held t n))) e
@@ -71,13 +70,12 @@ back_again l t n counts = by_count (get l (held t n)) refl
         ∙ ap (λ d. cond (eq_by_cmp held_cmp q (held t n)) (Some d) (get l q)) less)
 
 pub counts_given_back : (l : Locks) (t : ℕ) (n : LockName) → AreCounts l → AreCounts (given_back l t n)
-counts_given_back l t n counts = by_test (nat_lt 1 (count l (held t n))) refl
-  where
-    by_test : (b : Bool) → nat_lt 1 (count l (held t n)) ≡ b → AreCounts (cond b (insert l (held t n) (count l (held t n) - 1)) (remove l (held t n)))
-    by_test true e =
-        let few : count l (held t n) ≤ max_count = count_few l (held t n) counts in
-        counts_insert l (held t n) (count l (held t n) - 1) counts (grind (arith, nat_tests, e)) (omega (arith, few))
-    by_test false e = counts_remove l (held t n) counts
+counts_given_back l t n counts =
+    at_test (nat_lt 1 (count l (held t n))) (λ b. AreCounts (cond b (insert l (held t n) (count l (held t n) - 1)) (remove l (held t n))))
+    (λ e.
+    let few : count l (held t n) ≤ max_count = count_few l (held t n) counts in
+    counts_insert l (held t n) (count l (held t n) - 1) counts (grind (arith, nat_tests, e)) (omega (arith, few)))
+    (λ e. counts_remove l (held t n) counts)
 
 pub counts_one_more : (l : Locks) (h : Held) → AreCounts l → count l h < max_count → AreCounts (one_more l h)
 counts_one_more l h counts room = counts_insert l h (count l h + 1) counts (omega arith) (omega (arith, room))
@@ -86,11 +84,8 @@ counts_one_more l h counts room = counts_insert l h (count l h + 1) counts (omeg
 pub free_after : (l : Locks) (t : ℕ) (k n : LockName) → IsFree l t n → IsFree (one_more l (held t k)) t n
 free_after l t k n free u other =
     get-insert held_cmp_total l (held t k) (count l (held t k) + 1) (held u n)
-    ∙ by_test (eq_by_cmp held_cmp (held u n) (held t k)) (λ e. ap (λ h. h.terminal) (same_lock (held u n) (held t k) e))
-  where
-    by_test : (b : Bool) → (b ≡ true → u ≡ t) → cond b (Some (count l (held t k) + 1)) (get l (held u n)) ≡ None
-    by_test true same = absurd (other (same refl))
-    by_test false same = free u other
+    ∙ at_test (eq_by_cmp held_cmp (held u n) (held t k)) (λ b. cond b (Some (count l (held t k) + 1)) (get l (held u n)) ≡ None)
+    (λ e. absurd (other (ap (λ h. h.terminal) (same_lock (held u n) (held t k) e)))) (λ e. free u other)
 
 -- a count more that is given back, with no change in between
 pub undone : (l l1 l2 l3 : Locks) (t : ℕ) (n : LockName) → AreCounts l → l1 ≡ one_more l (held t n) → l2 ≡ l1 → l3 ≡ given_back l2 t n → l3 ≡ l
@@ -134,12 +129,14 @@ module _ {S : Type 0} (m : IndexMap LockName Holding S) (unique : IsUnique name_
   pub count_none : None ≡ index.get name_eq m name → count (locks_of m) (held t name) ≡ 0
   count_none e = ap (λ o. unwrap_or o 0) (get_none e)
 
-  pub less_own : (h : Holding) → Some h ≡ index.get name_eq m name → h.terminal ≡ t → 1 < h.count → insert (locks_of m) (held t name) (h.count - 1) ≡ given_back (locks_of m) t name
-  less_own h e is more =
+  given_own : (h : Holding) (b : Bool) → Some h ≡ index.get name_eq m name → h.terminal ≡ t → nat_lt 1 h.count ≡ b
+      → cond b (insert (locks_of m) (held t name) (h.count - 1)) (remove (locks_of m) (held t name)) ≡ given_back (locks_of m) t name
+  given_own h b e is more =
       sym (given_by (locks_of m) t name (Some h.count) (get_own h e is)
-      ∙ ap (λ b. cond b (insert (locks_of m) (held t name) (h.count - 1)) (remove (locks_of m) (held t name))) (more_than_one h.count more))
+      ∙ ap (λ b. cond b (insert (locks_of m) (held t name) (h.count - 1)) (remove (locks_of m) (held t name))) more)
+
+  pub less_own : (h : Holding) → Some h ≡ index.get name_eq m name → h.terminal ≡ t → 1 < h.count → insert (locks_of m) (held t name) (h.count - 1) ≡ given_back (locks_of m) t name
+  less_own h e is more = given_own h true e is (more_than_one h.count more)
 
   pub last_own : (h : Holding) → Some h ≡ index.get name_eq m name → h.terminal ≡ t → h.count ≤ 1 → remove (locks_of m) (held t name) ≡ given_back (locks_of m) t name
-  last_own h e is last =
-      sym (given_by (locks_of m) t name (Some h.count) (get_own h e is)
-      ∙ ap (λ b. cond b (insert (locks_of m) (held t name) (h.count - 1)) (remove (locks_of m) (held t name))) (at_most_one h.count last))
+  last_own h e is last = given_own h false e is (at_most_one h.count last)

@@ -1,11 +1,9 @@
 -- SPDX-License-Identifier: Apache-2.0
 -- What is counted below a name, when the holdings change, and what it tells.
-use Rattle.mlock.proofs.LockWords.{◌≡◌, ◌<◌, ◌≤◌, ◌+◌, ◌-◌, ◌*◌, ◌^◌, ℕ, zero, suc, Bool, true, false, cond, not, ◌&&◌, ◌||◌, nat_eq, List, [], ◌∷◌, ◌++◌, length, Some, refl, sym, ap, ◌∙◌, subst, arith, nat_lt, slice_get, unwrap_or, mul-le-mul_left, mul-le-mul_right, and_parts, and_from, or_parts, sum_by, list_any, swap_remove, nat_tests, slice_get_within, get_or_from_slice_get, LockName, Holding, Tally, is_under, with_one, is_only, below_sum, tally_of, too_large, HasRoom}
+use Rattle.mlock.proofs.LockWords.{Entry, ◌≡◌, ◌<◌, ◌≤◌, ◌+◌, ◌-◌, ◌*◌, ◌^◌, ℕ, zero, suc, Bool, true, false, cond, not, ◌&&◌, ◌||◌, nat_eq, List, [], ◌∷◌, ◌++◌, length, Some, refl, sym, ap, ◌∙◌, subst, arith, nat_lt, slice_get, unwrap_or, mul-le-mul_left, mul-le-mul_right, and_parts, and_from, or_parts, sum_by, list_any, swap_remove, nat_tests, slice_get_within, get_or_from_slice_get, LockName, Holding, Tally, is_under, with_one, is_only, below_sum, tally_of, too_large, HasRoom}
 use Rattle.std.proofs.lemmas.List.Sums.{sum_by-cons, sum_by_push, sum_by-swap_remove}
+use Rattle.mlock.proofs.Names.{at_test}
 use Rattle.indexmap.specs.Layout.{set_value_at}
-
-abbrev Entry : Type 0
-Entry = LockName × Holding
 
 abbrev term : (ℕ → ℕ) → LockName → Entry → ℕ
 term w n e = cond (is_under n e.0) (w e.1.terminal) 0
@@ -77,11 +75,8 @@ both_zero : (a b : ℕ) → a + b ≡ 0 → (a ≡ 0) × (b ≡ 0)
 both_zero a b e = (omega (arith, e), omega (arith, e))
 
 small_head : (u : ℕ) → ◌≡◌ {A = ℕ} (cond (nat_lt u (2 ^ 32)) 0 1) 0 → u < 2 ^ 32
-small_head u e = by_test (nat_lt u (2 ^ 32)) refl e
-  where
-    by_test : (b : Bool) → nat_lt u (2 ^ 32) ≡ b → ◌≡◌ {A = ℕ} (cond b 0 1) 0 → u < 2 ^ 32
-    by_test true is e = grind (arith, nat_tests, is)
-    by_test false is e = absurd (omega (arith, e))
+small_head u e =
+    at_test (nat_lt u (2 ^ 32)) (λ b. ◌≡◌ {A = ℕ} (cond b 0 1) 0 → u < 2 ^ 32) (λ is e. grind (arith, nat_tests, is)) (λ is e. absurd (omega (arith, e))) e
 
 at_most : (b : Bool) (x m : ℕ) → x ≤ m → cond b x 0 ≤ m
 at_most true x m h = h

@@ -1,7 +1,7 @@
 -- SPDX-License-Identifier: Apache-2.0
 -- Names below other names, and the name next above one.
-use Rattle.mlock.proofs.LockWords.{◌≡◌, ◌<◌, ◌≤◌, ◌+◌, ◌-◌, ℕ, true, false, not, List, [], ◌∷◌, ◌++◌, length, take, ◌⊎◌, inl, inr, refl, sym, ap, ◌∙◌, subst, arith, append-nil, append_assoc, length-append, true≢false, Equal-is, eq_by_cmp_equiv, both_ways, take-append_seam, take-append-add, cases_eq, and_parts, and_from, false_from_ne_true, beq, is_node_within, LockName, lock_name_cmp, is_within, Text, within, lock_name_cmp_total, lock_name_cmp_exact, IsAbove, name_eq, is_under}
-use Rattle.mlock.proofs.Names.{of_within, within_of, parts, beq_same, same_beq}
+use Rattle.mlock.proofs.LockWords.{◌≡◌, ◌<◌, ◌≤◌, ◌+◌, ◌-◌, ℕ, true, false, not, List, [], ◌∷◌, ◌++◌, length, take, inl, inr, sym, ap, ◌∙◌, subst, arith, append-nil, append_assoc, length-append, true≢false, Equal-is, eq_by_cmp_equiv, both_ways, take-append_seam, take-append-add, cases_lt, and_parts, and_from, false_from_ne_true, beq, is_node_within, LockName, lock_name_cmp, is_within, Text, of_within, within_of, within, lock_name_cmp_total, lock_name_cmp_exact, IsAbove, name_eq, is_under}
+use Rattle.mlock.proofs.Names.{parts, beq_same, same_beq}
 
 -- the second name is the first with more subscripts
 pub record Inside (a b : LockName) : Type 0 where
@@ -47,22 +47,15 @@ pub both_within : (a b : LockName) → is_within a b ≡ true → is_within b a 
 both_within a b e f = whole a b (inside a b e) (longer b a (inside b a f))
 
 pub under : (a b : LockName) → is_under a b ≡ true → Inside a b × (length a.node.subscripts < length b.node.subscripts)
-under a b e = by_length (cases_eq (length a.node.subscripts) (length b.node.subscripts))
-  where
-    is : (is_within a b ≡ true) × (not (is_within b a) ≡ true)
-    is = and_parts (is_within a b) (not (is_within b a)) e
-
-    i : Inside a b
-    i = inside a b is.0
-
-    more : length a.node.subscripts ≤ length b.node.subscripts
-    more = longer a b i
-
-    by_length : (length a.node.subscripts ≡ length b.node.subscripts) ⊎ (length a.node.subscripts ≡ length b.node.subscripts → ⊥) → Inside a b × (length a.node.subscripts < length b.node.subscripts)
-    by_length (inl same) =
-        let equal : a ≡ b = whole a b i (omega (arith, same)) in
-        absurd (true≢false (sym is.1 ∙ ap not (subst (λ n. is_within b n ≡ true) (sym equal) (subst (λ n. is_within n b ≡ true) equal is.0))))
-    by_length (inr other) = (i, grind (arith, more, other))
+under a b e =
+    let is = and_parts (is_within a b) (not (is_within b a)) e in
+    let i = inside a b is.0 in
+    elim (cases_lt (length a.node.subscripts) (length b.node.subscripts)) [
+      | inl less ↦ (i, less)
+      | inr short ↦
+          let equal : a ≡ b = whole a b i short in
+          absurd (true≢false (sym is.1 ∙ ap not (subst (λ n. is_within b n ≡ true) (sym equal) (subst (λ n. is_within n b ≡ true) equal is.0))))
+    ]
 
 pub of_under : (a b : LockName) → Inside a b → length a.node.subscripts < length b.node.subscripts → is_under a b ≡ true
 of_under a b i less =
@@ -98,14 +91,10 @@ module _ (above below : LockName) (next : IsAbove above below) where
       ∙ ap (λ l. take l (n.node.subscripts ++ u.0.more)) sum
       ∙ take-append-add n.node.subscripts u.0.more k in
       let i : Inside n above = record { kind = u.0.kind ∙ sym next.kind; account = u.0.account ∙ sym next.node.account; name = u.0.name ∙ sym next.node.name; more = take k u.0.more; subscripts = subs } in
-      by_length i long (cases_eq (length n.node.subscripts) (length above.node.subscripts))
-    where
-      by_length : Inside n above → length n.node.subscripts ≤ length above.node.subscripts
-          → (length n.node.subscripts ≡ length above.node.subscripts) ⊎ (length n.node.subscripts ≡ length above.node.subscripts → ⊥) → is_under n above ≡ true
-      by_length i long (inl same) =
-          let equal : n ≡ above = whole n above i (omega (arith, same)) in
-          absurd (true≢false (sym (same_is above n (sym equal)) ∙ other))
-      by_length i long (inr apart) = of_under n above i (grind (arith, long, apart))
+      elim (cases_lt (length n.node.subscripts) (length above.node.subscripts)) [
+        | inl less ↦ of_under n above i less
+        | inr short ↦ let equal : n ≡ above = whole n above i short in absurd (true≢false (sym (same_is above n (sym equal)) ∙ other))
+      ]
 
   pub from_above : (n : LockName) → is_under n above ≡ true → is_under n below ≡ true
   from_above n e =

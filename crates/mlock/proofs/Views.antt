@@ -1,14 +1,12 @@
 -- SPDX-License-Identifier: Apache-2.0
 -- What calls of the map of holdings do to the locks that it holds.
-use Rattle.mlock.proofs.LockWords.{◌≡◌, ◌<◌, ◌≤◌, ℕ, Bool, true, false, cond, not, ◌&&◌, List, [], ◌∷◌, Option, Some, None, map, nat_eq, length, refl, sym, ap, ◌∙◌, subst, arith, Ordering, Less, Equal, Greater, and_right, insert, remove, empty, retain_keys, get-insert, get-remove, get-from_entries, get-retain_keys, get-empty, same_map, find, AllByRecursion, IsDistinct, lookup, keys_of, is_eq, nat_cmp, ordering_then, eq_by_cmp, eq_by_cmp_equiv, nat_tests, place_from_lookup, slice_get_within, none-some, IndexMap, IsUnique, Updates, LockName, Held, held, Locks, lock_name_cmp, held_cmp, released, count, max_count, lock_name_cmp_total, held_cmp_total, held_cmp_exact, Holding, lock_of, locks_of, own_count, AreCounts, name_eq}
+use Rattle.mlock.proofs.LockWords.{Entry, ◌≡◌, ◌<◌, ◌≤◌, ℕ, Bool, true, false, cond, not, ◌&&◌, List, [], ◌∷◌, Option, Some, None, map, nat_eq, length, refl, sym, ap, ◌∙◌, subst, arith, Ordering, Less, Equal, Greater, and_right, insert, remove, empty, retain_keys, get-insert, get-remove, get-from_entries, get-retain_keys, get-empty, same_map, find, AllByRecursion, IsDistinct, lookup, keys_of, is_eq, nat_cmp, ordering_then, eq_by_cmp, eq_by_cmp_equiv, nat_tests, place_from_lookup, slice_get_within, none-some, IndexMap, IsUnique, Updates, LockName, Held, held, Locks, lock_name_cmp, held_cmp, released, count, max_count, lock_name_cmp_total, held_cmp_total, held_cmp_exact, Holding, lock_of, locks_of, own_count, AreCounts, name_eq}
 use Rattle.std.specs.Prelude.{option_map, unwrap_or, slice_get, ⊤}
 use Rattle.std.specs.FinMap.{get}
 use Rattle.std.proofs.lemmas.Map.Keys.{IsDistinct-head, IsDistinct-tail}
 use Rattle.indexmap.specs.IndexMap as index
+use Rattle.mlock.proofs.Names.{at_test}
 use Rattle.mlock.proofs.Under.{is_same}
-
-abbrev Entry : Type 0
-Entry = LockName × Holding
 
 yes : (t u : ℕ) → t ≡ u → nat_eq t u ≡ true
 yes t u e = grind (arith, nat_tests)
@@ -42,14 +40,12 @@ found : (q : Held) (es : List Entry) → IsDistinct name_eq (keys_of es) → fin
 found q [] distinct = refl
 found q (e ∷ es) distinct =
     ap (λ b. cond b (Some e.1.count) (find held_cmp q (map lock_of es))) (tied_names q (lock_of e).0)
-    ∙ by_test (name_eq q.name e.0) (is_same q.name e.0) (found q es (IsDistinct-tail name_eq e.0 (keys_of es) distinct))
-  where
-    by_test : (b : Bool) → (b ≡ true → q.name ≡ e.0) → find held_cmp q (map lock_of es) ≡ own_count q.terminal (lookup (name_eq q.name) es)
-        → cond (b && nat_eq e.1.terminal q.terminal) (Some e.1.count) (find held_cmp q (map lock_of es)) ≡ own_count q.terminal (cond b (Some e.1) (lookup (name_eq q.name) es))
-    by_test true same rest =
-        ap (cond (nat_eq e.1.terminal q.terminal) (Some e.1.count))
-        (absent q.name es (subst (λ n. AllByRecursion (λ k. name_eq n k ≡ false) (keys_of es)) (sym (same refl)) (IsDistinct-head name_eq e.0 (keys_of es) distinct)) q.terminal)
-    by_test false same rest = rest
+    ∙ at_test (name_eq q.name e.0)
+    (λ b. cond (b && nat_eq e.1.terminal q.terminal) (Some e.1.count) (find held_cmp q (map lock_of es)) ≡ own_count q.terminal (cond b (Some e.1) (lookup (name_eq q.name) es)))
+    (λ is.
+    ap (cond (nat_eq e.1.terminal q.terminal) (Some e.1.count))
+    (absent q.name es (subst (λ n. AllByRecursion (λ k. name_eq n k ≡ false) (keys_of es)) (sym (is_same q.name e.0 is)) (IsDistinct-head name_eq e.0 (keys_of es) distinct)) q.terminal))
+    (λ is. found q es (IsDistinct-tail name_eq e.0 (keys_of es) distinct))
 
 -- what the locks have of a name
 pub got : {S : Type 0} (m : IndexMap LockName Holding S) → IsUnique name_eq m → (q : Held) → get (locks_of m) q ≡ own_count q.terminal (index.get name_eq m q.name)
@@ -81,21 +77,21 @@ twice true x y = refl
 twice false x y = refl
 
 module _ {S : Type 0} (m n : IndexMap LockName Holding S) (name : LockName) (t : ℕ) (w : Option Holding) (unique : IsUnique name_eq m) (unique' : IsUnique name_eq n) (was : IsOwn t (index.get name_eq m name)) (own : IsOwn t w) (u : Updates name_eq m n name w) where
-  at_name : (q : Held) (b : Bool) → name_eq q.name name ≡ b → (b ≡ true → q.name ≡ name) → get (locks_of n) q ≡ cond (b && nat_eq t q.terminal) (count_of w) (get (locks_of m) q)
-  at_name q b is same = got n unique' q ∙ ap (own_count q.terminal) (u.0 q.name ∙ ap (λ c. cond c w (index.get name_eq m q.name)) ((eq_by_cmp_equiv lock_name_cmp_total).symm name q.name ∙ is)) ∙ by_test b same
-    where
-      by_test : (b : Bool) → (b ≡ true → q.name ≡ name) → own_count q.terminal (cond b w (index.get name_eq m q.name)) ≡ cond (b && nat_eq t q.terminal) (count_of w) (get (locks_of m) q)
-      by_test true same =
-          own_one t q.terminal w own
-          ∙ twice (nat_eq t q.terminal) (count_of w) (count_of (index.get name_eq m name))
-          ∙ ap (cond (nat_eq t q.terminal) (count_of w))
-          (sym (got m unique q ∙ ap (λ k. own_count q.terminal (index.get name_eq m k)) (same refl) ∙ own_one t q.terminal (index.get name_eq m name) was))
-      by_test false same = sym (got m unique q)
+  at_name : (q : Held) → get (locks_of n) q ≡ cond (name_eq q.name name && nat_eq t q.terminal) (count_of w) (get (locks_of m) q)
+  at_name q =
+      got n unique' q
+      ∙ ap (own_count q.terminal) (u.0 q.name)
+      ∙ at_test (name_eq q.name name) (λ b. own_count q.terminal (cond (name_eq name q.name) w (index.get name_eq m q.name)) ≡ cond (b && nat_eq t q.terminal) (count_of w) (get (locks_of m) q))
+      (λ is.
+      ap (λ c. own_count q.terminal (cond c w (index.get name_eq m q.name))) ((eq_by_cmp_equiv lock_name_cmp_total).symm name q.name ∙ is)
+      ∙ own_one t q.terminal w own
+      ∙ twice (nat_eq t q.terminal) (count_of w) (count_of (index.get name_eq m name))
+      ∙ ap (cond (nat_eq t q.terminal) (count_of w))
+      (sym (got m unique q ∙ ap (λ k. own_count q.terminal (index.get name_eq m k)) (is_same q.name name is) ∙ own_one t q.terminal (index.get name_eq m name) was)))
+      (λ is. ap (λ c. own_count q.terminal (cond c w (index.get name_eq m q.name))) ((eq_by_cmp_equiv lock_name_cmp_total).symm name q.name ∙ is) ∙ sym (got m unique q))
 
   updated : (q : Held) → get (locks_of n) q ≡ cond (eq_by_cmp held_cmp q (held t name)) (count_of w) (get (locks_of m) q)
-  updated q =
-      at_name q (name_eq q.name name) refl (is_same q.name name)
-      ∙ sym (ap (λ b. cond b (count_of w) (get (locks_of m) q)) (tied (lock_name_cmp q.name name) q (held t name) refl))
+  updated q = at_name q ∙ sym (ap (λ b. cond b (count_of w) (get (locks_of m) q)) (tied (lock_name_cmp q.name name) q (held t name) refl))
 
   pub inserted : (h : Holding) → w ≡ Some h → locks_of n ≡ insert (locks_of m) (held t name) h.count
   inserted h is = same_map held_cmp_total held_cmp_exact _ _ (λ q. updated q ∙ ap (λ o. cond (eq_by_cmp held_cmp q (held t name)) (count_of o) (get (locks_of m) q)) is ∙ sym (get-insert held_cmp_total (locks_of m) (held t name) h.count q))
@@ -115,22 +111,24 @@ released_get l t q = kept_get (λ h. not (nat_eq h.terminal t)) l q
 pub released_after : (l : Locks) (t : ℕ) (n : LockName) → released (remove l (held t n)) t ≡ released l t
 released_after l t n =
     same_map held_cmp_total held_cmp_exact _ _ (λ q.
-    released_get (remove l (held t n)) t q ∙ by_test q (nat_eq q.terminal t) refl ∙ sym (released_get l t q))
+    released_get (remove l (held t n)) t q
+    ∙ at_test (nat_eq q.terminal t) (λ b. cond (not b) (get (remove l (held t n)) q) None ≡ cond (not b) (get l q) None)
+    (λ is. refl) (λ is. get-remove held_cmp_total l (held t n) q ∙ ap (λ b. cond b None (get l q)) (apart q is))
+    ∙ sym (released_get l t q))
   where
     apart : (q : Held) → nat_eq q.terminal t ≡ false → eq_by_cmp held_cmp q (held t n) ≡ false
-    apart q other = tied_names q (held t n) ∙ and_right (name_eq q.name n) (nat_eq t q.terminal) (no t q.terminal (λ e. differs q.terminal (sym e) other))
-      where
-        differs : (u : ℕ) → u ≡ t → nat_eq u t ≡ false → ⊥
-        differs u e f = let no : true ≡ false = sym (yes u t e) ∙ f in absurd (cc)
-
-    by_test : (q : Held) (b : Bool) → nat_eq q.terminal t ≡ b → cond (not b) (get (remove l (held t n)) q) None ≡ cond (not b) (get l q) None
-    by_test q true is = refl
-    by_test q false is = get-remove held_cmp_total l (held t n) q ∙ ap (λ b. cond b None (get l q)) (apart q is)
+    apart q other =
+        let turned : nat_eq t q.terminal ≡ false = grind (arith, nat_tests, other) in
+        tied_names q (held t n) ∙ and_right (name_eq q.name n) (nat_eq t q.terminal) turned
 
 -- a terminal that holds none has none to give back
 pub released_none : {S : Type 0} (m : IndexMap LockName Holding S) (t : ℕ) → IsUnique name_eq m → ((i : ℕ) (e : Entry) → i < length m.entries → slice_get m.entries i ≡ Some e → nat_eq e.1.terminal t ≡ false)
     → locks_of m ≡ released (locks_of m) t
-released_none m t unique none = same_map held_cmp_total held_cmp_exact _ _ (λ q. by_test q (nat_eq q.terminal t) refl ∙ sym (released_get (locks_of m) t q))
+released_none m t unique none =
+    same_map held_cmp_total held_cmp_exact _ _
+    (λ q.
+    at_test (nat_eq q.terminal t) (λ b. get (locks_of m) q ≡ cond (not b) (get (locks_of m) q) None) (λ is. got m unique q ∙ not_held q is (index.get name_eq m q.name) refl) (λ is. refl)
+    ∙ sym (released_get (locks_of m) t q))
   where
     differs : (u v : ℕ) → nat_eq u t ≡ false → nat_eq v t ≡ true → u ≡ v → ⊥
     differs u v e f same = let no : false ≡ true = sym e ∙ ap (λ x. nat_eq x t) same ∙ f in absurd (cc)
@@ -140,10 +138,6 @@ released_none m t unique none = same_map held_cmp_total held_cmp_exact _ _ (λ q
     not_held q is (Some h) at =
         let place = place_from_lookup (name_eq q.name) m.entries h at in
         other_is h q.terminal (differs h.terminal q.terminal (none place.0 (place.1, h) (slice_get_within m.entries place.0 (place.1, h) place.2) place.2) is)
-
-    by_test : (q : Held) (b : Bool) → nat_eq q.terminal t ≡ b → get (locks_of m) q ≡ cond (not b) (get (locks_of m) q) None
-    by_test q true is = got m unique q ∙ not_held q is (index.get name_eq m q.name) refl
-    by_test q false is = refl
 
 -- ---- counts from 1 to 1,000,000
 

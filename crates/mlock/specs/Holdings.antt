@@ -7,6 +7,10 @@ use base.Stored.{Coded, coded_ℕ, coded_bool, coded_list, coded×, coded_via}
 use Rattle.mspec.specs.LockConflict.{LockName, Held, held, Locks, max_count}
 use Rattle.mlock.specs.declared.locks.Holding.{Holding}
 
+-- a name with its holding
+abbrev pub Entry : Type 0
+Entry = LockName × Holding
+
 -- a code of what is held, by which a proof tells locks apart
 abbrev pub coded_held : Coded Held
 coded_held =

@@ -1,6 +1,6 @@
 // SPDX-License-Identifier: Apache-2.0
 // Numbers written as texts.
-ghost use Rattle.std.specs.Prelude.{◌≡◌, ℕ, ◌+◌, ◌-◌, ◌*◌, ◌/◌, ◌%◌, ◌^◌, ◌<◌, ◌≤◌, ◌++◌, ◌↔◌, true, IsTrue, OnOk, OnErr, length, All, nat_eq};
+ghost use Rattle.std.specs.Prelude.{◌≡◌, ℕ, ◌+◌, ◌-◌, ◌*◌, ◌/◌, ◌%◌, ◌^◌, ◌<◌, ◌≤◌, [], ◌∷◌, ◌++◌, ◌↔◌, true, IsTrue, OnOk, OnErr, length, All, cond, nat_eq};
 ghost use Rattle.std.specs.Cmp.Lexicographic.{pointwise};
 ghost use Rattle.arrayvec.specs.ArrayVec.{array_vec_len};
 ghost use Rattle.mnum.specs.Num.{units};
@@ -49,6 +49,17 @@ fn push_whole(out: &mut ArrayVec<u8, 40>, whole: u64)
     }
 }
 
+// Appends the sign of a number below 0.
+fn push_sign(out: &mut ArrayVec<u8, 40>, negative: bool)
+    requires room { array_vec_len out.old < 40 }
+    ensures items { out.new.items ≡ out.old.items ++ cond negative (45 ∷ []) [] }
+    ensures len { array_vec_len out.new ≤ array_vec_len out.old + 1 }
+{
+    if negative {
+        out.push(b'-');
+    }
+}
+
 impl Num {
     /// The canonical text of the number, as `write` has it, on the stack. Takes no memory.
     pub fn text(self) -> ArrayVec<u8, 40>
@@ -59,9 +70,7 @@ impl Num {
             out.push(b'0');
             return out;
         }
-        if self.negative {
-            out.push(b'-');
-        }
+        push_sign(&mut out, self.negative);
         let unit = power(self.places) as u64;
         push_whole(&mut out, self.digits / unit);
         let fraction = self.digits % unit;

@@ -6,20 +6,15 @@ use Rattle.mtext.proofs.PatternSlices.{front_and_part}
 
 -- ---- the pieces of a text with one more character before it
 
-pieces_step : (c x : ℕ) (s : List ℕ) → pieces_of (c ∷ []) (x ∷ s) ≡ cond (eqb c x && true) ([] ∷ pieces_of (c ∷ []) s) (onto_first x (pieces_of (c ∷ []) s))
+pieces_step : (c x : ℕ) (s : List ℕ) (b : Bool) → eqb c x ≡ b → pieces_of (c ∷ []) (x ∷ s) ≡ cond (b && true) ([] ∷ pieces_of (c ∷ []) s) (onto_first x (pieces_of (c ∷ []) s))
 unfolding pieces_of
-pieces_step c x s = refl
+pieces_step c x s b is = ap (λ (b : Bool). cond (b && true) ([] ∷ pieces_of (c ∷ []) s) (onto_first x (pieces_of (c ∷ []) s))) is
 
 at_delimiter : (c s' : ℕ) (s : List ℕ) → s' ≡ c → pieces_of (c ∷ []) (s' ∷ s) ≡ [] ∷ pieces_of (c ∷ []) s
-at_delimiter c x s same =
-    pieces_step c x s ∙ ap (λ (b : Bool). cond (b && true) ([] ∷ pieces_of (c ∷ []) s) (onto_first x (pieces_of (c ∷ []) s))) (eq-eqb c x (sym same))
-
-turned : (c x : ℕ) → eqb x c ≡ false → eqb c x ≡ false
-turned c x other = grind (arith, nat_tests)
+at_delimiter c x s same = pieces_step c x s true (eq-eqb c x (sym same))
 
 at_other : (c x : ℕ) (s : List ℕ) → eqb x c ≡ false → pieces_of (c ∷ []) (x ∷ s) ≡ onto_first x (pieces_of (c ∷ []) s)
-at_other c x s other =
-    pieces_step c x s ∙ ap (λ (b : Bool). cond (b && true) ([] ∷ pieces_of (c ∷ []) s) (onto_first x (pieces_of (c ∷ []) s))) (turned c x other)
+at_other c x s other = pieces_step c x s false (grind (arith, nat_tests))
 
 onto_length : (x : ℕ) (ps : List (List ℕ)) → 0 < length ps → length (onto_first x ps) ≡ length ps
 onto_length x [] some = absurd (omega arith)

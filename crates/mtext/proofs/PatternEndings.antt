@@ -1,8 +1,8 @@
 -- SPDX-License-Identifier: Apache-2.0
 -- Where the segment of an atom must end: behind so many repetitions, or behind the longest run of characters of its classes.
-use Rattle.mtext.proofs.TextWords.{◌≡◌, ◌≢◌, ℕ, zero, suc, ◌+◌, ◌-◌, ◌≤◌, ◌<◌, ◌↔◌, Bool, true, false, cond, List, [], ◌∷◌, ◌++◌, length, take, drop, Option, Some, None, Bor, slice_get, refl, sym, ap, subst, ◌∙◌, arith, append_assoc, take-append-drop, length-take-le, length-drop, prefix_len, drop_at, append_cancel_left, append_cancel_right, prefix_len-le-length, AllAre, Atom, Count, IsAtMost, IsPermitted, IsRepetition, Matches, is_in_any, members, copies, copied, Repeats, IsEnding, IsOtherwise, IsBarred, NoneBegins, members_atom, copies_atom}
-use Rattle.std.proofs.Common.{length-append, drop-drop}
-use Rattle.std.proofs.lemmas.List.Folds.{length-prefix_len}
+use Rattle.mtext.proofs.TextWords.{append-nil, ◌≡◌, ◌≢◌, ℕ, zero, suc, ◌+◌, ◌-◌, ◌≤◌, ◌<◌, ◌↔◌, Bool, true, false, cond, List, [], ◌∷◌, ◌++◌, length, take, drop, Option, Some, Bor, slice_get, refl, sym, ap, subst, ◌∙◌, arith, append_assoc, take-append-drop, length-take-le, length-drop, prefix_len, drop_at, append_cancel_left, append_cancel_right, prefix_len-le-length, AllAre, Atom, Count, IsAtMost, IsPermitted, IsRepetition, Matches, is_in_any, members, copies, copied, Repeats, IsEnding, IsOtherwise, IsBarred, NoneBegins, members_atom, copies_atom}
+use Rattle.std.proofs.Common.{length-append, drop-drop, take_all}
+use Rattle.mspec.proofs.Basics.{nothing_copied}
 use Rattle.mspec.specs.Pattern as plain
 use Rattle.mtext.proofs.PatternCopies.{copied_last}
 use Rattle.mtext.specs.declared.classes.Classes.{Classes}
@@ -14,13 +14,6 @@ use Rattle.mtext.specs.declared.ending.LentRepeated.TheVariants as lent
 pub all_along : (p q : ℕ → Bool) (s : List ℕ) → ((c : ℕ) → p c ≡ q c) → AllAre p s → AllAre q s
 all_along p q [] same all = tt
 all_along p q (c ∷ s) same all = (sym (same c) ∙ all.0, all_along p q s same all.1)
-
--- a run is the whole of a text of such characters
-pub whole_run : (p : ℕ → Bool) (s : List ℕ) → AllAre p s → prefix_len p s ≡ length s
-whole_run p [] all = refl
-whole_run p (c ∷ s) all =
-    let more = whole_run p s all.1 in
-    ap (λ (b : Bool). cond b (1 + prefix_len p s) 0) all.0 ∙ omega arith
 
 all_of_run : (p : ℕ → Bool) (s : List ℕ) (b : Bool) (c : ℕ) → p c ≡ b → AllAre p (take (prefix_len p s) s) → AllAre p (take (cond b (1 + prefix_len p s) 0) (c ∷ s))
 all_of_run p s true c is all =
@@ -35,10 +28,7 @@ run_all p (c ∷ s) = all_of_run p s (p c) c refl (run_all p s)
 
 pub all_from_run : (p : ℕ → Bool) (s : List ℕ) → prefix_len p s ≡ length s → AllAre p s
 all_from_run p s is =
-    subst (λ (t : List ℕ). AllAre p t) (ap (λ (n : ℕ). take n s) is ∙ take_whole s) (run_all p s) where
-      take_whole : (s : List ℕ) → take (length s) s ≡ s
-      take_whole [] = refl
-      take_whole (c ∷ s) = ap (λ (t : List ℕ). c ∷ t) (take_whole s)
+    subst (λ (t : List ℕ). AllAre p t) (ap (λ (n : ℕ). take n s) is ∙ take_all (length s) s (omega arith)) (run_all p s)
 
 -- such characters, and then what does not begin with one: the run is the front
 pub run_front : (p : ℕ → Bool) (front rest : List ℕ) → AllAre p front → IsBarred p rest → prefix_len p (front ++ rest) ≡ length front
@@ -47,6 +37,10 @@ run_front p [] (c ∷ rest) all barred = ap (λ (b : Bool). cond b (1 + prefix_l
 run_front p (c ∷ front) rest all barred =
     let more = run_front p front rest all.1 barred in
     ap (λ (b : Bool). cond b (1 + prefix_len p (front ++ rest)) 0) all.0 ∙ omega arith
+
+-- a run is the whole of a text of such characters
+pub whole_run : (p : ℕ → Bool) (s : List ℕ) → AllAre p s → prefix_len p s ≡ length s
+whole_run p s all = ap (prefix_len p) (sym (append-nil s)) ∙ run_front p s [] all tt
 
 -- ---- counts
 
@@ -124,9 +118,7 @@ no_run p codes count others text n same barred is refused m =
 -- ---- copies
 
 pub copied_sum : (i j : ℕ) (string : List ℕ) → copied (i + j) string ≡ copied i string ++ copied j string
-copied_sum zero j string = ap (λ (n : ℕ). copied n string) none where
-  none : 0 + j ≡ j
-  none = omega arith
+copied_sum zero j string = let none : 0 + j ≡ j = omega arith in ap (λ (n : ℕ). copied n string) none
 copied_sum (suc i) j string =
     let more : suc i + j ≡ suc (i + j) = omega arith in
     ap (λ (n : ℕ). copied n string) more ∙ ap (λ (t : List ℕ). string ++ t) (copied_sum i j string) ∙ sym (append_assoc string (copied i string) (copied j string))
@@ -153,13 +145,9 @@ no_copies string count others text number least most lacks m =
     let front : m.0 ≡ copied number string = m.3.2 ∙ ap (λ (k : ℕ). copied k string) n in
     lacks m.1 (m.2 ∙ ap (λ (t : List ℕ). t ++ m.1) front)
 
-copies_of_nothing : (n : ℕ) → copied n [] ≡ []
-copies_of_nothing zero = refl
-copies_of_nothing (suc n) = copies_of_nothing n
-
 -- so many copies of nothing are nothing
 pub nothing_stands : (string text : List ℕ) (number : ℕ) → length string ≡ 0 → (0 ≤ length text) × (text ≡ copied number string ++ drop 0 text)
-nothing_stands [] text number none = (omega arith, ap (λ (t : List ℕ). t ++ text) (sym (copies_of_nothing number)))
+nothing_stands [] text number none = (omega arith, ap (λ (t : List ℕ). t ++ text) (sym (nothing_copied number)))
 nothing_stands (c ∷ string) text number none = absurd (omega arith)
 
 -- one copy more stands, or none does
@@ -191,12 +179,6 @@ copies_begin : (p : ℕ → Bool) (c n : ℕ) (string text : List ℕ) → p c �
 copies_begin p c zero string text fails some is = absurd (omega arith)
 copies_begin p c (suc n) string text fails some is = subst (λ (t : List ℕ). IsOtherwise p t) (sym is) fails
 
-pub copies_apart : (p : ℕ → Bool) (string : List ℕ) (c : ℕ) (later : List ℕ) (count : Count) (text : List ℕ) → string ≡ c ∷ later → p c ≡ false → 0 < count.least
-    → IsRepetition count (copies string) text → IsOtherwise p text
-copies_apart p string c later count text begun fails some is =
-    let low = is.1.0 in
-    copies_begin p c is.0 later text fails (omega arith) (is.2 ∙ ap (λ (t : List ℕ). copied is.0 t) begun)
-
 -- the first character
 pub first_is : (string : List ℕ) (c : ℕ) → Some c ≡ slice_get string 0 → string ≡ c ∷ drop 1 string
 first_is [] c is = absurd cc
@@ -206,7 +188,8 @@ pub lent_copies_apart : (p : ℕ → Bool) (string : Bor (List ℕ)) (c : ℕ) (
     → Repeats (lent.Copies string) what → 0 < count.least → IsRepetition count what text → IsOtherwise p text
 lent_copies_apart p string c count (members codes) text first fails same some is = absurd same
 lent_copies_apart p string c count (copies t) text first fails same some is =
-    copies_apart p t c (drop 1 string.now) count text (sym same ∙ first_is string.now c first) fails some is
+    let low = is.1.0 in
+    copies_begin p c is.0 (drop 1 string.now) text fails (omega arith) (is.2 ∙ ap (λ (t : List ℕ). copied is.0 t) (sym same ∙ first_is string.now c first))
 
 -- ---- the first atom as it is lent
 

@@ -1,6 +1,7 @@
 -- SPDX-License-Identifier: Apache-2.0
 -- Runs of characters of classes: where they end, from the latest place at which they may start.
-use Rattle.mtext.proofs.TextWords.{ℕ, zero, suc, ◌≡◌, ◌+◌, ◌-◌, ◌<◌, ◌≤◌, ◌⊎◌, inl, inr, true, false, Bool, List, [], ◌∷◌, get_or, length, sym, subst, ◌∙◌, ap, arith, true≢false, below_more, add-sub_cancel, Option, Some, None, slice_range, Decides, cases_lt, length-between, get_or-between, AllAre, PatternCode, Count, IsAtMost, is_in_any, members, IsNear, IsEnd}
+use Rattle.mtext.proofs.TextWords.{ℕ, zero, suc, ◌≡◌, ◌+◌, ◌-◌, ◌<◌, ◌≤◌, inl, inr, true, false, Bool, List, [], ◌∷◌, get_or, length, sym, subst, ◌∙◌, ap, arith, true≢false, below_more, add-sub_cancel, Option, Some, None, slice_range, Decides, cases_lt, length-between, get_or-between, AllAre, PatternCode, Count, IsAtMost, is_in_any, members, IsNear, IsEnd}
+use Rattle.mtext.proofs.PatternSlices.{fewer_at_most}
 
 pub all_at : (p : ℕ → Bool) (s : List ℕ) → AllAre p s → (k : ℕ) → k < length s → p (get_or s k 0) ≡ true
 all_at p [] all k h = absurd (omega arith)
@@ -19,24 +20,19 @@ IsLatest starts least place (Some s) = (s + least < place) × (get_or starts s f
 pub latest_new : (starts : List Bool) (least place : ℕ) → least ≤ place → get_or starts (place - least) false ≡ true → IsLatest starts least (place + 1) (Some (place - least))
 latest_new starts least place h is = (omega arith, is, λ k above below. absurd (omega arith))
 
-here_or_before : (k place least : ℕ) → k + least < place + 1 → (k + least < place) ⊎ (k ≡ place - least)
-here_or_before k place least h = elim (cases_lt (k + least) place) [ inl before ↦ inl before | inr after ↦ inr (omega arith) ]
+-- no place is marked behind those that were none before, up to the next
+none_next : (starts : List Bool) (least place k : ℕ) → (k + least < place → get_or starts k false ≡ false) → (least ≤ place → get_or starts (place - least) false ≡ false)
+    → k + least < place + 1 → get_or starts k false ≡ false
+none_next starts least place k before not_here below =
+    elim (cases_lt (k + least) place) [
+      | inl earlier ↦ before earlier
+      | inr after ↦ let here : k ≡ place - least = omega arith in subst (λ n. get_or starts n false ≡ false) (sym here) (not_here (omega arith))
+    ]
 
 pub latest_kept : (starts : List Bool) (least place : ℕ) (latest : Option ℕ) → IsLatest starts least place latest →
     (least ≤ place → get_or starts (place - least) false ≡ false) → IsLatest starts least (place + 1) latest
-latest_kept starts least place None old not_here =
-    λ k below. elim (here_or_before k place least below) [
-      | inl before ↦ old k before
-      | inr here ↦ subst (λ n. get_or starts n false ≡ false) (sym here) (not_here (omega arith))
-    ]
-latest_kept starts least place (Some s) old not_here = (
-  omega (arith, old.0),
-  old.1,
-  λ k above below. elim (here_or_before k place least below) [
-    | inl before ↦ old.2 k above before
-    | inr here ↦ subst (λ n. get_or starts n false ≡ false) (sym here) (not_here (omega arith))
-  ],
-)
+latest_kept starts least place None old not_here = λ k below. none_next starts least place k (old k) not_here below
+latest_kept starts least place (Some s) old not_here = (omega (arith, old.0), old.1, λ k above below. none_next starts least place k (old.2 k above) not_here below)
 
 -- the run from `first` on cannot be longer
 pub record IsRun (p : ℕ → Bool) (text : List ℕ) (first place : ℕ) : Type 0 where
@@ -81,10 +77,6 @@ run_of p text first place start run h below within =
     let size : length (slice_range text start place) ≡ place - start = length-between text start place within in
     all_from p (slice_range text start place) (λ k in'.
     ap p (get_or-between text start place k 0 (omega arith)) ∙ run.each (start + k) (omega arith) (omega arith) (omega arith))
-
-fewer_at_most : (most : Option ℕ) (n m : ℕ) → m ≤ n → IsAtMost most n → IsAtMost most m
-fewer_at_most None n m h is = tt
-fewer_at_most (Some most) n m h is = omega arith
 
 -- from the latest start there is the shortest run
 pub ends_here : (text : List ℕ) (codes : List PatternCode) (count : Count) (starts : List Bool) (first place : ℕ) (latest : Option ℕ) (b : Bool) →

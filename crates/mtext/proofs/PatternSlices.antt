@@ -1,6 +1,6 @@
 -- SPDX-License-Identifier: Apache-2.0
 -- Parts of a text, from one place up to another.
-use Rattle.mtext.proofs.TextWords.{ℕ, ◌≡◌, ◌+◌, ◌-◌, ◌<◌, ◌≤◌, List, [], ◌∷◌, ◌++◌, Bool, false, Decides, take, drop, get_or, length, refl, sym, subst, ◌∙◌, ap, arith, below_more, slice_range, drop_at, get_or_append_left, get_or_push}
+use Rattle.mtext.proofs.TextWords.{Option, None, Some, IsAtMost, ℕ, ◌≡◌, ◌+◌, ◌-◌, ◌<◌, ◌≤◌, List, [], ◌∷◌, ◌++◌, Bool, false, Decides, take, drop, get_or, length, refl, sym, subst, ◌∙◌, ap, arith, below_more, slice_range, drop_at, get_or_append_left, get_or_push}
 use Rattle.std.proofs.Common.{take-add}
 use Rattle.std.proofs.lemmas.List.{drop-drop, take_at}
 
@@ -34,3 +34,9 @@ each_more P xs more x d n e size each here =
 pub marked_more : (P : ℕ → Type 0) (marks more : List Bool) (b : Bool) (n : ℕ) → more ≡ marks ++ b ∷ [] → length marks ≡ n →
     ((k : ℕ) → k < n → Decides (get_or marks k false) (P k)) → Decides b (P n) → (k : ℕ) → k < n + 1 → Decides (get_or more k false) (P k)
 marked_more P marks more b n = each_more (λ k x. Decides x (P k)) marks more b false n
+
+-- ---- counts
+
+pub fewer_at_most : (most : Option ℕ) (n m : ℕ) → m ≤ n → IsAtMost most n → IsAtMost most m
+fewer_at_most None n m h is = tt
+fewer_at_most (Some most) n m h is = omega arith

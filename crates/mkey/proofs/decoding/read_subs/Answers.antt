@@ -7,12 +7,12 @@ pub returns-then-len-eq-MAX_SUBSCRIPTS : goal.returns-then-len-eq-MAX_SUBSCRIPTS
 returns-then-len-eq-MAX_SUBSCRIPTS c =
     let some : 0 < length c.loop-rest.rest.now = grind (arith, nat_tests, c.loop-rest-test.ensures) in
     let full : length c.loop-rest.texts.items ≡ 15 = omega (arith, c.len.ensures, c.if-len-eq-MAX_SUBSCRIPTS.true, c.loop-rest.texts.ok) in
-    λ ys all e. too_many_subs c.args.kept c.loop-rest.texts.items ys c.loop-rest.rest.now c.args.bytes.now c.loop-rest.invariant.subs all c.loop-rest.invariant.bytes e full some
+    λ ys all e. too_many_subs c.args.kept c.loop-rest.texts.items ys c.loop-rest.rest.now c.args.bytes.now c.loop-rest.invariant.subs all c.loop-rest.invariant.bytes e some full
 
 pub returns-in_default : goal.returns-in_default
 returns-in_default c =
     let some : 0 < length c.loop-rest.rest.now = grind (arith, nat_tests, c.loop-rest-test.ensures) in
-    λ ys all e. no_more_subs c.args.kept c.loop-rest.texts.items ys c.loop-rest.rest.now c.args.bytes.now c.loop-rest.invariant.subs all c.loop-rest.invariant.bytes e (rw c.in_default.is at c.in_ok-text.ensures) some
+    λ ys all e. no_more_subs c.args.kept c.loop-rest.texts.items ys c.loop-rest.rest.now c.args.bytes.now c.loop-rest.invariant.subs all c.loop-rest.invariant.bytes e some (rw c.in_default.is at c.in_ok-text.ensures)
 
 pub loop-rest-preserved : goal.loop-rest-preserved
 loop-rest-preserved c =

@@ -1,10 +1,7 @@
 -- SPDX-License-Identifier: Apache-2.0
-use Rattle.mlock.proofs.LockWords.{◌≡◌, ◌<◌, ℕ, List, [], ◌∷◌, Option, Some, None, length, get_or, refl, sym, subst, ◌∙◌, arith, IfSome, slice_get, slice_get-get_or, IndexMap, IsUnique, with_value_at, LockName, Holding, name_eq, IsRecounted}
+use Rattle.mlock.proofs.LockWords.{Entry, ◌≡◌, ◌<◌, ℕ, List, [], ◌∷◌, Option, Some, None, length, get_or, refl, sym, subst, ◌∙◌, arith, IfSome, slice_get, slice_get-get_or, IndexMap, IsUnique, with_value_at, LockName, Holding, name_eq, IsRecounted}
 use Rattle.mlock.proofs.Moves.{recounted, recounted_locks}
 use Rattle.mlock.proofs.holdings.set_count.Goals as goal
-
-abbrev Entry : Type 0
-Entry = LockName × Holding
 
 some_there : (es : List Entry) (i : ℕ) → slice_get es i ≡ None → i < length es → {A : Type 0} → A
 some_there [] i at inside = absurd (omega (arith, inside))

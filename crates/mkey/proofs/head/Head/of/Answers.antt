@@ -4,4 +4,4 @@ use Rattle.mkey.proofs.Heads.{head_parts}
 use Rattle.mkey.proofs.head.Head.of.Goals as goal
 
 pub returns : goal.returns
-returns c = ap₂ (λ high low. high * 256 ^ 8 + low) c.word.ensures c.second_word.ensures ∙ sym (head_parts 8 8 16 c.args.bytes.now refl)
+returns c = ap₂ (λ front back. front * 256 ^ 16 + back) c.of.ensures c.back_half.ensures ∙ sym (head_parts 16 16 32 c.args.bytes.now refl)

@@ -1,10 +1,10 @@
 -- SPDX-License-Identifier: Apache-2.0
 use Rattle.mkey.proofs.KeyWords.{◌≡◌, ◌∙◌, true, length, drop, ap, sym, arith, length-append, subscripts_bytes, significant_digits, is_within}
-use Rattle.mkey.proofs.SubsKeys.{bytes_within, bytes_behind, none_read, one_read}
+use Rattle.mkey.proofs.SubsKeys.{bytes_within, bytes_behind, child_read}
 use Rattle.mkey.proofs.subs_key.SubsKey.child_of.Goals as goal
 
-pub behind-rest-requires : goal.behind-rest-requires
-behind-rest-requires c =
+pub behind-requires : goal.behind-requires
+behind-requires c =
     let within : is_within c.args.above.now c.args.self.now ≡ true = sym c.is_within.ensures ∙ c.if-not-is_within.false in
     let bytes = bytes_within c.args.above.now c.args.self.now within in
     omega (
@@ -15,19 +15,10 @@ behind-rest-requires c =
       length-append (subscripts_bytes significant_digits c.args.above.now) (subscripts_bytes significant_digits (drop (length c.args.above.now) c.args.self.now)),
     )
 
-pub returns-in-None : goal.returns-in-None
-returns-in-None c =
+pub returns : goal.returns
+returns c =
     let within : is_within c.args.above.now c.args.self.now ≡ true = sym c.is_within.ensures ∙ c.if-not-is_within.false in
-    none_read c.args.above.now c.args.self.now c.requires within c.behind-rest.result.now
-    (c.behind-rest.ensures ∙ ap (λ b. drop (length b) c.as_bytes.result.now) c.as_bytes-2.ensures.bytes
+    child_read c.args.above.now c.args.self.now c.requires within c.behind.result.now
+    (c.behind.ensures ∙ ap (λ b. drop (length b) c.as_bytes.result.now) c.as_bytes-2.ensures.bytes
     ∙ ap (drop (length (subscripts_bytes significant_digits c.args.above.now))) c.as_bytes.ensures.bytes ∙ bytes_behind c.args.above.now c.args.self.now within)
-    (rw c.in-None.is at c.in_ok-read_value.ensures)
-
-pub returns-in-Some : goal.returns-in-Some
-returns-in-Some c =
-    let within : is_within c.args.above.now c.args.self.now ≡ true = sym c.is_within.ensures ∙ c.if-not-is_within.false in
-    let found = rw c.in-Some.is at c.in_ok-read_value.ensures in
-    one_read c.args.above.now c.args.self.now c.requires within c.behind-rest.result.now
-    (c.behind-rest.ensures ∙ ap (λ b. drop (length b) c.as_bytes.result.now) c.as_bytes-2.ensures.bytes
-    ∙ ap (drop (length (subscripts_bytes significant_digits c.args.above.now))) c.as_bytes.ensures.bytes ∙ bytes_behind c.args.above.now c.args.self.now within)
-    c.in-Some.value c.in-Some.field-0-1 found.1 found.0
+    _ c.in_ok-child.ensures

@@ -12,8 +12,8 @@ returns-then-is_ne c =
     let others_fit : (i : ℕ) → Fits w8 (get_or others.result.now i 0) = search rules in
     let own = c.self.inside in
     let other = c.other.inside in
-    let head : own.head ≡ head_number 16 bytes.result.now = head_seen own.head own.bytes.items bytes.result.now own.of_subs.0 c.args.self.now own.head_of own.of_subs.1.1 c.self.view_is bytes.ensures.bytes in
-    let other_head : other.head ≡ head_number 16 others.result.now = head_seen other.head other.bytes.items others.result.now other.of_subs.0 c.args.other.now other.head_of other.of_subs.1.1 c.other.view_is others.ensures.bytes in
+    let head : own.head ≡ head_number 32 bytes.result.now = head_seen own.head own.bytes.items bytes.result.now own.of_subs.0 c.args.self.now own.head_of own.of_subs.1.1 c.self.view_is bytes.ensures.bytes in
+    let other_head : other.head ≡ head_number 32 others.result.now = head_seen other.head other.bytes.items others.result.now other.of_subs.0 c.args.other.now other.head_of other.of_subs.1.1 c.other.view_is others.ensures.bytes in
     keys_by_head c.args.self.now c.args.other.now bytes.result.now others.result.now c.order-order.result bytes.ensures.subs others.ensures.subs bytes.ensures.bytes others.ensures.bytes (fitting_bytes _ fit) (fitting_bytes _ others_fit)
     (c.order-order.ensures ∙ ap₂ nat_cmp head other_head)
     (sym c.is_ne.ensures ∙ c.if-is_ne.true)

@@ -1,5 +1,6 @@
 -- SPDX-License-Identifier: Apache-2.0
 -- From one line of a routine to the next.
+use Rattle.mglobal.proofs.LinesKept.{line_at_place}
 use Rattle.mglobal.proofs.GlobalWords.{◌≡◌, ◌<◌, Bool, true, false, cond, ◌&&◌, List, [], ◌∷◌, ◌++◌, map, length, drop, All, Option, Some, None, is_some, refl, sym, ap, subst, ◌∙◌, arith, option_and_then, if◌then◌else◌, codes, T, slice_get, bytes_decides, nat_list_cmp_total, entries, get-entries, entries_sorted, find, filter, option_to_list, is_lt, is_eq, ordering_then, Ordering, Less, Equal, Greater, All-head, All-tail, All-cons, All-nil, Globals, is_beside, is_line_of, routines_of, lines_of, order_at, Text, Node, canonical_value, text_cmp, subscripts_cmp, node_cmp, significant_digits, Forward, text_eq, is_within, child_of, is_before, node_cmp_total, node_cmp_exact, text_cmp_total, passes, child_under, none_empty, empty_first, at_front, both_true, joined_node, child_within, within_parts, child_is, split_within, IsHeld, AreHeld, routine_at, line_at, is_line, is_line_behind, texts_behind, lines_behind, line_in}
 use Rattle.std.specs.FinMap.Entries as Entries
 use Rattle.std.proofs.lemmas.Cmp.{tied_itself}
@@ -77,24 +78,9 @@ module _ (account name : Text) where
     is : m ≡ at place
 
   line_parts : (m : Node) → line m ≡ true → IsLine m
-  line_parts m e = by_subs m.subscripts refl parts.1
-    where
-      parts : (is_beside (routines_of account) m ≡ true) × (is_line_of name m.subscripts ≡ true)
-      parts = both_true (is_beside (routines_of account) m) (is_line_of name m.subscripts) e
-
-      names : (text_eq account m.account ≡ true) × (text_eq (codes "ROUTINE") m.name ≡ true)
-      names = both_true (text_eq account m.account) (text_eq (codes "ROUTINE") m.name) parts.0
-
-      by_subs : (ys : List Text) → m.subscripts ≡ ys → is_line_of name ys ≡ true → IsLine m
-      by_subs [] is e = absurd (cc)
-      by_subs (r ∷ []) is e = absurd (cc)
-      by_subs (r ∷ p ∷ []) is e =
-          let same : name ≡ r = (bytes_decides name r).0 (both_true (text_eq name r) (is_some (canonical_value significant_digits p)) e).0 in
-          let account_is : account ≡ m.account = (bytes_decides account m.account).0 names.0 in
-          let name_is : codes "ROUTINE" ≡ m.name = (bytes_decides (codes "ROUTINE") m.name).0 names.1 in
-          let subscripts_is : m.subscripts ≡ name ∷ p ∷ [] = is ∙ ap (λ q. q ∷ p ∷ []) (sym same) in
-          record { place = p; is = λ i. record { account = sym account_is i; name = sym name_is i; subscripts = subscripts_is i } }
-      by_subs (r ∷ p ∷ q ∷ ys) is e = absurd (cc)
+  line_parts m e =
+      let at = line_at_place account name m e in
+      record { place = at.place; is = λ i. record { account = sym at.account_is i; name = sym at.name_is i; subscripts = at.subscripts_is i } }
 
   three_true : (a b c d : Bool) → a ≡ true → b ≡ true → c ≡ true → ((a && b) && (c && d)) ≡ d
   three_true a b c d e f g = λ i. (e i && f i) && (g i && d)
@@ -107,9 +93,6 @@ module _ (account name : Text) where
   and_no : (b : Bool) → (b && false) ≡ false
   and_no true = refl
   and_no false = refl
-
-  line_deep : (m : Node) (c d : Text) (more : List Text) → m.subscripts ≡ name ∷ c ∷ d ∷ more → line m ≡ false
-  line_deep m c d more e = ap (λ ys. is_beside (routines_of account) m && is_line_of name ys) e ∙ and_no (is_beside (routines_of account) m)
 
   -- ---- their order
 

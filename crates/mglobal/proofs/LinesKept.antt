@@ -1,20 +1,12 @@
 -- SPDX-License-Identifier: Apache-2.0
 -- The lines of a routine stay where neither its node, nor one above it or below it is written.
+use Rattle.mstore.proofs.Holding.{entries_cut}
 use Rattle.mglobal.proofs.GlobalWords.{◌≡◌, Bool, true, false, cond, not, ◌||◌, List, [], ◌∷◌, ◌++◌, map, Option, None, refl, sym, ap, ◌∙◌, drop, length, codes, IsTotalOrder, bytes_decides, FinMap, get, insert, retain_keys, entries, entries_sorted, from_sorted, entries-from_sorted, get-from_sorted, get-entries, same_map, IsAntisymmetric, Ordering, Globals, is_beside, is_line_of, is_node_within, routines_of, lines_of, without_subtree, Text, Node, significant_digits, text_eq, node_cmp_total, node_cmp_exact, both_true, IsSplit, split_node, joined_node, routine_at, is_line}
-use Rattle.std.specs.FinMap.Entries.{where_key, is_sorted-where_key, find-where_key}
 use Rattle.mspec.proofs.MapCuts.{get_cut, cut_drops}
 
 -- ---- maps
 
 module _ {K X : Type 0} {R : K → K → Ordering} (total : IsTotalOrder R) (exact : IsAntisymmetric R) where
-  entries_cut : (m : FinMap R X) (p : K → Bool) → entries (retain_keys m p) ≡ where_key R p (entries m)
-  entries_cut m p =
-      let s = is_sorted-where_key R p (entries m) (entries_sorted m) in
-      ap entries (same_map total exact (retain_keys m p) (from_sorted (where_key R p (entries m))) (λ q.
-      get_cut total exact m p q ∙ ap (λ g. cond (p q) g None) (get-entries m q) ∙ sym (find-where_key R p q (λ x e. ap p (sym (exact q x e))) (entries m))
-      ∙ sym (get-from_sorted R (where_key R p (entries m)) q s)))
-      ∙ entries-from_sorted R (where_key R p (entries m)) s
-
   absorbed : (a b : Bool) (v : Option X) → (b ≡ true → a ≡ true) → cond b (cond a v None) None ≡ cond b v None
   absorbed true b v h = refl
   absorbed false true v h = let e : false ≡ true = h refl in cc
@@ -50,11 +42,11 @@ module _ (account name : Text) where
 
   -- ---- where a line stands
 
-  record IsLineAt (m : Node) : Type 0 where
-    account_is : account ≡ m.account
-    name_is : codes "ROUTINE" ≡ m.name
-    place : Text
-    subscripts_is : m.subscripts ≡ name ∷ place ∷ []
+  pub record IsLineAt (m : Node) : Type 0 where
+    pub account_is : account ≡ m.account
+    pub name_is : codes "ROUTINE" ≡ m.name
+    pub place : Text
+    pub subscripts_is : m.subscripts ≡ name ∷ place ∷ []
 
   place_of : (xs : List Text) → is_line_of name xs ≡ true → (place : Text) × (xs ≡ name ∷ place ∷ [])
   place_of [] e = absurd (cc)
@@ -62,7 +54,7 @@ module _ (account name : Text) where
   place_of (r ∷ p ∷ []) e = (p, ap (λ x. x ∷ p ∷ []) (sym ((bytes_decides name r).0 (both_true (text_eq name r) _ e).0)))
   place_of (r ∷ p ∷ q ∷ xs) e = absurd (cc)
 
-  line_at_place : (m : Node) → line m ≡ true → IsLineAt m
+  pub line_at_place : (m : Node) → line m ≡ true → IsLineAt m
   line_at_place m e =
       let parts = both_true (is_beside (routines_of account) m) (is_line_of name m.subscripts) e in
       let beside = both_true (text_eq account m.account) (text_eq (codes "ROUTINE") m.name) parts.0 in

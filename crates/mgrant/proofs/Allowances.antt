@@ -7,13 +7,13 @@ use Rattle.std.specs.HashMap as hash
 use Rattle.mspec.specs.Access as access
 use Rattle.mgrant.specs.declared.mode.Mode.{Mode}
 use Rattle.mgrant.specs.declared.grants.Given.{Given}
-use Rattle.mgrant.proofs.Places.{slice_get_front, slice_get_last}
+use Rattle.mgrant.proofs.Places.{slice_get_front, slice_get_at}
 
 -- ---- names of globals
 
 pub interned_new : (old : List Text) (name : Text) → IsInterned old name (old ++ name ∷ [], length old)
 interned_new old name = record {
-  here = slice_get_last old name;
+  here = slice_get_at old name [];
   kept = λ i within. slice_get_front old (name ∷ []) i within;
   grown = omega (arith, length-append old (name ∷ []));
 }

@@ -2,6 +2,7 @@
 -- The settings that are put together from the parts of a document.
 use Rattle.mgrant.proofs.GrantWords.{◌≡◌, ◌⊎◌, inl, inr, ℕ, suc, ◌+◌, ◌==◌, ◌<◌, ℤ, pos, negsuc, Bool, true, false, cond, List, [], ◌∷◌, ◌++◌, length, map, Option, Some, None, refl, sym, ap, subst, ◌∙◌, arith, append_assoc, length-append, slice_get, option_and_then, unsigned_abs, int_eq, list_all, flat_map, FinMap, from_entries, get-from_entries, same_map, nat_cmp-IsAntisymmetric, find, nat_cmp_total, cases_Bool, cases_eq, and_parts, false≢true, eq-eqb, ne_eqb, Decides-int_eq, list_all-append, none-some, same_Some, get_or_from_slice_get, Account, Written, WrittenAccount, names_of, terminals_of, are_distinct, is_within, account_of, terminals_with, settings_of, Placed, Claim, claims, claimed, HasTerminals, AreGranted, accounts_of, terminals_from, settings_view}
 use Rattle.std.proofs.Common.{nat_cmp}
+use Rattle.mgrant.proofs.Places.{slice_get_at}
 use Rattle.mgrant.proofs.Seen.{terminal_seen, tied_is}
 use Rattle.mgrant.proofs.Parts.{terminals_all, different}
 
@@ -57,10 +58,6 @@ listed_seen G q k a (pos n ∷ ts) more rest good here later =
     ∙ ap (λ b. cond b (Some a) (find nat_cmp q (map (λ t. (unsigned_abs t, a)) ts ++ rest))) (same_test q n ∙ sym (tied_is q n))
 listed_seen G q k a (negsuc n ∷ ts) more rest good here later = absurd (false≢true good)
 
-middle : (front : List Account) (a : Account) (rest : List Account) → slice_get (front ++ a ∷ rest) (length front) ≡ Some a
-middle [] a rest = refl
-middle (b ∷ front) a rest = middle front a rest
-
 terminals_found : (q : ℕ) (front : List Account) (accounts : List WrittenAccount) → list_all (is_within 1 9999) (terminals_of accounts) ≡ true
     → option_and_then (slice_get (front ++ map account_of accounts)) (claimed (pos q) (claims (length front) accounts)) ≡ find nat_cmp q (flat_map terminals_with accounts)
 terminals_found q front [] good = refl
@@ -68,7 +65,7 @@ terminals_found q front (a ∷ rest) good =
     let (here, later) = and_parts (list_all (is_within 1 9999) a.terminals) (list_all (is_within 1 9999) (terminals_of rest)) (sym (list_all-append (is_within 1 9999) a.terminals (terminals_of rest)) ∙ good) in
     let next = front ++ account_of a ∷ [] in
     let more = terminals_found q next rest later in
-    listed_seen (slice_get (front ++ account_of a ∷ map account_of rest)) q (length front) (account_of a) a.terminals (claims (length front + 1) rest) (flat_map terminals_with rest) here (middle front (account_of a) (map account_of rest))
+    listed_seen (slice_get (front ++ account_of a ∷ map account_of rest)) q (length front) (account_of a) a.terminals (claims (length front + 1) rest) (flat_map terminals_with rest) here (slice_get_at front (account_of a) (map account_of rest))
     (subst (λ n. option_and_then (slice_get (front ++ account_of a ∷ map account_of rest)) (claimed (pos q) (claims n rest)) ≡ find nat_cmp q (flat_map terminals_with rest)) (omega (arith, length-append front (account_of a ∷ [])))
     (subst (λ all. option_and_then (slice_get all) (claimed (pos q) (claims (length next) rest)) ≡ find nat_cmp q (flat_map terminals_with rest)) (append_assoc front (account_of a ∷ []) (map account_of rest)) more))
 

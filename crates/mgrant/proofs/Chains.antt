@@ -1,6 +1,6 @@
 -- SPDX-License-Identifier: Apache-2.0
 -- Chains of grants, by names and by places.
-use Rattle.mgrant.proofs.GrantWords.{◌≡◌, inl, inr, ℕ, ◌==◌, ◌<◌, true, List, ◌∷◌, length, map, get_or, Some, All, refl, sym, ap, subst, ◌∙◌, ◌&&◌, Bool, ◌||◌, [], Option, subst₂, list_any, bytes_decides, and_parts, and_from, or_cases, eqb-true, eq-eqb, false≢true, or_left, or_right, All-head, All-tail, list_any_at, Any-from_list_any, Text, text_eq, carries, flows, Reaches, itself, through, are_names, is_account_name, leads, Leads, stays, goes, Placed, carries_at, ties_at, named, IsAmong, settings_view, AreSettings, text_in, Edge}
+use Rattle.mgrant.proofs.GrantWords.{◌≡◌, ◌⊎◌, inl, inr, ℕ, ◌==◌, ◌<◌, true, List, ◌∷◌, length, map, get_or, Some, All, refl, sym, ap, subst, ◌∙◌, ◌&&◌, Bool, ◌||◌, [], Option, subst₂, list_any, bytes_decides, and_parts, and_from, or_cases, eqb-true, eq-eqb, false≢true, or_left, or_right, All-head, All-tail, list_any_at, Any-from_list_any, Text, text_eq, carries, flows, Reaches, itself, through, are_names, is_account_name, leads, Leads, stays, goes, Placed, carries_at, ties_at, named, IsAmong, settings_view, AreSettings, text_in, Edge}
 use Rattle.mspec.specs.Access as access
 use Rattle.mgrant.proofs.Seen.{me_test, place_is, name_good, name_seen}
 
@@ -70,17 +70,21 @@ module _ (names : List Text) (good : are_names names ≡ true) where
 
   module _ (gs : List Placed) (among : All (IsAmong (length names)) gs) (settings : access.Settings) (has : settings.grants ≡ map (named names) gs) where
     -- nobody reaches an empty name but itself, nor does it reach anybody
-    pub empty_start : {s t : Text} → Reaches settings s t → s ≡ [] → s ≡ t
+    empty_start : {s t : Text} → Reaches settings s t → s ≡ [] → s ≡ t
     empty_start (itself x) e = refl
     empty_start (through {x = x} {y = y} flow rest) e =
         let (i, inside, at) = (carried_between x y gs among (ap (list_any (carries x y)) (sym has) ∙ flow)).0 in
         absurd (none_empty i inside (sym e ∙ at))
 
-    pub empty_end : {s t : Text} → Reaches settings s t → t ≡ [] → s ≡ t
+    empty_end : {s t : Text} → Reaches settings s t → t ≡ [] → s ≡ t
     empty_end (itself x) e = refl
     empty_end (through {x = x} {y = y} flow rest) e =
         let (i, inside, at) = (carried_between x y gs among (ap (list_any (carries x y)) (sym has) ∙ flow)).1 in
         absurd (none_empty i inside (sym (empty_end rest e ∙ e) ∙ at))
+
+    pub empty_side : {s t : Text} → Reaches settings s t → (s ≡ []) ⊎ (t ≡ []) → s ≡ t
+    empty_side flow (inl e) = empty_start flow e
+    empty_side flow (inr e) = empty_end flow e
 
   module _ (gs : List Placed) (among : All (IsAmong (length names)) gs) (edges : List Edge) (is : (x y : ℕ) → list_any (leads x y) edges ≡ list_any (carries_at x y) gs) (settings : access.Settings) (has : settings.grants ≡ map (named names) gs) where
     step_seen : (x y : ℕ) → flows settings (text_in names x) (text_in names y) ≡ list_any (leads x y) edges

@@ -1,6 +1,6 @@
 -- SPDX-License-Identifier: Apache-2.0
 -- The values of a list, read one after another.
-use Rattle.mgrant.proofs.GrantWords.{◌≡◌, ◌+◌, ◌<◌, ◌++◌, ap, refl, sym, ℕ, suc, ◌≤◌, List, [], ◌∷◌, Option, Some, None, length, get_or, drop, append_assoc, option_map, append-nil, ◌∙◌, drop_more, drop_all, lt-leb, le-leb, Data, view, items_view, each_read, entries_of, max_entries, count_items}
+use Rattle.mgrant.proofs.GrantWords.{◌≡◌, ◌<◌, ◌++◌, ap, refl, sym, ℕ, suc, ◌≤◌, List, [], ◌∷◌, Option, Some, None, length, get_or, drop, option_map, append-nil, ◌∙◌, drop_more, drop_all, lt-leb, le-leb, Data, view, items_view, each_read, entries_of, max_entries, count_items}
 use Rattle.toml.specs.declared.value.Value.{Value}
 
 count_view : (vs : List Value) → count_items (items_view vs) ≡ length vs
@@ -11,15 +11,6 @@ module _ {X : Type 0} (read : Data → Option X) where
   -- one that can't be read
   pub none_read : (xs : List Value) (i : ℕ) (d : Value) → i < length xs → read (view (get_or xs i d)) ≡ None → each_read read (items_view (drop i xs)) ≡ None
   none_read xs i d within e = rw (drop_more xs i d within, e) refl
-
-  twice : (all : List X) (x : X) (o : Option (List X)) → option_map (λ xs. all ++ xs) (option_map (λ xs. x ∷ xs) o) ≡ option_map (λ xs. (all ++ x ∷ []) ++ xs) o
-  twice all x None = refl
-  twice all x (Some xs) = ap Some (sym (append_assoc all (x ∷ []) xs))
-
-  -- one that is read as x
-  pub some_read : (xs : List Value) (i : ℕ) (d : Value) (all : List X) (x : X) → i < length xs → read (view (get_or xs i d)) ≡ Some x
-      → option_map (λ xs. all ++ xs) (each_read read (items_view (drop i xs))) ≡ option_map (λ xs. (all ++ x ∷ []) ++ xs) (each_read read (items_view (drop (i + 1) xs)))
-  some_read xs i d all x within e = rw (drop_more xs i d within, e) (twice all x (each_read read (items_view (drop (i + 1) xs))))
 
   -- a list that is too long, and one that is not
   pub too_long : (vs : List Value) → max_entries < length vs → entries_of read (items_view vs) ≡ None

@@ -31,7 +31,7 @@ pub use Rattle.mgrant.specs.Document.{Written, WrittenAccount, WrittenGrant, acc
 pub use Rattle.mgrant.specs.Edges.{IsMore, IsRun, IsStage, Leads, goes, leads, stays}
 pub use Rattle.mgrant.specs.Islands.{IsIslandAt, IsIslandOf}
 pub use Rattle.mgrant.specs.Placed.{Allowed, IsAllowance, IsInterned, Placed, allows_so, carries_at, lets_at, mode_of, placed, same_permit, ties_at}
-pub use Rattle.mgrant.specs.Reading.{AreGranted, Claim, HasTerminals, IsNumberWithin, IsPlacing, account_view, accounts_view, claimed, claims, claims_at, entries_seen, entries_view, grant_view, grants_seen, grants_view, keys_view, numbers}
+pub use Rattle.mgrant.specs.Reading.{AreGranted, Claim, HasTerminals, IsNumberWithin, IsPlacing, account_view, claimed, claims, claims_at, entries_seen, entries_view, grant_view, grants_seen, keys_view, numbers}
 pub use Rattle.mgrant.specs.View.{AreSettings, IsAmong, accounts_of, named, settings_view, terminals_from, with_terminal}
 pub use Rattle.mgrant.specs.Words.{Bytes, IsIndex, IsPlaceOf, Places, found_at, text_in, texts_of}
 pub use Rattle.mgrant.specs.declared.flow.Edge.{Edge}

@@ -1,7 +1,9 @@
 -- SPDX-License-Identifier: Apache-2.0
 -- The parts of settings, entry by entry.
-use Rattle.mgrant.proofs.GrantWords.{◌≡◌, inl, inr, ℕ, zero, suc, ◌+◌, ◌<◌, ℤ, pos, Bool, true, false, List, ◌∷◌, ◌++◌, length, map, take, drop, get_or, set, Option, Some, None, refl, sym, ap, subst, ◌∙◌, arith, append_assoc, append-nil, length-take-le, add-one, add-zero, take-append-drop, is_some, not, ◌&&◌, unwrap_or, unsigned_abs, if◌then◌else◌, int_eq, [], list_any, list_all, nat_list_eq_equiv, cases_eq, cases_Bool, and_right, false≢true, false_from_ne_true, Decides-int_eq, map-append, take_more, length-map, get_or-set_same, get_or-set_other, list_all-append, none-some, slice_get_within, Text, text_eq, WrittenAccount, WrittenGrant, names_of, terminals_of, are_names, are_terminals, is_account_name, is_name, mode_named, is_grant, is_within, grant_of, Mode, Read, Placed, mode_of, account_view, grant_view, entries_seen, grants_seen, Claim, claims_at, claims, numbers, claimed, HasTerminals, AreGranted, IsNumberWithin, IsPlacing, named, IsAmong, All-append, All-cons, All-nil}
+use Rattle.mgrant.proofs.GrantWords.{◌≡◌, inl, inr, ℕ, zero, suc, ◌+◌, ◌<◌, ℤ, pos, Bool, true, false, List, ◌∷◌, ◌++◌, length, map, take, drop, get_or, get_or_default, set, Option, Some, None, refl, sym, ap, subst, ◌∙◌, arith, append_assoc, append-nil, length-take-le, add-one, add-zero, take-append-drop, is_some, not, ◌&&◌, unwrap_or, unsigned_abs, if◌then◌else◌, int_eq, [], list_any, list_all, nat_list_eq_equiv, cases_eq, cases_Bool, and_right, false≢true, false_from_ne_true, Decides-int_eq, map-append, take_more, length-map, get_or-set_same, get_or-set_other, list_all-append, none-some, slice_get_within, Text, text_eq, WrittenAccount, WrittenGrant, names_of, terminals_of, are_names, are_terminals, is_account_name, is_name, mode_named, is_grant, is_within, grant_of, Mode, Read, Placed, mode_of, account_view, grant_view, entries_seen, grants_seen, Claim, claims_at, claims, numbers, claimed, HasTerminals, AreGranted, IsNumberWithin, IsPlacing, named, IsAmong, All-append, All-cons, All-nil}
+use Rattle.std.proofs.Math.Seq.{split_at}
 use Rattle.std.proofs.lemmas.Cmp.{int_eq_equiv}
+use Rattle.std.specs.Option.{option_or}
 use Rattle.mgrant.specs.declared.checks.Placing.{Placing}
 use Rattle.mgrant.specs.declared.document.AccountEntry.{AccountEntry}
 use Rattle.mgrant.specs.declared.document.GrantEntry.{GrantEntry}
@@ -9,9 +11,7 @@ use Rattle.mgrant.proofs.GoodLists.{good_push, good_front, good_fails}
 
 -- a list is its front, an element and the rest
 around : {X : Type 0} (xs : List X) (i : ℕ) (d : X) → i < length xs → xs ≡ take i xs ++ get_or xs i d ∷ drop (i + 1) xs
-around [] i d within = absurd (omega arith)
-around (x ∷ xs) zero d within = refl
-around (x ∷ xs) (suc i) d within = rw add-one (ap (λ ys. x ∷ ys) (around xs i d (omega arith) ∙ rw add-one refl))
+around xs i d within = rw add-one (split_at xs i d within)
 
 mapped_around : {X Y : Type 0} (f : X → Y) (xs : List X) (i : ℕ) (d : X) → i < length xs → map f xs ≡ map f (take i xs) ++ f (get_or xs i d) ∷ map f (drop (i + 1) xs)
 mapped_around f xs i d within = ap (map f) (around xs i d within) ∙ map-append f (take i xs) (get_or xs i d ∷ drop (i + 1) xs)
@@ -58,29 +58,23 @@ some_claimed t (c ∷ cs) i e =
       | inr other ↦ rw other (some_claimed t cs i (rw other at e))
     ]
 
-claimed_push : (t : ℤ) (cs : List Claim) (c : Claim) → claimed t cs ≡ None → claimed t (cs ++ c ∷ []) ≡ (if int_eq t c.0 then Some c.1 else None)
-claimed_push t [] c e = refl
-claimed_push t (b ∷ cs) c e =
-    elim (cases_Bool (int_eq t b.0)) [
-      | inl same ↦ absurd (none-some b.1 (sym (rw same at e)))
-      | inr other ↦ rw other (claimed_push t cs c (rw other at e))
+claimed_append : (t : ℤ) (cs ds : List Claim) → claimed t (cs ++ ds) ≡ option_or (claimed t cs) (claimed t ds)
+claimed_append t [] ds = refl
+claimed_append t (c ∷ cs) ds =
+    elim (cases_Bool (int_eq t c.0)) [
+      | inl same ↦ rw same refl
+      | inr other ↦ rw other (claimed_append t cs ds)
     ]
 
-claimed_kept : (t : ℤ) (cs : List Claim) (c : Claim) (i : ℕ) → claimed t cs ≡ Some i → claimed t (cs ++ c ∷ []) ≡ Some i
-claimed_kept t [] c i e = absurd (none-some i e)
-claimed_kept t (b ∷ cs) c i e =
-    elim (cases_Bool (int_eq t b.0)) [
-      | inl same ↦ rw same (rw same at e)
-      | inr other ↦ rw other (claimed_kept t cs c i (rw other at e))
-    ]
+claimed_push : (t : ℤ) (cs : List Claim) (c : Claim) → claimed t cs ≡ None → claimed t (cs ++ c ∷ []) ≡ (if int_eq t c.0 then Some c.1 else None)
+claimed_push t cs c e = claimed_append t cs (c ∷ []) ∙ ap (λ o. option_or o (claimed t (c ∷ []))) e
+
+or_none : (o : Option ℕ) → option_or o None ≡ o
+or_none None = refl
+or_none (Some i) = refl
 
 claimed_other : (t : ℤ) (cs : List Claim) (c : Claim) → int_eq t c.0 ≡ false → claimed t (cs ++ c ∷ []) ≡ claimed t cs
-claimed_other t [] c e = rw e refl
-claimed_other t (b ∷ cs) c e =
-    elim (cases_Bool (int_eq t b.0)) [
-      | inl same ↦ rw same refl
-      | inr other ↦ rw other (claimed_other t cs c e)
-    ]
+claimed_other t cs c e = claimed_append t cs (c ∷ []) ∙ rw e (or_none (claimed t cs))
 
 pub same_pos : {t n : ℕ} → pos t ≡ pos n → t ≡ n
 same_pos e = cc
@@ -117,16 +111,12 @@ claim_fails place ts seen i d within bad =
     ap are_terminals whole ∙ good_fails (is_within 1 9999) int_eq int_eq_equiv.symm (numbers (claims_at place (take i ts) seen)) (get_or ts i d) (drop (i + 1) ts) bad
 
 there_some : {X : Type 0} (xs : List (Option X)) (n : ℕ) → n < length xs → (r : Option X) → r ≡ get_or xs n r → is_some r ≡ true → (x : X) × (get_or xs n None ≡ Some x)
-there_some [] n within r e h = absurd (omega arith)
-there_some (y ∷ xs) zero within None e h = absurd (false≢true h)
-there_some (y ∷ xs) zero within (Some x) e h = (x, sym e)
-there_some (y ∷ xs) (suc n) within r e h = there_some xs n (omega arith) r e h
+there_some xs n within None e h = absurd (false≢true h)
+there_some xs n within (Some x) e h = (x, sym (e ∙ get_or_default xs n (Some x) None within))
 
 pub free_there : {X : Type 0} (xs : List (Option X)) (n : ℕ) → n < length xs → (r : Option X) → r ≡ get_or xs n r → is_some r ≡ false → get_or xs n None ≡ None
-free_there [] n within r e h = absurd (omega arith)
-free_there (y ∷ xs) zero within None e h = sym e
-free_there (y ∷ xs) zero within (Some x) e h = absurd (false≢true (sym h))
-free_there (y ∷ xs) (suc n) within r e h = free_there xs n (omega arith) r e h
+free_there xs n within None e h = sym e
+free_there xs n within (Some x) e h = absurd (false≢true (sym h))
 
 -- a number that has been claimed
 pub claimed_twice : (cs : List Claim) (t : ℤ) (n : ℕ) → IsNumberWithin 9999 t n → (v : List (Option ℕ)) → HasTerminals cs v → n < length v → (r : Option ℕ) → r ≡ get_or v n r → is_some r ≡ true → (is_within 1 9999 t && not (list_any (int_eq t) (numbers cs))) ≡ false

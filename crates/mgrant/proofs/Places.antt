@@ -53,9 +53,9 @@ slice_get_front [] ys i within = absurd (omega arith)
 slice_get_front (x ∷ xs) ys zero within = refl
 slice_get_front (x ∷ xs) ys (suc i) within = slice_get_front xs ys i (omega arith)
 
-pub slice_get_last : {X : Type 0} (xs : List X) (x : X) → slice_get (xs ++ x ∷ []) (length xs) ≡ Some x
-slice_get_last [] x = refl
-slice_get_last (y ∷ xs) x = slice_get_last xs x
+pub slice_get_at : {X : Type 0} (xs : List X) (x : X) (ys : List X) → slice_get (xs ++ x ∷ ys) (length xs) ≡ Some x
+slice_get_at [] x ys = refl
+slice_get_at (y ∷ xs) x ys = slice_get_at xs x ys
 
 slice_get_end : {X : Type 0} (xs : List X) (x y : X) (i : ℕ) → slice_get (xs ++ x ∷ []) i ≡ Some y → (slice_get xs i ≡ Some y) ⊎ ((i ≡ length xs) × (x ≡ y))
 slice_get_end [] x y zero e = inr (refl, same_Some x y e)
@@ -75,7 +75,7 @@ index_more texts m n v index absent u = record {
       elim (cases_Bool (bytes_eq v.items text)) [
         | inl same ↦
             let place = same_Some (length texts) i (rw same at after) in
-            subst (λ k. slice_get (texts ++ v.items ∷ []) k ≡ Some text) place (slice_get_last texts v.items ∙ ap Some ((bytes_decides v.items text).0 same))
+            subst (λ k. slice_get (texts ++ v.items ∷ []) k ≡ Some text) place (slice_get_at texts v.items [] ∙ ap Some ((bytes_decides v.items text).0 same))
         | inr other ↦
             let had = index.found text i (rw other at after) in
             slice_get_front texts (v.items ∷ []) i (slice_get_within texts i text had) ∙ had

@@ -87,11 +87,15 @@ grant_in ms =
     if has_only grant_keys ms then grant_with (text_at (codes "from") ms) (text_at (codes "to") ms) (text_at (codes "global") ms) (text_at (codes "mode") ms)
     else None
 
+-- an entry, which is a table
+abbrev pub written_by : {X : Type 0} → (Members → Option X) → Data → Option X
+written_by said d = option_and_then said (as_table d)
+
 abbrev pub written_account : Data → Option WrittenAccount
-written_account d = option_and_then account_in (as_table d)
+written_account = written_by account_in
 
 abbrev pub written_grant : Data → Option WrittenGrant
-written_grant d = option_and_then grant_in (as_table d)
+written_grant = written_by grant_in
 
 abbrev pub count_items : Items → ℕ
 count_items no_items = 0

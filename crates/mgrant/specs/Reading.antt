@@ -1,8 +1,7 @@
 -- SPDX-License-Identifier: Apache-2.0
 -- The entries of a document, as the code keeps them, seen as what was written; and what a reading of settings answers.
-use Rattle.std.specs.Prelude.{◌≡◌, ◌⊎◌, ℕ, ◌+◌, ◌≤◌, ℤ, pos, List, [], ◌∷◌, ◌++◌, map, length, slice_get, slice_index_or, All, Bool, true, false, if◌then◌else◌, Option, Some, None, Result, MatchResult, Vec}
+use Rattle.std.specs.Prelude.{◌≡◌, ◌⊎◌, ℕ, ◌+◌, ◌≤◌, ℤ, pos, List, [], ◌∷◌, ◌++◌, map, length, slice_get, slice_index_or, All, Bool, true, false, if◌then◌else◌, Option, Some, None, Result, MatchResult}
 use Rattle.std.specs.Ordering.{int_eq}
-use Rattle.std.specs.declared.alloc.Global.{Global}
 use denote.Ref.{Bor}
 use Rattle.toml.specs.Data.{Members}
 use Rattle.mspec.specs.Node.{Text}
@@ -32,14 +31,8 @@ entries_seen es = map account_view es
 abbrev pub grants_seen : List GrantEntry → List WrittenGrant
 grants_seen es = map grant_view es
 
-abbrev pub accounts_view : Vec AccountEntry Global → List WrittenAccount
-accounts_view v = entries_seen v.items
-
-abbrev pub grants_view : Vec GrantEntry Global → List WrittenGrant
-grants_view v = grants_seen v.items
-
 abbrev pub entries_view : Entries → Written
-entries_view e = record { accounts = accounts_view e.accounts; grants = grants_view e.grants }
+entries_view e = record { accounts = entries_seen e.accounts.items; grants = grants_seen e.grants.items }
 
 -- a part of the reading finds what it looks for good, and gives it; or it is not good, and the fault is this; or there is no memory
 abbrev pub Judges : {X : Type 0} → Bool → SettingsFault → (X → Type 0) → Result X SettingsFault → Type 0

@@ -1,12 +1,12 @@
 // SPDX-License-Identifier: Apache-2.0
 // The shape of a document of settings: its entries, as they are written.
-ghost use Rattle.std.specs.Prelude.{◌≡◌, IfOk, Some, List, map, option_map, codes};
+ghost use Rattle.std.specs.Prelude.{◌≡◌, IfOk, Option, Some, List, map, option_map, codes};
 ghost use Rattle.std.specs.List.{list_any};
 ghost use Rattle.mspec.specs.Trees.{text_eq};
-ghost use Rattle.toml.specs.Data.{get_member, as_str, as_integer};
+ghost use Rattle.toml.specs.Data.{Members, get_member, as_str, as_integer};
 ghost use Rattle.toml.specs.View.{view, table_view, array_view};
-ghost use Rattle.mgrant.specs.Document.{has_only, text_at, integer_at, integers_at, each_read, account_in, grant_in, written_account, written_grant, entries_of, entries_in, written, max_entries};
-ghost use Rattle.mgrant.specs.Reading.{account_view, grant_view, entries_view, accounts_view, grants_view, keys_view};
+ghost use Rattle.mgrant.specs.Document.{WrittenAccount, WrittenGrant, has_only, text_at, integer_at, integers_at, each_read, account_in, grant_in, written_by, entries_of, entries_in, written, max_entries};
+ghost use Rattle.mgrant.specs.Reading.{account_view, grant_view, entries_view, keys_view};
 
 use mspec::limits::MAX_ENTRIES;
 use std::alloc::{AllocError, Global};
@@ -112,86 +112,99 @@ fn integers_at(alloc: Global, table: &Table, key: &str) -> Result<Option<Vec<i64
     }
 }
 
-// What a table says of an account, where it has the keys of one.
-fn account_in(alloc: Global, table: &Table) -> Result<Option<AccountEntry>, AllocError>
-    ensures { IfOk result (λ o. option_map account_view o ≡ account_in (table_view table.now)) }
-{
-    if !has_only(table, &["name", "terminals", "steps"]) {
-        return Ok(None);
-    }
-    let Some(name) = text_at(alloc, table, "name")? else {
-        return Ok(None);
-    };
-    let Some(terminals) = integers_at(alloc, table, "terminals")? else {
-        return Ok(None);
-    };
-    match integer_at(table, "steps") {
-        Some(steps) => Ok(Some(AccountEntry {
-            name,
-            terminals,
-            steps,
-        })),
-        None => Ok(None),
+// An entry of a list of the document, and what a table says of it.
+trait Entry: Sized {
+    ghost Written: { Type 0 };
+
+    ghost seen: { Self → Written };
+
+    ghost written: { Members → Option Written };
+
+    // What a table says of an entry, where it has the keys of one.
+    fn read(alloc: Global, table: &Table) -> Result<Option<Self>, AllocError>
+        ensures { IfOk result (λ o. option_map seen o ≡ written (table_view table.now)) };
+}
+
+impl Entry for AccountEntry {
+    ghost Written = { WrittenAccount };
+
+    ghost seen = { account_view };
+
+    ghost written = { account_in };
+
+    fn read(alloc: Global, table: &Table) -> Result<Option<AccountEntry>, AllocError> {
+        if !has_only(table, &["name", "terminals", "steps"]) {
+            return Ok(None);
+        }
+        let Some(name) = text_at(alloc, table, "name")? else {
+            return Ok(None);
+        };
+        let Some(terminals) = integers_at(alloc, table, "terminals")? else {
+            return Ok(None);
+        };
+        match integer_at(table, "steps") {
+            Some(steps) => Ok(Some(AccountEntry {
+                name,
+                terminals,
+                steps,
+            })),
+            None => Ok(None),
+        }
     }
 }
 
-// What a table says of a grant, where it has the keys of one.
-fn grant_in(alloc: Global, table: &Table) -> Result<Option<GrantEntry>, AllocError>
-    ensures { IfOk result (λ o. option_map grant_view o ≡ grant_in (table_view table.now)) }
-{
-    if !has_only(table, &["from", "to", "global", "mode"]) {
-        return Ok(None);
-    }
-    let Some(from) = text_at(alloc, table, "from")? else {
-        return Ok(None);
-    };
-    let Some(to) = text_at(alloc, table, "to")? else {
-        return Ok(None);
-    };
-    let Some(global) = text_at(alloc, table, "global")? else {
-        return Ok(None);
-    };
-    match text_at(alloc, table, "mode")? {
-        Some(mode) => Ok(Some(GrantEntry {
-            from,
-            to,
-            global,
-            mode,
-        })),
-        None => Ok(None),
+impl Entry for GrantEntry {
+    ghost Written = { WrittenGrant };
+
+    ghost seen = { grant_view };
+
+    ghost written = { grant_in };
+
+    fn read(alloc: Global, table: &Table) -> Result<Option<GrantEntry>, AllocError> {
+        if !has_only(table, &["from", "to", "global", "mode"]) {
+            return Ok(None);
+        }
+        let Some(from) = text_at(alloc, table, "from")? else {
+            return Ok(None);
+        };
+        let Some(to) = text_at(alloc, table, "to")? else {
+            return Ok(None);
+        };
+        let Some(global) = text_at(alloc, table, "global")? else {
+            return Ok(None);
+        };
+        match text_at(alloc, table, "mode")? {
+            Some(mode) => Ok(Some(GrantEntry {
+                from,
+                to,
+                global,
+                mode,
+            })),
+            None => Ok(None),
+        }
     }
 }
 
-// The entry of an account.
-fn account(alloc: Global, value: &Value) -> Result<Option<AccountEntry>, AllocError>
-    ensures { IfOk result (λ o. option_map account_view o ≡ written_account (view value.now)) }
+// An entry of a list.
+fn read_entry<E: Entry>(alloc: Global, value: &Value) -> Result<Option<E>, AllocError>
+    ensures { IfOk result (λ o. option_map E.seen o ≡ written_by E.written (view value.now)) }
 {
     match value.as_table() {
-        Some(table) => account_in(alloc, table),
+        Some(table) => E::read(alloc, table),
         None => Ok(None),
     }
 }
 
-// The entry of a grant.
-fn grant(alloc: Global, value: &Value) -> Result<Option<GrantEntry>, AllocError>
-    ensures { IfOk result (λ o. option_map grant_view o ≡ written_grant (view value.now)) }
-{
-    match value.as_table() {
-        Some(table) => grant_in(alloc, table),
-        None => Ok(None),
-    }
-}
-
-// The entries of the list of accounts.
-fn accounts(alloc: Global, values: &Vec<Value>) -> Result<Option<Vec<AccountEntry>>, AllocError>
-    ensures { IfOk result (λ o. option_map accounts_view o ≡ entries_of written_account (array_view values.now)) }
+// The entries of a list.
+fn list<E: Entry + Drop>(alloc: Global, values: &Vec<Value>) -> Result<Option<Vec<E>>, AllocError>
+    ensures { IfOk result (λ o. option_map (λ v. map E.seen v.items) o ≡ entries_of (written_by E.written) (array_view values.now)) }
 {
     if values.len() > MAX_ENTRIES {
         return Ok(None);
     }
     let mut all = Vec::new(alloc);
     for value in values {
-        match account(alloc, value)? {
+        match read_entry(alloc, value)? {
             Some(entry) => all.push(entry)?,
             None => return Ok(None),
         }
@@ -199,45 +212,19 @@ fn accounts(alloc: Global, values: &Vec<Value>) -> Result<Option<Vec<AccountEntr
     Ok(Some(all))
 }
 
-// The entries of the list of grants.
-fn grants(alloc: Global, values: &Vec<Value>) -> Result<Option<Vec<GrantEntry>>, AllocError>
-    ensures { IfOk result (λ o. option_map grants_view o ≡ entries_of written_grant (array_view values.now)) }
+// The entries of a list, which may be absent.
+fn list_at<E: Entry + Drop>(
+    alloc: Global,
+    table: &Table,
+    key: &str,
+) -> Result<Option<Vec<E>>, AllocError>
+    ensures { IfOk result (λ o. option_map (λ v. map E.seen v.items) o ≡ entries_in (written_by E.written) (get_member key.now (table_view table.now))) }
 {
-    if values.len() > MAX_ENTRIES {
-        return Ok(None);
-    }
-    let mut all = Vec::new(alloc);
-    for value in values {
-        match grant(alloc, value)? {
-            Some(entry) => all.push(entry)?,
-            None => return Ok(None),
-        }
-    }
-    Ok(Some(all))
-}
-
-// The list of accounts, which may be absent.
-fn accounts_in(alloc: Global, table: &Table) -> Result<Option<Vec<AccountEntry>>, AllocError>
-    ensures { IfOk result (λ o. option_map accounts_view o ≡ entries_in written_account (get_member (codes "account") (table_view table.now))) }
-{
-    let Some(value) = value_at(table, "account") else {
+    let Some(value) = value_at(table, key) else {
         return Ok(Some(Vec::new(alloc)));
     };
     match value.as_array() {
-        Some(values) => accounts(alloc, values),
-        None => Ok(None),
-    }
-}
-
-// The list of grants, which may be absent.
-fn grants_in(alloc: Global, table: &Table) -> Result<Option<Vec<GrantEntry>>, AllocError>
-    ensures { IfOk result (λ o. option_map grants_view o ≡ entries_in written_grant (get_member (codes "grant") (table_view table.now))) }
-{
-    let Some(value) = value_at(table, "grant") else {
-        return Ok(Some(Vec::new(alloc)));
-    };
-    match value.as_array() {
-        Some(values) => grants(alloc, values),
+        Some(values) => list(alloc, values),
         None => Ok(None),
     }
 }
@@ -249,10 +236,10 @@ pub(crate) fn read_entries(alloc: Global, table: &Table) -> Result<Option<Entrie
     if !has_only(table, &["account", "grant"]) {
         return Ok(None);
     }
-    let Some(accounts) = accounts_in(alloc, table)? else {
+    let Some(accounts) = list_at::<AccountEntry>(alloc, table, "account")? else {
         return Ok(None);
     };
-    match grants_in(alloc, table)? {
+    match list_at::<GrantEntry>(alloc, table, "grant")? {
         Some(grants) => Ok(Some(Entries { accounts, grants })),
         None => Ok(None),
     }

@@ -43,7 +43,9 @@ pub(crate) fn is_name(text: &[u8]) -> bool
     ensures fact { IsTrue result ↔ IsName text.now }
 {
     match text.split_first() {
-        Some((first, rest)) => starts_name(*first) && are_words(rest) && rest.len() <= MAX_NAME_REST,
+        Some((first, rest)) => starts_name(*first)
+            && are_words(rest)
+            && rest.len() <= MAX_NAME_REST,
         None => false,
     }
 }

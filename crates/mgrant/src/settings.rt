@@ -197,10 +197,7 @@ impl Settings {
             return Ok(true);
         }
         let count = self.names.len();
-        if start >= count {
-            return Ok(false);
-        }
-        if end >= count {
+        if start >= count || end >= count {
             return Ok(false);
         }
         let edges = self.grants.edges(alloc)?;

@@ -1,6 +1,6 @@
 -- SPDX-License-Identifier: Apache-2.0
 -- The rows of a database whose columns are blobs are a map.
-use Rattle.mstore.proofs.Words.{◌≡◌, ◌≢◌, ◌⊎◌, ℕ, ℤ, ◌<◌, Bool, cond, true, false, not, ◌&&◌, List, [], ◌∷◌, length, drop, Option, Some, None, Ok, Err, refl, sym, ap, ap₂, subst, ◌∙◌, inl, inr, arith, int_eq, IsTrue, and_parts, not-true, false_from_ne_true, ints, tied_itself, AllByRecursion, list_any, Int, Blob, Null, Row, column, Binary, Key, first_key-plain, value_cmp_total, is_true, Compare, Eq, Ne, Ghosts, rowid, Has, id_in, all_has, some_from, int_is, tied_same, at_ints, at_blobs, last_term, bytes_eq_refl, Database, IsDatabase, Held, state, col, State, IsLive, IsPlain, reads_as, bytes, value_cmp, plain, binary, node, schema, IsMemory, IsCalm, IsStore, Stays, ShowsAll, ShowsNodes, AreNodes, AreRows, IsNode, ShowsNodeBy, HasOtherBy, key_of, value_of, Shown, understood, all_text}
+use Rattle.mstore.proofs.Words.{◌≡◌, ℕ, ℤ, true, false, not, ◌&&◌, List, [], ◌∷◌, drop, None, refl, sym, ap, ap₂, subst, ◌∙◌, inl, arith, int_eq, IsTrue, and_parts, not-true, false_from_ne_true, ints, tied_itself, Int, Blob, Null, Row, column, Binary, Key, first_key-plain, value_cmp_total, is_true, Compare, Eq, Ne, Ghosts, rowid, Has, id_in, all_has, some_from, int_is, tied_same, at_ints, at_blobs, last_term, bytes_eq_refl, Database, IsDatabase, Held, state, col, State, IsLive, IsPlain, reads_as, bytes, value_cmp, plain, binary, node, schema, IsMemory, IsCalm, IsStore, Stays, ShowsAll, ShowsNodes, AreNodes, AreRows, IsNode, ShowsNodeBy, HasOtherBy, key_of, value_of, Shown, understood, Each, sql}
 use Rattle.std.proofs.Common.{is_eq}
 use Rattle.std.proofs.lemmas.Bool.{true≢false}
 use Rattle.sqlite_schema.specs.declared.schema.Constraint.TheVariants.{Datatype, Unique}
@@ -74,16 +74,16 @@ module _ {S : Type 0} (g : Ghosts S) (h : Held S) (quiet : IsMemory g) (db : IsD
     pub nodes_from : AreRows F rows
     nodes_from = record { each = node_each; in_form = node_in_form; ids = node_ids; keys = node_keys }
 
-pub all_shown : (old new : State) (shown : List Row) → old.now.schema ≡ schema → Shown all_text [] old new shown → ShowsAll old shown
+pub all_shown : (old new : State) (shown : List Row) → old.now.schema ≡ schema → Shown (sql Each) [] old new shown → ShowsAll old shown
 all_shown old new shown has h =
-    let a = (reads_as all_text [] old new schema has all_command all_is.0 all_is.1 all_is.2 shown h).answer Null in
+    let a = (reads_as (sql Each) [] old new schema has all_command all_is.0 all_is.1 all_is.2 shown h).answer Null in
     record {
       each = λ r here. rows_to [] [] (col 1 1 ∷ col 1 2 ∷ []) [] old.now.trees 0 refl shown a r here refl;
       only = λ row among. let it = rows_from [] [] (col 1 1 ∷ col 1 2 ∷ []) [] old.now.trees 0 refl shown a row among in (it.0, it.1, it.3);
     }
 
-pub all_stays : (old new : State) (shown : List Row) → IsCalm old → IsTrue new.is_open → Shown all_text [] old new shown → Stays old new
-all_stays old new shown calm is_open h = shown_stays old new calm.idle is_open all_text [] shown (subst (λ s. IsPlain (understood s all_text)) (sym calm.schema_is) all_is.1) h
+pub all_stays : (old new : State) (shown : List Row) → IsCalm old → IsTrue new.is_open → Shown (sql Each) [] old new shown → Stays old new
+all_stays old new shown calm is_open h = shown_stays old new calm.idle is_open (sql Each) [] shown (subst (λ s. IsPlain (understood s (sql Each))) (sym calm.schema_is) all_is.1) h
 
 -- what is taken is a store
 pub taken : {S : Type 0} (g : Ghosts S) (h : Held S) → IsMemory g → IsLive (state g h) → IsCalm (state g h) → ShowsNodes (state g h).now → IsStore (state g h)

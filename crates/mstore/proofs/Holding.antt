@@ -1,7 +1,9 @@
 -- SPDX-License-Identifier: Apache-2.0
 -- What entries and rows hold are nodes of a store, with texts that they may have.
-use Rattle.mstore.proofs.Words.{◌≡◌, List, [], ◌∷◌, length, All, refl, sym, ◌∙◌, subst, inl, inr, arith, Ordering, Less, Equal, Greater, entries, empty, entries-insert, len-entries, len-empty, put, by_order, All-map, All-nil, All-cons, All-head, All-tail, node_of, Node, node_cmp, significant_digits, IsStored, node_cmp_total, Row, Has, Ghosts, Held, state, Entry, stored, entries_of, entry_of, held, AreEntries, IsHeld, AreHeld, globals_by, IsInForm, key_of, value_of}
+use Rattle.mstore.proofs.Words.{◌≡◌, List, [], ◌∷◌, length, All, refl, sym, ◌∙◌, subst, inl, inr, arith, Ordering, Less, Equal, Greater, entries, empty, entries-insert, len-entries, len-empty, put, by_order, All-map, All-nil, All-cons, All-head, All-tail, node_of, Node, node_cmp, significant_digits, IsStored, node_cmp_total, Row, Has, Ghosts, Held, state, Entry, Bool, cond, None, ap, get-entries, entries_sorted, retain_keys, same_map, IsTotalOrder, where_key, is_sorted-where_key, find-where_key, stored, entries_of, entry_of, held, AreEntries, IsHeld, AreHeld, globals_by, IsInForm, key_of, value_of}
+use Rattle.std.specs.FinMap.{FinMap, IsAntisymmetric, from_sorted, entries-from_sorted, get-from_sorted}
 use Rattle.mspec.specs.Node.{Text}
+use Rattle.mspec.proofs.MapCuts.{get_cut}
 use Rattle.mstore.specs.Database.{IsSound}
 use Rattle.mstore.proofs.KeyedRows.{node_at}
 use Rattle.mstore.proofs.SortedEntries.{entries_from}
@@ -43,3 +45,15 @@ table_held g h sound = rows_held ((state g h).now.trees 0) sound.1.nodes.in_form
 -- the same of the table as it is seen
 pub seen_held : {S : Type 0} (g : Ghosts S) (h t : Held S) → h ≡ t → IsSound g h → AreHeld (stored g t)
 seen_held g h t is sound = subst (λ t. AreHeld (stored g t)) is (table_held g h sound)
+
+-- ---- a map that is cut
+
+-- its entries are those that pass
+module _ {K X : Type 0} {R : K → K → Ordering} (total : IsTotalOrder R) (exact : IsAntisymmetric R) where
+  pub entries_cut : (m : FinMap R X) (p : K → Bool) → entries (retain_keys m p) ≡ where_key R p (entries m)
+  entries_cut m p =
+      let s = is_sorted-where_key R p (entries m) (entries_sorted m) in
+      ap entries (same_map total exact (retain_keys m p) (from_sorted (where_key R p (entries m))) (λ q.
+      get_cut total exact m p q ∙ ap (λ g. cond (p q) g None) (get-entries m q) ∙ sym (find-where_key R p q (λ x e. ap p (sym (exact q x e))) (entries m))
+      ∙ sym (get-from_sorted R (where_key R p (entries m)) q s)))
+      ∙ entries-from_sorted R (where_key R p (entries m)) s

@@ -1,6 +1,6 @@
 -- SPDX-License-Identifier: Apache-2.0
 -- The first and the last key of rows within bounds, as those of the globals that the rows hold.
-use Rattle.mstore.proofs.Words.{ℕ, ◌≡◌, ◌⊎◌, inl, inr, Bool, true, false, cond, ◌&&◌, Option, Some, None, option_map, is_some, List, [], ◌∷◌, map, length, reverse, refl, sym, ◌∙◌, ap, subst, arith, Ordering, Less, Equal, Greater, and_parts, option_or, AllByRecursion, eq_by_cmp, ordering_reverse, eq_by_cmp_equiv, Equal-is, slice_cmp, nat_list_cmp_total, nat_cmp-IsAntisymmetric, slice_cmp-IsAntisymmetric, len-entries, len-empty, entries, entries_sorted, entries-insert, get-entries, empty, reverse-append, find-append, Node, significant_digits, node_cmp, NoneEmpty, node_of, Globals, keys_of, is_between, next_key, previous_key, node_cmp_total, key_order, IsKey, none_empty, ShowsBytes, is_below, is_nearer, lookup_by, globals_by, AreKeyed}
+use Rattle.mstore.proofs.Words.{ℕ, ◌≡◌, ◌⊎◌, inl, inr, Bool, true, false, cond, ◌&&◌, Option, Some, None, option_map, is_some, List, [], ◌∷◌, map, length, reverse, refl, sym, ◌∙◌, ap, subst, arith, Ordering, Less, Equal, Greater, and_parts, option_or, AllByRecursion, eq_by_cmp, ordering_reverse, eq_by_cmp_equiv, Equal-is, slice_cmp, nat_list_cmp_total, nat_cmp-IsAntisymmetric, slice_cmp-IsAntisymmetric, len-entries, len-empty, entries, entries_sorted, entries-insert, get-entries, empty, reverse-append, find-append, Node, significant_digits, node_cmp, NoneEmpty, node_of, Globals, keys_of, is_between, node_cmp_total, key_order, IsKey, none_empty, ShowsBytes, is_below, is_nearer, lookup_by, globals_by, AreKeyed, step_key}
 use Rattle.mstore.proofs.SortedEntries.{from_T}
 use Rattle.std.specs.Prelude.{⊤, T, IsSome}
 use Rattle.std.specs.List.{find}
@@ -36,27 +36,20 @@ not_back r Greater e t = absurd (cc)
 below_back : (k q : List ℕ) → is_below k q ≡ true → is_below q k ≡ false
 below_back k q e = not_back (slice_cmp nat_cmp q k) (slice_cmp nat_cmp k q) (nat_list_cmp_total.antisymm q k) e
 
+-- what holds of the first and of those behind it
+each_of : (P : List ℕ → Type 0) (k : List ℕ) (ks : List (List ℕ)) → P k → ((q : List ℕ) → In ks q → P q) → (q : List ℕ) → (q ≡ k) ⊎ In ks q → P q
+each_of P k ks here later q (inl same) = subst P (sym same) here
+each_of P k ks here later q (inr is) = later q is
+
 found_first : (p : List ℕ → Bool) (ks : List (List ℕ)) → AreRising ks → IsFound false p ks (find p ks)
 unfolding In AreRising IsFound
 found_first p [] rising = λ q is. absurd is
 found_first p (k ∷ ks) rising = here (p k) refl (find p ks) (found_first p ks rising.1)
   where
     here : (b : Bool) → p k ≡ b → (r : Option (List ℕ)) → IsFound false p ks r → IsFound false p (k ∷ ks) (cond b (Some k) r)
-    here true e r found = (inl refl, (e, nearest))
-      where
-        nearest : (q : List ℕ) → (q ≡ k) ⊎ In ks q → p q ≡ true → is_below q k ≡ false
-        nearest q (inl same) t = subst (λ x. is_below x k ≡ false) (sym same) (below_itself k)
-        nearest q (inr later) t = below_back k q (rising.0 q later)
-    here false e None found = none
-      where
-        none : (q : List ℕ) → (q ≡ k) ⊎ In ks q → p q ≡ false
-        none q (inl same) = ap p same ∙ e
-        none q (inr later) = found q later
-    here false e (Some h) found = (inr found.0, (found.1.0, nearest))
-      where
-        nearest : (q : List ℕ) → (q ≡ k) ⊎ In ks q → p q ≡ true → is_below q h ≡ false
-        nearest q (inl same) t = let no : false ≡ true = sym e ∙ ap p (sym same) ∙ t in absurd (cc)
-        nearest q (inr later) t = found.1.1 q later t
+    here true e r found = (inl refl, (e, each_of (λ q. p q ≡ true → is_below q k ≡ false) k ks (λ t. below_itself k) (λ q later t. below_back k q (rising.0 q later))))
+    here false e None found = each_of (λ q. p q ≡ false) k ks e found
+    here false e (Some h) found = (inr found.0, (found.1.0, each_of (λ q. p q ≡ true → is_below q h ≡ false) k ks (λ t. let no : false ≡ true = sym e ∙ t in absurd (cc)) found.1.1))
 
 found_last : (p : List ℕ → Bool) (ks : List (List ℕ)) → AreRising ks → IsFound true p ks (find p (reverse ks))
 unfolding In AreRising IsFound
@@ -66,21 +59,10 @@ found_last p (k ∷ ks) rising =
     (here (p k) refl (find p (reverse ks)) (found_last p ks rising.1))
   where
     here : (b : Bool) → p k ≡ b → (r : Option (List ℕ)) → IsFound true p ks r → IsFound true p (k ∷ ks) (option_or r (cond b (Some k) None))
-    here true e None found = (inl refl, (e, nearest))
-      where
-        nearest : (q : List ℕ) → (q ≡ k) ⊎ In ks q → p q ≡ true → is_below k q ≡ false
-        nearest q (inl same) t = subst (λ x. is_below k x ≡ false) (sym same) (below_itself k)
-        nearest q (inr later) t = let no : false ≡ true = sym (found q later) ∙ t in absurd (cc)
-    here false e None found = none
-      where
-        none : (q : List ℕ) → (q ≡ k) ⊎ In ks q → p q ≡ false
-        none q (inl same) = ap p same ∙ e
-        none q (inr later) = found q later
-    here b e (Some h) found = (inr found.0, (found.1.0, nearest))
-      where
-        nearest : (q : List ℕ) → (q ≡ k) ⊎ In ks q → p q ≡ true → is_below h q ≡ false
-        nearest q (inl same) t = subst (λ x. is_below h x ≡ false) (sym same) (below_back k h (rising.0 h found.0))
-        nearest q (inr later) t = found.1.1 q later t
+    here true e None found =
+        (inl refl, (e, each_of (λ q. p q ≡ true → is_below k q ≡ false) k ks (λ t. below_itself k) (λ q later t. let no : false ≡ true = sym (found q later) ∙ t in absurd (cc))))
+    here false e None found = each_of (λ q. p q ≡ false) k ks e found
+    here b e (Some h) found = (inr found.0, (found.1.0, each_of (λ q. p q ≡ true → is_below h q ≡ false) k ks (λ t. below_back k h (rising.0 h found.0)) found.1.1))
 
 -- ---- the keys of globals
 
@@ -98,11 +80,7 @@ unfolding In AllSome keys_in
 below_in x some [] all below q is = absurd is
 below_in x some (e ∷ es) all below q is =
     let parts = and_parts (is_lt (node_cmp significant_digits x e.0)) (Entries.below_all (node_cmp significant_digits) x es) (from_T (is_lt (node_cmp significant_digits x e.0) && Entries.below_all (node_cmp significant_digits) x es) below) in
-    by_place parts.0 (below_in x some es all.1 (subst T (sym parts.1) tt) q) is
-  where
-    by_place : is_lt (node_cmp significant_digits x e.0) ≡ true → (In (keys_in es) q → is_below (key x) q ≡ true) → (q ≡ key e.0) ⊎ In (keys_in es) q → is_below (key x) q ≡ true
-    by_place first rest (inl same) = subst (λ k. is_below (key x) k ≡ true) (sym same) (below_node x e.0 some all.0 first)
-    by_place first rest (inr later) = rest later
+    each_of (λ k. is_below (key x) k ≡ true) (key e.0) (keys_in es) (below_node x e.0 some all.0 parts.0) (below_in x some es all.1 (subst T (sym parts.1) tt)) q is
 
 rising : (es : List (Node × Text)) → AllSome es → T (Entries.is_sorted (node_cmp significant_digits) es) → AreRising (keys_in es)
 unfolding AllSome AreRising keys_in
@@ -225,8 +203,6 @@ module _ {A : Type 0} (key_of value_of : A → List ℕ) where
     shown down low high (Some h) found (Some k) shows =
         ap Some (nearest_is down h k (found.1.1 k (some_in k shows.some) shows.within) (shows.none_nearer h (in_some h found.0) found.1.0))
 
-    pub nexts : (low high : List ℕ) (q : Option (List ℕ)) → ShowsBytes false (lookup_by key_of value_of rows) low high q → q ≡ next_key (globals_by key_of value_of rows) low high
-    nexts low high q shows = shown false low high _ (found_first (is_between low high) (keys_of (globals_by key_of value_of rows)) are_rising) q shows
-
-    pub prevs : (low high : List ℕ) (q : Option (List ℕ)) → ShowsBytes true (lookup_by key_of value_of rows) low high q → q ≡ previous_key (globals_by key_of value_of rows) low high
-    prevs low high q shows = shown true low high _ (found_last (is_between low high) (keys_of (globals_by key_of value_of rows)) are_rising) q shows
+    pub steps : (down : Bool) (low high : List ℕ) (q : Option (List ℕ)) → ShowsBytes down (lookup_by key_of value_of rows) low high q → q ≡ step_key down (globals_by key_of value_of rows) low high
+    steps false low high q shows = shown false low high _ (found_first (is_between low high) (keys_of (globals_by key_of value_of rows)) are_rising) q shows
+    steps true low high q shows = shown true low high _ (found_last (is_between low high) (keys_of (globals_by key_of value_of rows)) are_rising) q shows

@@ -1,6 +1,6 @@
 -- SPDX-License-Identifier: Apache-2.0
 -- What `kill` takes out.
-use Rattle.mstore.proofs.Words.{◌≡◌, ℕ, ℤ, true, List, [], ◌∷◌, Ok, refl, sym, ap, subst, ◌∙◌, Null, Blob, Row, col, Written, Database, IsAnswer, overlay, Enforced, Given, rowid, Has, id_in, without_all, ids_of, State, Executes, runs_as, one_step, node, schema, IsIdle, in_bounds, RemovesWithin, AreRows, lookup, kill_text}
+use Rattle.mstore.proofs.Words.{◌≡◌, ℕ, ℤ, true, List, [], ◌∷◌, Ok, refl, sym, ap, subst, ◌∙◌, Null, Blob, Row, col, Written, Database, IsAnswer, overlay, Enforced, Given, rowid, Has, id_in, without_all, ids_of, State, Executes, runs_as, one_step, node, schema, IsIdle, in_bounds, RemovesWithin, AreRows, lookup, Kill, sql}
 use Rattle.std.proofs.Common.{true≢false}
 use Rattle.sqlite.specs.Tree.{Trees}
 use Rattle.sqlite_rules.specs.Edit.{edit_of}
@@ -16,11 +16,11 @@ module _ {F : List ℕ → List ℕ → Type 0} (old : State) (has : old.now.sch
   abbrev params : Row
   params = Blob low ∷ Blob high ∷ []
 
-  pub kills : (new : State) (count : ℕ) → Executes kill_text params old new (Ok count)
+  pub kills : (new : State) (count : ℕ) → Executes (sql Kill) params old new (Ok count)
       → (new.now.schema ≡ schema) × (IsIdle old → IsIdle new) × IsLeft (old.now.trees 0) (new.now.trees 0) (is_within low high) × (new.now.trees 2 ≡ old.now.trees 2)
   kills new count h =
       let rows = old.now.trees 0 in
-      let w = runs_as kill_text params old new schema has kill_command kill_is.0 kill_is.1 count h in
+      let w = runs_as (sql Kill) params old new schema has kill_command kill_is.0 kill_is.1 count h in
       let made = deleted old new has params _ count (program kill_query) w in
       let asked = went made.1 in
       let edited = went asked.2 in

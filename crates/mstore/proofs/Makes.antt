@@ -1,6 +1,6 @@
 -- SPDX-License-Identifier: Apache-2.0
 -- How the tables are made.
-use Rattle.mstore.proofs.Words.{◌≡◌, ℕ, pos, true, false, List, [], ◌∷◌, codes, None, Ok, refl, sym, ap, ap₂, subst, ◌∙◌, inl, arith, Null, Int, Row, lit, Source, CreateTable, Insert, Enforced, Chosen, Tally, Does, lacks_sequence, Written, Database, State, mode_of, Opens, Writes, Executes, IsPlain, command_of, statement_of, runs_as, one_step, put_all_adds, Has, Values, over_memory, everything, understood, node, meta, schema, no_schema, version_name, this_version, IsIdle, IsStore, IsBare, IsBlank, IsMemory, AreNodes, key_of, value_of, globals_by, empty, no_doubt, node_text, meta_text, version_text}
+use Rattle.mstore.proofs.Words.{◌≡◌, ℕ, pos, true, false, List, [], ◌∷◌, codes, None, Ok, refl, sym, ap, ap₂, subst, ◌∙◌, inl, arith, Null, Int, Row, lit, Source, CreateTable, Insert, Enforced, Chosen, Tally, Does, lacks_sequence, Written, Database, State, mode_of, Opens, Writes, Executes, IsPlain, command_of, statement_of, runs_as, one_step, put_all_adds, Has, Values, over_memory, everything, understood, node, meta, schema, no_schema, version_name, this_version, IsBare, IsBlank, IsMemory, key_of, value_of, globals_by, empty, no_doubt, NodeTable, MetaTable, Version, sql}
 use Rattle.sqlite.specs.declared.types.Value.TheVariants.{Text}
 use Rattle.sqlite.specs.Table.{Table}
 use Rattle.sqlite.specs.Tree.{Trees}
@@ -14,16 +14,16 @@ use Rattle.mstore.proofs.Writes.{went, same_value}
 abbrev version_source : Source
 version_source = Values (lit Null ∷ lit (Text (codes "version")) ∷ lit (Int (pos 2)) ∷ []) 3
 
-make_node : (command_of (understood no_schema node_text) ≡ CreateTable) × (statement_of node_text (understood no_schema node_text) ≡ node_text) × IsPlain (understood no_schema node_text)
+make_node : (command_of (understood no_schema (sql NodeTable)) ≡ CreateTable) × (statement_of (sql NodeTable) (understood no_schema (sql NodeTable)) ≡ (sql NodeTable)) × IsPlain (understood no_schema (sql NodeTable))
 unfolding understood everything
 make_node = (refl, refl, (refl, refl))
 
-make_meta : (command_of (understood (created no_schema node) meta_text) ≡ CreateTable) × (statement_of meta_text (understood (created no_schema node) meta_text) ≡ meta_text)
-    × IsPlain (understood (created no_schema node) meta_text)
+make_meta : (command_of (understood (created no_schema node) (sql MetaTable)) ≡ CreateTable) × (statement_of (sql MetaTable) (understood (created no_schema node) (sql MetaTable)) ≡ (sql MetaTable))
+    × IsPlain (understood (created no_schema node) (sql MetaTable))
 unfolding understood everything
 make_meta = (refl, refl, (refl, refl))
 
-version_is : (command_of (understood schema version_text) ≡ Insert 1 version_source) × IsPlain (understood schema version_text)
+version_is : (command_of (understood schema (sql Version)) ≡ Insert 1 version_source) × IsPlain (understood schema (sql Version))
 unfolding understood everything
 version_is = (refl, (refl, refl))
 
@@ -32,9 +32,9 @@ pub record HasTables (db : Database) : Type 0 where
   pub schema_is : db.schema ≡ schema
   pub empty : db.trees 0 ≡ []
 
-pub makes_node : (old new : State) (count : ℕ) → old.now.schema ≡ no_schema → Executes node_text [] old new (Ok count) → (new.now.schema ≡ created no_schema node) × (new.now.trees 0 ≡ [])
+pub makes_node : (old new : State) (count : ℕ) → old.now.schema ≡ no_schema → Executes (sql NodeTable) [] old new (Ok count) → (new.now.schema ≡ created no_schema node) × (new.now.trees 0 ≡ [])
 makes_node old new count has h =
-    let w = subst (λ t. Writes old new None CreateTable t [] count) make_node.1 (runs_as node_text [] old new no_schema has CreateTable make_node.0 make_node.2 count h) in
+    let w = subst (λ t. Writes old new None CreateTable t [] count) make_node.1 (runs_as (sql NodeTable) [] old new no_schema has CreateTable make_node.0 make_node.2 count h) in
     let all = went w.changed in
     let first = went all.1 in
     let made = first.1 in
@@ -45,10 +45,10 @@ makes_node old new count has h =
     let now : new.now ≡ first.0 = ap (λ (p : Tally × Database). p.1) (same_value all.2) ∙ same_value (rw plain at first.2) in
     (ap (λ (d : Database). d.schema) now ∙ made_is, ap (λ (d : Database). d.trees 0) now ∙ subst (λ s. first.0.trees (next_tree s) ≡ []) has made.empty)
 
-pub makes_meta : (old new : State) (count : ℕ) → old.now.schema ≡ created no_schema node → old.now.trees 0 ≡ [] → Executes meta_text [] old new (Ok count) → HasTables new.now
+pub makes_meta : (old new : State) (count : ℕ) → old.now.schema ≡ created no_schema node → old.now.trees 0 ≡ [] → Executes (sql MetaTable) [] old new (Ok count) → HasTables new.now
 makes_meta old new count has none h =
-    let w = subst (λ t. Writes old new None CreateTable t [] count) make_meta.1 (runs_as meta_text [] old new (created no_schema node) has CreateTable make_meta.0 make_meta.2 count h) in
-    let all = went (subst (λ s. Does old.step_limit (mode_of old) [] (record old.now { schema = s }) meta_text None CreateTable (Ok (w.tally, new.now))) has w.changed) in
+    let w = subst (λ t. Writes old new None CreateTable t [] count) make_meta.1 (runs_as (sql MetaTable) [] old new (created no_schema node) has CreateTable make_meta.0 make_meta.2 count h) in
+    let all = went (subst (λ s. Does old.step_limit (mode_of old) [] (record old.now { schema = s }) (sql MetaTable) None CreateTable (Ok (w.tally, new.now))) has w.changed) in
     let first = went all.1 in
     let made = first.1 in
     let both : Ok made.table ≡ Ok meta = sym made.defined ∙ meta_is in
@@ -70,11 +70,11 @@ meta_table = record meta { tree = 2 }
 news_is : (db : Trees) (given : List Row) → given ≡ (Null ∷ version_name ∷ this_version ∷ []) ∷ [] → (edit_of db meta_table [] Chosen 0 given).news ≡ version_row (db 2) ∷ []
 news_is db given is = ap (λ l. (edit_of db meta_table [] Chosen 0 l).news) is ∙ ap₂ (λ a b. numbered Chosen (db 2) ((a ∷ version_name ∷ b ∷ []) ∷ [])) cast_null (cast_int (pos 2))
 
-pub adds_version : (old new : State) (count : ℕ) → HasTables old.now → Executes version_text [] old new (Ok count) → IsBare new.now
+pub adds_version : (old new : State) (count : ℕ) → HasTables old.now → Executes (sql Version) [] old new (Ok count) → IsBare new.now
 adds_version old new count bare h =
     let db = old.now.trees in
-    let w = runs_as version_text [] old new schema bare.schema_is (Insert 1 version_source) version_is.0 version_is.1 count h in
-    let text = statement_of version_text (understood schema version_text) in
+    let w = runs_as (sql Version) [] old new schema bare.schema_is (Insert 1 version_source) version_is.0 version_is.1 count h in
+    let text = statement_of (sql Version) (understood schema (sql Version)) in
     let done = went (subst (λ s. Does old.step_limit (mode_of old) [] (record old.now { schema = s }) text None (Insert 1 version_source) (Ok (w.tally, new.now))) bare.schema_is w.changed) in
     let now = ap (λ (p : Tally × Database). p.1) (same_value (went (went done.2).2).2) in
     let given = went done.1 in
@@ -92,9 +92,6 @@ adds_version old new count bare h =
       empty = ap (λ (d : Database). d.trees 0) now ∙ ap (λ (t : Trees). t 0) trees ∙ kept ∙ bare.empty;
       version = (version_row (db 2), subst (λ l. Has l (version_row (db 2))) (sym rows) added, refl, refl);
     }
-
-pub bare_nodes : (rows : List Row) → rows ≡ [] → AreNodes rows
-bare_nodes rows none = subst AreNodes (sym none) (record { each = λ r h. absurd h; in_form = λ r h. absurd h; ids = λ r s h. absurd h; keys = λ r s h. absurd h })
 
 pub blank_from : (s : State) → Opens s → s.now.schema ≡ no_schema → IsBlank s
 blank_from s opens none = record { idle = record { autocommit = opens.autocommit; settled = opens.clean }; schema_is = none }

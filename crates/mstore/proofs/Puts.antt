@@ -1,6 +1,6 @@
 -- SPDX-License-Identifier: Apache-2.0
 -- What `put` writes.
-use Rattle.mstore.proofs.Words.{◌≡◌, ◌≢◌, ◌⊎◌, ℕ, ℤ, Bool, true, false, ◌&&◌, ◌||◌, List, [], ◌∷◌, map, drop, Option, Some, None, Ok, refl, sym, ap, ap₂, arith, int_eq, subst, ◌∙◌, inl, inr, false_from_ne_true, and_parts, not-true, Value, Null, Int, Blob, Row, column, Binary, col, is_true, Compare, Eq, Written, Puts, Updates, Upserts, Tries, TriesEach, Clears, Meets, Judged, count_of, nothing, first_key-plain, Key, given, Database, IsAnswer, overlay, Integer, cast, cast_row, Enforced, Abort, Given, Chosen, rowid, Has, id_in, without_all, are_fresh, is_taken, with_rowid, ids_of, put_all_has, put_all_keeps, put_all_adds, at_ints, at_blobs, last_term, same_bytes, State, Executes, runs_as, one_step, binary, ints, node, schema, IsIdle, PutsAt, AreRows, IsNode, key_of, value_of, lookup, is_at, put_text}
+use Rattle.mstore.proofs.Words.{◌≡◌, ◌≢◌, ◌⊎◌, ℕ, ℤ, Bool, true, false, ◌&&◌, ◌||◌, List, [], ◌∷◌, map, drop, Option, Some, None, Ok, refl, sym, ap, ap₂, arith, int_eq, subst, ◌∙◌, inl, inr, false_from_ne_true, and_parts, not-true, Value, Null, Int, Blob, Row, column, Binary, col, is_true, Compare, Eq, Written, Puts, Updates, Upserts, Tries, TriesEach, Clears, Meets, Judged, count_of, nothing, first_key-plain, Key, given, Database, IsAnswer, overlay, Integer, cast, cast_row, Enforced, Abort, Given, Chosen, rowid, Has, id_in, without_all, are_fresh, is_taken, with_rowid, ids_of, put_all_has, put_all_keeps, put_all_adds, at_ints, at_blobs, last_term, same_bytes, State, Executes, runs_as, one_step, binary, ints, node, schema, IsIdle, PutsAt, AreRows, IsNode, key_of, value_of, lookup, is_at, Put, sql}
 use Rattle.std.proofs.lemmas.Bool.{true≢false}
 use Rattle.sqlite_rules.specs.declared.error.Refusal.{Refusal}
 use Rattle.sqlite.specs.Tree.{Trees}
@@ -196,9 +196,9 @@ module _ {F : List ℕ → List ℕ → Type 0} (old : State) (has_schema : old.
   tries one (inl h) = let e = h.1 in absurd cc
   tries one (inr h) = judged one h.0 h.2
 
-  pub puts : (new : State) (count : ℕ) → Executes put_text params old new (Ok count) → (new.now.schema ≡ schema) × (IsIdle old → IsIdle new) × IsPut rows (new.now.trees 0) k v × (new.now.trees 2 ≡ old.now.trees 2)
+  pub puts : (new : State) (count : ℕ) → Executes (sql Put) params old new (Ok count) → (new.now.schema ≡ schema) × (IsIdle old → IsIdle new) × IsPut rows (new.now.trees 0) k v × (new.now.trees 2 ≡ old.now.trees 2)
   puts new count h =
-      let w = runs_as put_text params old new schema has_schema put_command put_is.0 put_is.1 count h in
+      let w = runs_as (sql Put) params old new schema has_schema put_command put_is.0 put_is.1 count h in
       let made = inserted old new has_schema params _ count put_source put_clauses w in
       let given = went made.1 in
       let counter = went given.2 in

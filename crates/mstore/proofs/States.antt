@@ -1,6 +1,7 @@
 -- SPDX-License-Identifier: Apache-2.0
 -- What a statement leaves, whatever became of it.
-use Rattle.mstore.proofs.Words.{◌≡◌, ◌≢◌, ℕ, false, List, [], Option, Some, None, Result, Ok, Err, IsTrue, sym, ap, subst, ◌∙◌, inl, inr, cases_Bool, Row, Command, Select, Rows, Database, RefusesToRead, Error, QueryReturnedNoRows, State, IsUnchanged, IsRolledBack, FailsToShow, Executes, RunsCommand, ShowsRows, store_error, shows_rows, IsPlain, StoreError, OutOfMemory, Io, Corrupt, Full, Broken, Unstorable, understood, IsNotRun, FailsToQuery, QueriesRow, ExecutesIn, Shown, IsIdle, IsCalm, Stays, IsUntouched}
+use Rattle.mstore.proofs.Words.{◌≡◌, ◌≢◌, ℕ, false, List, [], Option, Some, None, Result, Ok, Err, IsTrue, sym, ap, subst, ◌∙◌, inl, inr, cases_Bool, Row, Command, Select, Rows, Database, RefusesToRead, Error, QueryReturnedNoRows, State, IsUnchanged, IsRolledBack, FailsToShow, Executes, RunsCommand, ShowsRows, store_error, shows_rows, IsPlain, StoreError, OutOfMemory, Io, Corrupt, Full, Broken, Unstorable, understood, IsNotRun, FailsToQuery, QueriesRow, ExecutesIn, Shown, IsIdle, IsCalm, Stays, IsUntouched, Gives, IfOk, OnErr, OnOk, Statement, is_ok, schema, sql}
+use Rattle.mstore.proofs.Texts.{Asks}
 
 pub stays_calm : (old new : State) → IsCalm old → Stays old new → IsCalm new
 stays_calm old new was k = record { idle = k.idle; schema_is = ap (λ (d : Database). d.schema) k.same ∙ was.schema_is }
@@ -98,3 +99,26 @@ no_row_is sql params old new plain (inl (inr h)) =
     let none = (subst IsPlain h.1.is plain).0 in
     absurd (let it = subst (FailsToShow old new sql h.0 _ QueryReturnedNoRows) none h.2 in refusal_is _ h.0.command it.0 _ it.2)
 no_row_is sql params old new plain (inr h) = h.1
+
+pub asks_plain : (s : Statement) (command : Command) → Asks s command → (old : State) → old.now.schema ≡ schema → IsPlain (understood old.now.schema (sql s))
+asks_plain s command is old has = subst (λ c. IsPlain (understood c (sql s))) (sym has) is.1
+
+-- ---- what is made of what came
+
+-- what holds of each answer holds of the row that it gives
+pub shows_found : {F : Type 0} (P : Option Row → Type 0) (Q : Result Row Error → Type 0) → (Q (Err QueryReturnedNoRows) → P None) → ((row : Row) → Q (Ok row) → P (Some row))
+    → (answer : Result Row Error) → Q answer → (r : Result (Option Row) F) → IfOk r (Gives answer) → IfOk r P
+shows_found P Q none some answer q (Ok None) e = none (subst Q e q)
+shows_found P Q none some answer q (Ok (Some row)) e = some row (subst Q e q)
+shows_found P Q none some answer q (Err f) e = e
+
+-- what holds after each count, and after each error
+pub came : {U F : Type 0} (A B C : Type 0) (Q : Result ℕ Error → Type 0) → ((n : ℕ) → Q (Ok n) → A × B) → ((e : Error) → Q (Err e) → A × C)
+    → (count : Result ℕ Error) → Q count → (r : Result U F) → is_ok r ≡ is_ok count → A × OnOk r B × OnErr r C
+came A B C Q ok err (Ok n) q (Ok u) e = (let it = ok n q in (it.0, it.1, tt))
+came A B C Q ok err (Err f) q (Err g) e = (let it = err f q in (it.0, tt, it.1))
+came A B C Q ok err (Ok n) q (Err g) e = absurd cc
+came A B C Q ok err (Err f) q (Ok u) e = absurd cc
+
+pub carried : {U F : Type 0} (P : Type 0) (Q : Result ℕ Error → Type 0) → ((n : ℕ) → Q (Ok n) → P) → (count : Result ℕ Error) → Q count → (r : Result U F) → is_ok r ≡ is_ok count → OnOk r P
+carried P Q ok count q r e = (came (Unit {0}) P (Unit {0}) Q (λ n h. (tt, ok n h)) (λ _ _. (tt, tt)) count q r e).1

@@ -1,11 +1,11 @@
 -- SPDX-License-Identifier: Apache-2.0
 -- The first key of a range, and the last.
-use Rattle.mstore.proofs.Words.{◌≡◌, ℕ, suc, ◌<◌, Bool, true, false, List, [], ◌∷◌, length, get_or, map, Option, Some, None, Ok, Err, refl, sym, ap, ap₂, subst, ◌∙◌, inl, inr, arith, IsSorted, sorted_far, ranks_by, Value, Null, Blob, Row, column, Binary, Key, by_key_total, then-Equal, value_cmp-Blob, col, IsAnswer, output, output_cmp, Output, overlay, State, QueryReturnedNoRows, IsPlain, command_of, first_as, reads_as, Has, by_key, understood, reads_listing, QueriesRow, schema, IsStore, content, in_bounds, is_nearer, IsNearest, HasNone, key_of, lookup}
+use Rattle.mstore.proofs.Words.{◌≡◌, ℕ, suc, ◌<◌, Bool, true, false, List, [], ◌∷◌, length, get_or, map, Option, Some, None, Ok, Err, refl, sym, ap, ap₂, subst, ◌∙◌, inl, inr, arith, IsSorted, sorted_far, ranks_by, Value, Null, Blob, Row, column, Binary, Key, by_key_total, then-Equal, value_cmp-Blob, col, IsAnswer, output, output_cmp, Output, overlay, State, QueryReturnedNoRows, first_as, reads_as, Has, by_key, QueriesRow, schema, IsStore, content, in_bounds, is_nearer, IsNearest, HasNone, key_of, lookup, Step, sql}
 use Rattle.std.proofs.Common.{IsSome, is_lt, IsSortedBy}
-use Rattle.mstore.proofs.Texts.{step_query, step_command, in_range}
+use Rattle.mstore.proofs.Texts.{Asks, step_is, step_query, step_command, in_range}
 use Rattle.mstore.proofs.Answer.{outputs_from, outputs_to, rows_to}
 use Rattle.mstore.proofs.Maps.{lookup_has, lookup_none, lookup_some}
-use Rattle.mstore.proofs.States.{no_row_is}
+use Rattle.mstore.proofs.States.{asks_plain, no_row_is}
 use Rattle.mstore.proofs.RowTests.{in_range_is, key_column}
 
 there_is : (rows : List Row) (q : List ℕ) → IsSome (lookup rows q) → (r : Row) × Has rows r × (key_of r ≡ q)
@@ -40,16 +40,15 @@ nearer_is : (down : Bool) (k q : List ℕ) → is_lt (by_key (end_key down) (Blo
 nearer_is false k q h = ap is_lt (sym (value_cmp-Blob q k)) ∙ h
 nearer_is true k q h = ap is_lt (sym (value_cmp-Blob k q)) ∙ h
 
-module _ (down : Bool) (text : List ℕ) (is : (command_of (understood schema text) ≡ step_command down) × IsPlain (understood schema text) × (reads_listing schema text ≡ false)) (old new : State)
-    (store : IsStore old) (low high : List ℕ) where
+module _ (down : Bool) (old new : State) (store : IsStore old) (low high : List ℕ) where
+  abbrev is : Asks (Step down) (step_command down)
+  is = step_is down
+
   abbrev params : Row
   params = Blob low ∷ Blob high ∷ []
 
   abbrev rows : List Row
   rows = old.now.trees 0
-
-  step_plain : IsPlain (understood old.now.schema text)
-  step_plain = subst (λ c. IsPlain (understood c text)) (sym store.calm.schema_is) is.1
 
   nearest : (row : Row) (tail : List Row) (a : IsAnswer (step_query down) (overlay old.now.trees []) params (row ∷ tail)) (ordered : List Output) → a.ordered ≡ ordered
       → (k : List ℕ) × (row ≡ Blob k ∷ []) × IsNearest down (content old) low high k
@@ -78,15 +77,15 @@ module _ (down : Bool) (text : List ℕ) (is : (command_of (understood schema te
         },
       )
 
-  pub steps : (row : Row) → QueriesRow text params old new (Ok row) → (k : List ℕ) × (row ≡ Blob k ∷ []) × IsNearest down (content old) low high k
+  pub steps : (row : Row) → QueriesRow (sql (Step down)) params old new (Ok row) → (k : List ℕ) × (row ≡ Blob k ∷ []) × IsNearest down (content old) low high k
   steps row h =
-      let got = (first_as text params old new schema store.calm.schema_is (step_command down) is.0 is.1 is.2 row h).1 in
+      let got = (first_as (sql (Step down)) params old new schema store.calm.schema_is (step_command down) is.0 is.1 is.2 row h).1 in
       nearest row got.0 (got.1 Null) (got.1 Null).ordered refl
 
-  pub steps_none : QueriesRow text params old new (Err QueryReturnedNoRows) → HasNone (content old) low high
+  pub steps_none : QueriesRow (sql (Step down)) params old new (Err QueryReturnedNoRows) → HasNone (content old) low high
   steps_none h q within =
-      let shown = no_row_is text params old new step_plain h in
-      let a = (reads_as text params old new schema store.calm.schema_is (step_command down) is.0 is.1 is.2 [] shown).answer Null in
+      let shown = no_row_is (sql (Step down)) params old new (asks_plain (Step down) (step_command down) is old store.calm.schema_is) h in
+      let a = (reads_as (sql (Step down)) params old new schema store.calm.schema_is (step_command down) is.0 is.1 is.2 [] shown).answer Null in
       lookup_none rows q (λ r has same.
       rows_to in_range params (col 1 1 ∷ []) (Rattle.mstore.proofs.Texts.by_key down) old.now.trees 0 refl [] a r has
       (in_range_is low high r (store.nodes.each r has) ∙ ap (in_bounds low high) same ∙ within))

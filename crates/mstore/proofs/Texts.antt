@@ -1,14 +1,14 @@
 -- SPDX-License-Identifier: Apache-2.0
 -- What the statements are compiled to.
-use Rattle.mstore.proofs.Words.{◌≡◌, ℕ, Bool, List, [], ◌∷◌, codes, Ok, refl, pos, negsuc, true, false, Some, None, Query, inner, end, lit, col, op2, Source, Command, Key, Binary, Null, Int, Compare, Eq, Ge, Lt, Abort, Select, InsertOr, Delete, IsPlain, command_of, Upsert, Program, Values, everything, understood, reads_listing, version_name, node, meta, schema, node_text, meta_text, get_text, put_text, kill_text, next_text, prev_text, which_text, all_text}
+use Rattle.mstore.proofs.Words.{◌≡◌, ℕ, Bool, List, [], ◌∷◌, codes, Ok, refl, pos, negsuc, true, false, Some, None, Query, inner, end, lit, col, op2, Source, Command, Key, Binary, Null, Int, Compare, Eq, Ge, Lt, Abort, Select, InsertOr, Delete, IsPlain, command_of, Upsert, Program, Values, everything, understood, reads_listing, version_name, node, meta, schema, NodeTable, MetaTable, Get, Put, Kill, Which, Each, sql, Statement, Step}
 use Rattle.sqlite.specs.Term.{Term}
 use Rattle.sqlite.specs.Compile.{table_defined_by}
 
-pub node_is : table_defined_by node_text ≡ Ok node
+pub node_is : table_defined_by (sql NodeTable) ≡ Ok node
 unfolding everything
 node_is = refl
 
-pub meta_is : table_defined_by meta_text ≡ Ok meta
+pub meta_is : table_defined_by (sql MetaTable) ≡ Ok meta
 unfolding everything
 meta_is = refl
 
@@ -41,13 +41,18 @@ at_rowid = op2 (Compare Eq Binary) (col 1 0) (col 0 2) ∷ []
 abbrev pub by_key : Bool → List (Term × Key)
 by_key down = (col 1 1, record { collation = Binary; descending = down }) ∷ []
 
-abbrev pub get_query : Query
-get_query = table_query 0 at_key (col 1 2 ∷ []) []
+-- the statement is this command, of the schema as it is
+abbrev pub Compiles : Statement → Command → Type 0
+Compiles s command = (command_of (understood schema (sql s)) ≡ command) × IsPlain (understood schema (sql s))
+
+-- and reads no list of objects
+abbrev pub Asks : Statement → Command → Type 0
+Asks s command = (command_of (understood schema (sql s)) ≡ command) × IsPlain (understood schema (sql s)) × (reads_listing schema (sql s) ≡ false)
 
 abbrev pub get_command : Command
-get_command = Select (program get_query) (codes "v" ∷ [])
+get_command = Select (program (table_query 0 at_key (col 1 2 ∷ []) [])) (codes "v" ∷ [])
 
-pub get_is : (command_of (understood schema get_text) ≡ get_command) × IsPlain (understood schema get_text) × (reads_listing schema get_text ≡ false)
+pub get_is : Asks Get get_command
 unfolding understood everything
 get_is = (refl, (refl, refl), refl)
 
@@ -63,7 +68,7 @@ put_source = Values (lit Null ∷ col 0 0 ∷ col 0 1 ∷ []) 3
 abbrev pub put_command : Command
 put_command = InsertOr 0 Abort put_source put_clauses
 
-pub put_is : (command_of (understood schema put_text) ≡ put_command) × IsPlain (understood schema put_text)
+pub put_is : Compiles Put put_command
 unfolding understood everything
 put_is = (refl, (refl, refl))
 
@@ -73,7 +78,7 @@ kill_query = table_query 0 in_range (col 1 0 ∷ []) []
 abbrev pub kill_command : Command
 kill_command = Delete 0 (program kill_query)
 
-pub kill_is : (command_of (understood schema kill_text) ≡ kill_command) × IsPlain (understood schema kill_text)
+pub kill_is : Compiles Kill kill_command
 unfolding understood everything
 kill_is = (refl, (refl, refl))
 
@@ -83,21 +88,15 @@ step_query down = table_query 0 in_range (col 1 1 ∷ []) (by_key down)
 abbrev pub step_command : Bool → Command
 step_command down = Select (program (step_query down)) (codes "k" ∷ [])
 
-pub next_is : (command_of (understood schema next_text) ≡ step_command false) × IsPlain (understood schema next_text) × (reads_listing schema next_text ≡ false)
+pub step_is : (down : Bool) → Asks (Step down) (step_command down)
 unfolding understood everything
-next_is = (refl, (refl, refl), refl)
-
-pub prev_is : (command_of (understood schema prev_text) ≡ step_command true) × IsPlain (understood schema prev_text) × (reads_listing schema prev_text ≡ false)
-unfolding understood everything
-prev_is = (refl, (refl, refl), refl)
-
-abbrev pub all_query : Query
-all_query = table_query 0 [] (col 1 1 ∷ col 1 2 ∷ []) []
+step_is false = (refl, (refl, refl), refl)
+step_is true = (refl, (refl, refl), refl)
 
 abbrev pub all_command : Command
-all_command = Select (program all_query) (codes "k" ∷ codes "v" ∷ [])
+all_command = Select (program (table_query 0 [] (col 1 1 ∷ col 1 2 ∷ []) [])) (codes "k" ∷ codes "v" ∷ [])
 
-pub all_is : (command_of (understood schema all_text) ≡ all_command) × IsPlain (understood schema all_text) × (reads_listing schema all_text ≡ false)
+pub all_is : Asks Each all_command
 unfolding understood everything
 all_is = (refl, (refl, refl), refl)
 
@@ -105,12 +104,9 @@ all_is = (refl, (refl, refl), refl)
 abbrev pub at_name : List Term
 at_name = op2 (Compare Eq Binary) (col 1 1) (lit version_name) ∷ []
 
-abbrev pub which_query : Query
-which_query = table_query 2 at_name (col 1 2 ∷ []) []
-
 abbrev pub which_command : Command
-which_command = Select (program which_query) (codes "n" ∷ [])
+which_command = Select (program (table_query 2 at_name (col 1 2 ∷ []) [])) (codes "n" ∷ [])
 
-pub which_is : (command_of (understood schema which_text) ≡ which_command) × IsPlain (understood schema which_text) × (reads_listing schema which_text ≡ false)
+pub which_is : Asks Which which_command
 unfolding understood everything
 which_is = (refl, (refl, refl), refl)

@@ -1,6 +1,6 @@
 -- SPDX-License-Identifier: Apache-2.0
 -- What the statements do, of the globals that the rows are.
-use Rattle.mstore.proofs.Words.{◌≡◌, ℕ, Bool, false, true, List, [], ◌∷◌, Option, Some, None, Result, Ok, Err, OnOk, sym, ap, subst, ◌∙◌, get, Value, Blob, Row, column, Ghosts, all_from, Held, state, Node, significant_digits, key_bytes, subtree_end, IsStored, without_subtree, next_key, previous_key, IsKey, none_empty, AreKeyed, PutsAt, RemovesWithin, ShowsBytes, IsNearest, ShowsValue, ShowsKey, key_of, value_of, stored}
+use Rattle.mstore.proofs.Words.{◌≡◌, ℕ, Bool, List, [], ◌∷◌, Some, None, Result, Ok, Err, OnOk, sym, ap, subst, ◌∙◌, get, Value, Blob, Row, column, Ghosts, all_from, Held, state, Node, significant_digits, key_bytes, subtree_end, IsStored, without_subtree, IsKey, none_empty, AreKeyed, PutsAt, RemovesWithin, IsNearest, ShowsValue, ShowsKey, key_of, value_of, stored, step_key}
 use Rattle.std.specs.FinMap.{insert}
 use Rattle.mstore.specs.Database.{IsSound, holds}
 use Rattle.mstore.proofs.KeyedRows as keyed_rows
@@ -35,26 +35,12 @@ module _ {S : Type 0} (g : Ghosts S) (h : Held S) (sound : IsSound g h) where
   pub gets_text : (n : Node) (row : Row) (text : List ℕ) → IsStored n → ShowsValue (holds g h (key_bytes significant_digits n)) (Some row) → column row 0 ≡ Blob text → Some text ≡ get (stored g h) n
   gets_text n row text is shows column_is = ap Some (sym (shown_bytes row shows.0 text shows.1 column_is)) ∙ sym (got n is ∙ shows.2)
 
-  next_is : (low high : List ℕ) (q : Option (List ℕ)) → ShowsBytes false (holds g h) low high q → q ≡ next_key (stored g h) low high
-  next_is low high q shows = keyed_order.nexts key_of value_of here keyed low high q shows
+  pub step_none : (down : Bool) (low high : List ℕ) → ShowsKey down (holds g h) low high None → None ≡ step_key down (stored g h) low high
+  step_none down low high none = keyed_order.steps key_of value_of here keyed down low high None none
 
-  previous_is : (low high : List ℕ) (q : Option (List ℕ)) → ShowsBytes true (holds g h) low high q → q ≡ previous_key (stored g h) low high
-  previous_is low high q shows = keyed_order.prevs key_of value_of here keyed low high q shows
-
-  shown_key : (down : Bool) (low high : List ℕ) (row : Row) (k : List ℕ) → ShowsKey down (holds g h) low high (Some row) → column row 0 ≡ Blob k → ShowsBytes down (holds g h) low high (Some k)
-  shown_key down low high row k shows column_is = subst (IsNearest down (holds g h) low high) (shown_bytes row shows.0 k shows.1 column_is) shows.2
-
-  pub next_none : (low high : List ℕ) → ShowsKey false (holds g h) low high None → None ≡ next_key (stored g h) low high
-  next_none low high none = next_is low high None none
-
-  pub next_some : (low high : List ℕ) (row : Row) (k : List ℕ) → ShowsKey false (holds g h) low high (Some row) → column row 0 ≡ Blob k → Some k ≡ next_key (stored g h) low high
-  next_some low high row k shows column_is = next_is low high (Some k) (shown_key false low high row k shows column_is)
-
-  pub previous_none : (low high : List ℕ) → ShowsKey true (holds g h) low high None → None ≡ previous_key (stored g h) low high
-  previous_none low high none = previous_is low high None none
-
-  pub previous_some : (low high : List ℕ) (row : Row) (k : List ℕ) → ShowsKey true (holds g h) low high (Some row) → column row 0 ≡ Blob k → Some k ≡ previous_key (stored g h) low high
-  previous_some low high row k shows column_is = previous_is low high (Some k) (shown_key true low high row k shows column_is)
+  pub step_some : (down : Bool) (low high : List ℕ) (row : Row) (k : List ℕ) → ShowsKey down (holds g h) low high (Some row) → column row 0 ≡ Blob k → Some k ≡ step_key down (stored g h) low high
+  step_some down low high row k shows column_is =
+      keyed_order.steps key_of value_of here keyed down low high (Some k) (subst (IsNearest down (holds g h) low high) (shown_bytes row shows.0 k shows.1 column_is) shows.2)
 
 module _ {S : Type 0} (g : Ghosts S) (old new : Held S) (was : IsSound g old) (is : IsSound g new) where
   pub put_is : (n : Node) (text : List ℕ) → IsStored n → PutsAt (holds g old) (holds g new) (key_bytes significant_digits n) text → stored g new ≡ insert (stored g old) n text

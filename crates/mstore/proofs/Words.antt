@@ -87,9 +87,9 @@ pub use Rattle.mstore.specs.Held.{AreHeld, IsHeld}
 pub use Rattle.mstore.specs.InMemory.{over_memory}
 pub use Rattle.mstore.specs.Keyed.{AreKeyed, globals_by, lookup_by}
 pub use Rattle.mstore.specs.Layout.{column_of, index_of, meta, no_schema, node, schema, table_of}
-pub use Rattle.mstore.specs.Map.{Content, HasNone, IsNearest, PutsAt, RemovesWithin, ShowsBytes, in_bounds, is_below, is_nearer}
-pub use Rattle.mstore.specs.Moving.{IsAny, IsMoving, IsOldCalm, IsOldStore, IsWorking, MovesKey, MovesRow, ShowContent}
+pub use Rattle.mstore.specs.Map.{Content, HasNone, IsNearest, PutsAt, RemovesWithin, ShowsBytes, in_bounds, is_below, is_down, is_nearer, step_key}
+pub use Rattle.mstore.specs.Moving.{IsAny, IsMoving, IsOldCalm, IsOldStore, IsWorking, MovesKey, MovesRow, RanInside, ShowContent}
 pub use Rattle.mstore.specs.Rows.{AreNodes, AreRows, HasOther, HasOtherBy, IsInForm, IsInFormBy, IsNode, IsValue, ShowsKey, ShowsNodeBy, ShowsValue, is_at, key_of, lookup, shown_of, value_of}
-pub use Rattle.mstore.specs.Statements.{all_text, get_text, kill_text, meta_text, next_text, node_text, prev_text, put_text, set_text, version_text, which_text}
+pub use Rattle.mstore.specs.Statements.{Each, Get, Gives, Kill, MetaTable, NodeTable, Put, Set, Statement, Step, Version, Which, sql}
 pub use Rattle.mstore.specs.Versions.{HoldBy, digits_of, number_of}
 pub use Rattle.mstore.specs.declared.plain.Entry.{Entry}

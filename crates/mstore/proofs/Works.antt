@@ -1,6 +1,6 @@
 -- SPDX-License-Identifier: Apache-2.0
 -- What the statements do inside the transaction of a migration.
-use Rattle.mstore.proofs.Words.{◌≡◌, ℕ, pos, true, List, [], ◌∷◌, codes, drop, map, None, Ok, refl, sym, ap, subst, ◌∙◌, Value, Null, Blob, Row, column, col, lit, Query, IsAnswer, Command, Update, overlay, cast, cast_row, Written, Task, Updates, Tally, Does, Database, State, mode_of, ExecutesInside, IsPlain, command_of, runs_as, one_step, statement_of, Enforced, Given, Has, without_all, are_fresh, ids_of, put_all_adds, given, rowid, last_term, understood, everything, schema, PutsAt, RemovesWithin, kill_text, put_text, set_text, content, this_version, HasVersion, AreRows, IsAny, IsWorking}
+use Rattle.mstore.proofs.Words.{◌≡◌, ℕ, pos, true, List, [], ◌∷◌, codes, drop, map, None, Ok, refl, sym, ap, subst, ◌∙◌, Value, Null, Row, column, col, lit, Query, IsAnswer, Command, Update, overlay, cast, cast_row, Written, Task, Updates, Tally, Does, Database, State, mode_of, ExecutesInside, runs_as, one_step, statement_of, Enforced, Given, Has, without_all, are_fresh, ids_of, put_all_adds, given, rowid, last_term, understood, everything, schema, PutsAt, RemovesWithin, Kill, Put, Set, content, this_version, HasVersion, AreRows, IsAny, IsWorking, sql, MovesKey, RanInside, ◌++◌, ◌≢◌}
 use Rattle.sqlite.specs.Kind.TheVariants.{Text as KindText}
 use Rattle.sqlite.specs.Tree.{Trees}
 use Rattle.sqlite_rules.specs.Edit.{edit_of, put_all}
@@ -10,28 +10,37 @@ use Rattle.mstore.proofs.Kills.{kills, kill_map}
 use Rattle.mstore.proofs.Makes.{apart, meta_table}
 use Rattle.mstore.proofs.Puts.{puts, put_nodes, put_map}
 use Rattle.mstore.proofs.Casts.{cast_int}
-use Rattle.mstore.proofs.Texts.{table_query, program, at_name}
+use Rattle.mstore.proofs.Ranges.{key_moved}
+use Rattle.mstore.proofs.Texts.{Compiles, table_query, program, at_name}
 use Rattle.mstore.proofs.Versions.{text_equal}
 use Rattle.mstore.proofs.Writes.{went, same_value}
 
-module _ (old new : State) (was : IsWorking old) (count : ℕ) where
+module _ (old new : State) (was : IsWorking old) where
   -- the rows are still a map, and the version's table is as it was
   abbrev pub Works : Type 0
   Works = IsWorking new × (new.now.trees 2 ≡ old.now.trees 2)
 
-  pub kills_inside : (low high : List ℕ) → ExecutesInside 0 kill_text (Blob low ∷ Blob high ∷ []) old new (Ok count) → Works × RemovesWithin (content old) (content new) low high
-  kills_inside low high h =
+  pub kills_inside : (low high : List ℕ) → RanInside (sql Kill) low high old new → Works × RemovesWithin (content old) (content new) low high
+  kills_inside low high (count, h) =
       let it = kills old was.schema_is was.rows low high new count h.0 in (
         (record { inside = h.1.mode; schema_is = it.0; rows = left_nodes _ _ _ was.rows it.2 }, it.3),
         kill_map _ _ low high was.rows it.2,
       )
 
-  pub puts_inside : (k v : List ℕ) → ExecutesInside 0 put_text (Blob k ∷ Blob v ∷ []) old new (Ok count) → Works × PutsAt (content old) (content new) k v
-  puts_inside k v h =
+  puts_inside : (k v : List ℕ) → RanInside (sql Put) k v old new → Works × PutsAt (content old) (content new) k v
+  puts_inside k v (count, h) =
       let it = puts old was.schema_is was.rows k v new count h.0 in (
         (record { inside = h.1.mode; schema_is = it.0; rows = put_nodes {F = IsAny} _ _ k v tt was.rows it.2 }, it.3),
         put_map {F = IsAny} _ _ k v tt was.rows it.2,
       )
+
+-- one after the other
+pub moves_inside : (old mid new : State) (was : IsWorking old) (from to v next : List ℕ) → from ≢ to → next ≡ from ++ 0 ∷ [] → RanInside (sql Kill) from next old mid → RanInside (sql Put) to v mid new
+    → IsWorking new × MovesKey (content old) (content new) from to v × (new.now.trees 2 ≡ old.now.trees 2)
+moves_inside old mid new was from to v next apart is gone put =
+    let removed = kills_inside old mid was from next gone in
+    let there = puts_inside mid new removed.0.0 to v put in
+    (there.0.0, key_moved (content old) (content mid) (content new) from to v next apart is removed.1 there.1, there.0.1 ∙ removed.0.1)
 
 -- ---- the version
 
@@ -41,21 +50,21 @@ set_query = table_query 2 at_name (col 1 0 ∷ col 1 0 ∷ col 1 1 ∷ lit this_
 abbrev set_command : Command
 set_command = Update 1 (program set_query)
 
-pub set_is : (command_of (understood schema set_text) ≡ set_command) × IsPlain (understood schema set_text)
+pub set_is : Compiles Set set_command
 unfolding understood everything
 set_is = (refl, (refl, refl))
 
 abbrev meta_task : State → Task
 meta_task s = record { limit = s.step_limit; keys = Enforced; schema = schema; table = meta_table; params = [] }
 
-module _ (old new : State) (was : IsWorking old) (count : ℕ) (h : ExecutesInside 0 set_text [] old new (Ok count)) where
+module _ (old new : State) (was : IsWorking old) (count : ℕ) (h : ExecutesInside 0 (sql Set) [] old new (Ok count)) where
   abbrev rows : List Row
   rows = old.now.trees 2
 
   updated : (one : Written) × Updates (meta_task old) (program set_query) [] old.now.trees (Ok one) × (new.now ≡ record { schema = schema; trees = one.trees })
   updated =
-      let w = runs_as set_text [] old new schema was.schema_is set_command set_is.0 set_is.1 count h.0 in
-      let text = statement_of set_text (understood schema set_text) in
+      let w = runs_as (sql Set) [] old new schema was.schema_is set_command set_is.0 set_is.1 count h.0 in
+      let text = statement_of (sql Set) (understood schema (sql Set)) in
       let done = went (subst (λ s. Does old.step_limit (mode_of old) [] (record old.now { schema = s }) text None set_command (Ok (w.tally, new.now))) was.schema_is w.changed) in
       (done.0, done.1, ap (λ (p : Tally × Database). p.1) (same_value (went (went done.2).2).2))
 

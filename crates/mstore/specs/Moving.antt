@@ -1,10 +1,10 @@
 -- SPDX-License-Identifier: Apache-2.0
 -- How the rows of a store of version 1 go to their keys of this version, one after another inside a transaction.
-use Rattle.std.specs.Prelude.{◌≡◌, ◌≢◌, ◌⊎◌, ℕ, List, [], ◌∷◌, Some, None, IsTrue}
+use Rattle.std.specs.Prelude.{◌≡◌, ◌≢◌, ◌⊎◌, ℕ, List, [], ◌∷◌, Some, None, Ok, IsTrue}
 use Rattle.sqlite_value.specs.declared.value.Value.TheVariants.{Blob}
 use Rattle.sqlite_value.specs.Order.{Row}
 use Rattle.sqlite_rules.specs.Lists.{Has}
-use Rattle.sqlite.specs.State.{State, IsLive}
+use Rattle.sqlite.specs.State.{State, IsLive, ExecutesInside}
 use Rattle.mspec.specs.Node.{Node}
 use Rattle.mspec.specs.Number.{significant_digits}
 use Rattle.mspec.specs.KeyBytes.{key_bytes, IsStored}
@@ -34,6 +34,10 @@ pub record IsWorking (s : State) : Type 0 where
   pub inside : IsTrue s.in_transaction
   pub schema_is : s.now.schema ≡ schema
   pub rows : AreRows IsAny (s.now.trees 0)
+
+-- a statement of two parameters was carried out
+abbrev pub RanInside : List ℕ → List ℕ → List ℕ → State → State → Type 0
+RanInside text first second old new = (count : ℕ) × ExecutesInside 0 text (Blob first ∷ Blob second ∷ []) old new (Ok count)
 
 -- the map, where what stood at one key stands at another
 pub record MovesKey (old new : Content) (from to v : List ℕ) : Type 0 where

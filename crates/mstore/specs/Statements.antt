@@ -1,54 +1,55 @@
 -- SPDX-License-Identifier: Apache-2.0
 -- The statements by which a table is made, read and written.
-use Rattle.std.specs.Prelude.{◌≡◌, ℕ, List, [], ◌∷◌, codes, Err}
+use Rattle.std.specs.Prelude.{◌≡◌, ℕ, Bool, true, false, List, [], ◌∷◌, codes, Option, Some, None, Result, Ok, Err}
+use Rattle.sqlite.specs.Order.{Row}
 use Rattle.sqlite.specs.Schema.{Schema}
+use Rattle.sqlite.specs.declared.error.Error.{Error}
+use Rattle.sqlite.specs.declared.error.Error.TheVariants.{QueryReturnedNoRows}
 use Rattle.sqlite.specs.Listing.{understood}
 use Rattle.sqlite_resolve.specs.declared.error.CompileError.{CompileError}
 use Rattle.sqlite_rules.specs.Lists.{Has}
 
-abbrev pub node_text : List ℕ
-node_text = codes "CREATE TABLE node (k BLOB PRIMARY KEY NOT NULL, v BLOB NOT NULL)"
+-- what each is for; those from Which on are for the opening, and Set for a store of version 1
+pub data Statement : Type 0 where
+  -- both tables, and the version of the new ones
+  NodeTable : Statement
+  MetaTable : Statement
+  Version : Statement
+  -- the value at a key; a value put at a key, or in the place of the one there; the rows of a range of keys taken away
+  Get : Statement
+  Put : Statement
+  Kill : Statement
+  -- the first key of a range, and the last
+  Step : Bool → Statement
+  -- the version; each row; and the version that it gets
+  Which : Statement
+  Each : Statement
+  Set : Statement
 
-abbrev pub meta_text : List ℕ
-meta_text = codes "CREATE TABLE meta (name TEXT PRIMARY KEY, n INTEGER)"
-
-abbrev pub version_text : List ℕ
-version_text = codes "INSERT INTO meta (name, n) VALUES ('version', 2)"
-
--- the value at a key
-abbrev pub get_text : List ℕ
-get_text = codes "SELECT v FROM node WHERE k = ?1"
-
--- a value put at a key, or in the place of the one there
-abbrev pub put_text : List ℕ
-put_text = codes "INSERT INTO node (k, v) VALUES (?1, ?2) ON CONFLICT (k) DO UPDATE SET v = excluded.v"
-
--- the rows of a range of keys taken away
-abbrev pub kill_text : List ℕ
-kill_text = codes "DELETE FROM node WHERE k >= ?1 AND k < ?2"
-
--- the first key of a range, and the last
-abbrev pub next_text : List ℕ
-next_text = codes "SELECT k FROM node WHERE k >= ?1 AND k < ?2 ORDER BY k"
-
-abbrev pub prev_text : List ℕ
-prev_text = codes "SELECT k FROM node WHERE k >= ?1 AND k < ?2 ORDER BY k DESC"
-
--- for the opening: the version, and each row
-abbrev pub which_text : List ℕ
-which_text = codes "SELECT n FROM meta WHERE name = 'version'"
-
-abbrev pub all_text : List ℕ
-all_text = codes "SELECT k, v FROM node"
-
--- for a store of version 1: the version that it gets
-abbrev pub set_text : List ℕ
-set_text = codes "UPDATE meta SET n = 2 WHERE name = 'version'"
+abbrev pub sql : Statement → List ℕ
+sql NodeTable = codes "CREATE TABLE node (k BLOB PRIMARY KEY NOT NULL, v BLOB NOT NULL)"
+sql MetaTable = codes "CREATE TABLE meta (name TEXT PRIMARY KEY, n INTEGER)"
+sql Version = codes "INSERT INTO meta (name, n) VALUES ('version', 2)"
+sql Get = codes "SELECT v FROM node WHERE k = ?1"
+sql Put = codes "INSERT INTO node (k, v) VALUES (?1, ?2) ON CONFLICT (k) DO UPDATE SET v = excluded.v"
+sql Kill = codes "DELETE FROM node WHERE k >= ?1 AND k < ?2"
+sql (Step false) = codes "SELECT k FROM node WHERE k >= ?1 AND k < ?2 ORDER BY k"
+sql (Step true) = codes "SELECT k FROM node WHERE k >= ?1 AND k < ?2 ORDER BY k DESC"
+sql Which = codes "SELECT n FROM meta WHERE name = 'version'"
+sql Each = codes "SELECT k, v FROM node"
+sql Set = codes "UPDATE meta SET n = 2 WHERE name = 'version'"
 
 -- those that a database has to take
 abbrev pub statements : List (List ℕ)
-statements = get_text ∷ put_text ∷ kill_text ∷ next_text ∷ prev_text ∷ which_text ∷ all_text ∷ []
+statements = sql Get ∷ sql Put ∷ sql Kill ∷ sql (Step false) ∷ sql (Step true) ∷ sql Which ∷ sql Each ∷ []
 
 -- the columns do not take one of them
 abbrev pub RefusesOne : Schema → Type 0
 RefusesOne schema = (text : List ℕ) × Has statements text × (fault : CompileError) × (understood schema text ≡ Err fault)
+
+-- ---- what came of one
+
+-- the row of an answer, and none where the answer has none
+abbrev pub Gives : Result Row Error → Option Row → Type 0
+Gives answer None = answer ≡ Err QueryReturnedNoRows
+Gives answer (Some row) = answer ≡ Ok row

@@ -7,10 +7,9 @@ ghost use Rattle.mspec.specs.Number.{significant_digits};
 ghost use Rattle.mkey.specs.Key.{IsKeyBy, old_digits};
 ghost use Rattle.sqlite.specs.Held.{state};
 ghost use Rattle.mstore.specs.Database.{IsMemory, IsStore, IsUntouched, IsMigrated, HasVersion, ShowsAll, content, old_version, this_version};
-ghost use Rattle.mstore.specs.Map.{PutsAt, RemovesWithin};
-ghost use Rattle.mstore.specs.Moving.{IsWorking, MovesKey, MovesRow, ShowContent, IsMoving, IsOldStore};
+ghost use Rattle.mstore.specs.Moving.{IsWorking, RanInside, MovesKey, MovesRow, ShowContent, IsMoving, IsOldStore};
 
-use crate::statements::{KILL, PUT, SET, fault_of};
+use crate::statements::{KILL, PUT, SET, done, fault_of};
 use crate::store::StoreFault;
 use mkey::NodeKey;
 use sqlite::{Alter, Connection, Row, Transaction, params};
@@ -40,40 +39,18 @@ fn new_key(alloc: Global, old: &[u8]) -> Result<NodeKey, StoreFault>
     }
 }
 
-// Takes the rows of a range of keys away.
-fn remove_inside<S: Alter>(
+// Changes rows of nodes, by a statement of two parameters.
+fn change_inside<S: Alter>(
     tx: &mut Transaction<'_, S>,
-    low: &[u8],
-    high: &[u8],
+    text: &str,
+    first: &[u8],
+    second: &[u8],
 ) -> Result<(), StoreFault>
     ensures same_reference { tx.new.conn.ghost_name ≡ tx.old.conn.ghost_name }
     ensures committed { IsMemory S.Store → IsWorking (state S.Store tx.old.conn.now) → (state S.Store tx.new.conn.now).committed ≡ (state S.Store tx.old.conn.now).committed }
-    ensures working { IsMemory S.Store → IsWorking (state S.Store tx.old.conn.now) → OnOk result (IsWorking (state S.Store tx.new.conn.now)) }
-    ensures removed { IsMemory S.Store → IsWorking (state S.Store tx.old.conn.now) → OnOk result (RemovesWithin (content (state S.Store tx.old.conn.now)) (content (state S.Store tx.new.conn.now)) low.now high.now) }
-    ensures version { IsMemory S.Store → IsWorking (state S.Store tx.old.conn.now) → OnOk result ((state S.Store tx.new.conn.now).now.trees 2 ≡ (state S.Store tx.old.conn.now).now.trees 2) }
+    ensures ran { IsMemory S.Store → IsWorking (state S.Store tx.old.conn.now) → OnOk result (RanInside text.now first.now second.now (state S.Store tx.old.conn.now) (state S.Store tx.new.conn.now)) }
 {
-    match tx.execute(KILL, params![low, high]) {
-        Ok(_) => Ok(()),
-        Err(error) => Err(fault_of(&error)),
-    }
-}
-
-// Puts a value at a key.
-fn put_inside<S: Alter>(
-    tx: &mut Transaction<'_, S>,
-    key: &[u8],
-    value: &[u8],
-) -> Result<(), StoreFault>
-    ensures same_reference { tx.new.conn.ghost_name ≡ tx.old.conn.ghost_name }
-    ensures committed { IsMemory S.Store → IsWorking (state S.Store tx.old.conn.now) → (state S.Store tx.new.conn.now).committed ≡ (state S.Store tx.old.conn.now).committed }
-    ensures working { IsMemory S.Store → IsWorking (state S.Store tx.old.conn.now) → OnOk result (IsWorking (state S.Store tx.new.conn.now)) }
-    ensures put { IsMemory S.Store → IsWorking (state S.Store tx.old.conn.now) → OnOk result (PutsAt (content (state S.Store tx.old.conn.now)) (content (state S.Store tx.new.conn.now)) key.now value.now) }
-    ensures version { IsMemory S.Store → IsWorking (state S.Store tx.old.conn.now) → OnOk result ((state S.Store tx.new.conn.now).now.trees 2 ≡ (state S.Store tx.old.conn.now).now.trees 2) }
-{
-    match tx.execute(PUT, params![key, value]) {
-        Ok(_) => Ok(()),
-        Err(error) => Err(fault_of(&error)),
-    }
+    done(tx.execute(text, params![first, second]))
 }
 
 // Gives the database this version.
@@ -84,10 +61,7 @@ fn set_version<S: Alter>(tx: &mut Transaction<'_, S>) -> Result<(), StoreFault>
     ensures rows { IsMemory S.Store → IsWorking (state S.Store tx.old.conn.now) → OnOk result ((state S.Store tx.new.conn.now).now.trees 0 ≡ (state S.Store tx.old.conn.now).now.trees 0) }
     ensures version { IsMemory S.Store → IsWorking (state S.Store tx.old.conn.now) → HasVersion (state S.Store tx.old.conn.now).now old_version → OnOk result (HasVersion (state S.Store tx.new.conn.now).now this_version) }
 {
-    match tx.execute(SET, &[]) {
-        Ok(_) => Ok(()),
-        Err(error) => Err(fault_of(&error)),
-    }
+    done(tx.execute(SET, &[]))
 }
 
 // Moves a value from a node's key by fifteen digits to the key that the node has now.
@@ -109,8 +83,8 @@ fn move_key<S: Alter>(
         return Ok(());
     }
     let next = next_after(alloc, key)?;
-    remove_inside(tx, key, next.as_slice())?;
-    put_inside(tx, place, value)
+    change_inside(tx, KILL, key, next.as_slice())?;
+    change_inside(tx, PUT, place, value)
 }
 
 // Moves what a row shows to the key that its node has now.

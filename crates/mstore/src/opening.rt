@@ -21,7 +21,7 @@ use crate::create::make_tables;
 use crate::layout::{is_blank, is_store};
 use crate::migrating::migrate;
 use crate::open_fault::OpenFault;
-use crate::statements::{GET, KILL, NEXT, PREV, PUT, fault_of};
+use crate::statements::{GET, KILL, NEXT, PREV, PUT, fault_of, found};
 use crate::store::StoreFault;
 use crate::version::Version;
 use mkey::{NodeKey, read};
@@ -116,11 +116,7 @@ fn find_version<S: Alter>(conn: &mut Connection<S>) -> Result<Option<Row>, Store
     ensures stays { IsMemory S.Store → IsCalm (state S.Store conn.old) → Stays (state S.Store conn.old) (state S.Store conn.new) }
     ensures found { IsMemory S.Store → IsCalm (state S.Store conn.old) → IfOk result (ShowsVersion (state S.Store conn.old).now) }
 {
-    match conn.query_row(WHICH, &[]) {
-        Ok(row) => Ok(Some(row)),
-        Err(Error::QueryReturnedNoRows) => Ok(None),
-        Err(error) => Err(fault_of(&error)),
-    }
+    found(conn.query_row(WHICH, &[]))
 }
 
 // Whether the columns take a statement.

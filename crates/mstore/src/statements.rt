@@ -1,12 +1,14 @@
 // SPDX-License-Identifier: Apache-2.0
 // The statements, each alone.
 
-ghost use Rattle.std.specs.Prelude.{◌≡◌, ◌↔◌, true, false, IfOk, OnOk, OnErr};
+ghost use Rattle.std.specs.Prelude.{◌≡◌, ◌↔◌, IfOk, OnOk, OnErr, is_ok};
 ghost use Rattle.mstore.specs.Database.{IsSound, IsKept, holds, stored};
-ghost use Rattle.mstore.specs.Map.{PutsAt, RemovesWithin};
+ghost use Rattle.mstore.specs.Map.{PutsAt, RemovesWithin, is_down};
 ghost use Rattle.mstore.specs.Rows.{IsInForm, ShowsValue, ShowsKey};
+ghost use Rattle.mstore.specs.Statements.{Gives, Step, sql};
 
 use crate::store::StoreFault;
+use mkey::Direction;
 use sqlite::{Alter, Connection, Error, ErrorCode, Row, params};
 
 pub(crate) const GET: &str = "SELECT v FROM node WHERE k = ?1";
@@ -33,6 +35,27 @@ pub(crate) fn fault_of(error: &Error) -> StoreFault
     }
 }
 
+// The row of an answer, if it has one.
+pub(crate) fn found(answer: Result<Row, Error>) -> Result<Option<Row>, StoreFault>
+    ensures { IfOk result (Gives answer) }
+{
+    match answer {
+        Ok(row) => Ok(Some(row)),
+        Err(Error::QueryReturnedNoRows) => Ok(None),
+        Err(error) => Err(fault_of(&error)),
+    }
+}
+
+// Whether a change was made, however many rows it met.
+pub(crate) fn done(count: Result<usize, Error>) -> Result<(), StoreFault>
+    ensures { is_ok result ≡ is_ok count }
+{
+    match count {
+        Ok(_) => Ok(()),
+        Err(error) => Err(fault_of(&error)),
+    }
+}
+
 // The row of the value at a key.
 pub(crate) fn find_value<S: Alter>(
     conn: &mut Connection<S>,
@@ -41,43 +64,30 @@ pub(crate) fn find_value<S: Alter>(
     ensures kept { IsKept S.Store conn.old conn.new }
     ensures found { IsSound S.Store conn.old → IfOk result (ShowsValue (holds S.Store conn.old key.now)) }
 {
-    match conn.query_row(GET, params![key]) {
-        Ok(row) => Ok(Some(row)),
-        Err(Error::QueryReturnedNoRows) => Ok(None),
-        Err(error) => Err(fault_of(&error)),
+    found(conn.query_row(GET, params![key]))
+}
+
+// The statement that finds the first key of a range, or the last.
+fn step(direction: Direction) -> &'static str
+    ensures { result.now ≡ sql (Step (is_down direction)) }
+{
+    match direction {
+        Direction::Forward => NEXT,
+        Direction::Backward => PREV,
     }
 }
 
-// The row of the first key of a range.
-pub(crate) fn find_first<S: Alter>(
+// The row of the first key of a range, or of the last.
+pub(crate) fn find_key<S: Alter>(
     conn: &mut Connection<S>,
+    direction: Direction,
     low: &[u8],
     high: &[u8],
 ) -> Result<Option<Row>, StoreFault>
     ensures kept { IsKept S.Store conn.old conn.new }
-    ensures found { IsSound S.Store conn.old → IfOk result (ShowsKey false (holds S.Store conn.old) low.now high.now) }
+    ensures found { IsSound S.Store conn.old → IfOk result (ShowsKey (is_down direction) (holds S.Store conn.old) low.now high.now) }
 {
-    match conn.query_row(NEXT, params![low, high]) {
-        Ok(row) => Ok(Some(row)),
-        Err(Error::QueryReturnedNoRows) => Ok(None),
-        Err(error) => Err(fault_of(&error)),
-    }
-}
-
-// The row of the last key of a range.
-pub(crate) fn find_last<S: Alter>(
-    conn: &mut Connection<S>,
-    low: &[u8],
-    high: &[u8],
-) -> Result<Option<Row>, StoreFault>
-    ensures kept { IsKept S.Store conn.old conn.new }
-    ensures found { IsSound S.Store conn.old → IfOk result (ShowsKey true (holds S.Store conn.old) low.now high.now) }
-{
-    match conn.query_row(PREV, params![low, high]) {
-        Ok(row) => Ok(Some(row)),
-        Err(Error::QueryReturnedNoRows) => Ok(None),
-        Err(error) => Err(fault_of(&error)),
-    }
+    found(conn.query_row(step(direction), params![low, high]))
 }
 
 // Puts a value at a key.
@@ -91,10 +101,7 @@ pub(crate) fn store_value<S: Alter>(
     ensures put { IsSound S.Store conn.old → OnOk result (PutsAt (holds S.Store conn.old) (holds S.Store conn.new) key.now value.now) }
     ensures fault { IsSound S.Store conn.old → OnErr result (stored S.Store conn.new ≡ stored S.Store conn.old) }
 {
-    match conn.execute(PUT, params![key, value]) {
-        Ok(_) => Ok(()),
-        Err(error) => Err(fault_of(&error)),
-    }
+    done(conn.execute(PUT, params![key, value]))
 }
 
 // Takes the rows of a range of keys away.
@@ -107,8 +114,5 @@ pub(crate) fn remove_range<S: Alter>(
     ensures removed { IsSound S.Store conn.old → OnOk result (RemovesWithin (holds S.Store conn.old) (holds S.Store conn.new) low.now high.now) }
     ensures fault { IsSound S.Store conn.old → OnErr result (stored S.Store conn.new ≡ stored S.Store conn.old) }
 {
-    match conn.execute(KILL, params![low, high]) {
-        Ok(_) => Ok(()),
-        Err(error) => Err(fault_of(&error)),
-    }
+    done(conn.execute(KILL, params![low, high]))
 }

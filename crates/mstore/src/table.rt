@@ -1,18 +1,20 @@
 // SPDX-License-Identifier: Apache-2.0
 // A table over a connection.
-ghost use Rattle.std.specs.Prelude.{◌≡◌, ◌≢◌, ◌≤◌, length, IfOk, IfErr, List, ℕ, None, Err, codes};
+ghost use Rattle.std.specs.Prelude.{◌≡◌, ◌≢◌, ◌≤◌, length, option_map, IfOk, IfErr, List, ℕ, None, Err, codes};
 ghost use Rattle.sqlite.specs.Order.{column};
 ghost use Rattle.sqlite.specs.declared.types.Value.TheVariants.{Blob};
 ghost use Rattle.mspec.specs.TextFunctions.{max_text};
+ghost use Rattle.mstore.specs.Database.{IsKept, IsSound, stored};
 ghost use Rattle.mstore.specs.Layout.{schema};
+ghost use Rattle.mstore.specs.Map.{is_down, step_key};
 
 use crate::create::make_tables;
 use crate::layout::is_blank;
 use crate::open_fault::OpenFault;
 use crate::opening::open_tables;
-use crate::statements::{fault_of, find_first, find_last, find_value, remove_range, store_value};
+use crate::statements::{fault_of, find_key, find_value, remove_range, store_value};
 use crate::store::{NodeStore, StoreFault};
-use mkey::NodeKey;
+use mkey::{Direction, NodeKey};
 use mmemory::Memory;
 use mnum::Bytes7;
 use mspec::limits::MAX_TEXT;
@@ -160,6 +162,23 @@ fn bytes_in(row: &Row) -> Result<Vec<u8>, StoreFault>
     }
 }
 
+// The bytes of the first key of a range, or of the last.
+fn key_within<S: Alter>(
+    conn: &mut Connection<S>,
+    direction: Direction,
+    low: &[u8],
+    high: &[u8],
+) -> Result<Option<Vec<u8>>, StoreFault>
+    ensures kept { IsKept S.Store conn.old conn.new }
+    ensures found { IsSound S.Store conn.old → IfOk result (λ key. option_map (λ bytes. bytes.items) key ≡ step_key (is_down direction) (stored S.Store conn.old) low.now high.now) }
+{
+    let Some(row) = find_key(conn, direction, low, high)? else {
+        return Ok(None);
+    };
+    let bytes = bytes_in(&row)?;
+    Ok(Some(bytes))
+}
+
 impl<S: Alter> NodeStore for Table<S> {
     ghost use Rattle.mstore.specs.Database.{IsMemory, stored};
 
@@ -187,19 +206,11 @@ impl<S: Alter> NodeStore for Table<S> {
     }
 
     fn next(&mut self, low: &[u8], high: &[u8]) -> Result<Option<Vec<u8>>, StoreFault> {
-        let Some(row) = find_first(&mut self.conn, low, high)? else {
-            return Ok(None);
-        };
-        let bytes = bytes_in(&row)?;
-        Ok(Some(bytes))
+        key_within(&mut self.conn, Direction::Forward, low, high)
     }
 
     fn prev(&mut self, low: &[u8], high: &[u8]) -> Result<Option<Vec<u8>>, StoreFault> {
-        let Some(row) = find_last(&mut self.conn, low, high)? else {
-            return Ok(None);
-        };
-        let bytes = bytes_in(&row)?;
-        Ok(Some(bytes))
+        key_within(&mut self.conn, Direction::Backward, low, high)
     }
 
     ghost steady_is_sound = { λ never. absurd never };

@@ -1,24 +1,30 @@
 -- SPDX-License-Identifier: Apache-2.0
-use Rattle.mstore.proofs.Words.{◌≢◌, sym, subst, ◌∙◌, bytes_decides, state, key_bytes, significant_digits, content, PutsAt}
+use Rattle.mstore.proofs.Words.{◌≢◌, ◌≡◌, sym, subst, ◌∙◌, bytes_decides, state, key_bytes, significant_digits, content, OnOk, IsMemory, IsWorking, RanInside, MovesKey, Kill, Put, sql}
 use Rattle.std.proofs.Common.{true≢false}
-use Rattle.mstore.proofs.Ranges.{key_moved}
 use Rattle.mstore.proofs.Tied.{on_ok}
+use Rattle.mstore.proofs.Works.{kills_inside, moves_inside}
 use Rattle.mstore.proofs.migrating.move_key.Goals as goal
 
-pub returns-clause-moved : goal.returns-clause-moved
-returns-clause-moved g c quiet was =
-    let s = state g.S.Store in
-    let old = content (s c.args.tx.now.conn.now) in
-    let mid = content (s c.remove_inside.new.tx.conn.now) in
-    let new = content (s c.put_inside.new.tx.conn.now) in
+pub returns : goal.returns
+returns g c =
+    let old = state g.S.Store c.args.tx.now.conn.now in
+    let mid = state g.S.Store c.change_inside.new.tx.conn.now in
+    let new = state g.S.Store c.change_inside-2.new.tx.conn.now in
+    let from = c.args.key.now in
+    let value = c.args.value.now in
+    let next = c.as_slice.result.now in
     let to = key_bytes significant_digits c.in_ok-node.node in
-    let working = c.in_ok-remove_inside.ensures.working quiet was in
-    let apart : c.args.key.now ≢ to = λ e. true≢false (sym (c.eq.ensures ∙ (bytes_decides c.as_bytes-place.result.now c.args.key.now).1 (c.as_bytes-place.ensures.bytes ∙ sym e)) ∙ c.if-eq.false) in
-    let gone = c.in_ok-remove_inside.ensures.removed quiet was in
-    on_ok c.put_inside.result
-    (λ put. (
-      c.in_ok-node.node,
-      c.in_ok-node.ensures,
-      key_moved old mid new c.args.key.now to c.args.value.now c.as_slice.result.now apart (c.as_slice.ensures.value ∙ c.in_ok-next.ensures) gone (subst (λ k. PutsAt mid new k c.args.value.now) c.as_bytes-place.ensures.bytes put),
-    ))
-    (c.put_inside.ensures.put quiet working)
+    let apart : from ≢ to = λ e. true≢false (sym (c.eq.ensures ∙ (bytes_decides c.as_bytes-place.result.now from).1 (c.as_bytes-place.ensures.bytes ∙ sym e)) ∙ c.if-eq.false) in
+    let gone : IsMemory g.S.Store → IsWorking old → RanInside (sql Kill) from next old mid = λ quiet was. c.in_ok-change_inside.ensures.ran quiet was in
+    let works : IsMemory g.S.Store → IsWorking old → IsWorking mid = λ quiet was. (kills_inside old mid was from next (gone quiet was)).0.0 in
+    let all : IsMemory g.S.Store → IsWorking old → OnOk c.change_inside-2.result (IsWorking new × MovesKey (content old) (content new) from to value × (new.now.trees 2 ≡ old.now.trees 2)) =
+    λ quiet was. on_ok c.change_inside-2.result
+    (λ put. moves_inside old mid new was from to value next apart (c.as_slice.ensures.value ∙ c.in_ok-next.ensures) (gone quiet was) (subst (λ k. RanInside (sql Put) k value mid new) c.as_bytes-place.ensures.bytes put))
+    (c.change_inside-2.ensures.ran quiet (works quiet was)) in
+    record {
+      same_reference = c.change_inside-2.ensures.same_reference ∙ c.in_ok-change_inside.ensures.same_reference;
+      committed = λ quiet was. c.change_inside-2.ensures.committed quiet (works quiet was) ∙ c.in_ok-change_inside.ensures.committed quiet was;
+      working = λ quiet was. on_ok c.change_inside-2.result (λ it. it.0) (all quiet was);
+      moved = λ quiet was. on_ok c.change_inside-2.result (λ it. (c.in_ok-node.node, c.in_ok-node.ensures, it.1)) (all quiet was);
+      version = λ quiet was. on_ok c.change_inside-2.result (λ it. it.2) (all quiet was);
+    }

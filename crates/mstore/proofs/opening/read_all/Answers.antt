@@ -1,5 +1,5 @@
 -- SPDX-License-Identifier: Apache-2.0
-use Rattle.mstore.proofs.Words.{[], state, all_text}
+use Rattle.mstore.proofs.Words.{[], state, Each, sql}
 use Rattle.mstore.proofs.States.{failed_query_stays}
 use Rattle.mstore.proofs.Adopts.{all_shown, all_stays}
 use Rattle.mstore.proofs.opening.read_all.Goals as goal
@@ -17,4 +17,4 @@ returns-in-Ok-clause-all g c quiet calm =
 pub returns-in-Err-clause-stays : goal.returns-in-Err-clause-stays
 returns-in-Err-clause-stays g c quiet calm =
     let new = c.query_all.new.self in
-    failed_query_stays (state g.S.Store c.args.conn.now) (state g.S.Store new) calm.idle (quiet.is_open new.store) all_text [] _ (c.in-Err.ensures.err (quiet.clean new.store))
+    failed_query_stays (state g.S.Store c.args.conn.now) (state g.S.Store new) calm.idle (quiet.is_open new.store) (sql Each) [] _ (c.in-Err.ensures.err (quiet.clean new.store))

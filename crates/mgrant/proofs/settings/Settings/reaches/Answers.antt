@@ -1,6 +1,6 @@
 -- SPDX-License-Identifier: Apache-2.0
-use Rattle.mgrant.proofs.GrantWords.{◌≡◌, ◌<◌, [], All, length, refl, sym, ap, subst, ◌∙◌, arith, unwrap_or, bytes_decides, false≢true, slice_get_past, Reaches, itself, Leads, settings_view, text_in}
-use Rattle.mgrant.proofs.Chains.{edges_within, reached_by, led_by, empty_start, empty_end, chain_at, chain_of}
+use Rattle.mgrant.proofs.GrantWords.{◌≡◌, ◌⊎◌, inl, inr, ℕ, ◌<◌, ◌≤◌, [], All, length, refl, sym, ap, subst, ◌∙◌, arith, unwrap_or, bytes_decides, false≢true, slice_get_past, Reaches, itself, Leads, settings_view, text_in}
+use Rattle.mgrant.proofs.Chains.{edges_within, reached_by, led_by, empty_side, chain_at, chain_of}
 use Rattle.mgrant.proofs.settings.Settings.reaches.Goals as goal
 
 pub leads-requires-clause-in_range : goal.leads-requires-clause-in_range
@@ -21,22 +21,11 @@ returns-then-start-count c =
     let names = c.self.inside.names in
     let from = c.at.ensures ∙ ap (text_in names) c.place-start.ensures in
     let to = c.at-2.ensures ∙ ap (text_in names) c.place-end.ensures in
-    let empty : text_in names c.args.from ≡ [] = ap (λ o. unwrap_or o []) (slice_get_past names c.args.from (omega arith)) in (
+    let past : (place : ℕ) → length names ≤ place → text_in names place ≡ [] = λ place far. ap (λ o. unwrap_or o []) (slice_get_past names place far) in
+    let empty : (text_in names c.args.from ≡ []) ⊎ (text_in names c.args.to ≡ []) = elim c.then-start-count.either [ inl a ↦ inl (past c.args.from (omega arith)) | inr b ↦ inr (past c.args.to (omega (arith, b.1))) ] in (
       λ e. absurd (false≢true e),
       λ chain.
-          let same = empty_start names c.self.invariant.named c.self.inside.grants c.self.invariant.granted _ refl (chain_of _ _ _ _ c.self.invariant _ c.self.view_is c.args.from c.args.to chain) empty in
-          absurd (false≢true (sym c.if-eq.false ∙ c.eq.ensures ∙ (bytes_decides c.at.result.now c.at-2.result.now).1 (from ∙ same ∙ sym to))),
-    )
-
-pub returns-then-end-count : goal.returns-then-end-count
-returns-then-end-count c =
-    let names = c.self.inside.names in
-    let from = c.at.ensures ∙ ap (text_in names) c.place-start.ensures in
-    let to = c.at-2.ensures ∙ ap (text_in names) c.place-end.ensures in
-    let empty : text_in names c.args.to ≡ [] = ap (λ o. unwrap_or o []) (slice_get_past names c.args.to (omega arith)) in (
-      λ e. absurd (false≢true e),
-      λ chain.
-          let same = empty_end names c.self.invariant.named c.self.inside.grants c.self.invariant.granted _ refl (chain_of _ _ _ _ c.self.invariant _ c.self.view_is c.args.from c.args.to chain) empty in
+          let same = empty_side names c.self.invariant.named c.self.inside.grants c.self.invariant.granted _ refl (chain_of _ _ _ _ c.self.invariant _ c.self.view_is c.args.from c.args.to chain) empty in
           absurd (false≢true (sym c.if-eq.false ∙ c.eq.ensures ∙ (bytes_decides c.at.result.now c.at-2.result.now).1 (from ∙ same ∙ sym to))),
     )
 

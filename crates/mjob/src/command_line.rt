@@ -1,9 +1,9 @@
 // SPDX-License-Identifier: Apache-2.0
 // The words of a command line, and what they ask for.
-ghost use Rattle.std.specs.Prelude.{◌≡◌, ◌≢◌, ◌⊎◌, IfOk, IfErr, Some, [], map, string_bytes, option_map};
+ghost use Rattle.std.specs.Prelude.{◌≡◌, ◌≢◌, ◌⊎◌, IfOk, IfErr, Some, [], map, string_bytes, option_map, codes};
 ghost use Rattle.clap.specs.Words.{fault_of, first_value, found_of, kind_of, one_text, rows_of, subcommand_rows_of};
 ghost use Rattle.mjob.specs.CommandLine.{mserve_app};
-ghost use Rattle.mjob.specs.Asked.{GivesNumber, HasRun, HasServe, IsJob, IsJobAt, IsRefusal, IsStore};
+ghost use Rattle.mjob.specs.Asked.{GivesNumber, HasRun, HasServe, HasText, IsJob, IsJobAt, IsRefusal, IsStore};
 
 use crate::jobs::{Job, JobFault, Store};
 use crate::options::mserve_command;
@@ -62,8 +62,7 @@ fn job_of_run(alloc: Global, options: &ArgMatches<'_>) -> Result<Job, JobFault>
     ensures ok { IfOk result (HasRun (rows_of (found_of options.now))) }
     ensures err { IfErr result (λ e. e ≡ JobFault.Memory) }
 {
-    let settings = text_of(alloc, options, "settings")?;
-    let store = store_of(alloc, options)?;
+    let (settings, store) = settings_and_store(alloc, options)?;
     let only = match options.get_str("only") {
         Some(name) => Some(owned(alloc, name)?),
         None => None,
@@ -79,8 +78,7 @@ fn job_of_serve(alloc: Global, options: &ArgMatches<'_>) -> Result<Job, JobFault
     ensures ok { IfOk result (HasServe (rows_of (found_of options.now))) }
     ensures err { IfErr result (λ e. e ≡ JobFault.Memory) }
 {
-    let settings = text_of(alloc, options, "settings")?;
-    let store = store_of(alloc, options)?;
+    let (settings, store) = settings_and_store(alloc, options)?;
     let Some(port) = options.get_one::<u16>("port") else {
         return Err(JobFault::Memory);
     };
@@ -93,6 +91,16 @@ fn job_of_serve(alloc: Global, options: &ArgMatches<'_>) -> Result<Job, JobFault
         port,
         connections,
     })
+}
+
+// The settings and the store, which each job names.
+fn settings_and_store(alloc: Global, options: &ArgMatches<'_>) -> Result<(String, Store), JobFault>
+    ensures ok { IfOk result (λ named. HasText (codes "settings") (rows_of (found_of options.now)) (string_bytes named.0) × IsStore (rows_of (found_of options.now)) named.1) }
+    ensures err { IfErr result (λ e. e ≡ JobFault.Memory) }
+{
+    let settings = text_of(alloc, options, "settings")?;
+    let store = store_of(alloc, options)?;
+    Ok((settings, store))
 }
 
 // The store that is named.

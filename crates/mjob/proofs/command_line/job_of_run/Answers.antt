@@ -9,8 +9,8 @@ pub returns-clause-ok : goal.returns-clause-ok
 returns-clause-ok c =
     let f = found_of c.args.options.now in
     let only_is = first_value-rows f (codes "only") in (
-      sym (first_value-rows f (codes "settings")) ∙ c.in_ok-settings.ensures.ok,
-      c.in_ok-store.ensures.ok,
+      c.in_ok-settings.ensures.ok.0,
+      c.in_ok-settings.ensures.ok.1,
       elim c.match-get_str.branch [
         | in-Some+in_ok-owned-in-Some w ↦ rw w.only-is (sym only_is ∙ (sym w.in-Some.ensures ∙ ap Some (sym w.in_ok-owned-in-Some.ensures.ok)))
         | in-None w ↦ rw w.only-is (sym only_is ∙ sym w.in-None.ensures)

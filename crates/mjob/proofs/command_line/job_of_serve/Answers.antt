@@ -2,7 +2,7 @@
 use Rattle.std.proofs.Common.{sym, ◌∙◌, codes}
 use Rattle.std.specs.Str.Parse.{ParsesUnsigned, ExplainsUnsignedError, HasUnsignedDigitsIfOk}
 use Rattle.clap.specs.Words.{found_of, one_text}
-use Rattle.clap.proofs.WalkLemmas.{first_value-rows, one_text-rows}
+use Rattle.clap.proofs.WalkLemmas.{one_text-rows}
 use Rattle.mjob.proofs.Numbers.{number_read}
 use Rattle.mjob.proofs.command_line.job_of_serve.Goals as goal
 
@@ -13,8 +13,8 @@ returns-clause-ok c =
     c.in-Some.port (one_text f (codes "port")) (λ t x g. g.0) c.in-Some.ensures.none c.in-Some.ensures.value in
     let connections = number_read 32 (λ bs r. ParsesUnsigned 32 10 bs r × ExplainsUnsignedError 10 bs r × HasUnsignedDigitsIfOk bs r)
     c.in-Some-get_one.connections (one_text f (codes "connections")) (λ t x g. g.0) c.in-Some-get_one.ensures.none c.in-Some-get_one.ensures.value in (
-      sym (first_value-rows f (codes "settings")) ∙ c.in_ok-settings.ensures.ok,
-      c.in_ok-store.ensures.ok,
+      c.in_ok-settings.ensures.ok.0,
+      c.in_ok-settings.ensures.ok.1,
       (port.0, sym (one_text-rows f (codes "port")) ∙ port.1, port.2),
       (connections.0, sym (one_text-rows f (codes "connections")) ∙ connections.1, connections.2),
     )

@@ -17,7 +17,7 @@ from pathlib import Path
 from .control import Refused, asked
 from .folders import write_whole
 from .placement import HERE, LEFT, MOVING, READY, TAKING, Island, Machine, Placement
-from .server import free_port, tell, tied
+from .server import Fault, free_port, tell, tied
 from .standing import place_of, read_standing
 from .users import Users, load, save
 
@@ -67,7 +67,7 @@ class Islands:
         self._houses: dict[str, House] = {}
         self._users: Users = {}
         self._seen = 0
-        self._fault = ""
+        self._fault = Fault("the islands stay as they are: {}", "the placement can be read again")
         self.placed: dict[str, Island] = {}
         self.machines: dict[str, Machine] = {}
         self.of_account: dict[str, str] = {}
@@ -99,14 +99,10 @@ class Islands:
                 for error in ends:
                     if isinstance(error, BaseException):
                         raise error
-                if self._fault:
-                    tell("the placement can be read again")
-                self._fault = ""
+                self._fault.goes()
             except Exception as error:
                 # Whatever it was: the islands that run go on, and it is tried again.
-                if not self._fault:
-                    tell(f"the islands stay as they are: {error}")
-                self._fault = str(error)
+                self._fault.comes(error)
             await asyncio.sleep(LOOK)
 
     async def end(self) -> None:

@@ -36,6 +36,27 @@ def tell(text: str) -> None:
     print(f"mfront: {text}", file=sys.stderr, flush=True)
 
 
+class Fault:
+    """A fault that may last: it is told when it comes and when it is gone, and not each time that it is met. `text` says what it is; empty if there is
+    none."""
+
+    def __init__(self, came: str, gone: str) -> None:
+        """What is told of it then; `{}` stands for what it is."""
+        self._came, self._gone, self.text = came, gone, ""
+
+    def comes(self, error: Exception) -> None:
+        """It is met."""
+        if not self.text:
+            tell(self._came.format(error))
+        self.text = str(error)
+
+    def goes(self) -> None:
+        """It is not there, or no more."""
+        if self.text:
+            tell(self._gone)
+        self.text = ""
+
+
 @dataclass(frozen=True, slots=True)
 class Child:
     """A server that runs as a child of this process, and its port; `fresh` says that its store was made with it."""

@@ -20,7 +20,7 @@ from .metrics import Metrics
 from .places import end_of, last_line, last_of, reader_of, writer_of
 from .player import Stage, Stopped
 from .records import BadJournal, Flush
-from .server import NoStart, tell
+from .server import Fault, NoStart, tell
 from .settings import Settings
 from .standing import Standing, forget_standing, place_of, read_standing, write_standing
 
@@ -44,7 +44,7 @@ class Standby:
         self._wanted: asyncio.Future[Answered] | None = None
         self._wake = asyncio.Event()
         self._control = Control(settings.journal.control, {"status": self._status, "promote": self._promote})
-        self._fault = ""
+        self._fault = Fault("the journal cannot be read: {}; it is tried again", "the journal can be read again")
         self._idle = False
         self._places: dict[int, socket.socket] = {}
 
@@ -157,7 +157,7 @@ class Standby:
                 return None
             if not came:
                 with contextlib.suppress(TimeoutError):
-                    await asyncio.wait_for(self._wake.wait(), RETRY if self._fault else POLL)
+                    await asyncio.wait_for(self._wake.wait(), RETRY if self._fault.text else POLL)
                 self._wake.clear()
 
     async def _step(self) -> bool:
@@ -166,13 +166,9 @@ class Standby:
             raise Stopped(f"its server ended with status {self._stage.child.process.returncode}")
         try:
             flushes: list[Flush] = await asyncio.to_thread(self._reader.more)
-            if self._fault:
-                tell("the journal can be read again")
-            self._fault = ""
+            self._fault.goes()
         except LogFault as error:
-            if not self._fault:
-                tell(f"the journal cannot be read: {error}; it is tried again")
-            self._fault = str(error)
+            self._fault.comes(error)
             return False
         for flush in flushes:
             self._journal_number = self._journal_number or flush.journal
@@ -203,7 +199,7 @@ class Standby:
             answered = self._history.at
         behind = max(0, answered - self._stage.at)
         return {"state": "standby", "line": self._stage.at, "behind": behind, "seconds": round(self._stage.behind(), 3), "reported": self._stage.reported,
-                "caught up": self._idle and not self._fault, "fault": self._fault}
+                "caught up": self._idle and not self._fault.text, "fault": self._fault.text}
 
     async def _promote(self, _: dict[str, object]) -> Answered:
         """Asks for the promotion, and waits for what comes of it."""
@@ -242,8 +238,8 @@ class Standby:
             self._go_on()
         # From here to the promotion nothing is waited for: a stop that comes later is for the service.
         self._go_on()
-        if self._fault:
-            raise Refused(self._fault)
+        if self._fault.text:
+            raise Refused(self._fault.text)
         if self._stage.child is None:
             raise Refused("the journal has no start: there is nothing to promote")
         if self._history.last != journal.next - 1:

@@ -41,7 +41,8 @@ class Cluster:
     """A server of PostgreSQL, in a folder that its user can enter."""
 
     def __init__(self, primary: Cluster | None = None, folder: str = IN_MEMORY, more: str = "") -> None:
-        """Makes and starts it below a folder, with more options; with another one it is a replica of that."""
+        """Makes and starts it below a folder, with more options; with another one it is a replica of that. Skips the test if a part is missing."""
+        required()
         self.folder = Path(tempfile.mkdtemp(prefix="mfront-pg-", dir=folder))
         self.options = f"{OPTIONS} {more} -c unix_socket_directories={self.folder}"
         self.data = self.folder / "data"

@@ -11,7 +11,6 @@ from collections.abc import Callable, Iterable, Iterator
 from pathlib import Path
 
 import aiohttp
-import database
 import pytest
 from database import Cluster
 from front import FRONT, PASSWORD, Record, in_loop, toml, tool
@@ -42,7 +41,6 @@ class Pair(Cluster):
 @pytest.fixture(scope="module")
 def cluster() -> Iterator[Pair]:
     """The database of this file's tests."""
-    database.required()
     made = Pair()
     yield made
     made.remove()

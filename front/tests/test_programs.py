@@ -39,9 +39,10 @@ class Program:
         return await self.next()
 
 
-def new_token(front: Front, user: str = "ada") -> str:
-    """A new token of a user, which the front knows a second later."""
+async def new_token(front: Front, user: str = "ada") -> str:
+    """A new token of a user, which the front knows: it looks for changes once a second."""
     done = subprocess.run([*COMMAND, "token", "add", user, "--config", front.folder / "front.toml"], capture_output=True, text=True, check=True)
+    await asyncio.sleep(1.5)
     return done.stdout.strip()
 
 
@@ -96,8 +97,7 @@ async def test_a_program_is_told_of_a_restart(start) -> None:
 @in_loop()
 async def test_lines_with_a_token(start) -> None:
     front = start(limits={"token_idle": 2})
-    token = new_token(front)
-    await asyncio.sleep(1.5)
+    token = await new_token(front)
     async with front.person().http as http:
         plain = {"output": [], "rest": "", "code": None, "volatile": True}
         assert await posted(http, token, "S A=1") == (200, plain | {"new": True})
@@ -122,8 +122,7 @@ async def test_lines_with_a_token(start) -> None:
 @in_loop()
 async def test_the_terminal_of_a_token_is_given_back_after_its_idle_time(start) -> None:
     front = start(limits={"token_idle": 2})
-    token = new_token(front)
-    await asyncio.sleep(1.5)
+    token = await new_token(front)
     async with front.person().http as http:
         assert await posted(http, token, "S N=1") == (200, {"output": [], "rest": "", "code": None, "volatile": True, "new": True})
         async with Program(front, f"ada {PASSWORD}") as first, Program(front, f"ben {token}") as wrong, Program(front, f"ben {PASSWORD}") as second:
@@ -142,8 +141,7 @@ async def test_the_terminal_of_a_token_is_given_back_after_its_idle_time(start) 
 async def test_a_connection_of_many_lines_is_ended_in_order(start) -> None:
     """A connection of HTTP may send 4 MB. Long before that an answer says that it is the last one, and no line is lost."""
     front = start()
-    token = new_token(front)
-    await asyncio.sleep(1.5)
+    token = await new_token(front)
     async with front.person().http as http:
         lasts = 0
         for number in range(60):
@@ -157,8 +155,7 @@ async def test_a_connection_of_many_lines_is_ended_in_order(start) -> None:
 @in_loop()
 async def test_a_token_that_is_removed_is_signed_off(start) -> None:
     front = start()
-    token = new_token(front)
-    await asyncio.sleep(1.5)
+    token = await new_token(front)
     async with front.person().http as http, Program(front, f"ada {token}") as program:
         assert (await program.line("W 1"))["rest"] == "1" and (await posted(http, token, "W 1"))[0] == 200
         listed = subprocess.run([*COMMAND, "token", "list", "--config", front.folder / "front.toml"], capture_output=True, text=True, check=True).stdout

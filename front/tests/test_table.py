@@ -8,13 +8,13 @@ import os
 import random
 import signal
 import time
-from collections.abc import Callable, Iterator
+from collections.abc import AsyncIterator, Callable, Iterator
+from contextlib import asynccontextmanager
 from pathlib import Path
 
-import database
 import pytest
 from database import Cluster
-from front import Ran, in_loop, tool
+from front import Front, Ran, in_loop, tool
 from mserve_front.control import asked
 from mserve_front.history import History
 from mserve_front.journal import LogFault, LogTaken
@@ -35,7 +35,6 @@ AWAY = 60.0
 @pytest.fixture(scope="module")
 def cluster() -> Iterator[Cluster]:
     """A server for the tests of this file."""
-    database.required()
     made = Cluster()
     yield made
     made.remove()
@@ -50,6 +49,26 @@ def journal(cluster: Cluster, request: pytest.FixtureRequest) -> JournalSettings
 def table(journal: JournalSettings) -> dict[str, object]:
     """Its keys in the settings of a front."""
     return {"database": journal.database, "name": journal.name}
+
+
+def standby(start, journal: dict[str, object]) -> Front:
+    """A standby over a store of its own."""
+    return start(store="store.db", words=["--follow"], awaited="standing by", journal=journal)
+
+
+def two_fronts(start, journal: dict[str, object]) -> tuple[Front, Front]:
+    """A front that writes a journal, and its standby."""
+    return start(store="store.db", journal=journal), standby(start, journal)
+
+
+@asynccontextmanager
+async def own_cluster(primary: Cluster | None = None) -> AsyncIterator[Cluster]:
+    """A server of one test's own, which it may stop; or a replica of another one."""
+    cluster = await asyncio.to_thread(Cluster, primary)
+    try:
+        yield cluster
+    finally:
+        cluster.remove()
 
 
 def mjournal(journal: JournalSettings) -> Callable[..., Ran]:
@@ -146,11 +165,8 @@ def log_key(journal: JournalSettings) -> int:
 @in_loop(200)
 async def test_a_database_that_is_away(start, tmp_path: Path) -> None:
     """Lines are refused meanwhile and users told; then all goes on, and what was answered is in the journal."""
-    database.required()
-    cluster = await asyncio.to_thread(Cluster)
-    try:
-        front = start(store="store.db", journal={"database": cluster.place})
-        second = start(store="store.db", words=["--follow"], awaited="standing by", journal={"database": cluster.place})
+    async with own_cluster() as cluster:
+        front, second = two_fronts(start, {"database": cluster.place})
         async with front.person("ada") as ada, front.person("ben") as ben:
             work = asyncio.gather(works(ben, 3, 60))
             assert await ada.told("S ^X=1 W ^X") == "1"
@@ -181,18 +197,13 @@ async def test_a_database_that_is_away(start, tmp_path: Path) -> None:
         assert status == 3 and told.startswith("mjournal: database: ")
         with pytest.raises(RuntimeError, match="the journal cannot be used: database: "):
             front.again()
-    finally:
-        cluster.remove()
 
 
 @in_loop(300)
 async def test_a_database_that_is_away_for_a_minute(start, tmp_path: Path) -> None:
     """A reply that cannot be noted is held back after half a minute, and noted once the database is there; nothing that was answered is lost."""
-    database.required()
-    cluster = await asyncio.to_thread(Cluster)
-    try:
-        front = start(store="store.db", journal={"database": cluster.place})
-        second = start(store="store.db", words=["--follow"], awaited="standing by", journal={"database": cluster.place})
+    async with own_cluster() as cluster:
+        front, second = two_fronts(start, {"database": cluster.place})
         async with front.person("ada") as ada, front.person("ben") as ben:
             assert await ada.told("S ^X=1 W ^X") == "1"
             # The server takes the line, and its reply comes when the database is away.
@@ -222,8 +233,6 @@ async def test_a_database_that_is_away_for_a_minute(start, tmp_path: Path) -> No
         assert run("verify")[2] == "" and "without a reply" not in run("verify")[1]
         assert run("replay", "--store", tmp_path / "new")[::2] == (0, "")
         assert held(tmp_path / "new") == held(front.folder / "store.db") == held(second.folder / "store.db")
-    finally:
-        cluster.remove()
 
 
 FULL = """CREATE FUNCTION full_disk() RETURNS trigger LANGUAGE plpgsql AS $$ BEGIN
@@ -234,9 +243,7 @@ FULL = """CREATE FUNCTION full_disk() RETURNS trigger LANGUAGE plpgsql AS $$ BEG
 @in_loop(200)
 async def test_a_database_whose_disk_is_full(start, tmp_path: Path) -> None:
     """It refuses rows, as PostgreSQL does then: no line goes on, users and the operator are told, and once there is room all goes on."""
-    database.required()
-    cluster = await asyncio.to_thread(Cluster)
-    try:
+    async with own_cluster() as cluster:
         front = start(store="store.db", journal={"database": cluster.place})
         async with front.person("ada") as ada:
             assert await ada.told("S ^X=1 W ^X") == "1"
@@ -250,8 +257,6 @@ async def test_a_database_whose_disk_is_full(start, tmp_path: Path) -> None:
         front.stop()
         run = tool("mjournal", "--config", str(front.folder / "front.toml"))
         assert run("replay", "--store", tmp_path / "new")[::2] == (0, "") and held(tmp_path / "new") == held(front.folder / "store.db")
-    finally:
-        cluster.remove()
 
 
 @in_loop(1500)
@@ -260,7 +265,7 @@ async def test_leaders_that_are_killed(start, journal: JournalSettings, tmp_path
     rng, load = random.Random(5), Load()
     leader = start(store="store.db", journal=table(journal))
     for number in range(2 * count):
-        second = start(store="store.db", words=["--follow"], awaited="standing by", journal=table(journal))
+        second = standby(start, table(journal))
         assert "another front writes this journal" in await asyncio.to_thread(takes_over, second)
         await load.until_killed(leader, rng.uniform(0.05, 0.3))
         while why := await asyncio.to_thread(takes_over, second):
@@ -276,8 +281,7 @@ async def test_leaders_that_are_killed(start, journal: JournalSettings, tmp_path
 @in_loop(200)
 async def test_a_leader_that_was_killed_stands_by(start, journal: JournalSettings) -> None:
     """Its store stands after its last line, by the table, in which another one has written since."""
-    leader = start(store="store.db", journal=table(journal))
-    second = start(store="store.db", words=["--follow"], awaited="standing by", journal=table(journal))
+    leader, second = two_fronts(start, table(journal))
     async with leader.person("ada") as ada:
         await works(ada, 5, 30)
         await ada.line("K ^X S ^X=1")
@@ -299,11 +303,7 @@ async def test_a_leader_that_was_killed_stands_by(start, journal: JournalSetting
 @in_loop(200)
 async def test_synchronous_replication(start, tmp_path: Path) -> None:
     """The primary ends at once, its replica takes over, and the front goes on there with all that was answered."""
-    database.required()
-    first = await asyncio.to_thread(Cluster)
-    second = None
-    try:
-        second = await asyncio.to_thread(Cluster, first)
+    async with own_cluster() as first, own_cluster(first) as second:
         front = start(store="store.db", journal={"database": await asyncio.to_thread(first.waits_for, second)})
         async with front.person("ada") as ada:
             for number in range(20):
@@ -318,7 +318,3 @@ async def test_synchronous_replication(start, tmp_path: Path) -> None:
         run = tool("mjournal", "--database", second.place)
         assert run("replay", "--program", PROGRAM, "--store", tmp_path / "new")[::2] == (0, "")
         assert held(tmp_path / "new") == held(front.folder / "store.db")
-    finally:
-        for one in (first, second):
-            if one is not None:
-                one.remove()

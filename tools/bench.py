@@ -11,7 +11,8 @@ do the same work beside it if they are installed.
         --write                     puts the table into docs/PERFORMANCE.md
         --workloads FILE            reads others
         --twins                     times the workloads that have a twin, and the twins (benchmarks/twins.txt), over a
-                                    store in memory and GT.M alone, and prints GT.M's time beside the program's of both
+                                    store in memory and GT.M alone, and prints GT.M's time beside the program's of both;
+                                    and what ten times as much takes
 
 The loop is the reference since it is there wherever the script runs, asks for no memory, and is bound
 as the program is: by the clock of the processor and the branches of an interpreter. Python's version
@@ -35,6 +36,7 @@ import time
 import zlib
 from collections.abc import Iterable, Iterator
 from dataclasses import dataclass, field
+from typing import IO
 
 from running import PROGRAM, TOP, require_program, run_words
 
@@ -45,7 +47,12 @@ BEGIN, TWINS_BEGIN, END = "<!-- bench.py -->\n", "<!-- bench.py --twins -->\n", 
 ACCOUNTS = 1000
 TURNS = 2_000_000
 GROWTH = 10
+# Ten times as much is timed less often.
+PASSES_OF_GROWTH = 2
+ONE_ACCOUNT, MANY_ACCOUNTS = "equal lines", "lines of 1000 accounts"
 READY, DONE = "READY", "DONE"
+# So many bytes at most are read at once, and a pipe holds.
+CHUNK = 1 << 20
 PARTS = ("m", "m timed", "sql", "sql timed")
 STORES = ("memory", "file")
 GTM, SQLITE = "GT.M", "SQLite"
@@ -72,10 +79,11 @@ class Workload:
 @dataclass
 class Measured:
     """What a subject took for a workload, in seconds a pass, beside the reference, in seconds a turn;
-    and what it wrote."""
+    what it wrote; and how much memory it had at most, in megabytes."""
     passes: list[float] = field(default_factory=list)
     reference: list[float] = field(default_factory=list)
     replies: bytes = b""
+    memory: float = 0.0
 
     def ratios(self, operations: int) -> list[float]:
         """How many turns of the reference an operation took, in each pass."""
@@ -115,29 +123,45 @@ def reference() -> float:
     return (time.perf_counter() - start) / TURNS
 
 
-def timed(words: list[str], setup: bytes, work: bytes, **more) -> tuple[float, bytes]:
-    """The seconds from the answer to a set-up to the end of what follows, and what was written in between.
+def read_until(stream: IO[bytes], word: str) -> bytes:
+    """What a stream gives up to the line that ends with a word. It is read as it comes and not line by line, which would
+    take longer than a short line does."""
+    end, written, chunk = f"{word}\n".encode(), bytearray(), b""
+    while end not in written[-len(chunk) - len(end):]:
+        chunk = os.read(stream.fileno(), CHUNK)
+        if not chunk:
+            sys.exit(f"bench: there was no reply with {word}")
+        written += chunk
+    return bytes(written[:written.rfind(b"\n", 0, written.rindex(end)) + 1])
+
+
+def timed(words: list[str], setup: bytes, work: bytes, **more) -> Measured:
+    """The seconds from the answer to a set-up to the end of what follows, what was written in between, and the memory.
     Both end by a line whose answer has the word that is waited for."""
-    with subprocess.Popen(words, stdin=subprocess.PIPE, stdout=subprocess.PIPE, **more) as ran:
-        ran.stdin.write(setup)
-        ran.stdin.flush()
-        for line in ran.stdout:
-            if READY.encode() in line:
-                break
-        else:
-            sys.exit(f"bench: {words[0]} did not answer its set-up")
-        feeder = threading.Thread(target=lambda: (ran.stdin.write(work), ran.stdin.close()))
+    with subprocess.Popen(words, stdin=subprocess.PIPE, stdout=subprocess.PIPE, bufsize=0, pipesize=CHUNK, **more) as ran:
+        feeder = threading.Thread(target=feed, args=(ran.stdin, setup))
+        feeder.start()
+        read_until(ran.stdout, READY)
+        feeder.join()
+        feeder = threading.Thread(target=feed, args=(ran.stdin, work))
         start = time.perf_counter()
         feeder.start()
-        written = []
-        for line in ran.stdout:
-            if DONE.encode() in line:
-                break
-            written.append(line)
+        written = read_until(ran.stdout, DONE)
         taken = time.perf_counter() - start
         feeder.join()
-        ran.stdout.read()
-    return taken, b"".join(written)
+        with open(f"/proc/{ran.pid}/status", encoding="ascii") as status:
+            most = int(re.search(r"^VmHWM:\s+(\d+) kB$", status.read(), re.MULTILINE)[1])
+        ran.stdin.close()
+        while os.read(ran.stdout.fileno(), CHUNK):
+            pass
+    return Measured([taken], [], written, most / 1024)
+
+
+def feed(stream: IO[bytes], lines: bytes) -> None:
+    """Writes lines to a pipe, whole."""
+    rest = memoryview(lines)
+    while rest:
+        rest = rest[os.write(stream.fileno(), rest):]
 
 
 def plain(replies: bytes) -> bytes:
@@ -160,9 +184,10 @@ class Subjects:
         for name in missing:
             print(f"bench: {name} is not installed, and left out", file=sys.stderr)
         self.names = [*STORES, *(name for name in (GTM, SQLITE) if name not in missing)]
+        self.beside_reference = True
 
-    def run(self, subject: str, work: Workload, scale: int) -> tuple[float, bytes]:
-        """The seconds that a subject takes for a workload, and what it writes."""
+    def run(self, subject: str, work: Workload, scale: int) -> Measured:
+        """What a subject takes for a workload once."""
         for name in os.listdir(self.folder):
             if name.startswith("bench."):
                 os.remove(os.path.join(self.folder, name))
@@ -174,15 +199,17 @@ class Subjects:
             words = [os.path.join(self.dist, "mumps"), "-run", "bench"]
             return timed(words, setup, timed_lines, cwd=self.folder, env=self.gtm_made(work))
         store = subject if subject == "memory" else os.path.join(self.folder, "bench.db")
-        taken, replies = timed(run_words(self.settings, store), setup, timed_lines)
-        return taken, plain(replies)
+        once = timed(run_words(self.settings, store), setup, timed_lines)
+        once.replies = plain(once.replies)
+        return once
 
-    def run_sqlite(self, work: Workload, scale: int) -> tuple[float, bytes]:
+    def run_sqlite(self, work: Workload, scale: int) -> Measured:
         """The same by SQLite's shell over a database in memory; it writes line by line, as the program does."""
         setup = work.text("sql", scale) + f"SELECT '{READY}';\n".encode()
         timed_lines = work.text("sql timed", scale) + f"SELECT '{DONE}';\n".encode()
-        taken, _ = timed(["stdbuf", "-oL", self.sqlite, "-batch", ":memory:"], setup, timed_lines)
-        return taken, b""
+        once = timed(["stdbuf", "-oL", self.sqlite, "-batch", ":memory:"], setup, timed_lines)
+        once.replies = b""
+        return once
 
     def gtm_made(self, work: Workload) -> dict[str, str]:
         """What GT.M is run with: a new database, and the routines that the set-up stores, as files."""
@@ -212,15 +239,17 @@ def gtm_folder() -> str | None:
 
 
 def measured(subjects: Subjects, work: Workload, passes: int, scale: int) -> dict[str, Measured]:
-    """What each subject took, pass by pass, the subjects and the reference by turns."""
+    """What each subject took, pass by pass, by turns."""
     found: dict[str, Measured] = {}
     for _, subject in itertools.product(range(passes), subjects.names):
         if subject == SQLITE and not work.lines["sql timed"]:
             continue
         one = found.setdefault(subject, Measured())
-        one.reference.append(reference())
-        taken, one.replies = subjects.run(subject, work, scale)
-        one.passes.append(taken)
+        if subjects.beside_reference:
+            one.reference.append(reference())
+        once = subjects.run(subject, work, scale)
+        one.passes += once.passes
+        one.replies, one.memory = once.replies, max(one.memory, once.memory)
     return found
 
 
@@ -245,23 +274,43 @@ def cell(one: Measured | None, more: Measured | None, operations: int) -> str:
     return f"{told}, {min(more.ratios(operations)) / min(ratios):.1f} times"
 
 
-def speeds(found: dict[str, Measured]) -> tuple[float, float]:
+def speeds(found: dict[str, Measured]) -> str:
     """GT.M's time beside the program's over a store in memory: of the best passes, and of the medians."""
     gtm, ours = found[GTM].passes, found["memory"].passes
-    return min(gtm) / min(ours), statistics.median(gtm) / statistics.median(ours)
+    return f"{min(gtm) / min(ours):.2f} ({statistics.median(gtm) / statistics.median(ours):.2f})"
+
+
+def grown(own: Measured, larger: Measured) -> str:
+    """By what an operation takes longer where there is ten times as much, and the memory of both."""
+    longer = min(larger.passes) / GROWTH / min(own.passes)
+    return f"{longer:.2f}, {own.memory:.0f} and {larger.memory:.0f} MB"
 
 
 def twin_rows(subjects: Subjects, asked: argparse.Namespace) -> Iterator[tuple[str, list[str]]]:
-    """A row of the table of twins for each workload that has one, and what is wrong with the replies."""
-    subjects.names = ["memory", GTM]
+    """A row of the table of twins for each workload that has one, and what is wrong with the replies; and one for the
+    lines of many accounts."""
+    subjects.beside_reference = False
+    of_one = None
     twins = {twin.name: twin for twin in workloads(TWINS)}
     for work in workloads(asked.workloads):
         twin = twins.get(work.name)
-        if twin is None or asked.names and not any(name in work.name for name in asked.names):
+        if asked.names and not any(name in work.name for name in asked.names):
             continue
+        if work.name == MANY_ACCOUNTS and of_one:
+            subjects.names = ["memory"]
+            found = measured(subjects, work, asked.passes, 1)
+            many = found["memory"]
+            longer = min(many.passes) / min(of_one.passes)
+            yield f"| {work.name} |  |  | {longer:.2f}, {of_one.memory:.0f} and {many.memory:.0f} MB |", [*faults(work, found, 1)]
+        if twin is None:
+            continue
+        subjects.names = ["memory", GTM]
         own, other = (measured(subjects, one, asked.passes, 1) for one in (work, twin))
-        cells = (f"{best:.2f} ({median:.2f})" for best, median in map(speeds, (own, other)))
-        yield f"| {work.name} | {' | '.join(cells)} |", [*faults(work, own, 1), *faults(twin, other, 1)]
+        subjects.names = ["memory"]
+        larger = measured(subjects, work, PASSES_OF_GROWTH, GROWTH)
+        of_one = own["memory"] if work.name == ONE_ACCOUNT else of_one
+        cells = [work.name, speeds(own), speeds(other), grown(own["memory"], larger["memory"])]
+        yield f"| {' | '.join(cells)} |", [*faults(work, own, 1), *faults(twin, other, 1)]
 
 
 def write_page(begin: str, table: str) -> None:
@@ -312,15 +361,15 @@ def main() -> int:
         subjects = Subjects(folder)
         if asked.twins and not subjects.dist:
             sys.exit("bench: twins are compared with GT.M, which is not installed")
-        names = ["GT.M's time / the program's", "of its twin"] if asked.twins else subjects.names
+        names = ["GT.M's time / the program's", "of its twin", "ten times as much"] if asked.twins else subjects.names
         first = "Workload" if asked.twins else "Workload, an operation"
         table = [f"| {first} | {' | '.join(names)} |", "|---" * (len(names) + 1) + "|"]
         for row, told in (twin_rows if asked.twins else rows)(subjects, asked):
             wrong += told
             table.append(row)
             print(row, file=sys.stderr, flush=True)
-    table += ["", f"{time.strftime('%Y-%m-%d')}, {os.cpu_count()} processors, {asked.passes} passes, "
-                  f"turns of Python {platform.python_version()}."]
+    turns = "" if asked.twins else f", turns of Python {platform.python_version()}"
+    table += ["", f"{time.strftime('%Y-%m-%d')}, {os.cpu_count()} processors, {asked.passes} passes{turns}."]
     text = "\n".join(table) + "\n"
     print(text, end="")
     if asked.write:

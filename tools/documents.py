@@ -333,10 +333,10 @@ def check_completion() -> None:
 
 
 def check_limits() -> None:
-    """Each limit of the code is a figure in LANGUAGE's table of limits."""
+    """Each limit of the code is a figure in LANGUAGE's table of limits; the rest of a name follows from a name."""
     section = read("docs/LANGUAGE.md").split("\n## Limits\n")[1].split("\n## ")[0]
     figures = set(re.findall(r"\d+", section.replace(",", "")))
-    limits = re.findall(r"pub const (MAX_\w+): \w+ = ([\d_]+);", read("crates/mspec/src/limits.rt"))
+    limits = re.findall(r"pub const (MAX_\w+)(?<!_REST): \w+ = ([\d_]+);", read("crates/mspec/src/limits.rt"))
     if not limits:
         faults.append("crates/mspec/src/limits.rt: no limits are found in it")
     faults.extend(f"docs/LANGUAGE.md: its table of limits is without {name}" for name, value in limits if value.replace("_", "") not in figures)

@@ -199,18 +199,3 @@ pub not_lost : (ending : Ended) → ((c : Code) → ending ≡ Fault c → ⊥) 
 not_lost Done h = refl
 not_lost Halt h = refl
 not_lost (Fault c) h = absurd (h c refl)
-
--- ---- refusals
-
-pub memory_is_none : fault_of Zmem ≡ Lost Store → ⊥
-memory_is_none e = cc
-
--- a reply of another fault is not the store's
-pub not_refused : (reply : Reply) (c : Code) → (fault_of c ≡ Lost Store → ⊥) → reply.ending ≡ Fault Zstore → reply_of reply ≡ record { out = []; ending = Faulted (fault_of c) } → ⊥
-not_refused reply c other is refused = other (faults (sym (ap (λ (r : transition.Reply). r.ending) refused) ∙ ap ending_of is))
-  where
-    faults : Faulted (fault_of c) ≡ Faulted (Lost Store) → fault_of c ≡ Lost Store
-    faults e = cc
-
-pub own_is_none : (c : Code) (own : spec.Code) → fault_of c ≡ Own own → fault_of c ≡ Lost Store → ⊥
-own_is_none c own is e = cc

@@ -8,7 +8,7 @@ use Rattle.mwire.proofs.Fronts.{take-take_push}
 
 -- what is kept of a line decides what becomes of it
 
-length-strip : (l : List ℕ) → length l ≤ length (strip_carriage_return l) + 1
+pub length-strip : (l : List ℕ) → length l ≤ length (strip_carriage_return l) + 1
 length-strip l =
     let n : length l - 1 ≤ length l = omega arith in
     elim (slice_index l (length l - 1) == 13) as (λ b. length l ≤ length (if b then take (length l - 1) l else l) + 1) [
@@ -22,27 +22,18 @@ classify-long l h =
     let long = lt-ltb 260 (length l) h in
     rw (some, long) refl
 
-pub classify-kept : (n : ℕ) (rest : List ℕ) → 261 < n → classify (strip_carriage_return (take n rest)) ≡ classify (strip_carriage_return rest)
-classify-kept n rest h =
-    elim (cases_lt n (length rest)) [
-      | inl long ↦
-          let front_long : length (take n rest) ≡ n = length-take-le n rest (omega arith) in
-          let a : 260 < length (strip_carriage_return (take n rest)) = omega (arith, length-strip (take n rest)) in
-          let b : 260 < length (strip_carriage_return rest) = omega (arith, length-strip rest) in
-          classify-long (strip_carriage_return (take n rest)) a ∙ sym (classify-long (strip_carriage_return rest) b)
-      | inr short ↦ ap (λ l. classify (strip_carriage_return l)) (take_all n rest short)
-    ]
-
-pub classify-kept_end : (n : ℕ) (rest : List ℕ) → 261 < n → classify (take n rest) ≡ classify rest
-classify-kept_end n rest h =
-    elim (cases_lt n (length rest)) [
-      | inl long ↦
-          let front_long : length (take n rest) ≡ n = length-take-le n rest (omega arith) in
-          let a : 260 < length (take n rest) = omega arith in
-          let b : 260 < length rest = omega arith in
-          classify-long (take n rest) a ∙ sym (classify-long rest b)
-      | inr short ↦ ap classify (take_all n rest short)
-    ]
+-- of a line, or of one that lost its carriage return
+module _ (f : List ℕ → List ℕ) (shorter : (l : List ℕ) → length l ≤ length (f l) + 1) where
+  pub classify-kept : (n : ℕ) (rest : List ℕ) → 261 < n → classify (f (take n rest)) ≡ classify (f rest)
+  classify-kept n rest h =
+      elim (cases_lt n (length rest)) [
+        | inl long ↦
+            let front_long : length (take n rest) ≡ n = length-take-le n rest (omega arith) in
+            let a : 260 < length (f (take n rest)) = omega (arith, shorter (take n rest)) in
+            let b : 260 < length (f rest) = omega (arith, shorter rest) in
+            classify-long (f (take n rest)) a ∙ sym (classify-long (f rest) b)
+        | inr short ↦ ap (λ l. classify (f l)) (take_all n rest short)
+      ]
 
 -- a further byte
 
@@ -78,18 +69,17 @@ IsCut-line past finished kept s = record {
 regroup : (x f r : List ℕ) → ((x ++ 10 ∷ []) ++ f) ++ r ≡ x ++ 10 ∷ (f ++ r)
 regroup x f r = simp append_assoc
 
-parts_of-cut : (finished : List (List ℕ)) (rest : List ℕ) → AreOpen finished → IsOpen rest → parts_of (flat_map (λ x. x ++ 10 ∷ []) finished ++ rest) ≡ finished ++ rest ∷ []
-parts_of-cut [] rest each o = slice_split_none (λ b. b == 10) rest o
-parts_of-cut (x ∷ xs) rest each o =
-    rw (regroup x (flat_map (λ x. x ++ 10 ∷ []) xs) rest)
-    (slice_split_at (λ b. b == 10) x 10 (flat_map (λ x. x ++ 10 ∷ []) xs ++ rest) each.0 refl ∙ ap (λ ps. x ∷ ps) (parts_of-cut xs rest each.1 o))
+-- the finished lines, and the parts of what stands behind them
+parts_of-cut : (finished : List (List ℕ)) (behind : List ℕ) → AreOpen finished → parts_of (flat_map (λ x. x ++ 10 ∷ []) finished ++ behind) ≡ finished ++ parts_of behind
+parts_of-cut [] behind each = refl
+parts_of-cut (x ∷ xs) behind each =
+    rw (regroup x (flat_map (λ x. x ++ 10 ∷ []) xs) behind)
+    (slice_split_at (λ b. b == 10) x 10 (flat_map (λ x. x ++ 10 ∷ []) xs ++ behind) each.0 refl ∙ ap (λ ps. x ∷ ps) (parts_of-cut xs behind each.1))
 
-parts_of-cut_more : (finished : List (List ℕ)) (rest more : List ℕ) → AreOpen finished → IsOpen rest
-    → parts_of ((flat_map (λ x. x ++ 10 ∷ []) finished ++ rest) ++ 10 ∷ more) ≡ finished ++ rest ∷ parts_of more
-parts_of-cut_more [] rest more each o = slice_split_at (λ b. b == 10) rest 10 more o refl
-parts_of-cut_more (x ∷ xs) rest more each o =
-    rw (regroup x (flat_map (λ x. x ++ 10 ∷ []) xs) rest, append_assoc)
-    (slice_split_at (λ b. b == 10) x 10 ((flat_map (λ x. x ++ 10 ∷ []) xs ++ rest) ++ 10 ∷ more) each.0 refl ∙ ap (λ ps. x ∷ ps) (parts_of-cut_more xs rest more each.1 o))
+-- of a text that is cut
+parts-cut : (bytes : List ℕ) (finished : List (List ℕ)) (kept : List ℕ) → (c : IsCut bytes finished kept) → parts_of bytes ≡ finished ++ c.rest ∷ []
+parts-cut bytes finished kept c =
+    ap parts_of c.whole ∙ (parts_of-cut finished c.rest c.each ∙ ap (λ ps. finished ++ ps) (slice_split_none (λ b. b == 10) c.rest c.open_rest))
 
 lines_of_parts-front : (xs : List (List ℕ)) (y : List ℕ) (ys : List (List ℕ)) → lines_of_parts (xs ++ y ∷ ys) ≡ map strip_carriage_return xs ++ lines_of_parts (y ∷ ys)
 lines_of_parts-front [] y ys = refl
@@ -98,7 +88,7 @@ lines_of_parts-front (x ∷ x' ∷ xs) y ys = ap (λ ls. strip_carriage_return x
 
 pub lines-cut : (bytes : List ℕ) (finished : List (List ℕ)) (kept : List ℕ) → (c : IsCut bytes finished kept) → lines bytes ≡ map strip_carriage_return finished ++ lines_of_parts (c.rest ∷ [])
 lines-cut bytes finished kept c =
-    ap lines c.whole ∙ (ap lines_of_parts (parts_of-cut finished c.rest c.each c.open_rest) ∙ lines_of_parts-front finished c.rest [])
+    ap lines_of_parts (parts-cut bytes finished kept c) ∙ lines_of_parts-front finished c.rest []
 
 but_last-push : (xs : List (List ℕ)) (x : List ℕ) → but_last (xs ++ x ∷ []) ≡ xs
 but_last-push [] x = refl
@@ -116,16 +106,16 @@ but_last-front (x ∷ x' ∷ xs) y ys n e = ap (λ l. x ∷ l) (but_last-front (
 pub finished_lines-cut_more : (bytes : List ℕ) (finished : List (List ℕ)) (kept more : List ℕ) → (c : IsCut bytes finished kept)
     → finished_lines ((bytes ++ 10 ∷ []) ++ more) ≡ map strip_carriage_return finished ++ strip_carriage_return c.rest ∷ finished_lines more
 finished_lines-cut_more bytes finished kept more c =
-    let joined : (bytes ++ 10 ∷ []) ++ more ≡ bytes ++ 10 ∷ more = append_assoc bytes (10 ∷ []) more in
-    ap finished_lines joined ∙ (ap (λ b. finished_lines (b ++ 10 ∷ more)) c.whole
-    ∙ (ap (λ ps. map strip_carriage_return (but_last ps)) (parts_of-cut_more finished c.rest more c.each c.open_rest)
+    let front = flat_map (λ x. x ++ 10 ∷ []) finished in
+    let joined : (bytes ++ 10 ∷ []) ++ more ≡ front ++ (c.rest ++ 10 ∷ more) = append_assoc bytes (10 ∷ []) more ∙ (ap (λ b. b ++ 10 ∷ more) c.whole ∙ append_assoc front c.rest (10 ∷ more)) in
+    let behind = slice_split_at (λ b. b == 10) c.rest 10 more c.open_rest refl in
+    ap finished_lines joined ∙ (ap (λ ps. map strip_carriage_return (but_last ps)) (parts_of-cut finished (c.rest ++ 10 ∷ more) c.each ∙ ap (λ ps. finished ++ ps) behind)
     ∙ (ap (map strip_carriage_return) (but_last-front finished c.rest (parts_of more) _ (length-slice_split (λ b. b == 10) more))
-    ∙ map-append strip_carriage_return finished (c.rest ∷ but_last (parts_of more)))))
+    ∙ map-append strip_carriage_return finished (c.rest ∷ but_last (parts_of more))))
 
 pub finished_lines-cut : (bytes : List ℕ) (finished : List (List ℕ)) (kept : List ℕ) → IsCut bytes finished kept → finished_lines bytes ≡ map strip_carriage_return finished
 finished_lines-cut bytes finished kept c =
-    ap finished_lines c.whole ∙ (ap (λ ps. map strip_carriage_return (but_last ps)) (parts_of-cut finished c.rest c.each c.open_rest)
-    ∙ ap (map strip_carriage_return) (but_last-push finished c.rest))
+    ap (λ ps. map strip_carriage_return (but_last ps)) (parts-cut bytes finished kept c) ∙ ap (map strip_carriage_return) (but_last-push finished c.rest)
 
 -- a rest that is not empty is the last line
 pub last_part : (x : ℕ) (xs : List ℕ) → lines_of_parts ((x ∷ xs) ∷ []) ≡ (x ∷ xs) ∷ []

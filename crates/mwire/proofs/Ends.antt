@@ -1,15 +1,16 @@
 -- SPDX-License-Identifier: Apache-2.0
 -- How far `serve` comes, and how it ends.
-use Rattle.mwire.proofs.WireWords.{◌≡◌, ◌≢◌, ◌++◌, List, [], ◌∷◌, ℕ, refl, sym, ◌∙◌, ap, subst, Ok, Err, Result, Option, append-nil, take, IfErr, is_ok, inl, inr, arith, Appends-nil, Appends-trans, Consumes-nil, Consumes-trans, Consumes-kept, lines_of_parts, strip_carriage_return, Keeps, Consumes, IsAtEnd, Text, Settings, World, Ghosts, classify, LinesAnswered, LineAnswered, AnswersCutShort, EachAnswered, TakesOn, LineSent, HasServed, ServeCutShort, EndsBy, Serves, WireFault, Read, Write, Memory}
-use Rattle.std.specs.Prelude.{map}
-use Rattle.mwire.proofs.Cuts.{classify-kept_end, lines-cut, finished_lines-cut, last_part}
-use Rattle.mwire.proofs.LineAnswers.{LineAnswered-same, EachAnswered-more, LinesAnswered-each}
+use Rattle.mwire.proofs.WireWords.{Bool, false, ◌≡◌, ◌≢◌, ◌++◌, List, [], ◌∷◌, ℕ, refl, sym, ◌∙◌, ap, subst, Ok, Err, Result, Option, append-nil, take, IfErr, is_ok, inl, inr, arith, Appends-nil, Appends-trans, Consumes-nil, Consumes-trans, Consumes-kept, lines_of_parts, strip_carriage_return, Keeps, Consumes, IsAtEnd, Text, Settings, World, Ghosts, classify, LinesAnswered, LineAnswered, AnswersCutShort, EachAnswered, TakesOn, LineSent, HasServed, ServeCutShort, EndsBy, Serves, WireFault, Read, Write, Memory, lines}
+use Rattle.std.specs.Prelude.{map, MatchResult}
+use Rattle.mwire.proofs.Cuts.{classify-kept, lines-cut, finished_lines-cut, last_part}
+use Rattle.mwire.proofs.LineAnswers.{LineAnswered-same, EachAnswered-more, LinesAnswered-each, AnswersCutShort-at}
 use Rattle.mwire.proofs.Progresses.{Stands-start}
+use Rattle.mwire.proofs.Sends.{FrontSent-whole}
 
 LineAnswered-kept_end : {S : Type 0} (g : Ghosts S) (settings : Settings) (old : World) (kept rest answer : Text) (new : World)
     → kept ≡ take 262 rest → LineAnswered g settings old kept answer new → LineAnswered g settings old rest answer new
 LineAnswered-kept_end g settings old kept rest answer new e t =
-    LineAnswered-same g settings old kept rest answer new (ap classify e ∙ classify-kept_end 262 rest (omega arith)) t
+    LineAnswered-same g settings old kept rest answer new (ap classify e ∙ classify-kept (λ l. l) (λ l. omega arith) 262 rest (omega arith)) t
 
 -- ---- how far `serve` has come
 
@@ -62,25 +63,11 @@ EachAnswered-end g settings first done [] now text new answer h t =
     rw (append-nil, t.by_wire_line.0, append-nil) (subst (P text) (sym t.by_wire_line.1) h)
 EachAnswered-end g settings first done (x ∷ xs) now text new answer h t = rw (last_part x xs) (EachAnswered-more g settings first done text now (x ∷ xs) answer new h t)
 
-AnswersCutShort-end : {S : Type 0} (g : Ghosts S) (settings : Settings) (first : World) (done : List Text) (rest : Text) (now : World) (text : Text) (new : World) (answer part unsent : Text)
-    → (rest ≡ [] → ⊥) → EachAnswered g settings first done text now → LineAnswered g settings now rest answer new → answer ≡ part ++ unsent
-    → AnswersCutShort g settings first (done ++ lines_of_parts (rest ∷ [])) (text ++ part) new
-AnswersCutShort-end g settings first done [] now text new answer part unsent ne h t e = absurd (ne refl)
-AnswersCutShort-end g settings first done (x ∷ xs) now text new answer part unsent ne h t e = record {
-  done = done;
-  last = x ∷ xs;
-  others = [];
-  of_all = ap (λ ls. done ++ ls) (last_part x xs);
-  whole = text;
-  between = now;
-  answered = LinesAnswered-each g settings first done text now h;
-  answer = answer;
-  last_answered = t;
-  part = part;
-  unsent = unsent;
-  of_answer = e;
-  sent = refl;
-}
+AnswersCutShort-end : {S : Type 0} (g : Ghosts S) (settings : Settings) (first : World) (done : List Text) (rest : Text) (now : World) (text : Text) (new : World) (before after : Option Text) (b : Bool)
+    → (rest ≡ [] → ⊥) → EachAnswered g settings first done text now → (p : LineSent g settings now rest new before after b) → AnswersCutShort g settings first (done ++ lines_of_parts (rest ∷ [])) (text ++ p.sent.part) new
+AnswersCutShort-end g settings first done [] now text new before after b ne h p = absurd (ne refl)
+AnswersCutShort-end g settings first done (x ∷ xs) now text new before after b ne h p =
+    AnswersCutShort-at g settings first done (x ∷ xs) [] _ text now new before after b (ap (λ ls. done ++ ls) (last_part x xs)) h p
 
 EndsBy-break : {S : Type 0} (g : Ghosts S) (settings : Settings) (old : World) (left : Option Text) (read sent : Text) (new : World) (e : WireFault)
     → e ≢ Read → ServeCutShort g settings old left read sent new → EndsBy g settings old left read sent new e
@@ -100,30 +87,27 @@ serves_end : (X : WireFault → Type 0) {S : Type 0} (g : Ghosts S) (settings : 
     → HasServed g settings first now left left' held held' kept → IsAtEnd left'
     → LineSent g settings now kept new held' held'' (is_ok result) → (kept ≡ [] → result ≡ Ok tt) → IfErr result (λ e. (e ≢ Read) × X e)
     → Serves g settings first new left left' held held'' result
-serves_end X g settings first now new left left' held held' held'' kept (Ok u) h z p idle f = record {
+serves_end X g settings first now new left left' held held' held'' kept result h z p idle f = record {
   read = h.read;
   consumed = h.consumed;
   sent = h.sent ++ p.sent.part;
   appended = Appends-trans held held' held'' h.sent p.sent.part h.appended p.sent.appended;
-  outcome =
-      let s = h.stands in
-      let whole : p.answer ≡ p.sent.part = p.sent.of_bytes ∙ (ap (λ x. p.sent.part ++ x) (p.sent.all_sent refl) ∙ append-nil p.sent.part) in
-      let taken = LineAnswered-kept_end g settings now kept s.cut.rest p.answer new s.cut.kept_is p.answered in
-      let each = EachAnswered-end g settings first (map strip_carriage_return s.finished) s.cut.rest now h.sent new p.answer s.answered taken in
-      (z, rw (lines-cut h.read s.finished kept s.cut, ← whole) (LinesAnswered-each g settings first _ _ new each));
+  outcome = ended result p idle f;
 }
-serves_end X g settings first now new left left' held held' held'' kept (Err e) h z p idle f = record {
-  read = h.read;
-  consumed = h.consumed;
-  sent = h.sent ++ p.sent.part;
-  appended = Appends-trans held held' held'' h.sent p.sent.part h.appended p.sent.appended;
-  outcome =
-      let s = h.stands in
-      let taken = LineAnswered-kept_end g settings now kept s.cut.rest p.answer new s.cut.kept_is p.answered in
-      let some : s.cut.rest ≡ [] → ⊥ = λ empty. let bad = idle (s.cut.kept_is ∙ ap (take 262) empty) in cc in
-      let breaks = AnswersCutShort-end g settings first (map strip_carriage_return s.finished) s.cut.rest now h.sent new p.answer p.sent.part p.sent.unsent some s.answered taken p.sent.of_bytes in
-      EndsBy-break g settings first left' h.read (h.sent ++ p.sent.part) new e f.0 (inr (z, rw (lines-cut h.read s.finished kept s.cut) breaks));
-}
+  where
+    ended : (r : Result (Unit {0}) WireFault) (q : LineSent g settings now kept new held' held'' (is_ok r)) → (kept ≡ [] → r ≡ Ok tt) → IfErr r (λ e. (e ≢ Read) × X e)
+        → MatchResult r (λ _. IsAtEnd left' × LinesAnswered g settings first (lines h.read) (h.sent ++ q.sent.part) new) (EndsBy g settings first left' h.read (h.sent ++ q.sent.part) new)
+    ended (Ok u) q idle f =
+        let s = h.stands in
+        let taken = LineAnswered-kept_end g settings now kept s.cut.rest q.answer new s.cut.kept_is q.answered in
+        let each = EachAnswered-end g settings first (map strip_carriage_return s.finished) s.cut.rest now h.sent new q.answer s.answered taken in
+        (z, rw (lines-cut h.read s.finished kept s.cut, ← (FrontSent-whole q.sent)) (LinesAnswered-each g settings first _ _ new each))
+    ended (Err e) q idle f =
+        let s = h.stands in
+        let taken = LineAnswered-kept_end g settings now kept s.cut.rest q.answer new s.cut.kept_is q.answered in
+        let some : s.cut.rest ≡ [] → ⊥ = λ empty. let bad = idle (s.cut.kept_is ∙ ap (take 262) empty) in cc in
+        let breaks = AnswersCutShort-end g settings first (map strip_carriage_return s.finished) s.cut.rest now h.sent new held' held'' false some s.answered (record { answer = q.answer; answered = taken; sent = q.sent }) in
+        EndsBy-break g settings first left' h.read (h.sent ++ q.sent.part) new e f.0 (inr (z, rw (lines-cut h.read s.finished kept s.cut) breaks))
 
 pub Serves-end : (X : WireFault → Type 0) {S : Type 0} (g : Ghosts S) (settings : Settings) (first now new : World) (left left' left'' held held' held'' : Option Text) (kept line buf : Text) (n : ℕ) (result : Result (Unit {0}) WireFault)
     → HasServed g settings first now left left' held held' kept → n ≡ 0 → Consumes left' left'' (take n buf) → IsAtEnd left'' → line ≡ kept

@@ -24,11 +24,7 @@ space_at (c ∷ cs) text all = grind (arith, digit_is_no_space c (All-head Digit
 
 wire_line_by : (empty long event : Bool) (e given : Event) → empty ≡ false → long ≡ false → event ≡ true → e ≡ given
     → (if empty then Ignored else if long then TooLong else if event then Runs e else Unreadable) ≡ Runs given
-wire_line_by empty long event e given filled short is_one same =
-    ap (λ b. if b then Ignored else if long then TooLong else if event then Runs e else Unreadable) filled
-    ∙ ap (λ b. if b then TooLong else if event then Runs e else Unreadable) short
-    ∙ ap (λ b. if b then Runs e else Unreadable) is_one
-    ∙ ap Runs same
+wire_line_by empty long event e given filled short is_one same = rw (filled, short, is_one) (ap Runs same)
 
 abbrev event_as : ℕ → Text → Event
 event_as terminal text = record { terminal = terminal; text = text }
@@ -59,11 +55,11 @@ strip_at l n size = let last : length l - 1 ≡ n = omega arith in ap (λ i. if 
 kept_end : (l : List ℕ) (n : ℕ) → length l ≡ n + 1 → strip_carriage_return l ≡ l → (slice_index l n == 13) ≡ false
 kept_end l n size kept =
     let shorter : length (take n l) ≡ n = length-take-le n l (omega arith) in
-    let by_end : (b : Bool) → (if b then take n l else l) ≡ l → b ≡ false = λ b. elim b as (λ t. (if t then take n l else l) ≡ l → t ≡ false) [
+    let at = sym (strip_at l n size) ∙ kept in
+    elim (slice_index l n == 13) as (λ t. (if t then take n l else l) ≡ l → t ≡ false) [
       | true ↦ λ same. let equal = ap length same in absurd (omega arith)
       | false ↦ λ same. refl
-    ] in
-    by_end (slice_index l n == 13) (sym (strip_at l n size) ∙ kept)
+    ] at
 
 kept_by : (l : List ℕ) (n : ℕ) → length l ≡ n + 1 → (slice_index l n == 13) ≡ false → strip_carriage_return l ≡ l
 kept_by l n size other = strip_at l n size ∙ ap (λ b. if b then take n l else l) other

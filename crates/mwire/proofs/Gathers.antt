@@ -1,14 +1,12 @@
 -- SPDX-License-Identifier: Apache-2.0
 -- The events of the lines of a stream, gathered as its bytes come.
-use Rattle.mwire.proofs.WireWords.{◌≡◌, ◌++◌, ◌+◌, ◌<◌, ◌≤◌, ◌==◌, List, [], ◌∷◌, ℕ, false, refl, sym, ◌∙◌, ap, subst, Option, append_assoc, length, get_or, take, arith, Consumes-nil, Consumes-trans, Consumes, lines, lines_of_parts, strip_carriage_return, map-append, take_all, take_more, Text, Event, WireLine, Ignored, TooLong, Unreadable, Runs, classify, before_events, events_of, Gathered, HasGathered}
+use Rattle.mwire.proofs.WireWords.{◌≡◌, ◌++◌, ◌+◌, ◌<◌, ◌≤◌, ◌==◌, List, [], ◌∷◌, ℕ, false, refl, sym, ◌∙◌, ap, subst, Option, append_assoc, length, get_or, take, arith, Consumes-nil, Consumes-trans, Consumes, lines, lines_of_parts, strip_carriage_return, map-append, take_all, take_more, Text, Event, WireLine, Runs, classify, before_events, events_of, Gathered, HasGathered}
 use Rattle.std.specs.Prelude.{map}
-use Rattle.mwire.proofs.Cuts.{classify-kept, classify-kept_end, IsCut-nil, IsCut-byte, IsCut-line, lines-cut, last_part}
+use Rattle.mwire.proofs.Cuts.{length-strip, classify-kept, IsCut-nil, IsCut-byte, IsCut-line, lines-cut, last_part}
 
 before_events-append : (wire_line : WireLine) (xs ys : List Event) → before_events wire_line (xs ++ ys) ≡ before_events wire_line xs ++ ys
-before_events-append Ignored xs ys = refl
-before_events-append TooLong xs ys = refl
-before_events-append Unreadable xs ys = refl
 before_events-append (Runs e) xs ys = refl
+before_events-append unrun xs ys = refl
 
 events_of-append : (ls ms : List Text) → events_of (ls ++ ms) ≡ events_of ls ++ events_of ms
 events_of-append [] ms = refl
@@ -29,12 +27,8 @@ pub Gathered-line : (past kept kept' line : Text) (byte : ℕ) (events events' :
 Gathered-line past kept kept' line byte events events' eb ek el added s =
     let rest = s.cut.rest in
     let wire_line : classify line ≡ classify (strip_carriage_return rest) =
-    ap classify el ∙ (ap (λ l. classify (strip_carriage_return l)) s.cut.kept_is ∙ classify-kept 262 rest (omega arith)) in
-    let events_are : events' ≡ events_of (map strip_carriage_return (s.finished ++ rest ∷ [])) =
-    added ∙ (ap (λ es. es ++ events_of (line ∷ [])) s.events_are
-    ∙ (ap (λ f. events_of (map strip_carriage_return s.finished) ++ before_events f []) wire_line
-    ∙ (sym (events_of-append (map strip_carriage_return s.finished) (strip_carriage_return rest ∷ []))
-    ∙ ap events_of (sym (map-append strip_carriage_return s.finished (rest ∷ [])))))) in
+    ap classify el ∙ (ap (λ l. classify (strip_carriage_return l)) s.cut.kept_is ∙ classify-kept strip_carriage_return length-strip 262 rest (omega arith)) in
+    let events_are : events' ≡ events_of (map strip_carriage_return (s.finished ++ rest ∷ [])) = rw (added, s.events_are, wire_line) (simp (map-append, events_of-append)) in
     let cut = IsCut-line past s.finished kept s.cut in
     rw (eb, ek) (record { finished = s.finished ++ rest ∷ []; cut = cut; events_are = events_are })
 
@@ -58,12 +52,8 @@ last_events (x ∷ xs) = ap events_of (sym (last_part x xs))
 pub Gathered-end : (bytes kept : Text) (events events' : List Event) → events' ≡ events ++ events_of (kept ∷ []) → Gathered bytes kept events → events' ≡ events_of (lines bytes)
 Gathered-end bytes kept events events' added s =
     let rest = s.cut.rest in
-    let wire_line : classify kept ≡ classify rest = ap classify s.cut.kept_is ∙ classify-kept_end 262 rest (omega arith) in
-    added ∙ (ap (λ es. es ++ events_of (kept ∷ [])) s.events_are
-    ∙ (ap (λ f. events_of (map strip_carriage_return s.finished) ++ before_events f []) wire_line
-    ∙ (ap (λ es. events_of (map strip_carriage_return s.finished) ++ es) (last_events rest)
-    ∙ (sym (events_of-append (map strip_carriage_return s.finished) (lines_of_parts (rest ∷ [])))
-    ∙ ap events_of (sym (lines-cut bytes s.finished kept s.cut))))))
+    let wire_line : classify kept ≡ classify rest = ap classify s.cut.kept_is ∙ classify-kept (λ l. l) (λ l. omega arith) 262 rest (omega arith) in
+    rw (added, s.events_are, wire_line, lines-cut bytes s.finished kept s.cut, events_of-append) (ap (λ es. events_of (map strip_carriage_return s.finished) ++ es) (last_events rest))
 
 -- ---- how far `read_events` has come, and how it ends
 

@@ -2,7 +2,6 @@
 pub mod WireWords
 pub mod WireExamples
 pub mod EventLines
-pub mod Spaces
 pub mod Fronts
 pub mod Cuts
 pub mod LineAnswers

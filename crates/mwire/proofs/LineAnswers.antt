@@ -1,6 +1,6 @@
 -- SPDX-License-Identifier: Apache-2.0
 -- How lines are answered, one after another.
-use Rattle.mwire.proofs.WireWords.{◌≡◌, ◌≢◌, ◌++◌, List, [], ◌∷◌, refl, sym, ◌∙◌, ap, subst, append_assoc, append-nil, Text, Settings, World, Event, Reply, Transition, History, Ghosts, Zstore, Ended, Fault, reply_of, WireLine, Ignored, TooLong, Unreadable, Runs, classify, before_events, events_of, too_long_text, unreadable_text, reply_text, line_text, replies_behind, answer_text, LinesAnswered, RunAnswered, WireLineAnswered, LineAnswered, EachAnswered}
+use Rattle.mwire.proofs.WireWords.{LineSent, Option, Bool, ◌≡◌, ◌≢◌, ◌++◌, List, [], ◌∷◌, refl, sym, ◌∙◌, ap, subst, append_assoc, append-nil, Text, Settings, World, Event, Reply, Transition, History, Ghosts, Zstore, Ended, Fault, reply_of, WireLine, Ignored, TooLong, Unreadable, Runs, classify, before_events, events_of, too_long_text, unreadable_text, reply_text, line_text, replies_behind, answer_text, LinesAnswered, RunAnswered, WireLineAnswered, LineAnswered, EachAnswered, AnswersCutShort}
 use Rattle.std.specs.Prelude.{map}
 use Rattle.mworld.specs.declared.reply.Reply.{Reply as CodeReply}
 use Rattle.mwire.proofs.StoreFaults.{store_sufficed}
@@ -35,35 +35,26 @@ EachAnswered-more g settings old (l ∷ ls) text mid line answer new h t =
 abbrev both_texts : List Text → WireLine → List Reply → Text
 both_texts more wire_line replies = line_text wire_line replies ++ answer_text more (replies_behind wire_line replies)
 
+-- behind a line that is not run
+LinesAnswered-unrun : {S : Type 0} (g : Ghosts S) (settings : Settings) (old : World) (line : Text) (more : List Text) (wire_line : WireLine) (answer : Text) (mid : World) (rest : Text) (new : World)
+    → classify line ≡ wire_line → (a : LinesAnswered g settings mid more rest new) → mid ≡ old → events_of more ≡ before_events wire_line (events_of more)
+    → answer ++ rest ≡ both_texts more wire_line (map (λ x. x.1) a.trace) → LinesAnswered g settings old (line ∷ more) (answer ++ rest) new
+LinesAnswered-unrun g settings old line more wire_line answer mid rest new e a same none texts = record {
+  trace = a.trace;
+  events = a.events ∙ none ∙ ap (λ f. before_events f (events_of more)) (sym e);
+  text = texts ∙ ap (λ f. both_texts more f (map (λ x. x.1) a.trace)) (sym e);
+  history = λ sound. subst (λ (s : World). History settings s a.trace new) same (a.history sound);
+  steady = a.steady;
+}
+
 LinesAnswered-line : {S : Type 0} (g : Ghosts S) (settings : Settings) (old : World) (line : Text) (more : List Text) (wire_line : WireLine) (answer : Text) (mid : World) (rest : Text) (new : World)
     → classify line ≡ wire_line → WireLineAnswered g settings old wire_line answer mid → LinesAnswered g settings mid more rest new → LinesAnswered g settings old (line ∷ more) (answer ++ rest) new
 LinesAnswered-line g settings old line more Ignored answer mid rest new e h a =
-    let P : World → Type 0 = λ s. History settings s a.trace new in
-    record {
-      trace = a.trace;
-      events = a.events ∙ ap (λ f. before_events f (events_of more)) (sym e);
-      text = ap (λ t. t ++ rest) h.0 ∙ (a.text ∙ ap (λ f. both_texts more f (map (λ x. x.1) a.trace)) (sym e));
-      history = λ sound. subst P h.1 (a.history sound);
-      steady = a.steady;
-    }
+    LinesAnswered-unrun g settings old line more Ignored answer mid rest new e a h.1 refl (ap (λ t. t ++ rest) h.0 ∙ a.text)
 LinesAnswered-line g settings old line more TooLong answer mid rest new e h a =
-    let P : World → Type 0 = λ s. History settings s a.trace new in
-    record {
-      trace = a.trace;
-      events = a.events ∙ ap (λ f. before_events f (events_of more)) (sym e);
-      text = ap (λ t. t ++ rest) h.0 ∙ (ap (λ t. too_long_text ++ t) a.text ∙ ap (λ f. both_texts more f (map (λ x. x.1) a.trace)) (sym e));
-      history = λ sound. subst P h.1 (a.history sound);
-      steady = a.steady;
-    }
+    LinesAnswered-unrun g settings old line more TooLong answer mid rest new e a h.1 refl (ap (λ t. t ++ rest) h.0 ∙ ap (λ t. too_long_text ++ t) a.text)
 LinesAnswered-line g settings old line more Unreadable answer mid rest new e h a =
-    let P : World → Type 0 = λ s. History settings s a.trace new in
-    record {
-      trace = a.trace;
-      events = a.events ∙ ap (λ f. before_events f (events_of more)) (sym e);
-      text = ap (λ t. t ++ rest) h.0 ∙ (ap (λ t. unreadable_text ++ t) a.text ∙ ap (λ f. both_texts more f (map (λ x. x.1) a.trace)) (sym e));
-      history = λ sound. subst P h.1 (a.history sound);
-      steady = a.steady;
-    }
+    LinesAnswered-unrun g settings old line more Unreadable answer mid rest new e a h.1 refl (ap (λ t. t ++ rest) h.0 ∙ ap (λ t. unreadable_text ++ t) a.text)
 LinesAnswered-line g settings old line more (Runs event) answer mid rest new e h a = record {
   trace = (event, h.reply) ∷ a.trace;
   events = ap (λ es. event ∷ es) a.events ∙ ap (λ f. before_events f (events_of more)) (sym e);
@@ -79,3 +70,22 @@ LinesAnswered-each g settings old [] text new h = record { trace = []; events = 
 LinesAnswered-each g settings old (line ∷ more) text new h =
     let P : Text → Type 0 = λ t. LinesAnswered g settings old (line ∷ more) t new in
     subst P (sym h.5) (LinesAnswered-line g settings old line more (classify line) h.0 h.1 h.2 new refl h.3.by_wire_line (LinesAnswered-each g settings h.1 more h.2 new h.4))
+
+-- a last line was answered, and of its answer a front was sent
+pub AnswersCutShort-at : {S : Type 0} (g : Ghosts S) (settings : Settings) (old : World) (done : List Text) (last : Text) (others all : List Text) (whole : Text) (between new : World) (before after : Option Text) (b : Bool)
+    → all ≡ done ++ last ∷ others → EachAnswered g settings old done whole between → (p : LineSent g settings between last new before after b) → AnswersCutShort g settings old all (whole ++ p.sent.part) new
+AnswersCutShort-at g settings old done last others all whole between new before after b of_all each p = record {
+  done = done;
+  last = last;
+  others = others;
+  of_all = of_all;
+  whole = whole;
+  between = between;
+  answered = LinesAnswered-each g settings old done whole between each;
+  answer = p.answer;
+  last_answered = p.answered;
+  part = p.sent.part;
+  unsent = p.sent.unsent;
+  of_answer = p.sent.of_bytes;
+  sent = refl;
+}

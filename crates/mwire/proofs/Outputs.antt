@@ -1,6 +1,6 @@
 -- SPDX-License-Identifier: Apache-2.0
 -- How an output is shown, one line after another.
-use Rattle.mwire.proofs.WireWords.{◌≡◌, ◌++◌, ◌+◌, ◌<◌, ◌≤◌, List, [], ◌∷◌, ℕ, sym, refl, ap, ◌∙◌, append_assoc, append-nil, length, take, drop, Result, OnOk, arith, slice_split, position_or_len, slice_split_first, slice_split_none, length-slice_split, fails_before_first, Text, shown, output_text, is_line_end}
+use Rattle.mwire.proofs.WireWords.{◌≡◌, ◌++◌, ◌+◌, ◌<◌, ◌≤◌, List, [], ◌∷◌, ℕ, sym, refl, ap, ◌∙◌, append_assoc, length, take, drop, Result, OnOk, arith, slice_split, position_or_len, slice_split_first, slice_split_none, length-slice_split, fails_before_first, Text, shown, output_text, is_line_end}
 use Rattle.mwire.proofs.Results.{on_ok_then}
 
 output_text-line : (digits line : Text) (parts : List Text) (n : ℕ) → length parts ≡ n + 1
@@ -25,9 +25,7 @@ output_more digits rest behind old new first n here inside is_behind pushed so_f
     ap (output_text digits) (slice_split_first is_line_end rest 0 at) ∙ output_text-line digits front (slice_split is_line_end left) _ (length-slice_split is_line_end left) in
     let behind_is : behind ≡ left = is_behind ∙ ap (λ i. drop (i + 1) rest) here in
     let front_is : take n rest ≡ front = ap (λ i. take i rest) here in
-    ap (λ t. t ++ output_text digits (slice_split is_line_end behind)) (pushed ∙ ap (λ t. old ++ digits ++ 58 ∷ shown t ++ 10 ∷ []) front_is)
-    ∙ (ap (λ t. (old ++ digits ++ 58 ∷ shown front ++ 10 ∷ []) ++ output_text digits (slice_split is_line_end t)) behind_is
-    ∙ (join old digits (shown front) (output_text digits (slice_split is_line_end left)) ∙ (ap (λ t. old ++ t) (sym parts) ∙ so_far)))
+    rw (pushed, front_is, behind_is) (join old digits (shown front) (output_text digits (slice_split is_line_end left)) ∙ (ap (λ t. old ++ t) (sym parts) ∙ so_far))
 
 one_part : (rest : Text) → length rest ≤ position_or_len is_line_end rest → slice_split is_line_end rest ≡ rest ∷ []
 one_part rest end = slice_split_none is_line_end rest (λ k d lt. fails_before_first is_line_end rest k d (omega arith))
@@ -45,9 +43,3 @@ pub output_last : {T E : Type 0} (result : Result T E) (digits rest old new firs
     → old ++ output_text digits (slice_split is_line_end rest) ≡ first
     → OnOk result (new ≡ old ++ digits ++ 45 ∷ shown rest ++ 10 ∷ []) → OnOk result (new ≡ first)
 output_last result digits rest old new first end some so_far pushed = on_ok_then result _ _ pushed (last_shown digits rest old new first end some so_far)
-
--- no rest is left
-pub output_none : (digits rest old first : Text) → length rest ≡ 0
-    → old ++ output_text digits (slice_split is_line_end rest) ≡ first → old ≡ first
-output_none digits [] old first none so_far = sym (append-nil old) ∙ so_far
-output_none digits (c ∷ cs) old first none so_far = absurd (omega arith)

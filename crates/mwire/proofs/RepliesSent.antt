@@ -8,6 +8,7 @@ use Rattle.mspec.specs.Access.{name_at}
 use Rattle.misolation.specs.Telling.{Told}
 use Rattle.mworld.specs.declared.world.World.{World}
 use Rattle.mworld.proofs.Tellings.{take_on}
+use Rattle.mwire.proofs.Sends.{FrontSent-whole}
 
 abbrev shown : Told → Text
 shown t = reply_text t.terminal t.reply
@@ -30,8 +31,7 @@ module _ {X : Type 0} (f : X → Told) (xs : List X) (i : ℕ) (x : X) (within :
   -- the whole of one more
   pub sent_on : (before now after : Option Text) → Appends before now (told_text (map f (take i xs))) → FrontSent (shown (f x)) now after true → Appends before after (told_text (map f (take (i + 1) xs)))
   sent_on before now after a s =
-      let whole : shown (f x) ≡ s.part = s.of_bytes ∙ ap (λ t. s.part ++ t) (s.all_sent refl) ∙ append-nil s.part in
-      subst (Appends before after) (ap (λ t. told_text (map f (take i xs)) ++ t) (sym whole) ∙ sym text_on)
+      subst (Appends before after) (ap (λ t. told_text (map f (take i xs)) ++ t) (sym (FrontSent-whole s)) ∙ sym text_on)
       (Appends-trans before now after (told_text (map f (take i xs))) s.part a s.appended)
 
   -- or a front of it
@@ -93,9 +93,7 @@ module _ {S : Type 0} (g : Ghosts S) (old new : World S g) (account : ℕ) (left
         broke Memory o = inr (at_end, cut)
 
     pub written : FrontSent bytes held held' true → ServesOnly g old account left left' held held' (Ok whole) new
-    written s =
-        let all : s.part ≡ bytes = sym (s.of_bytes ∙ ap (λ t. s.part ++ t) (s.all_sent refl) ∙ append-nil s.part) in
-        record { read = read; consumed = consumed; sent = bytes; appended = subst (Appends held held') all s.appended; outcome = (at_end, ran) }
+    written s = record { read = read; consumed = consumed; sent = bytes; appended = subst (Appends held held') (sym (FrontSent-whole s)) s.appended; outcome = (at_end, ran) }
 
 -- what was told of a slice's events, of a stream's
 pub ran_only : {S : Type 0} (g : Ghosts S) (old new : World S g) (account : ℕ) (es es' : List Event) → es ≡ es' → (replies : List Told) (bytes : Text) (whole : Bool) → bytes ≡ told_text replies

@@ -1,6 +1,6 @@
 -- SPDX-License-Identifier: Apache-2.0
 -- Bytes that are sent bit by bit.
-use Rattle.mwire.proofs.WireWords.{◌≡◌, ◌++◌, ◌-◌, [], ◌∷◌, ℕ, refl, Bool, true, Option, length, take, drop, arith, Appends-nil, Appends-trans, Appends-kept, Appends, Keeps, Text, SentUpTo, FrontSent}
+use Rattle.mwire.proofs.WireWords.{◌≡◌, ◌++◌, ◌-◌, [], ℕ, refl, Bool, true, Option, length, take, drop, Appends-nil, Appends-trans, Appends, Text, SentUpTo, FrontSent, ap, ◌∙◌, append-nil}
 use Rattle.mwire.proofs.Fronts.{rest_after}
 
 pub SentUpTo-start : (bytes : Text) (before : Option Text) → SentUpTo bytes bytes before before
@@ -14,16 +14,9 @@ SentUpTo-more bytes rest before now after n s a = record {
   appended = Appends-trans before now after s.part (take n rest) s.appended a;
 }
 
--- nothing more is sent
-pub FrontSent-cut : (bytes rest : Text) (before after : Option Text) (whole : Bool) → SentUpTo bytes rest before after → (whole ≡ true → rest ≡ []) → FrontSent bytes before after whole
-FrontSent-cut bytes rest before after whole s all = record { part = s.part; unsent = rest; of_bytes = s.of_bytes; all_sent = all; appended = s.appended }
-
-pub SentUpTo-kept : (bytes rest : Text) (before now after : Option Text) → SentUpTo bytes rest before now → Keeps now after → SentUpTo bytes rest before after
-SentUpTo-kept bytes rest before now after s k = record { part = s.part; of_bytes = s.of_bytes; appended = Appends-kept before now after s.part s.appended k }
-
-pub no_rest : (rest : Text) → length rest ≡ 0 → rest ≡ []
-no_rest [] e = refl
-no_rest (x ∷ xs) e = absurd (omega arith)
+-- where all was sent
+pub FrontSent-whole : {bytes : Text} {before after : Option Text} (s : FrontSent bytes before after true) → bytes ≡ s.part
+FrontSent-whole s = s.of_bytes ∙ (ap (λ x. s.part ++ x) (s.all_sent refl) ∙ append-nil s.part)
 
 -- of an answer none is sent
 pub FrontSent-none : (bytes : Text) (before : Option Text) (whole : Bool) → (whole ≡ true → bytes ≡ []) → FrontSent bytes before before whole

@@ -1,6 +1,6 @@
 -- SPDX-License-Identifier: Apache-2.0
 -- Connections after connections.
-use Rattle.mwire.proofs.WireWords.{◌≡◌, ◌++◌, ◌+◌, ℕ, List, [], ◌∷◌, length, refl, sym, ap, subst, ◌∙◌, Option, Some, Result, Err, arith, All, map-append, All-append, All-cons, All-nil, Text, Settings, World, Ghosts, Serves, Visit, AreServed, AreOfPeers, HasServedEach, ServesEach, WireFault}
+use Rattle.mwire.proofs.WireWords.{◌≡◌, ◌++◌, ◌+◌, ℕ, List, [], ◌∷◌, length, refl, sym, ap, subst, ◌∙◌, Option, Some, Result, Err, arith, map-append, All-append, All-cons, All-nil, Text, Settings, World, Ghosts, Serves, Visit, AreServed, AreOfPeers, HasServedEach, ServesEach, WireFault}
 use Rattle.std.specs.Prelude.{map}
 use Rattle.std.proofs.lemmas.List.{append_assoc, append-nil, length-append}
 use Rattle.mwire.specs.declared.fault.AcceptFault.{AcceptFault}
@@ -9,13 +9,9 @@ use Rattle.mwire.specs.declared.fault.AcceptFault.{AcceptFault}
 of_peers_on : (vs ws : List Visit) (waiting waiting' waiting'' answered answered' answered'' : List Text)
     → AreOfPeers vs waiting waiting' answered answered' → AreOfPeers ws waiting' waiting'' answered' answered'' → AreOfPeers (vs ++ ws) waiting waiting'' answered answered''
 of_peers_on vs ws waiting waiting' waiting'' answered answered' answered'' p q = record {
-  came = p.came ∙ ap (λ (rest : List (Option Text)). map (λ (v : Visit). v.left) vs ++ rest) q.came
-      ∙ sym (append_assoc (map (λ (v : Visit). v.left) vs) (map (λ (v : Visit). v.left) ws) (map Some waiting''))
-      ∙ ap (λ (all : List (Option Text)). all ++ map Some waiting'') (sym (map-append (λ (v : Visit). v.left) vs ws));
+  came = simp (map-append, append_assoc) (p.came ∙ ap (λ (rest : List (Option Text)). map (λ (v : Visit). v.left) vs ++ rest) q.came);
   fresh = All-append (λ (v : Visit). v.held ≡ Some []) vs ws p.fresh q.fresh;
-  went = q.went ∙ ap (λ (front : List (Option Text)). front ++ map (λ (v : Visit). v.held') ws) p.went
-      ∙ append_assoc (map Some answered) (map (λ (v : Visit). v.held') vs) (map (λ (v : Visit). v.held') ws)
-      ∙ ap (λ (all : List (Option Text)). map Some answered ++ all) (sym (map-append (λ (v : Visit). v.held') vs ws));
+  went = rw (q.went, p.went) (simp (map-append, append_assoc));
 }
 
 module _ {S : Type 0} (g : Ghosts S) (settings : Settings) where
@@ -24,13 +20,18 @@ module _ {S : Type 0} (g : Ghosts S) (settings : Settings) where
   served_on (v ∷ vs) ws world between after s t = (s.0, s.1, served_on vs ws s.0 between after s.2 t)
 
   module _ (tells : Type 0) where
-    -- no connection yet
-    pub each_start : (world : World) (waiting answered : List Text) → HasServedEach g settings 0 world world tells waiting waiting answered answered
-    each_start world waiting answered = record {
+    -- no connection
+    pub each_start : (world : World) (waiting waiting' answered answered' : List Text) → (tells → waiting ≡ waiting') → (tells → answered' ≡ answered)
+        → HasServedEach g settings 0 world world tells waiting waiting' answered answered'
+    each_start world waiting waiting' answered answered' stay kept = record {
       visits = [];
       many = refl;
       served = refl;
-      of_peers = λ t. record { came = refl; fresh = All-nil (λ (v : Visit). v.held ≡ Some []); went = sym (append-nil (map Some answered)) };
+      of_peers = λ t. record {
+        came = ap (λ (all : List Text). map Some all) (stay t);
+        fresh = All-nil (λ (v : Visit). v.held ≡ Some []);
+        went = ap (λ (all : List Text). map Some all) (kept t) ∙ sym (append-nil (map Some answered));
+      };
     }
 
     pub each_on : (n m : ℕ) (world between after : World) (waiting waiting' waiting'' answered answered' answered'' : List Text)
@@ -66,18 +67,5 @@ module _ {S : Type 0} (g : Ghosts S) (settings : Settings) where
     pub none_served : (world : World) (fault : AcceptFault) (waiting waiting' answered answered' : List Text)
         → (tells → (waiting ≡ []) × (waiting' ≡ [])) → (tells → answered' ≡ answered)
         → ServesEach g settings 1 world world tells waiting waiting' answered answered' (Err fault)
-    none_served world fault waiting waiting' answered answered' nobody kept = (
-      0,
-      omega arith,
-      λ t. (nobody t).1,
-      record {
-        visits = [];
-        many = refl;
-        served = refl;
-        of_peers = λ t. record {
-          came = ap (λ (all : List Text). map Some all) ((nobody t).0 ∙ sym (nobody t).1);
-          fresh = All-nil (λ (v : Visit). v.held ≡ Some []);
-          went = ap (λ (all : List Text). map Some all) (kept t) ∙ sym (append-nil (map Some answered));
-        };
-      },
-    )
+    none_served world fault waiting waiting' answered answered' nobody kept =
+        (0, omega arith, λ t. (nobody t).1, each_start world waiting waiting' answered answered' (λ t. (nobody t).0 ∙ sym (nobody t).1) kept)

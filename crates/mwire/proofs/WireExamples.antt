@@ -1,16 +1,11 @@
 -- SPDX-License-Identifier: Apache-2.0
 -- The wire form and the replies of the definitional interpreter on examples, as proved equations.
-use Rattle.mwire.proofs.WireWords.{◌≡◌, ℕ, List, [], ◌∷◌, ◌++◌, refl, ap, ◌∙◌, codes, replicate, digits, lines, Text, no_locals, level_begun, value_of, assigned_to, Zlong, Own, Settings, World, Reply, Finished, Halted, Faulted, opening, WireLine, Ignored, TooLong, Unreadable, Runs, classify, shown, reply_text, too_long_text, unreadable_text, line_served, lines_served, stream_served}
+use Rattle.mwire.proofs.WireWords.{◌≡◌, ℕ, List, [], ◌∷◌, ◌++◌, refl, ap, ◌∙◌, codes, replicate, digits, lines, Text, no_locals, level_begun, value_of, assigned_to, Zlong, Own, Settings, World, Reply, Finished, Halted, Faulted, opening, WireLine, Ignored, TooLong, Unreadable, Runs, classify, shown, reply_text, line_served, lines_served, stream_served}
 use Rattle.std.specs.FinMap.{empty, gets}
 use Rattle.mspec.specs.NodeOrder.{canonical_value}
 use Rattle.mspec.proofs.ComputedMaps.{computed_maps}
 use Rattle.mspec.proofs.ComputedNumbers.{computed_numbers}
-use Rattle.mgrammar.specs.Grammar.{special_of}
-use Rattle.mgrammar.specs.Commands.{keyword_of}
-use Rattle.mgrammar.specs.Functions.{function_of}
-use Rattle.mgrammar.specs.ReadingWords.{many, list_at, point_at, exponent_at, number_at, name_at, operator_at, truth_at}
-use Rattle.mgrammar.specs.ReadingExpressions.{bracket_with, refer_with, dollar_with, subscripts_with, reference_with, primary_with, operand_with, tail_by, tail_with, expr_with, readers_at}
-use Rattle.mgrammar.specs.Reading.{target_with, destination_at, set_argument_at, names_at, kill_argument_at, new_argument_at, if_argument_at, parameter_at, for_argument_at, write_argument_at, args_at, postcondition_at, command_at, spaced_at, comment_at, line_at}
+use Rattle.mgrammar.specs.Reading.{line_at}
 use Rattle.mgrammar.proofs.Computing.{reads}
 use Rattle.mmeaning.proofs.ExampleAccount.{alice}
 use Rattle.mmeaning.proofs.LineRuns.{shut_step, step_is_shut}
@@ -64,10 +59,8 @@ reply_endings = (refl, refl)
 -- ---- streams, by steps whose turns are shut
 
 abbrev line_by_shut : Settings → World → WireLine → Text × World
-line_by_shut settings world Ignored = ([], world)
-line_by_shut settings world TooLong = (too_long_text, world)
-line_by_shut settings world Unreadable = (unreadable_text, world)
 line_by_shut settings world (Runs e) = (reply_text e.terminal (shut_step settings e (line_at e.text) world).0, (shut_step settings e (line_at e.text) world).1)
+line_by_shut settings world unrun = line_served settings world unrun
 
 abbrev lines_by_shut : Settings → World → List Text → Text
 lines_by_shut settings world [] = []
@@ -75,10 +68,8 @@ lines_by_shut settings world (line ∷ more) =
     (line_by_shut settings world (classify line)).0 ++ lines_by_shut settings (line_by_shut settings world (classify line)).1 more
 
 line_is_shut : (settings : Settings) (world : World) (f : WireLine) → line_served settings world f ≡ line_by_shut settings world f
-line_is_shut settings world Ignored = refl
-line_is_shut settings world TooLong = refl
-line_is_shut settings world Unreadable = refl
 line_is_shut settings world (Runs e) = ap (λ (r : Reply × World). (reply_text e.terminal r.0, r.1)) (step_is_shut settings e world)
+line_is_shut settings world unrun = refl
 
 lines_are_shut : (settings : Settings) (world : World) (ls : List Text) → lines_served settings world ls ≡ lines_by_shut settings world ls
 lines_are_shut settings world [] = refl

@@ -42,12 +42,7 @@ pub fn classify(line: &[u8]) -> WireLine<'_>
 fn first_space(line: &[u8]) -> Option<usize>
     ensures { result ≡ space_read line.now }
 {
-    for (i, b) in line.iter().enumerate() {
-        if *b == b' ' {
-            return Some(i);
-        }
-    }
-    None
+    line.iter().position(|b| *b == b' ')
 }
 
 // The terminal that these bytes name, if they do.

@@ -4,7 +4,7 @@ use Rattle.mwire.proofs.Visits.{each_start, each_on}
 use Rattle.mwire.proofs.connections.serve_each.Goals as goal
 
 pub loop-number-init : goal.loop-number-init
-loop-number-init g c = record { settings = refl; served = each_start _ _ _ _ _ _ }
+loop-number-init g c = record { settings = refl; served = each_start _ _ _ _ _ _ _ _ (λ t. refl) (λ t. refl) }
 
 pub returns-in-Err-clause-served : goal.returns-in-Err-clause-served
 returns-in-Err-clause-served g c =

@@ -3,12 +3,14 @@
 use crate::lines::Lines;
 use anyhow::Context;
 use meval::{Depth, Eval, Place, Session};
-use mgrant::{AccountId, Settings};
+use mgrant::{AccountId, Mode, Settings};
 use mkey::read;
 use mnum::Bytes7;
+use moperator::Code;
 use mparse::parse_ref;
 use mstore::Plain;
 use mtranscript::{bytes_of, play, print_result};
+use mtree::Reference;
 use std::alloc::Global;
 
 // How many steps a reference has.
@@ -61,7 +63,7 @@ fn resolved(alloc: Global, there: &mut Resolving<'_>, case: &str) -> anyhow::Res
             indirections: 0,
         },
     };
-    match eval.resolve(alloc, &reference) {
+    match place_of(alloc, &mut eval, &reference) {
         Ok(place) => shown(alloc, &place),
         Err(code) => {
             let name = format!(in alloc; "{code:?}")?;
@@ -72,6 +74,16 @@ fn resolved(alloc: Global, there: &mut Resolving<'_>, case: &str) -> anyhow::Res
             Ok(told)
         }
     }
+}
+
+// The place of a reference that is to be changed.
+fn place_of<'t>(
+    alloc: Global,
+    eval: &mut Eval<'_, Plain>,
+    reference: &'t Reference,
+) -> Result<Place<'t>, Code> {
+    let pending = eval.evaluated(alloc, reference)?;
+    eval.resolved(alloc, Mode::Write, pending)
 }
 
 fn shown(alloc: Global, place: &Place<'_>) -> anyhow::Result<Vec<u8>> {

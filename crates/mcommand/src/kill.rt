@@ -6,6 +6,7 @@ ghost use Rattle.mtree.specs.Tree.{reference_tree};
 ghost use Rattle.mcommand.specs.Does.{Does, KeepsLoans};
 
 use crate::parts::Parts;
+use mgrant::Mode;
 use moperator::Code;
 use mstore::NodeStore;
 use mtree::Reference;
@@ -23,8 +24,8 @@ impl<'a, S: NodeStore> Parts<'a, S> {
         ensures fewer { self.new.eval.steps ≤ self.old.eval.steps }
         ensures does { Does S.NodeStore (λ i. meaning.killing i (reference_tree reference.now)) (λ u. u) self.old result self.new }
     {
-        let pending = self.eval.resolve_left(alloc, reference)?;
-        let place = self.eval.finish_left(alloc, pending)?;
+        let pending = self.eval.evaluated(alloc, reference)?;
+        let place = self.eval.resolved(alloc, Mode::Write, pending)?;
         self.eval.kill(&place)
     }
 }

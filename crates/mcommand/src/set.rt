@@ -1,6 +1,6 @@
 // SPDX-License-Identifier: Apache-2.0
 // SET: the parts of its targets are evaluated first, then the right side, and then each target is assigned.
-ghost use Rattle.std.specs.Prelude.{◌≡◌, ◌≤◌, [], map, option_map, IfSome};
+ghost use Rattle.std.specs.Prelude.{◌≤◌, [], map, option_map};
 ghost use Rattle.mgrammar.specs.Grammar.{one, variable, local, exprs, no_exprs};
 ghost use Rattle.mmeaning.specs.LineMeaning as meaning;
 ghost use Rattle.mtree.specs.Tree.{expr_tree, piece_tree, target_tree, destination_tree};
@@ -9,7 +9,8 @@ ghost use Rattle.mcommand.specs.Does.{Does, KeepsLoans};
 ghost use Rattle.mcommand.specs.Prepared.{prepared_view};
 
 use crate::parts::Parts;
-use meval::{Pending, local_node};
+use meval::Pending;
+use mgrant::Mode;
 use mnum::{Bytes7, Name};
 use moperator::{Code, whole_number};
 use mstore::NodeStore;
@@ -25,29 +26,6 @@ pub(crate) enum Prepared<'t> {
     Whole(Pending<'t>),
     // A piece of a variable, with its delimiter and its place.
     Part(Pending<'t>, Bytes7, Option<Value>),
-}
-
-// The name of a target that is a local variable without subscripts. It has nothing to evaluate, and no check refuses it.
-fn plain_target(target: &Target) -> Option<&Name>
-    ensures { IfSome result (λ name. target_tree target.now ≡ variable (local name.now no_exprs)) }
-{
-    match target {
-        Target::Variable(Reference::Local(name, subscripts)) => match subscripts.as_slice() {
-            [] => Some(name),
-            [_, ..] => None,
-        },
-        _ => None,
-    }
-}
-
-// The name and the subscript of a target that is a local variable with one.
-fn node_target(target: &Target) -> Option<(&Name, &Expr)>
-    ensures { IfSome result (λ node. target_tree target.now ≡ variable (local node.0.now (exprs (expr_tree node.1.now) no_exprs))) }
-{
-    match target {
-        Target::Variable(reference) => local_node(reference),
-        Target::Piece(_) => None,
-    }
 }
 
 impl<'a, S: NodeStore> Parts<'a, S> {
@@ -77,7 +55,7 @@ impl<'a, S: NodeStore> Parts<'a, S> {
         ensures fewer { self.new.eval.steps ≤ self.old.eval.steps }
         ensures does { Does S.NodeStore (λ i. meaning.prepared i (piece_tree part.now)) prepared_view self.old result self.new }
     {
-        let pending = self.eval.resolve_left(alloc, &part.reference)?;
+        let pending = self.eval.evaluated(alloc, &part.reference)?;
         let delimiter = self.eval.eval(alloc, &part.delimiter)?;
         let place = self.optional_value(alloc, &part.place)?;
         let delimiter = delimiter.into_text(alloc)?;
@@ -92,7 +70,7 @@ impl<'a, S: NodeStore> Parts<'a, S> {
     {
         match target {
             Target::Variable(reference) => {
-                let pending = self.eval.resolve_left(alloc, reference)?;
+                let pending = self.eval.evaluated(alloc, reference)?;
                 Ok(Prepared::Whole(pending))
             }
             Target::Piece(part) => self.prepared_part(alloc, part),
@@ -130,7 +108,7 @@ impl<'a, S: NodeStore> Parts<'a, S> {
         ensures fewer { self.new.eval.steps ≤ self.old.eval.steps }
         ensures does { Does S.NodeStore (λ i. meaning.assigned value.now (meaning.part (pending_view pending.entry) delimiter.now place.now)) (λ u. u) self.old result self.new }
     {
-        let left = self.eval.finish_left(alloc, pending)?;
+        let left = self.eval.resolved(alloc, Mode::Write, pending)?;
         let place = whole_number(place)?;
         let old = self.eval.text_or_empty(alloc, &left)?;
         let shown = value.shown(alloc)?;
@@ -146,7 +124,7 @@ impl<'a, S: NodeStore> Parts<'a, S> {
     {
         match prepared {
             Prepared::Whole(pending) => {
-                let place = self.eval.finish_left(alloc, pending)?;
+                let place = self.eval.resolved(alloc, Mode::Write, pending)?;
                 self.eval.put(alloc, &place, value)
             }
             Prepared::Part(pending, delimiter, place) => {
@@ -181,22 +159,38 @@ impl<'a, S: NodeStore> Parts<'a, S> {
     {
         let subscript = self.eval.eval(alloc, subscript)?;
         let value = self.eval.eval(alloc, e)?;
-        self.eval.put_local(name, &subscript, value)
+        self.eval.fast_put(name, &subscript, value)
     }
 
     // Gives one target the value of the expression behind it, whatever it evaluates and checks.
     #[inline(never)]
+    fn setting_target(&mut self, alloc: Global, target: &Target, e: &Expr) -> Result<(), Code>
+        ensures loans { KeepsLoans self.old self.new }
+        ensures fewer { self.new.eval.steps ≤ self.old.eval.steps }
+        ensures does { Does S.NodeStore (λ i. meaning.setting i (one (target_tree target.now)) (expr_tree e.now)) (λ u. u) self.old result self.new }
+    {
+        let prepared = self.prepared(alloc, target)?;
+        let value = self.eval.eval(alloc, e)?;
+        self.assign(alloc, value, prepared)
+    }
+
+    // The same, by the shape of a variable. One without subscripts has nothing to evaluate, and no check refuses it.
     fn setting_one(&mut self, alloc: Global, target: &Target, e: &Expr) -> Result<(), Code>
         ensures loans { KeepsLoans self.old self.new }
         ensures fewer { self.new.eval.steps ≤ self.old.eval.steps }
         ensures does { Does S.NodeStore (λ i. meaning.setting i (one (target_tree target.now)) (expr_tree e.now)) (λ u. u) self.old result self.new }
     {
-        if let Some((name, subscript)) = node_target(target) {
-            return self.setting_node(alloc, name, subscript, e);
+        let Target::Variable(reference) = target else {
+            return self.setting_target(alloc, target, e);
+        };
+        match reference {
+            Reference::Variable(name) => {
+                let value = self.eval.eval(alloc, e)?;
+                self.eval.set_variable(name, value)
+            }
+            Reference::Node(name, subscript) => self.setting_node(alloc, name, subscript, e),
+            _ => self.setting_target(alloc, target, e),
         }
-        let prepared = self.prepared(alloc, target)?;
-        let value = self.eval.eval(alloc, e)?;
-        self.assign(alloc, value, prepared)
     }
 
     /// Gives what stands to the left of `=` the value of the expression behind it.
@@ -216,13 +210,7 @@ impl<'a, S: NodeStore> Parts<'a, S> {
         ensures does { Does S.NodeStore (λ i. meaning.setting i (destination_tree destination.now) (expr_tree e.now)) (λ u. u) self.old result self.new }
     {
         match destination {
-            Destination::One(target) => match plain_target(target) {
-                Some(name) => {
-                    let value = self.eval.eval(alloc, e)?;
-                    self.eval.set_variable(name, value)
-                }
-                None => self.setting_one(alloc, target, e),
-            },
+            Destination::One(target) => self.setting_one(alloc, target, e),
             Destination::Several(targets) => {
                 let all = self.all_prepared(alloc, targets)?;
                 let value = self.eval.eval(alloc, e)?;

@@ -1,6 +1,6 @@
 -- SPDX-License-Identifier: Apache-2.0
 -- Operators of arithmetic one after another, on a number to the left.
-use Rattle.meval.proofs.EvalWords.{◌≡◌, ℕ, ◌+◌, ◌<◌, ◌≤◌, [], length, drop, get_or, map, Some, None, Result, Ok, Err, refl, sym, ap, ◌∙◌, subst, ℤ, Zover, significant_digits, numeric_value, number_text, Act, ◌>>=◌, charge, give, give_some, ExprTree, expr, OperandTree, operand, bracket, TailTree, apply, tail, no_tails, tails_of, as_number, both_numbers, binary, Inside, value, primary_value, operand_value, tail_value, tails_value, tail_tree, Tail, Yields, yields_gives, units, Num, Ghosts, fault_of, Code, Eval, Evaluates, Leads, operand_number}
+use Rattle.meval.proofs.EvalWords.{◌≡◌, ℕ, ◌+◌, ◌<◌, ◌≤◌, [], length, drop, get_or, map, Some, None, Result, Ok, Err, refl, sym, ap, ◌∙◌, subst, ℤ, Zover, significant_digits, numeric_value, number_text, Act, ◌>>=◌, charge, give, give_some, ExprTree, expr, OperandTree, operand, bracket, PrimaryTree, TailTree, apply, tail, no_tails, tails_of, as_number, both_numbers, binary, Inside, value, primary_value, operand_value, tail_value, tails_value, tail_tree, Tail, Yields, yields_gives, units, Num, Ghosts, fault_of, Code, Eval, Evaluates, Leads, operand_number, primary_number}
 use Rattle.std.proofs.Common.{List, Option}
 use Rattle.mspec.specs.Act.{Text}
 use Rattle.mmeaning.specs.LineMeaning.{number_of}
@@ -8,9 +8,9 @@ use Rattle.mvalue.proofs.Numbers.{number_again}
 use Rattle.moperator.specs.Calculations.{operator_tree, calculated}
 use Rattle.moperator.specs.declared.arithmetic.Arithmetic.{Arithmetic}
 use Rattle.moperator.specs.declared.arithmetic.Arithmetic.TheVariants.{Add, Subtract, Multiply, Divide, DivideWhole, Remainder}
-use Rattle.meval.proofs.Calls.{evaluates_then, evaluates_failed, evaluates_yielded}
-use Rattle.meval.proofs.AtOnce.{written, regrouped, grouped}
-use Rattle.meval.proofs.Trees.{charge_failed, from_tail, from_end}
+use Rattle.meval.proofs.Calls.{evaluates_then, evaluates_failed, evaluates_seen, evaluates_refused, evaluates_yielded}
+use Rattle.meval.proofs.LocalVariables.{regrouped, grouped}
+use Rattle.meval.proofs.Trees.{charge_failed, from_tail}
 
 -- an operator of arithmetic wants both operands as numbers
 wants_numbers : (o : Arithmetic) (x y : Text) → ◌≡◌ {A = Act Text} (binary (operator_tree o) x y) (both_numbers x y >>= (λ n. calculated o n.0 n.1))
@@ -91,10 +91,10 @@ module _ {S : Type 0} {g : Ghosts S} where
   pub leads_on : {p q s : Inside → Act Text} {old mid new : Eval S} → Leads g p old q mid → Leads g q mid s new → Leads g p old s new
   leads_on first second = record { on = λ r e d. first.on r e (second.on r e d) }
 
-  -- behind the last step
-  pub leads_end : {p : Inside → Act Text} {old new : Eval S} (items : List Tail) (i : ℕ) (x : Text) → length items ≤ i → Leads g p old (λ a. tails_value a x (tails_of (map tail_tree (drop i items)))) new
-      → Evaluates g p (λ (v : Text). v) old (Ok x) new
-  leads_end {new = new} items i x past leads = leads.on (Ok x) new (from_end (λ (v : Text). v) items i x past)
+  -- up to it, and what is done from there on, in a place
+  pub leads_into : {p q : Inside → Act Text} {old mid new : Eval S} {x : Text} {r : Result (Unit {0}) Code} → Leads g p old q mid → Evaluates g q (λ (u : Unit {0}). x) mid r new → Evaluates g p (λ (u : Unit {0}). x) old r new
+  leads_into {x = x} {r = Ok u} leads d = evaluates_seen x u refl (leads.on _ _ (evaluates_seen u x refl d))
+  leads_into {r = Err e} leads d = evaluates_refused (λ (u : Unit {0}). _) (leads.on _ _ (evaluates_refused (λ (v : Text). v) d))
 
   -- ---- numbers of values
 
@@ -102,9 +102,9 @@ module _ {S : Type 0} {g : Ghosts S} where
   pub number_read : {p : Inside → Act Text} {old new : Eval S} (n : Num) → Evaluates g p (λ (v : Text). v) old (Ok (number_text (units n))) new → Evaluates g (λ i. p i >>= as_number) (λ (u : Unit {0}). units n) old (Ok tt) new
   number_read n d = evaluates_then (λ i. as_number) d (evaluates_yielded (read_again n))
 
-  -- and of one that is seen as a number
-  pub number_seen : {p : Inside → Act Text} {old new : Eval S} (n : Num) → Evaluates g p written old (Ok n) new → Evaluates g (λ i. p i >>= as_number) (λ (u : Unit {0}). units n) old (Ok tt) new
-  number_seen n d = evaluates_then (λ i. as_number) d (evaluates_yielded (read_again n))
+  -- of a primary without signs
+  pub of_primary : {X : Type 0} {f : X → ℤ} {old new : Eval S} {r : Result X Code} (p : PrimaryTree) → Evaluates g (λ i. primary_number i p) f old r new → Evaluates g (λ i. operand_number i (operand [] p)) f old r new
+  of_primary p d = grouped (λ i. primary_value i p) (λ i x. give x) (λ i x. as_number x) d
 
   -- of an operand alone
   pub alone : {X : Type 0} {f : X → ℤ} {old new : Eval S} {r : Result X Code} (o : OperandTree) → Evaluates g (λ i. operand_number i o) f old r new → Evaluates g (λ i. number_of i (expr o no_tails)) f old r new

@@ -13,7 +13,7 @@ pub use Rattle.mmeaning.specs.Calls.{Did, Ends, FailedBy, Here, Standing, ops_of
 pub use Rattle.mmeaning.specs.Expression.{Inside, an_indirection_free, chosen, evaluated, indirected, inside, is_indirection_free, named_by, operand_value, primary_value, tail_value, tails_value, through, value, values}
 unfoldable pub use Rattle.mmeaning.specs.Expression.{finds}
 pub use Rattle.mmeaning.specs.Operators.{as_number, as_text, as_truth, binary, both_numbers}
-pub use Rattle.mmeaning.specs.Variables.{Evaluated, Place, allowed, at_local, at_node, beside, checked, direction_of, found_at, named_lock, next_at, node_place, of_global, of_local, ordering, put_at, read_at, reading, referring, replaced, resolve, some_subscript, special_value, subscripts_of, with_subscripts}
+pub use Rattle.mmeaning.specs.Variables.{Evaluated, Place, allowed, at_local, at_node, beside, checked, direction_of, found_at, named_lock, next_at, node_place, of_global, of_local, of_naked, ordering, put_at, read_at, read_or, reading, referring, replaced, resolve, some_subscript, special_value, subscripts_of, with_subscripts}
 pub use Rattle.mmeaning.specs.Yields.{Yields}
 pub use Rattle.mnum.specs.Num.{units}
 pub use Rattle.mnum.specs.declared.num.Num.{Num}
@@ -36,8 +36,8 @@ pub use Rattle.mtree.specs.Tree.{ChoiceTree, atom_tree, binary_tree, choice_laye
 pub use Rattle.mtree.specs.declared.tree.Choice.{Choice}
 pub use Rattle.mtree.specs.declared.tree.Expr.{Expr}
 pub use Rattle.mtree.specs.declared.tree.Tail.{Tail}
-pub use Rattle.meval.specs.Acts.{direction_act, operand_number, order_behind, order_from, read_act}
+pub use Rattle.meval.specs.Acts.{data_act, direction_act, get_act, operand_number, order_behind, order_from, primary_number, read_act}
 pub use Rattle.meval.specs.Evaluates.{Evaluates, KeepsEval, Leads, depth_of, eval_here, standing_of}
-pub use Rattle.meval.specs.Places.{IsDirect, IsOpen, NamesNoAccount, name_view, named, pending_view, place_view, subscripts_tree, undefined_at, use_of, walk_view}
+pub use Rattle.meval.specs.Places.{IsOpen, name_view, pending_view, place_view, undefined_at, use_of, walk_view}
 pub use Rattle.meval.specs.declared.depth.Depth.{Depth}
 pub use Rattle.meval.specs.declared.eval.Eval.{Eval}

@@ -7,5 +7,5 @@ pub mod Trees
 pub mod Asking
 pub mod Indirections
 pub mod Locks
-pub mod AtOnce
+pub mod LocalVariables
 pub mod Chains

@@ -1,29 +1,26 @@
 -- SPDX-License-Identifier: Apache-2.0
--- What is left of a reference behind the values of its subscripts, and what the checks let through as a walk.
-use Rattle.meval.proofs.EvalWords.{◌≡◌, ℕ, zero, suc, ◌<◌, [], ◌∷◌, length, Result, Ok, Err, subst, refl, sym, arith, ◌==◌, false≢true, ◌>>=◌, ◌>>◌, give, unless, Node, AreOrderSubscripts, are_order_subscripts, order_subscripts_test, ReferenceTree, local, global, naked, indirect, extended, values, evaluated, Evaluated, checked, ordering, some_subscript, Yields, did_gives, Ghosts, fault_of, Code, Zsub, Eval, Evaluates, standing_of, pending_view, subscripts_tree, named, IsDirect, NamesNoAccount}
+-- Nodes that references name, and what the checks let through as a walk.
+use Rattle.meval.proofs.EvalWords.{◌≡◌, ℕ, zero, suc, ◌<◌, [], ◌∷◌, length, Result, Ok, Err, subst, refl, sym, arith, ◌==◌, false≢true, ◌>>=◌, ◌>>◌, Act, give, unless, ExprsTree, Inside, values, Evaluated, Node, AreOrderSubscripts, are_order_subscripts, order_subscripts_test, of_global, checked, ordering, some_subscript, Yields, did_gives, Ghosts, fault_of, Code, Zsub, Eval, Evaluates, standing_of, pending_view}
 use Rattle.std.proofs.Common.{false, List}
 use Rattle.mspec.specs.Act.{Text}
 use Rattle.mspec.specs.Code as spec
 use Rattle.meval.specs.declared.place.Pending.{Pending}
 
--- ---- references
-
-pub as_evaluated : {S X : Type 0} {g : Ghosts S} {f : X → Evaluated} {old new : Eval S} {res : Result X Code} (r : ReferenceTree) → IsDirect r → NamesNoAccount r
-    → Evaluates g (λ i. values i [] (subscripts_tree r) >>= (λ xs. give (named i.account r xs))) f old res new → Evaluates g (λ i. evaluated i r) f old res new
-as_evaluated (local name subscripts) direct own d = d
-as_evaluated (global name subscripts) direct own d = d
-as_evaluated (naked subscripts) direct own d = d
-as_evaluated (indirect p subscripts) direct own d = absurd direct
-as_evaluated (extended e name subscripts) direct own d = absurd own
+-- ---- nodes
 
 -- a node of an account that a text names
 abbrev pub node_of : Text → Text → List Text → Node
 node_of owner name xs = record { account = owner; name = name; subscripts = xs }
 
-pub gives_named : {S : Type 0} {g : Ghosts S} {e : Eval S} (r : ReferenceTree) (xs : List Text) (p : Pending) → pending_view p ≡ named (standing_of e).account r xs
-    → Evaluates g (λ i. give (named i.account r xs)) pending_view e (Ok p) e
-gives_named {e = e} r xs p is = record {
-  at = λ sound out locks. did_gives (named (standing_of e).account r xs) pending_view p is;
+-- what follows the name of the account
+abbrev pub owned : Text → ExprsTree → Inside → Text → Act Evaluated
+owned name subscripts i owner = values i [] subscripts >>= (λ xs. give (of_global (node_of owner name xs)))
+
+-- and one of the line's account
+pub gives_own : {S : Type 0} {g : Ghosts S} {e : Eval S} (name : Text) (xs : List Text) (p : Pending) → pending_view p ≡ of_global (node_of (standing_of e).account name xs)
+    → Evaluates g (λ i. give (of_global (node_of i.account name xs))) pending_view e (Ok p) e
+gives_own {e = e} name xs p is = record {
+  at = λ sound out locks. did_gives (of_global (node_of (standing_of e).account name xs)) pending_view p is;
   same = refl;
   depth = refl;
 }

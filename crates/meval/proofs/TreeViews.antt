@@ -41,6 +41,12 @@ refer_is r = ap primary_tree (sym (primary.rolls-Refer r)) ∙ fold-roll-Primary
 pub referring_is : (r : Referring) → referring_tree r ≡ grammar.refer (out-Referring r).word (reference_tree (out-Referring r).reference) (exprs_of (map expr_tree (out-Referring r).more.items))
 referring_is = fold_out-Referring PrimaryTree ReferenceTree TailTree ChoiceTree ExprTree OperandTree PrimaryTree primary_layer reference_layer tail_layer choice_layer expr_layer operand_layer referring_layer
 
+pub variable_is : (name : List ℕ) → reference_tree (reference.Variable name) ≡ grammar.local name grammar.no_exprs
+variable_is name = ap reference_tree (sym (reference.rolls-Variable name)) ∙ fold-roll-Reference PrimaryTree ReferenceTree TailTree ChoiceTree ExprTree OperandTree PrimaryTree primary_layer reference_layer tail_layer choice_layer expr_layer operand_layer referring_layer _
+
+pub node_is : (name : List ℕ) (subscript : Box Expr Global) → reference_tree (reference.Node name subscript) ≡ grammar.local name (grammar.exprs (expr_tree subscript.value) grammar.no_exprs)
+node_is name subscript = ap reference_tree (sym (reference.rolls-Node name subscript)) ∙ fold-roll-Reference PrimaryTree ReferenceTree TailTree ChoiceTree ExprTree OperandTree PrimaryTree primary_layer reference_layer tail_layer choice_layer expr_layer operand_layer referring_layer _
+
 pub local_is : (name : List ℕ) (subscripts : Vec Expr Global) → reference_tree (reference.Local name subscripts) ≡ grammar.local name (exprs_of (map expr_tree subscripts.items))
 local_is name subscripts = ap reference_tree (sym (reference.rolls-Local name subscripts)) ∙ fold-roll-Reference PrimaryTree ReferenceTree TailTree ChoiceTree ExprTree OperandTree PrimaryTree primary_layer reference_layer tail_layer choice_layer expr_layer operand_layer referring_layer _
 

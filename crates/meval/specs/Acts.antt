@@ -1,15 +1,15 @@
 -- SPDX-License-Identifier: Apache-2.0
 -- What calls of the evaluation do, where the meaning has it inside of more.
-use Rattle.std.specs.Prelude.{ℤ, pos, Bool, [], slice_get}
+use Rattle.std.specs.Prelude.{ℤ, pos, Bool, [], slice_get, unwrap_or}
 use Rattle.mspec.specs.Trees.{Direction}
 use Rattle.mspec.specs.Act.{Text, Act, ◌>>=◌, give}
-use Rattle.mgrammar.specs.Grammar.{ExprTree, ExprsTree, OperandTree, ReferenceTree}
+use Rattle.mgrammar.specs.Grammar.{ExprTree, ExprsTree, OperandTree, PrimaryTree, ReferenceTree}
 use Rattle.mgrammar.specs.Functions.{get_function, order_function}
 use Rattle.mmeaning.specs.Operators.{as_number, as_truth}
 use Rattle.mmeaning.specs.Functions.{whole_text, call_value}
 use Rattle.mspec.specs.LockConflict.{LockName}
-use Rattle.mmeaning.specs.Variables.{Evaluated, Place, reading, writing, ordering, resolve, named_lock, read_at, put_at, status_at, next_at, data_number, direction_of, variable_function_value}
-use Rattle.mmeaning.specs.Expression.{Inside, value, values, operand_value, evaluated}
+use Rattle.mmeaning.specs.Variables.{Evaluated, Place, reading, writing, ordering, resolve, named_lock, read_at, read_or, put_at, status_at, next_at, data_number, direction_of, variable_function_value}
+use Rattle.mmeaning.specs.Expression.{Inside, value, values, operand_value, primary_value, evaluated}
 
 -- whether an expression is true
 abbrev pub truth : Inside → ExprTree → Act Bool
@@ -23,11 +23,11 @@ operand_number i o = do
   x ← operand_value i o
   as_number x
 
--- the place of a variable that is to be changed
-abbrev pub place_left : Inside → ReferenceTree → Act Place
-place_left i r = do
-  v ← evaluated i r
-  resolve writing v
+-- the number of a primary
+abbrev pub primary_number : Inside → PrimaryTree → Act ℤ
+primary_number i p = do
+  x ← primary_value i p
+  as_number x
 
 -- the lock that a reference names
 abbrev pub lock_name_act : Inside → ReferenceTree → Act LockName
@@ -51,6 +51,13 @@ data_act v = do
   p ← resolve reading v
   status ← status_at p
   give (whole_text (pos (data_number status)))
+
+-- what $GET does with it, and with the arguments behind the variable
+abbrev pub get_act : ExprsTree → Inside → Evaluated → Act Text
+get_act more i v = do
+  p ← resolve reading v
+  xs ← values i [] more
+  read_or (unwrap_or (slice_get xs 0) []) p
 
 -- the direction of $ORDER, by the first of the arguments behind the variable
 abbrev pub direction_act : Inside → ExprsTree → Act Direction

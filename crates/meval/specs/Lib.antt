@@ -5,4 +5,4 @@ pub mod Held
 pub mod Places
 pub mod Acts
 pub mod Evaluates
-pub mod Holds
+pub mod AtHand

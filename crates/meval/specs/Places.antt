@@ -1,12 +1,11 @@
 -- SPDX-License-Identifier: Apache-2.0
 -- References and places of the code, as the definitions have them.
-use Rattle.std.specs.Prelude.{◌≡◌, Bool, true, List}
+use Rattle.std.specs.Prelude.{◌≡◌, Bool, true}
 use Rattle.mspec.specs.Access.{Mode, may}
 use Rattle.mspec.specs.Code.{Code, M6, M7}
 use Rattle.mspec.specs.KeyBytes.{IsAccountName}
 use Rattle.mspec.specs.Node.{Text}
 use Rattle.mspec.specs.Trees.{AreOrderSubscripts}
-use Rattle.mgrammar.specs.Grammar.{ExprsTree, ReferenceTree, local, global, naked, indirect, extended}
 use Rattle.mmeaning.specs.Calls.{Standing}
 use Rattle.mmeaning.specs.Variables as variables
 use Rattle.mkey.specs.declared.walk.Data.{Data}
@@ -60,36 +59,3 @@ undefined_at (variables.at_node n) = M7
 
 abbrev pub status_view : Data → Bool × Bool
 status_view d = (d.value, d.descendants)
-
--- ---- what is left of a reference behind the values of its subscripts
-
--- its name, or that there is none, stands in it
-abbrev pub IsDirect : ReferenceTree → Type 0
-IsDirect (local name subscripts) = Unit {0}
-IsDirect (global name subscripts) = Unit {0}
-IsDirect (naked subscripts) = Unit {0}
-IsDirect (indirect p subscripts) = ⊥
-IsDirect (extended e name subscripts) = Unit {0}
-
--- no environment stands in it
-abbrev pub NamesNoAccount : ReferenceTree → Type 0
-NamesNoAccount (local name subscripts) = Unit {0}
-NamesNoAccount (global name subscripts) = Unit {0}
-NamesNoAccount (naked subscripts) = Unit {0}
-NamesNoAccount (indirect p subscripts) = Unit {0}
-NamesNoAccount (extended e name subscripts) = ⊥
-
-abbrev pub subscripts_tree : ReferenceTree → ExprsTree
-subscripts_tree (local name subscripts) = subscripts
-subscripts_tree (global name subscripts) = subscripts
-subscripts_tree (naked subscripts) = subscripts
-subscripts_tree (indirect p subscripts) = subscripts
-subscripts_tree (extended e name subscripts) = subscripts
-
--- of a reference that is direct and has no environment
-abbrev pub named : Text → ReferenceTree → List Text → variables.Evaluated
-named account (local name subscripts) xs = variables.of_local name xs
-named account (global name subscripts) xs = variables.of_global (record { account = account; name = name; subscripts = xs })
-named account (naked subscripts) xs = variables.of_naked xs
-named account (indirect p subscripts) xs = variables.of_naked xs
-named account (extended e name subscripts) xs = variables.of_naked xs

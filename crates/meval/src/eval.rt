@@ -1,29 +1,25 @@
 // SPDX-License-Identifier: Apache-2.0
 // The evaluation of expressions.
 ghost use Rattle.std.specs.Prelude.{◌≡◌, ◌≢◌, ◌≤◌, ◌<◌, [], drop, length, map, Some, Err, IfOk, IfErr, IsErr};
-ghost use Rattle.mgrammar.specs.Grammar.{local, no_exprs, exprs, indirect, extended, tails_of, exprs_of, choices_of};
+ghost use Rattle.mgrammar.specs.Grammar.{global, indirect, extended, tails_of, exprs_of, choices_of};
 ghost use Rattle.mmeaning.specs.Expression as meaning;
 ghost use Rattle.mmeaning.specs.LineMeaning as line;
-ghost use Rattle.mmeaning.specs.Variables as variables;
 ghost use Rattle.mnum.specs.Num.{units};
 ghost use Rattle.mspec.specs.Act.{Text, charge};
 ghost use Rattle.mspec.specs.NumberText.{number_text};
 ghost use Rattle.mtree.specs.Tree.{expr_tree, tail_tree, operand_tree, primary_tree, reference_tree, choice_tree};
 ghost use Rattle.moperator.specs.declared.code.Code.TheVariants.{Zsteps, Zstore};
-ghost use Rattle.meval.specs.Evaluates.{Evaluates, KeepsEval, Leads, standing_of};
+ghost use Rattle.meval.specs.Evaluates.{Evaluates, KeepsEval, Leads};
 ghost use Rattle.meval.specs.Acts as acts;
-ghost use Rattle.meval.specs.Places.{pending_view, place_view, IsOpen};
-ghost use Rattle.mspec.specs.Access.{Write};
+ghost use Rattle.meval.specs.Places.{pending_view};
 
 use crate::depth::Depth;
 use crate::global_node::GlobalNode;
 use crate::owner::Owner;
-use crate::place::{
-    LocalName, Pending, Place, bracketed, extended_parts, indirect_parts, local_node, plain_name,
-    subscripts_of,
-};
+use crate::place::{LocalName, Pending, bracketed};
 use crate::reading_reference::read_reference;
 use crate::session::Session;
+use crate::shortcuts::at_hand;
 use crate::value_list::Values;
 use mgrant::{AccountId, Mode, Settings};
 use mnum::{Name, Num};
@@ -79,9 +75,13 @@ impl<'a, S: NodeStore> Eval<'a, S> {
         Ok(())
     }
 
-    // A primary costs its step also where it then fails.
+    /// The value of a primary. It costs a step, also where it then fails.
+    ///
+    /// # Errors
+    ///
+    /// Those of `eval`.
     #[cycle(eval)]
-    fn primary(&mut self, alloc: Global, primary: &Primary) -> Result<Value, Code>
+    pub fn primary(&mut self, alloc: Global, primary: &Primary) -> Result<Value, Code>
         ensures loans { KeepsEval self.old self.new }
         ensures fewer { self.new.steps ≤ self.old.steps }
         ensures spent { IfOk result (λ _. self.new.steps < self.old.steps) }
@@ -92,27 +92,28 @@ impl<'a, S: NodeStore> Eval<'a, S> {
             Primary::Number(literal) => computed(literal.number()),
             Primary::Text(text) => Ok(Value::of_text(text.copy()?)),
             Primary::Special(word) => self.special(word),
-            Primary::Reference(reference) => match plain_name(reference) {
-                Some(name) => self.local(name),
-                None => self.variable(alloc, reference),
-            },
-            Primary::Bracket(inner) => self.value(alloc, inner),
+            Primary::Reference(reference) => self.variable(alloc, reference),
+            Primary::Bracket(inner) => self.eval(alloc, inner),
             Primary::Call(word, arguments) => self.called(alloc, word, arguments),
             Primary::Select(_, choices) => self.chosen(alloc, choices),
             Primary::Refer(referring) => self.referring(alloc, referring),
         }
     }
 
-    // The value of a variable that may have something to evaluate.
+    // The value of a variable.
     #[cycle(eval)]
     fn variable(&mut self, alloc: Global, reference: &Reference) -> Result<Value, Code>
         ensures loans { KeepsEval self.old self.new }
         ensures fewer { self.new.steps ≤ self.old.steps }
         ensures does { Evaluates S.NodeStore (λ i. acts.variable_value i (reference_tree reference.now)) (λ v. v) self.old result self.new }
     {
-        match local_node(reference) {
-            Some((name, subscript)) => self.node_value(alloc, name, subscript),
-            None => self.place_value(alloc, reference),
+        match reference {
+            Reference::Variable(name) => {
+                let value = self.fast_lent(name)?;
+                Ok(value.copy()?)
+            }
+            Reference::Node(name, subscript) => self.fast_node(alloc, name, subscript),
+            _ => self.place_value(alloc, reference),
         }
     }
 
@@ -130,23 +131,6 @@ impl<'a, S: NodeStore> Eval<'a, S> {
         self.read(&place)
     }
 
-    // The value of a node of a local variable by one subscript.
-    #[cycle(eval)]
-    #[inline(never)]
-    fn node_value(&mut self, alloc: Global, name: &Name, subscript: &Expr) -> Result<Value, Code>
-        ensures loans { KeepsEval self.old self.new }
-        ensures fewer { self.new.steps ≤ self.old.steps }
-        ensures does { Evaluates S.NodeStore (λ i. acts.variable_value i (local name.now (exprs (expr_tree subscript.now) no_exprs))) (λ v. v) self.old result self.new }
-    {
-        match self.number_alone(subscript) {
-            Some(number) => self.local_at(name, &Value::of_number(number)),
-            None => {
-                let value = self.value(alloc, subscript)?;
-                self.local_at(name, &value)
-            }
-        }
-    }
-
     // The value of a function of values.
     #[cycle(eval)]
     #[inline(never)]
@@ -159,9 +143,13 @@ impl<'a, S: NodeStore> Eval<'a, S> {
         call(alloc, word, values.as_slice())
     }
 
-    // What a reference has to evaluate.
+    /// What a reference evaluates, before any check.
+    ///
+    /// # Errors
+    ///
+    /// Those of the values of its subscripts, of its environment and of its operand.
     #[cycle(eval)]
-    pub(crate) fn evaluated<'t>(
+    pub fn evaluated<'t>(
         &mut self,
         alloc: Global,
         reference: &'t Reference,
@@ -170,17 +158,45 @@ impl<'a, S: NodeStore> Eval<'a, S> {
         ensures fewer { self.new.steps ≤ self.old.steps }
         ensures does { Evaluates S.NodeStore (λ i. meaning.evaluated i (reference_tree reference.now)) pending_view self.old result self.new }
     {
-        if let Some(name) = plain_name(reference) {
-            return Ok(Pending::Local(LocalName::Lent(name), Values::none(alloc)));
+        match reference {
+            Reference::Variable(name) => {
+                Ok(Pending::Local(LocalName::Lent(name), Values::none(alloc)))
+            }
+            Reference::Node(name, subscript) => {
+                let value = self.eval(alloc, subscript)?;
+                Ok(Pending::Local(LocalName::Lent(name), Values::one(value)))
+            }
+            Reference::Local(name, subscripts) => {
+                let values = self.values(alloc, subscripts)?;
+                Ok(Pending::Local(LocalName::Lent(name), values))
+            }
+            Reference::Global(name, subscripts) => self.global(alloc, name, subscripts),
+            Reference::Naked(subscripts) => {
+                let values = self.values(alloc, subscripts)?;
+                Ok(Pending::Naked(values))
+            }
+            Reference::Indirect(operand, subscripts) => self.named(alloc, operand, subscripts),
+            Reference::Extended(environment, name, subscripts) => {
+                self.extended(alloc, environment, name, subscripts)
+            }
         }
-        if let Some((operand, subscripts)) = indirect_parts(reference) {
-            return self.named(alloc, operand, subscripts);
-        }
-        if let Some((environment, name, subscripts)) = extended_parts(reference) {
-            return self.extended(alloc, environment, name, subscripts);
-        }
-        let values = self.values(alloc, subscripts_of(reference))?;
-        Ok(self.pending(alloc, reference, values)?)
+    }
+
+    // What a global of the account's own has to evaluate.
+    #[cycle(eval)]
+    fn global<'u>(
+        &mut self,
+        alloc: Global,
+        name: &Name,
+        subscripts: &[Expr],
+    ) -> Result<Pending<'u>, Code>
+        ensures loans { KeepsEval self.old self.new }
+        ensures fewer { self.new.steps ≤ self.old.steps }
+        ensures does { Evaluates S.NodeStore (λ i. meaning.evaluated i (global name.now (exprs_of (map expr_tree subscripts.now)))) pending_view self.old result self.new }
+    {
+        let values = self.values(alloc, subscripts)?;
+        let node = self.own_node(alloc, name, values)?;
+        Ok(Pending::Global(node))
     }
 
     // What a global of an environment has to evaluate: the account, and then its subscripts.
@@ -196,7 +212,7 @@ impl<'a, S: NodeStore> Eval<'a, S> {
         ensures fewer { self.new.steps ≤ self.old.steps }
         ensures does { Evaluates S.NodeStore (λ i. meaning.evaluated i (extended (expr_tree environment.now) name.now (exprs_of (map expr_tree subscripts.now)))) pending_view self.old result self.new }
     {
-        let owner = self.value(alloc, environment)?;
+        let owner = self.eval(alloc, environment)?;
         let account = Owner::of_value(alloc, owner)?;
         let subscripts = self.values(alloc, subscripts)?;
         let node = GlobalNode::new(account, name.copy()?, subscripts);
@@ -254,12 +270,12 @@ impl<'a, S: NodeStore> Eval<'a, S> {
         ensures does { Evaluates S.NodeStore (λ i. meaning.values i [] (exprs_of (map expr_tree exprs.now))) (λ values. values) self.old result self.new }
     {
         if let [e] = exprs {
-            let value = self.value(alloc, e)?;
+            let value = self.eval(alloc, e)?;
             return Ok(Values::one(value));
         }
         let mut values = Vec::with_capacity(alloc, exprs.len())?;
         for e in exprs {
-            let value = self.value(alloc, e)?;
+            let value = self.eval(alloc, e)?;
             values.push(value)?;
         }
         Ok(Values::of_vec(values))
@@ -274,9 +290,9 @@ impl<'a, S: NodeStore> Eval<'a, S> {
         ensures does { Evaluates S.NodeStore (λ i. meaning.chosen i (choices_of (map choice_tree choices.now))) (λ v. v) self.old result self.new }
     {
         for choice in choices {
-            let condition = self.value(alloc, &choice.condition)?;
+            let condition = self.eval(alloc, &choice.condition)?;
             if truth_of(&condition)? {
-                return self.value(alloc, &choice.value);
+                return self.eval(alloc, &choice.value);
             }
         }
         Err(Code::M4)
@@ -297,6 +313,26 @@ impl<'a, S: NodeStore> Eval<'a, S> {
         unaries(&operand.signs, value)
     }
 
+    // The same, put in a place that the caller lends.
+    #[cycle(eval)]
+    fn operand_into(
+        &mut self,
+        alloc: Global,
+        operand: &Operand,
+        place: &mut Value,
+    ) -> Result<(), Code>
+        ensures loans { KeepsEval self.old self.new }
+        ensures fewer { self.new.steps ≤ self.old.steps }
+        ensures spent { IfOk result (λ _. self.new.steps < self.old.steps) }
+        ensures does { Evaluates S.NodeStore (λ i. meaning.operand_value i (operand_tree operand.now)) (λ _. place.new) self.old result self.new }
+    {
+        if let Some(at_hand) = at_hand(operand) {
+            return self.fast_value(at_hand, place);
+        }
+        *place = self.operand(alloc, operand)?;
+        Ok(())
+    }
+
     // What is done with the value to the left, which becomes what it gives. It is changed where it stands: a value that is written and
     // then moved at once is waited for.
     #[cycle(eval)]
@@ -307,11 +343,8 @@ impl<'a, S: NodeStore> Eval<'a, S> {
     {
         match tail {
             Tail::Apply(operator, operand) => {
-                let mut number = Num::from_whole(0);
-                if self.number_at_once(operand, &mut number) {
-                    return binary(alloc, *operator, left, &Value::of_number(number));
-                }
-                let right = self.operand(alloc, operand)?;
+                let mut right = Value::of_whole(0);
+                self.operand_into(alloc, operand, &mut right)?;
                 binary(alloc, *operator, left, &right)
             }
             Tail::Matches(atoms) => {
@@ -353,8 +386,8 @@ impl<'a, S: NodeStore> Eval<'a, S> {
         ensures spent { IfOk result (λ _. self.new.steps < self.old.steps) }
         ensures does { Evaluates S.NodeStore (λ i. acts.operand_number i (operand_tree operand.now)) (λ _. units place.new) self.old result self.new }
     {
-        if self.number_at_once(operand, place) {
-            return Ok(());
+        if let Some(at_hand) = at_hand(operand) {
+            return self.fast_number(at_hand, place);
         }
         self.other_number(alloc, operand, place)
     }
@@ -406,40 +439,58 @@ impl<'a, S: NodeStore> Eval<'a, S> {
         Ok(tails.len())
     }
 
-    // What is done with a number to the left.
+    // What is done with the value to the left, which stays a number as long as operators of arithmetic come.
     #[cycle(eval)]
-    fn with_number(&mut self, alloc: Global, left: Num, tails: &[Tail]) -> Result<Value, Code>
+    fn with_rest(&mut self, alloc: Global, value: &mut Value, tails: &[Tail]) -> Result<(), Code>
         ensures loans { KeepsEval self.old self.new }
         ensures fewer { self.new.steps ≤ self.old.steps }
-        ensures does { Evaluates S.NodeStore (λ i. meaning.tails_value i (number_text (units left)) (tails_of (map tail_tree tails.now))) (λ v. v) self.old result self.new }
+        ensures does { Evaluates S.NodeStore (λ i. meaning.tails_value i value.old (tails_of (map tail_tree tails.now))) (λ _. value.new) self.old result self.new }
     {
-        let mut number = left;
+        let Kind::Number(number) = value.kind() else {
+            return self.with_tails(alloc, value, tails);
+        };
+        let mut number = *number;
         let count = self.chain(alloc, &mut number, tails)?;
-        let mut value = Value::of_number(number);
-        self.with_tails(alloc, &mut value, tails_behind(tails, count))?;
-        Ok(value)
+        *value = Value::of_number(number);
+        self.with_tails(alloc, value, tails_behind(tails, count))
     }
 
-    // The value of an expression.
+    // The value of an expression, put in a place that the caller lends.
     #[cycle(eval)]
-    pub(crate) fn value(&mut self, alloc: Global, e: &Expr) -> Result<Value, Code>
+    pub(crate) fn eval_into(
+        &mut self,
+        alloc: Global,
+        e: &Expr,
+        place: &mut Value,
+    ) -> Result<(), Code>
+        ensures loans { KeepsEval self.old self.new }
+        ensures fewer { self.new.steps ≤ self.old.steps }
+        ensures spent { IfOk result (λ _. self.new.steps < self.old.steps) }
+        ensures does { Evaluates S.NodeStore (λ i. meaning.value i (expr_tree e.now)) (λ _. place.new) self.old result self.new }
+    {
+        self.operand_into(alloc, &e.first, place)?;
+        if e.rest.is_empty() {
+            return Ok(());
+        }
+        self.with_rest(alloc, place, &e.rest)
+    }
+
+    /// The value of an expression. It costs at least one step.
+    ///
+    /// # Errors
+    ///
+    /// The code that the value has in place of a text; `Zmem` for want of memory, too, and `Zstore` where the store refuses. The
+    /// steps are then those that were left where the evaluation ended.
+    #[cycle(eval)]
+    pub fn eval(&mut self, alloc: Global, e: &Expr) -> Result<Value, Code>
         ensures loans { KeepsEval self.old self.new }
         ensures fewer { self.new.steps ≤ self.old.steps }
         ensures spent { IfOk result (λ _. self.new.steps < self.old.steps) }
         ensures does { Evaluates S.NodeStore (λ i. meaning.value i (expr_tree e.now)) (λ v. v) self.old result self.new }
+        ensures steady { S.steady → result ≢ Err Zstore }
     {
-        if e.rest.is_empty() {
-            return self.operand(alloc, &e.first);
-        }
-        let mut number = Num::from_whole(0);
-        if self.number_at_once(&e.first, &mut number) {
-            return self.with_number(alloc, number, &e.rest);
-        }
-        let mut value = self.operand(alloc, &e.first)?;
-        if let Kind::Number(number) = value.kind() {
-            return self.with_number(alloc, *number, &e.rest);
-        }
-        self.with_tails(alloc, &mut value, &e.rest)?;
+        let mut value = Value::of_whole(0);
+        self.eval_into(alloc, e, &mut value)?;
         Ok(value)
     }
 
@@ -454,48 +505,10 @@ impl<'a, S: NodeStore> Eval<'a, S> {
         if e.rest.is_empty() {
             return self.operand_number(alloc, &e.first, place);
         }
-        if !self.number_at_once(&e.first, place) {
-            let value = self.value(alloc, e)?;
-            *place = number_of(&value)?;
-            return Ok(());
-        }
-        let count = self.chain(alloc, place, &e.rest)?;
-        if count < e.rest.len() {
-            let mut value = Value::of_number(*place);
-            self.with_tails(alloc, &mut value, tails_behind(&e.rest, count))?;
-            *place = number_of(&value)?;
-        }
+        let mut value = Value::of_whole(0);
+        self.eval_into(alloc, e, &mut value)?;
+        *place = number_of(&value)?;
         Ok(())
-    }
-
-    /// The value of an expression. It costs at least one step.
-    ///
-    /// # Errors
-    ///
-    /// The code that the value has in place of a text; `Zmem` for want of memory, too, and `Zstore` where the store refuses. The
-    /// steps are then those that were left where the evaluation ended.
-    pub fn eval(&mut self, alloc: Global, e: &Expr) -> Result<Value, Code>
-        ensures loans { KeepsEval self.old self.new }
-        ensures fewer { self.new.steps ≤ self.old.steps }
-        ensures spent { IfOk result (λ _. self.new.steps < self.old.steps) }
-        ensures does { Evaluates S.NodeStore (λ i. meaning.value i (expr_tree e.now)) (λ v. v) self.old result self.new }
-        ensures steady { S.steady → result ≢ Err Zstore }
-    {
-        self.value(alloc, e)
-    }
-
-    /// The value of a primary, as the operand of an argument indirection is one. It costs at least one step.
-    ///
-    /// # Errors
-    ///
-    /// Those of `eval`.
-    pub fn eval_primary(&mut self, alloc: Global, primary: &Primary) -> Result<Value, Code>
-        ensures loans { KeepsEval self.old self.new }
-        ensures fewer { self.new.steps ≤ self.old.steps }
-        ensures spent { IfOk result (λ _. self.new.steps < self.old.steps) }
-        ensures does { Evaluates S.NodeStore (λ i. meaning.primary_value i (primary_tree primary.now)) (λ v. v) self.old result self.new }
-    {
-        self.primary(alloc, primary)
     }
 
     /// The number of an expression's value. It costs at least one step.
@@ -525,63 +538,7 @@ impl<'a, S: NodeStore> Eval<'a, S> {
         ensures spent { IfOk result (λ _. self.new.steps < self.old.steps) }
         ensures does { Evaluates S.NodeStore (λ i. acts.truth i (expr_tree e.now)) (λ is_true. is_true) self.old result self.new }
     {
-        let value = self.value(alloc, e)?;
+        let value = self.eval(alloc, e)?;
         truth_of(&value)
-    }
-
-    /// Evaluates what a variable that is to be changed has to evaluate. The checks come by `finish_left`.
-    ///
-    /// # Errors
-    ///
-    /// Those of the subscripts' values.
-    pub fn resolve_left<'t>(
-        &mut self,
-        alloc: Global,
-        reference: &'t Reference,
-    ) -> Result<Pending<'t>, Code>
-        ensures loans { KeepsEval self.old self.new }
-        ensures fewer { self.new.steps ≤ self.old.steps }
-        ensures does { Evaluates S.NodeStore (λ i. meaning.evaluated i (reference_tree reference.now)) pending_view self.old result self.new }
-    {
-        self.evaluated(alloc, reference)
-    }
-
-    /// The place of a variable that is to be changed, once all of it is evaluated.
-    ///
-    /// # Errors
-    ///
-    /// `M1` for a naked reference where there was no reference to a node with subscripts before it; `Zgrant` where the account may not
-    /// write the global; `Zsub` where there are more than 15 subscripts, or one is empty or has more than 255 characters. None of them
-    /// changes the node that was referred to last. `Zmem` for want of memory.
-    pub fn finish_left<'t>(
-        &mut self,
-        alloc: Global,
-        pending: Pending<'t>,
-    ) -> Result<Place<'t>, Code>
-        ensures loans { KeepsEval self.old self.new }
-        ensures fewer { self.new.steps ≤ self.old.steps }
-        ensures allowed { IfOk result (λ place. IsOpen (standing_of self.new) Write (place_view place)) }
-        ensures does { Evaluates S.NodeStore (λ i. variables.resolve variables.writing (pending_view pending.entry)) place_view self.old result self.new }
-    {
-        self.resolved(alloc, Mode::Write, pending)
-    }
-
-    /// The place of a variable that is to be changed.
-    ///
-    /// # Errors
-    ///
-    /// Those of the subscripts' values, and then those of `finish_left`.
-    pub fn resolve<'t>(
-        &mut self,
-        alloc: Global,
-        reference: &'t Reference,
-    ) -> Result<Place<'t>, Code>
-        ensures loans { KeepsEval self.old self.new }
-        ensures fewer { self.new.steps ≤ self.old.steps }
-        ensures allowed { IfOk result (λ place. IsOpen (standing_of self.new) Write (place_view place)) }
-        ensures does { Evaluates S.NodeStore (λ i. acts.place_left i (reference_tree reference.now)) place_view self.old result self.new }
-    {
-        let pending = self.evaluated(alloc, reference)?;
-        self.finish_left(alloc, pending)
     }
 }

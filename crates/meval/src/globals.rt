@@ -17,8 +17,8 @@ use crate::global_node::GlobalNode;
 use mglobal::{neighbour, status};
 use mkey::{Data, Direction, NodeKey};
 use mnum::Bytes7;
-use mspec::limits::MAX_TEXT;
 use moperator::Code;
+use mspec::limits::MAX_TEXT;
 use mstore::{NodeStore, StoreFault};
 use std::alloc::Global;
 

@@ -1,9 +1,9 @@
 // SPDX-License-Identifier: Apache-2.0
 // References of which all is evaluated, and places that the checks let through.
-ghost use Rattle.std.specs.Prelude.{◌≡◌, ◌↔◌, ◌++◌, IsTrue, IsSome, IsNone, IfSome, IfOk, [], map};
+ghost use Rattle.std.specs.Prelude.{◌≡◌, ◌↔◌, ◌++◌, IsTrue, IsSome, IfSome, IfOk, []};
 ghost use Rattle.mgrammar.specs.Grammar as grammar;
-ghost use Rattle.mgrammar.specs.Grammar.{local, indirect, extended, bracket, no_exprs, exprs, exprs_of};
-ghost use Rattle.mtree.specs.Tree.{expr_tree, operand_tree, primary_tree, reference_tree};
+ghost use Rattle.mgrammar.specs.Grammar.{bracket};
+ghost use Rattle.mtree.specs.Tree.{expr_tree, operand_tree};
 ghost use Rattle.mmeaning.specs.Variables.{checked, ordering};
 ghost use Rattle.mmeaning.specs.Variables as variables;
 ghost use Rattle.mmeaning.specs.Yields.{Yields};
@@ -12,14 +12,14 @@ ghost use Rattle.mspec.specs.KeyBytes.{AreSubscripts};
 ghost use Rattle.mspec.specs.Subscripts.{are_subscripts};
 ghost use Rattle.mspec.specs.Trees.{AreOrderSubscripts};
 ghost use Rattle.moperator.specs.Codes.{fault_of};
-ghost use Rattle.meval.specs.Places.{name_view, pending_view, place_view, subscripts_tree, undefined_at, IsDirect, NamesNoAccount};
+ghost use Rattle.meval.specs.Places.{name_view, pending_view, place_view, undefined_at};
 
 use crate::global_node::GlobalNode;
 use crate::value_list::Values;
 use mkey::{NodeKey, order_values_ok, values_ok};
 use mnum::Name;
 use moperator::Code;
-use mtree::{Expr, Operand, Primary, Reference};
+use mtree::{Expr, Operand, Primary};
 use mvalue::Value;
 use std::alloc::{AllocError, Global};
 use std::marker::Model;
@@ -96,54 +96,6 @@ impl<'t> Pending<'t> {
     }
 }
 
-// The subscripts of a reference.
-pub fn subscripts_of(reference: &Reference) -> &[Expr]
-    ensures { exprs_of (map expr_tree result.now) ≡ subscripts_tree (reference_tree reference.now) }
-{
-    match reference {
-        Reference::Local(_, subscripts) => subscripts,
-        Reference::Global(_, subscripts) => subscripts,
-        Reference::Naked(subscripts) => subscripts,
-        Reference::Indirect(_, subscripts) => subscripts,
-        Reference::Extended(_, _, subscripts) => subscripts,
-    }
-}
-
-// The operand of a name indirection, and the subscripts behind it.
-pub fn indirect_parts(reference: &Reference) -> Option<(&Primary, &[Expr])>
-    ensures parts { IfSome result (λ parts. reference_tree reference.now ≡ indirect (primary_tree parts.0.now) (exprs_of (map expr_tree parts.1.now))) }
-    ensures none { IsNone result → IsDirect (reference_tree reference.now) }
-{
-    match reference {
-        Reference::Indirect(operand, subscripts) => Some((operand, subscripts)),
-        _ => None,
-    }
-}
-
-// The environment of a global, its name and its subscripts.
-pub fn extended_parts(reference: &Reference) -> Option<(&Expr, &Name, &[Expr])>
-    ensures parts { IfSome result (λ parts. reference_tree reference.now ≡ extended (expr_tree parts.0.now) parts.1.now (exprs_of (map expr_tree parts.2.now))) }
-    ensures none { IsNone result → NamesNoAccount (reference_tree reference.now) }
-{
-    match reference {
-        Reference::Extended(environment, name, subscripts) => Some((environment, name, subscripts)),
-        _ => None,
-    }
-}
-
-// The name of a local variable that has no subscript.
-pub fn plain_name(reference: &Reference) -> Option<&Name>
-    ensures { IfSome result (λ name. reference_tree reference.now ≡ local name.now no_exprs) }
-{
-    match reference {
-        Reference::Local(name, subscripts) => match subscripts.as_slice() {
-            [] => Some(name),
-            [_, ..] => None,
-        },
-        _ => None,
-    }
-}
-
 // The expression of an operand that is one in brackets, without signs.
 pub fn bracketed(operand: &Operand) -> Option<&Expr>
     ensures { IfSome result (λ e. operand_tree operand.now ≡ grammar.operand [] (bracket (expr_tree e.now))) }
@@ -153,19 +105,6 @@ pub fn bracketed(operand: &Operand) -> Option<&Expr>
     }
     match &operand.primary {
         Primary::Bracket(inner) => Some(inner),
-        _ => None,
-    }
-}
-
-/// The name and the subscript of a local variable that has one subscript. Takes no memory.
-pub fn local_node(reference: &Reference) -> Option<(&Name, &Expr)>
-    ensures { IfSome result (λ node. reference_tree reference.now ≡ local node.0.now (exprs (expr_tree node.1.now) no_exprs)) }
-{
-    match reference {
-        Reference::Local(name, subscripts) => match subscripts.as_slice() {
-            [subscript] => Some((name, subscript)),
-            _ => None,
-        },
         _ => None,
     }
 }

@@ -1,8 +1,7 @@
 // SPDX-License-Identifier: Apache-2.0
-// $DATA, $GET and $ORDER of a variable. Each of them stands apart from the others, and a local variable by one subscript from all other
-// references: a function clears the room of all its cases at each call.
-ghost use Rattle.std.specs.Prelude.{◌≤◌, [], ◌∷◌, map};
-ghost use Rattle.mgrammar.specs.Grammar.{local, no_exprs, exprs, exprs_of};
+// $DATA, $GET and $ORDER of a variable. Each of them stands apart from the others: a function clears the room of all its cases at each call.
+ghost use Rattle.std.specs.Prelude.{◌≤◌, [], map};
+ghost use Rattle.mgrammar.specs.Grammar.{exprs_of};
 ghost use Rattle.mgrammar.specs.Functions.{function_of};
 ghost use Rattle.mkey.specs.Way.{way};
 ghost use Rattle.mmeaning.specs.Expression as meaning;
@@ -13,17 +12,14 @@ ghost use Rattle.meval.specs.Evaluates.{Evaluates, KeepsEval};
 ghost use Rattle.meval.specs.Acts as acts;
 
 use crate::eval::Eval;
-use crate::place::{check_walk, local_node};
 use crate::walk::direction;
 use mgrant::Mode;
 use mkey::Direction;
-use mnum::Name;
 use moperator::Code;
 use mstore::NodeStore;
 use mtree::{Expr, Reference, Referring, VariableFunction};
 use mvalue::Value;
 use std::alloc::Global;
-use std::slice::from_ref;
 
 impl<'a, S: NodeStore> Eval<'a, S> {
     // The value of a function of a variable.
@@ -33,7 +29,11 @@ impl<'a, S: NodeStore> Eval<'a, S> {
         ensures fewer { self.new.steps ≤ self.old.steps }
         ensures does { Evaluates S.NodeStore (λ i. variables.referring (function_of (out-Referring referring.now).word) (meaning.evaluated i (reference_tree (out-Referring referring.now).reference)) (meaning.values i [] (exprs_of (map expr_tree (out-Referring referring.now).more.items)))) (λ v. v) self.old result self.new }
     {
-        match referring.word.function() {
+        let function = referring.word.function();
+        if let Reference::Node(name, subscript) = &referring.reference {
+            return self.fast_referring(alloc, function, name, subscript, &referring.more);
+        }
+        match function {
             VariableFunction::Data => self.data_of(alloc, &referring.reference),
             VariableFunction::Get => self.get_of(alloc, &referring.reference, &referring.more),
             VariableFunction::Order => self.order_of(alloc, &referring.reference, &referring.more),
@@ -68,26 +68,8 @@ impl<'a, S: NodeStore> Eval<'a, S> {
 
     // What $ORDER gives of a variable, in the direction that the first of these says.
     #[cycle(eval)]
-    fn order_of(
-        &mut self,
-        alloc: Global,
-        reference: &Reference,
-        more: &[Expr],
-    ) -> Result<Value, Code>
-        ensures loans { KeepsEval self.old self.new }
-        ensures fewer { self.new.steps ≤ self.old.steps }
-        ensures does { Evaluates S.NodeStore (λ i. acts.order_of i (reference_tree reference.now) (exprs_of (map expr_tree more.now))) (λ v. v) self.old result self.new }
-    {
-        match local_node(reference) {
-            Some((name, subscript)) => self.order_of_node(alloc, name, subscript, more),
-            None => self.order_of_place(alloc, reference, more),
-        }
-    }
-
-    // What it gives of any variable, at the place that it has.
-    #[cycle(eval)]
     #[inline(never)]
-    fn order_of_place(
+    fn order_of(
         &mut self,
         alloc: Global,
         reference: &Reference,
@@ -103,50 +85,9 @@ impl<'a, S: NodeStore> Eval<'a, S> {
         self.next(alloc, &walk, direction)
     }
 
-    // What it gives of a local variable by one subscript.
-    #[cycle(eval)]
-    #[inline(never)]
-    fn order_of_node(
-        &mut self,
-        alloc: Global,
-        name: &Name,
-        subscript: &Expr,
-        more: &[Expr],
-    ) -> Result<Value, Code>
-        ensures loans { KeepsEval self.old self.new }
-        ensures fewer { self.new.steps ≤ self.old.steps }
-        ensures does { Evaluates S.NodeStore (λ i. acts.order_of i (local name.now (exprs (expr_tree subscript.now) no_exprs)) (exprs_of (map expr_tree more.now))) (λ v. v) self.old result self.new }
-    {
-        match self.number_alone(subscript) {
-            Some(number) => self.order_behind(alloc, name, &Value::of_number(number), more),
-            None => {
-                let value = self.value(alloc, subscript)?;
-                self.order_behind(alloc, name, &value, more)
-            }
-        }
-    }
-
-    // The same once the subscript has its value.
-    #[cycle(eval)]
-    fn order_behind(
-        &mut self,
-        alloc: Global,
-        name: &Name,
-        subscript: &Value,
-        more: &[Expr],
-    ) -> Result<Value, Code>
-        ensures loans { KeepsEval self.old self.new }
-        ensures fewer { self.new.steps ≤ self.old.steps }
-        ensures does { Evaluates S.NodeStore (λ i. acts.order_behind (exprs_of (map expr_tree more.now)) i (variables.of_local name.now (subscript.now ∷ []))) (λ v. v) self.old result self.new }
-    {
-        check_walk(from_ref(subscript))?;
-        let direction = self.direction(alloc, more)?;
-        self.next_local(alloc, name, subscript, direction)
-    }
-
     // The direction of $ORDER, by the first of the arguments behind the variable.
     #[cycle(eval)]
-    fn direction(&mut self, alloc: Global, more: &[Expr]) -> Result<Direction, Code>
+    pub(crate) fn direction(&mut self, alloc: Global, more: &[Expr]) -> Result<Direction, Code>
         ensures loans { KeepsEval self.old self.new }
         ensures fewer { self.new.steps ≤ self.old.steps }
         ensures does { Evaluates S.NodeStore (λ i. acts.direction_act i (exprs_of (map expr_tree more.now))) way self.old result self.new }

@@ -4,22 +4,20 @@ ghost use Rattle.std.specs.Prelude.{◌≡◌, ◌≤◌, IfOk, Ok, Some};
 ghost use Rattle.mspec.specs.Access.{Read};
 ghost use Rattle.mspec.specs.Act.{set_naked, give};
 ghost use Rattle.mspec.specs.KeyBytes.{IsAccountName};
-ghost use Rattle.mtree.specs.Tree.{reference_tree};
 ghost use Rattle.mgrant.specs.Placed.{mode_of};
 ghost use Rattle.mmeaning.specs.Variables as variables;
 ghost use Rattle.meval.specs.Evaluates.{Evaluates, KeepsEval, standing_of};
-ghost use Rattle.meval.specs.Places.{pending_view, place_view, walk_view, use_of, named, IsDirect, NamesNoAccount, IsWalk, IsOpen};
+ghost use Rattle.meval.specs.Places.{pending_view, place_view, walk_view, use_of, IsWalk, IsOpen};
 
 use crate::eval::Eval;
 use crate::global_node::GlobalNode;
 use crate::owner::Owner;
-use crate::place::{LocalName, Pending, Place, Walk, check_walk, local_place};
+use crate::place::{Pending, Place, Walk, check_walk, local_place};
 use crate::value_list::Values;
 use mgrant::Mode;
 use mnum::Name;
 use moperator::Code;
 use mstore::NodeStore;
-use mtree::Reference;
 use std::alloc::{AllocError, Global};
 
 impl<'a, S: NodeStore> Eval<'a, S> {
@@ -34,29 +32,6 @@ impl<'a, S: NodeStore> Eval<'a, S> {
     {
         let owner = Owner::of_bytes(alloc, self.settings.name_of(self.account))?;
         Ok(GlobalNode::new(owner, name.copy()?, values))
-    }
-
-    // What a reference without an environment is whose name stands in it, once its subscripts have these values.
-    pub(crate) fn pending<'t>(
-        &self,
-        alloc: Global,
-        reference: &'t Reference,
-        values: Values,
-    ) -> Result<Pending<'t>, AllocError>
-        requires direct { IsDirect (reference_tree reference.now) }
-        requires own { NamesNoAccount (reference_tree reference.now) }
-        ensures { IfOk result (λ pending. pending_view pending ≡ named (standing_of self.now).account (reference_tree reference.now) values) }
-    {
-        match reference {
-            Reference::Local(name, _) => Ok(Pending::Local(LocalName::Lent(name), values)),
-            Reference::Global(name, _) => {
-                let node = self.own_node(alloc, name, values)?;
-                Ok(Pending::Global(node))
-            }
-            Reference::Naked(_) => Ok(Pending::Naked(values)),
-            Reference::Indirect(_, _) => unreachable!(),
-            Reference::Extended(_, _, _) => unreachable!(),
-        }
     }
 
     // Whether the account may use the global of a node so.
@@ -113,8 +88,14 @@ impl<'a, S: NodeStore> Eval<'a, S> {
         Ok(Place::Node(key))
     }
 
-    // The place of a reference that is to be read or written.
-    pub(crate) fn resolved<'t>(
+    /// The place of a reference that is to be read or written, once all of it is evaluated.
+    ///
+    /// # Errors
+    ///
+    /// `M1` for a naked reference where there was no reference to a node with subscripts before it; `Zgrant` where the account may not
+    /// use the global so; `Zsub` where there are more than 15 subscripts, or one is empty or has more than 255 characters. None of them
+    /// changes the node that was referred to last. `Zmem` for want of memory.
+    pub fn resolved<'t>(
         &mut self,
         alloc: Global,
         mode: Mode,

@@ -8,6 +8,7 @@ ghost use Rattle.mmeaning.specs.Variables as variables;
 ghost use Rattle.mmeaning.specs.LineMeaning as line;
 ghost use Rattle.mnum.specs.Num.{units};
 ghost use Rattle.mspec.specs.Access.{Write};
+ghost use Rattle.mspec.specs.KeyBytes.{AreSubscripts};
 ghost use Rattle.meval.specs.Evaluates.{Evaluates, KeepsEval, standing_of};
 ghost use Rattle.meval.specs.Places.{place_view, IsOpen};
 
@@ -33,13 +34,29 @@ fn copied(alloc: Global, names: &[Name]) -> Result<Vec<Name>, AllocError>
 }
 
 impl<'a, S: NodeStore> Eval<'a, S> {
+    // Gives a local variable that the checks let through a value.
+    #[tactic(auto, unfolding(mspec::specs::Act::assigned_to))]
+    pub(crate) fn set_local(
+        &mut self,
+        name: &Name,
+        subscripts: &[Value],
+        value: Value,
+    ) -> Result<(), Code>
+        requires { AreSubscripts subscripts.now }
+        ensures loans { KeepsEval self.old self.new }
+        ensures fewer { self.new.steps ≤ self.old.steps }
+        ensures does { Evaluates S.NodeStore (λ i. variables.put_at (variables.at_local name.now subscripts.now) value) (λ u. u) self.old result self.new }
+    {
+        self.session.locals.set(name, subscripts, value)?;
+        Ok(())
+    }
+
     /// Gives a place that may be changed a value.
     ///
     /// # Errors
     ///
     /// `Zmem` for want of memory, and `Zstore` where the store refuses; the variable is then as it was. `Zlong` where a global is to have
     /// more than 4,095 characters.
-    #[tactic(auto, unfolding(mspec::specs::Act::assigned_to))]
     pub fn put(&mut self, alloc: Global, place: &Place, value: Value) -> Result<(), Code>
         requires { IsOpen (standing_of self.old) Write (place_view place.now) }
         ensures loans { KeepsEval self.old self.new }
@@ -48,9 +65,7 @@ impl<'a, S: NodeStore> Eval<'a, S> {
     {
         match place {
             Place::Local(name, subscripts) => {
-                let name = name.as_name();
-                self.session.locals.set(name, subscripts.as_slice(), value)?;
-                Ok(())
+                self.set_local(name.as_name(), subscripts.as_slice(), value)
             }
             Place::Node(key) => {
                 let text = value.into_text(alloc)?;
@@ -89,20 +104,6 @@ impl<'a, S: NodeStore> Eval<'a, S> {
         self.session.locals.kill_except(names);
     }
 
-    /// Hides the local variables of these names, until the level ends.
-    ///
-    /// # Errors
-    ///
-    /// `Zmem` for want of memory; all variables are then as they were.
-    pub fn hide(&mut self, names: &[Name]) -> Result<(), Code>
-        ensures loans { KeepsEval self.old self.new }
-        ensures fewer { self.new.steps ≤ self.old.steps }
-        ensures does { Evaluates S.NodeStore (λ i. with_locals (newed names.now)) (λ u. u) self.old result self.new }
-    {
-        self.session.locals.new_vars(names)?;
-        Ok(())
-    }
-
     /// Hides the local variable of this name, until the level ends.
     ///
     /// # Errors
@@ -113,7 +114,8 @@ impl<'a, S: NodeStore> Eval<'a, S> {
         ensures fewer { self.new.steps ≤ self.old.steps }
         ensures does { Evaluates S.NodeStore (λ i. with_locals (newed (name.now ∷ []))) (λ u. u) self.old result self.new }
     {
-        self.hide(from_ref(name))
+        self.session.locals.new_vars(from_ref(name))?;
+        Ok(())
     }
 
     /// Hides all local variables but those of these names, until the level ends.

@@ -76,7 +76,7 @@ pub(crate) fn giving<S: NodeStore>(
     ensures does { Runs S.NodeStore (λ a n. meaning.given (context a n (position_of position.now)) (form_of (keyword_tree keyword)) (primary_tree operand.now)) (stack scratch.old.frames.items) parts.old result (stack scratch.new.frames.items) parts.new }
 {
     parts.eval.depth = position.depth;
-    let text = parts.eval.eval_primary(alloc, operand)?;
+    let text = parts.eval.primary(alloc, operand)?;
     let depth = one_indirection_deeper(position.depth)?;
     let text = text.into_text(alloc)?;
     let args = read_arguments(alloc, keyword, text.as_bytes())?;

@@ -175,7 +175,8 @@ fn local(alloc: Global, bytes: &[u8], depth: u32) -> Result<(Reference, &[u8]), 
     }
     let (name, rest) = name(alloc, bytes)?;
     let (subscripts, rest) = subscripts(alloc, rest, depth)?;
-    Ok((Reference::Local(name, subscripts), rest))
+    let local = Reference::of_local(alloc, name, subscripts)?;
+    Ok((local, rest))
 }
 
 // The rest of a name indirection, behind its `@`.

@@ -40,7 +40,9 @@ fn is_named(reference: &Reference) -> bool
 {
     match reference {
         Reference::Naked(_) => false,
-        Reference::Local(..)
+        Reference::Variable(_)
+        | Reference::Node(..)
+        | Reference::Local(..)
         | Reference::Global(..)
         | Reference::Indirect(..)
         | Reference::Extended(..) => true,

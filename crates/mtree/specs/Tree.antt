@@ -132,6 +132,8 @@ primary_layer (Primary-F.Select word choices) = grammar.select word (choices_of 
 primary_layer (Primary-F.Refer r) = r.value
 
 abbrev pub reference_layer : Reference-F PrimaryTree ReferenceTree TailTree ChoiceTree ExprTree OperandTree PrimaryTree → ReferenceTree
+reference_layer (Reference-F.Variable name) = grammar.local name grammar.no_exprs
+reference_layer (Reference-F.Node name subscript) = grammar.local name (grammar.exprs subscript.value grammar.no_exprs)
 reference_layer (Reference-F.Local name subscripts) = grammar.local name (exprs_of subscripts.items)
 reference_layer (Reference-F.Global name subscripts) = grammar.global name (exprs_of subscripts.items)
 reference_layer (Reference-F.Naked subscripts) = grammar.naked (exprs_of subscripts.items)

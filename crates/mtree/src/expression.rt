@@ -174,6 +174,11 @@ pub fn put_reference(out: &mut Bytes7, reference: &Reference) -> Result<(), Allo
     ensures { OnOk result (out.new ≡ out.old ++ spell_reference (reference_tree reference.now)) }
 {
     match reference {
+        Reference::Variable(name) => put_text(out, name.as_bytes7()),
+        Reference::Node(name, subscript) => {
+            put_text(out, name.as_bytes7())?;
+            put_bracket(out, subscript)
+        }
         Reference::Local(name, subscripts) => {
             put_text(out, name.as_bytes7())?;
             put_subscripts(out, subscripts)

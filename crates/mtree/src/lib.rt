@@ -13,6 +13,7 @@ mod function_word;
 mod literal;
 mod pieces;
 mod put_list;
+mod reference;
 pub mod tree;
 pub mod words;
 pub mod write;

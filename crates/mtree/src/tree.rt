@@ -127,11 +127,15 @@ pub enum Primary {
     Refer(Box<Referring>),
 }
 
-/// A variable.
+/// A variable. `Reference::of_local` makes each that is local.
 #[derive(Drop)]
 #[cycle(tree)]
 pub enum Reference {
-    /// A local variable: its name, and its subscripts, of which there may be none.
+    /// A local variable without subscripts: its name.
+    Variable(Name),
+    /// A local variable by one subscript: its name, and the subscript.
+    Node(Name, Box<Expr>),
+    /// Any other local variable: its name, and its subscripts.
     Local(Name, Vec<Expr>),
     /// A global variable: its name behind the `^`, and its subscripts, of which there may be none.
     Global(Name, Vec<Expr>),

@@ -1,25 +1,16 @@
 -- SPDX-License-Identifier: Apache-2.0
 use Rattle.mcommand.proofs.CommandWords.{map, Vec, Global, residual_is, target_tree, expr_tree, Prepared, prepared_view}
 use Rattle.mcommand.proofs.Calls.{does_evaluated}
-use Rattle.mcommand.proofs.Targets.{plain_assigned, plain_failed, all_given, all_value_failed, all_prepared_failed}
+use Rattle.mcommand.proofs.Targets.{all_given, all_value_failed, all_prepared_failed}
 use Rattle.mcommand.proofs.parts.Parts.setting.Goals as goal
 
-pub returns-in_err-value-in-Some-clause-does : goal.returns-in_err-value-in-Some-clause-does
-returns-in_err-value-in-Some-clause-does g c =
-    rw (residual_is _ _ c.from_residual.ensures, c.in-One.is, c.in-Some.ensures) (plain_failed c.in-Some.name.now (expr_tree c.args.e.now) _ (does_evaluated c.in_err-value-in-Some.ensures.does))
-
-pub returns-in_ok-value-in-Some-clause-does : goal.returns-in_ok-value-in-Some-clause-does
-returns-in_ok-value-in-Some-clause-does g c =
-    rw (c.in-One.is, c.in-Some.ensures)
-    (plain_assigned c.in-Some.name.now (expr_tree c.args.e.now) c.in_ok-value-in-Some.value c.set_variable.result (does_evaluated c.in_ok-value-in-Some.ensures.does) (does_evaluated c.set_variable.ensures.does))
-
-pub returns-in-None-clause-does : goal.returns-in-None-clause-does
-returns-in-None-clause-does g c = rw c.in-One.is c.setting_one.ensures.does
+pub returns-in-One-clause-does : goal.returns-in-One-clause-does
+returns-in-One-clause-does g c = rw c.in-One.is c.setting_one.ensures.does
 
 pub returns-in_err-all-in-Several-clause-does : goal.returns-in_err-all-in-Several-clause-does
 returns-in_err-all-in-Several-clause-does g c =
     let parts = rw c.deref.ensures.value at c.in_err-all-in-Several.ensures.does in
-    rw (residual_is _ _ c.from_residual-in_err-all-in-Several.ensures, c.in-Several.is)
+    rw (residual_is _ _ c.from_residual.ensures, c.in-Several.is)
     (all_prepared_failed (map target_tree c.in-Several.targets.items) (expr_tree c.args.e.now) (λ (ps : Vec Prepared Global). map prepared_view ps.items) _ parts)
 
 pub returns-in_err-value-in-Several-clause-does : goal.returns-in_err-value-in-Several-clause-does

@@ -15,4 +15,4 @@ returns-in_err-value-clause-does g c =
 
 pub returns-clause-does : goal.returns-clause-does
 returns-clause-does g c =
-    node_assigned c.args.name.now (expr_tree c.args.subscript.now) (expr_tree c.args.e.now) c.in_ok-subscript.subscript c.in_ok-value.value c.put_local.result (does_evaluated c.in_ok-subscript.ensures.does) (does_evaluated c.in_ok-value.ensures.does) (does_evaluated c.put_local.ensures.does)
+    node_assigned c.args.name.now (expr_tree c.args.subscript.now) (expr_tree c.args.e.now) c.in_ok-subscript.subscript c.in_ok-value.value c.fast_put.result (does_evaluated c.in_ok-subscript.ensures.does) (does_evaluated c.in_ok-value.ensures.does) (does_evaluated c.fast_put.ensures.does)

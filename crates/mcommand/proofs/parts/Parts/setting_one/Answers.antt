@@ -1,21 +1,22 @@
 -- SPDX-License-Identifier: Apache-2.0
-use Rattle.mcommand.proofs.CommandWords.{residual_is, target_tree, expr_tree}
+use Rattle.mcommand.proofs.CommandWords.{residual_is, expr_tree}
+use Rattle.meval.proofs.TreeViews.{variable_is, node_is}
 use Rattle.mcommand.proofs.Calls.{does_evaluated}
-use Rattle.mcommand.proofs.Targets.{one_assigned, one_value_failed, one_prepared_failed}
+use Rattle.mcommand.proofs.Targets.{plain_assigned, plain_failed}
 use Rattle.mcommand.proofs.parts.Parts.setting_one.Goals as goal
 
-pub returns-in_err-prepared-clause-does : goal.returns-in_err-prepared-clause-does
-returns-in_err-prepared-clause-does g c =
-    rw (residual_is _ _ c.from_residual.ensures) (one_prepared_failed (target_tree c.args.target.now) (expr_tree c.args.e.now) _ c.in_err-prepared.ensures.does)
+pub returns-in_err-value-in-Variable-reference-clause-does : goal.returns-in_err-value-in-Variable-reference-clause-does
+returns-in_err-value-in-Variable-reference-clause-does g c =
+    let v = c.in-Variable-reference in
+    rw (residual_is _ _ c.from_residual.ensures, c.in-Variable.is, v.is, variable_is v.name) (plain_failed v.name (expr_tree c.args.e.now) _ (does_evaluated c.in_err-value-in-Variable-reference.ensures.does))
 
-pub returns-in_err-value-clause-does : goal.returns-in_err-value-clause-does
-returns-in_err-value-clause-does g c =
-    rw (residual_is _ _ c.from_residual-in_err-value.ensures)
-    (one_value_failed (target_tree c.args.target.now) (expr_tree c.args.e.now) c.in_ok-prepared.prepared _ c.in_ok-prepared.ensures.does (does_evaluated c.in_err-value.ensures.does))
+pub returns-in_ok-value-in-Variable-reference-clause-does : goal.returns-in_ok-value-in-Variable-reference-clause-does
+returns-in_ok-value-in-Variable-reference-clause-does g c =
+    let v = c.in-Variable-reference in
+    rw (c.in-Variable.is, v.is, variable_is v.name)
+    (plain_assigned v.name (expr_tree c.args.e.now) c.in_ok-value-in-Variable-reference.value c.set_variable.result (does_evaluated c.in_ok-value-in-Variable-reference.ensures.does) (does_evaluated c.set_variable.ensures.does))
 
-pub returns-clause-does : goal.returns-clause-does
-returns-clause-does g c =
-    one_assigned (target_tree c.args.target.now) (expr_tree c.args.e.now) c.in_ok-prepared.prepared c.in_ok-value.value c.assign.result c.in_ok-prepared.ensures.does (does_evaluated c.in_ok-value.ensures.does) c.assign.ensures.does
-
-pub returns-in-Some-clause-does : goal.returns-in-Some-clause-does
-returns-in-Some-clause-does g c = rw c.in-Some.ensures c.setting_node.ensures.does
+pub returns-in-Node-clause-does : goal.returns-in-Node-clause-does
+returns-in-Node-clause-does g c =
+    let does = rw c.deref.ensures at c.setting_node.ensures.does in
+    rw (c.in-Variable.is, c.in-Node.is, node_is c.in-Node.name c.in-Node.subscript) does

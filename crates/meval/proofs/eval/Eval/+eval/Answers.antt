@@ -1,15 +1,19 @@
 -- SPDX-License-Identifier: Apache-2.0
-use Rattle.meval.proofs.EvalWords.{◌≡◌, ◌≤◌, ◌∙◌, ◌++◌, length, [], ◌∷◌, map, refl, sym, ap, arith, rules, nat_tests, nil_from_length, apply, exprs_of, tails_of, named_by, values, tails_value, at_local, of_global, subscripts_of, with_subscripts, direction_of, residual_is, slice_get, ◌>>=◌, give, expr_tree, operand_tree, reference_tree, tail_tree, units, number_text, read_act, order_from, order_behind, named, pending_view, walk_view}
-use Rattle.std.proofs.Common.{List}
+use Rattle.meval.proofs.EvalWords.{◌≡◌, ◌≤◌, ◌∙◌, ◌++◌, length, [], ◌∷◌, map, refl, sym, ap, arith, rules, nat_tests, nil_from_length, apply, exprs_of, tails_of, named_by, values, tails_value, at_local, of_global, subscripts_of, with_subscripts, direction_of, residual_is, slice_get, ◌>>=◌, give, expr_tree, operand_tree, reference_tree, tail_tree, units, number_text, read_act, data_act, get_act, order_from, order_behind, pending_view, walk_view, of_local, of_naked, read_or, value_of, unwrap_or, decides_subscripts}
+use Rattle.std.proofs.Common.{List, Option, Ok}
 use Rattle.mspec.specs.Act.{Text}
+use Rattle.mspec.specs.Scopes.{next_subscript}
+use Rattle.mkey.specs.Way.{way}
+use Rattle.mtree.specs.Functions.{variable_function_tree}
+use Rattle.meval.specs.AtHand.{at_hand_tree}
 use Rattle.mvalue.specs.Texts.{kind_text}
 use Rattle.moperator.proofs.Numbers.{computed_outcome}
-use Rattle.meval.proofs.Calls.{evaluates_then, evaluates_whole, evaluates_failed, evaluates_gives, evaluates_seen, evaluates_refused, evaluates_stopped, evaluates_wanting, evaluates_yielded, keeps_itself, keeps_on}
-use Rattle.meval.proofs.AtOnce.{node_evaluated, node_failed, ordered_next, ordered_stopped, walk_through, walk_refused}
-use Rattle.meval.proofs.Chains.{step_leads, operand_refused, operator_refused, leads_itself, leads_on, leads_end, number_read, number_seen, alone, in_brackets, bracket_refused}
+use Rattle.meval.proofs.Calls.{evaluates_then, evaluates_whole, evaluates_failed, evaluates_gives, evaluates_seen, evaluates_refused, evaluates_stopped, evaluates_wanting, evaluates_yielded, never_refused, asks_locals, keeps_itself, keeps_on}
+use Rattle.meval.proofs.LocalVariables.{node_evaluated, node_failed, variable_told, function_failed, got, let_through, ordered_next, ordered_stopped, walk_through, walk_refused}
+use Rattle.meval.proofs.Chains.{step_leads, operand_refused, operator_refused, leads_itself, leads_on, leads_into, of_primary, alone, in_brackets, bracket_refused}
 use Rattle.meval.proofs.Indirections.{not_free, is_free, evaluates_behind, evaluates_deep, evaluates_unnamed, evaluates_entry}
-use Rattle.meval.proofs.References.{as_evaluated, gives_named, node_of}
-use Rattle.meval.proofs.TreeViews.{expr_is, operand_is, number_is, text_is, special_is, reference_is, refer_is, referring_is, bracket_is, call_is, select_is, apply_is, matches_is, matches_not_is}
+use Rattle.meval.proofs.References.{gives_own, node_of, owned}
+use Rattle.meval.proofs.TreeViews.{expr_is, operand_is, number_is, text_is, special_is, reference_is, variable_is, node_is, local_is, global_is, naked_is, indirect_is, extended_is, refer_is, referring_is, bracket_is, call_is, select_is, apply_is, matches_is, matches_not_is}
 use Rattle.meval.proofs.Trees.{charge_failed, from_tail, from_end, next_value, value_failed, values_end, next_choice, is_chosen, not_chosen, none_chosen}
 use Rattle.meval.proofs.eval.Eval.+eval.Goals as goal
 
@@ -30,6 +34,15 @@ operand-returns-clause-does g t c =
     let signs = rw c.deref.ensures.value at c.unaries.ensures.value in
     rw (operand_is c.args.operand.now) (evaluates_then _ c.in_ok-value.ensures.does (evaluates_yielded signs))
 
+pub operand_into-returns-in-Some-clause-does : goal.operand_into-returns-in-Some-clause-does
+operand_into-returns-in-Some-clause-does g t c = rw c.in-Some.ensures (evaluates_whole _ c.fast_value.ensures.does)
+
+pub operand_into-returns-in_err-place-clause-does : goal.operand_into-returns-in_err-place-clause-does
+operand_into-returns-in_err-place-clause-does g t c = rw (residual_is _ _ c.from_residual.ensures) (evaluates_refused _ c.in_err-place.ensures.does)
+
+pub operand_into-returns-clause-does : goal.operand_into-returns-clause-does
+operand_into-returns-clause-does g t c = evaluates_seen c.in_ok-place.field-0 tt refl c.in_ok-place.ensures.does
+
 -- ---- primary
 
 pub primary-returns-in_err-charge-clause-does : goal.primary-returns-in_err-charge-clause-does
@@ -49,7 +62,7 @@ primary-returns-in_err-copy-in-Text-clause-does g t c =
 
 pub primary-returns-in-Bracket-clause-does : goal.primary-returns-in-Bracket-clause-does
 primary-returns-in-Bracket-clause-does g t c =
-    let k = rw c.deref.ensures at c.value.ensures.does in
+    let k = rw c.deref.ensures at c.eval.ensures.does in
     rw (c.in-Bracket.is, bracket_is c.in-Bracket.inner) (evaluates_then _ c.in_ok-charge.ensures.does k)
 
 pub primary-returns-in-Call-clause-does : goal.primary-returns-in-Call-clause-does
@@ -65,12 +78,8 @@ primary-returns-in-Select-clause-does g t c =
 pub primary-returns-in-Special-clause-does : goal.primary-returns-in-Special-clause-does
 primary-returns-in-Special-clause-does g t c = rw (c.in-Special.is, special_is c.in-Special.word) (evaluates_then _ c.in_ok-charge.ensures.does c.special.ensures.does)
 
-pub primary-returns-in-Some-clause-does : goal.primary-returns-in-Some-clause-does
-primary-returns-in-Some-clause-does g t c =
-    rw (c.in-Reference.is, reference_is c.in-Reference.reference, c.in-Some.ensures) (evaluates_then _ c.in_ok-charge.ensures.does c.local.ensures.does)
-
-pub primary-returns-in-None-clause-does : goal.primary-returns-in-None-clause-does
-primary-returns-in-None-clause-does g t c = rw (c.in-Reference.is, reference_is c.in-Reference.reference) (evaluates_then _ c.in_ok-charge.ensures.does c.variable.ensures.does)
+pub primary-returns-in-Reference-clause-does : goal.primary-returns-in-Reference-clause-does
+primary-returns-in-Reference-clause-does g t c = rw (c.in-Reference.is, reference_is c.in-Reference.reference) (evaluates_then _ c.in_ok-charge.ensures.does c.variable.ensures.does)
 
 pub primary-returns-in-Refer-clause-does : goal.primary-returns-in-Refer-clause-does
 primary-returns-in-Refer-clause-does g t c =
@@ -79,24 +88,31 @@ primary-returns-in-Refer-clause-does g t c =
 
 -- ---- variables and functions of values
 
-pub node_value-returns-in-Some-clause-does : goal.node_value-returns-in-Some-clause-does
-node_value-returns-in-Some-clause-does g t c =
-    let value = evaluates_seen c.in-Some.number _ refl c.in-Some.ensures.does in
-    let k = rw c.of_number.ensures at c.local_at-in-Some.ensures.does in
-    evaluates_then (λ i v. read_act v) (node_evaluated c.args.name.now (expr_tree c.args.subscript.now) _ value) k
+pub variable-returns-in_err-value-in-Variable-clause-does : goal.variable-returns-in_err-value-in-Variable-clause-does
+variable-returns-in_err-value-in-Variable-clause-does g t c =
+    let name = c.in-Variable.name in
+    rw (residual_is _ _ c.from_residual.ensures, c.in-Variable.is, variable_is name) (variable_told name (evaluates_refused _ c.in_err-value-in-Variable.ensures))
 
-pub node_value-returns-in_err-value-in-None-clause-does : goal.node_value-returns-in_err-value-in-None-clause-does
-node_value-returns-in_err-value-in-None-clause-does g t c =
-    let k = rw (c.in-None.ensures.none refl) at c.in_err-value-in-None.ensures.does in
-    evaluates_stopped (λ i v. read_act v) (node_failed c.args.name.now (expr_tree c.args.subscript.now) _ k) c.from_residual.ensures
+pub variable-returns-in_err-copy-in-Variable-clause-does : goal.variable-returns-in_err-copy-in-Variable-clause-does
+variable-returns-in_err-copy-in-Variable-clause-does g t c = evaluates_wanting _ _ _ c.from_residual-in_err-copy-in-Variable.ensures
 
-pub node_value-returns-in_ok-value-in-None-clause-does : goal.node_value-returns-in_ok-value-in-None-clause-does
-node_value-returns-in_ok-value-in-None-clause-does g t c =
-    let k = rw (c.in-None.ensures.none refl) at c.in_ok-value-in-None.ensures.does in
-    evaluates_then (λ i v. read_act v) (node_evaluated c.args.name.now (expr_tree c.args.subscript.now) _ k) c.local_at-in-None.ensures.does
+pub variable-returns-in_ok-copy-in-Variable-clause-does : goal.variable-returns-in_ok-copy-in-Variable-clause-does
+variable-returns-in_ok-copy-in-Variable-clause-does g t c =
+    let name = c.in-Variable.name in
+    rw (c.in-Variable.is, variable_is name) (variable_told name (evaluates_seen c.in_ok-value-in-Variable.value _ (sym c.in_ok-copy-in-Variable.ensures) c.in_ok-value-in-Variable.ensures))
 
-pub variable-returns-in-Some-clause-does : goal.variable-returns-in-Some-clause-does
-variable-returns-in-Some-clause-does g t c = rw c.in-Some.ensures c.node_value.ensures.does
+pub variable-returns-in-Node-clause-does : goal.variable-returns-in-Node-clause-does
+variable-returns-in-Node-clause-does g t c =
+    let k = rw c.deref.ensures at c.fast_node.ensures.does in
+    rw (c.in-Node.is, node_is c.in-Node.name c.in-Node.subscript) k
+
+pub fast_node-returns-in_err-eval_into-clause-does : goal.fast_node-returns-in_err-eval_into-clause-does
+fast_node-returns-in_err-eval_into-clause-does g t c =
+    evaluates_stopped (λ i v. read_act v) (node_failed c.args.name.now (expr_tree c.args.subscript.now) _ c.in_err-eval_into.ensures.does) c.from_residual.ensures
+
+pub fast_node-returns-clause-does : goal.fast_node-returns-clause-does
+fast_node-returns-clause-does g t c =
+    evaluates_then (λ i v. read_act v) (node_evaluated c.args.name.now (expr_tree c.args.subscript.now) _ c.in_ok-eval_into.ensures.does) c.fast_read.ensures.does
 
 pub place_value-returns-in_err-pending-clause-does : goal.place_value-returns-in_err-pending-clause-does
 place_value-returns-in_err-pending-clause-does g t c = evaluates_stopped _ c.in_err-pending.ensures.does c.from_residual.ensures
@@ -117,134 +133,201 @@ called-returns-clause-does g t c =
 
 -- ---- references
 
-pub evaluated-returns-in_err-values-clause-does : goal.evaluated-returns-in_err-values-clause-does
-evaluated-returns-in_err-values-clause-does g t c =
-    let k = rw c.subscripts_of.ensures at c.in_err-values.ensures.does in
-    as_evaluated _ (rw c.in_default-indirect_parts.is at c.indirect_parts.ensures.none refl) (rw c.in_default-extended_parts.is at c.extended_parts.ensures.none refl) (evaluates_stopped (λ i xs. give (named i.account (reference_tree c.args.reference.now) xs)) k c.from_residual.ensures)
+pub evaluated-returns-in-Variable-clause-does : goal.evaluated-returns-in-Variable-clause-does
+evaluated-returns-in-Variable-clause-does g t c =
+    let name = c.in-Variable.name in
+    rw (c.in-Variable.is, variable_is name) (evaluates_gives (of_local name []) pending_view _ (ap (of_local name) c.none.ensures))
 
-pub evaluated-returns-in_err-pending-clause-does : goal.evaluated-returns-in_err-pending-clause-does
-evaluated-returns-in_err-pending-clause-does g t c =
-    let k = rw c.subscripts_of.ensures at c.in_ok-values.ensures.does in
-    as_evaluated _ (rw c.in_default-indirect_parts.is at c.indirect_parts.ensures.none refl) (rw c.in_default-extended_parts.is at c.extended_parts.ensures.none refl) (evaluates_then (λ i xs. give (named i.account (reference_tree c.args.reference.now) xs)) k (evaluates_wanting _ _ _ c.from_residual-in_err-pending.ensures))
+pub evaluated-returns-in_err-value-in-Node-clause-does : goal.evaluated-returns-in_err-value-in-Node-clause-does
+evaluated-returns-in_err-value-in-Node-clause-does g t c =
+    let v = c.in-Node in
+    let k = rw c.deref.ensures at c.in_err-value-in-Node.ensures.does in
+    rw (residual_is _ _ c.from_residual.ensures, v.is, node_is v.name v.subscript) (evaluates_refused pending_view (node_failed v.name (expr_tree v.subscript.value) _ k))
 
-pub evaluated-returns-clause-does : goal.evaluated-returns-clause-does
-evaluated-returns-clause-does g t c =
-    let k = rw c.subscripts_of.ensures at c.in_ok-values.ensures.does in
-    as_evaluated _ (rw c.in_default-indirect_parts.is at c.indirect_parts.ensures.none refl) (rw c.in_default-extended_parts.is at c.extended_parts.ensures.none refl) (evaluates_then (λ i xs. give (named i.account (reference_tree c.args.reference.now) xs)) k (gives_named _ _ _ c.in_ok-pending.ensures))
+pub evaluated-returns-in_ok-value-in-Node-clause-does : goal.evaluated-returns-in_ok-value-in-Node-clause-does
+evaluated-returns-in_ok-value-in-Node-clause-does g t c =
+    let v = c.in-Node in
+    let k = rw c.deref.ensures at c.in_ok-value-in-Node.ensures.does in
+    rw (v.is, node_is v.name v.subscript) (evaluates_seen _ _ (ap (of_local v.name) (sym c.one.ensures)) (node_evaluated v.name (expr_tree v.subscript.value) _ k))
 
-pub evaluated-returns-in-Some-indirect_parts-clause-does : goal.evaluated-returns-in-Some-indirect_parts-clause-does
-evaluated-returns-in-Some-indirect_parts-clause-does g t c = rw c.in-Some-indirect_parts.ensures.parts c.named.ensures.does
+pub evaluated-returns-in_err-values-in-Local-clause-does : goal.evaluated-returns-in_err-values-in-Local-clause-does
+evaluated-returns-in_err-values-in-Local-clause-does g t c =
+    let v = c.in-Local in
+    let k = rw c.deref-in-Local.ensures.value at c.in_err-values-in-Local.ensures.does in
+    rw (v.is, local_is v.name v.subscripts) (evaluates_stopped (λ i xs. give (of_local v.name xs)) k c.from_residual-in_err-values-in-Local.ensures)
 
-pub evaluated-returns-in-Some-extended_parts-clause-does : goal.evaluated-returns-in-Some-extended_parts-clause-does
-evaluated-returns-in-Some-extended_parts-clause-does g t c = rw c.in-Some-extended_parts.ensures.parts c.extended.ensures.does
+pub evaluated-returns-in_ok-values-in-Local-clause-does : goal.evaluated-returns-in_ok-values-in-Local-clause-does
+evaluated-returns-in_ok-values-in-Local-clause-does g t c =
+    let v = c.in-Local in
+    let k = rw c.deref-in-Local.ensures.value at c.in_ok-values-in-Local.ensures.does in
+    rw (v.is, local_is v.name v.subscripts) (evaluates_then (λ i xs. give (of_local v.name xs)) k (evaluates_gives _ pending_view _ refl))
+
+pub evaluated-returns-in-Global-clause-does : goal.evaluated-returns-in-Global-clause-does
+evaluated-returns-in-Global-clause-does g t c =
+    let k = rw c.deref-in-Global.ensures.value at c.global.ensures.does in
+    rw (c.in-Global.is, global_is c.in-Global.name c.in-Global.subscripts) k
+
+pub evaluated-returns-in_err-values-in-Naked-clause-does : goal.evaluated-returns-in_err-values-in-Naked-clause-does
+evaluated-returns-in_err-values-in-Naked-clause-does g t c =
+    let k = rw c.deref-in-Naked.ensures.value at c.in_err-values-in-Naked.ensures.does in
+    rw (c.in-Naked.is, naked_is c.in-Naked.subscripts) (evaluates_stopped (λ i xs. give (of_naked xs)) k c.from_residual-in_err-values-in-Naked.ensures)
+
+pub evaluated-returns-in_ok-values-in-Naked-clause-does : goal.evaluated-returns-in_ok-values-in-Naked-clause-does
+evaluated-returns-in_ok-values-in-Naked-clause-does g t c =
+    let k = rw c.deref-in-Naked.ensures.value at c.in_ok-values-in-Naked.ensures.does in
+    rw (c.in-Naked.is, naked_is c.in-Naked.subscripts) (evaluates_then (λ i xs. give (of_naked xs)) k (evaluates_gives _ pending_view _ refl))
+
+pub evaluated-returns-in-Indirect-clause-does : goal.evaluated-returns-in-Indirect-clause-does
+evaluated-returns-in-Indirect-clause-does g t c =
+    let k = rw (c.deref-in-Indirect.ensures, c.deref-in-Indirect-2.ensures.value) at c.named.ensures.does in
+    rw (c.in-Indirect.is, indirect_is c.in-Indirect.operand c.in-Indirect.subscripts) k
+
+pub evaluated-returns-in-Extended-clause-does : goal.evaluated-returns-in-Extended-clause-does
+evaluated-returns-in-Extended-clause-does g t c =
+    let v = c.in-Extended in
+    let k = rw (c.deref-in-Extended.ensures, c.deref-in-Extended-2.ensures.value) at c.extended.ensures.does in
+    rw (v.is, extended_is v.environment v.name v.subscripts) k
+
+pub global-returns-in_err-values-clause-does : goal.global-returns-in_err-values-clause-does
+global-returns-in_err-values-clause-does g t c =
+    evaluates_stopped (λ i xs. give (of_global (node_of i.account c.args.name.now xs))) c.in_err-values.ensures.does c.from_residual.ensures
+
+pub global-returns-in_err-node-clause-does : goal.global-returns-in_err-node-clause-does
+global-returns-in_err-node-clause-does g t c =
+    evaluates_then (λ i xs. give (of_global (node_of i.account c.args.name.now xs))) c.in_ok-values.ensures.does (evaluates_wanting _ _ _ c.from_residual-in_err-node.ensures)
+
+pub global-returns-clause-does : goal.global-returns-clause-does
+global-returns-clause-does g t c =
+    evaluates_then (λ i xs. give (of_global (node_of i.account c.args.name.now xs))) c.in_ok-values.ensures.does (gives_own c.args.name.now _ _ (ap of_global c.in_ok-node.ensures))
 
 -- ---- environments
 
 pub extended-returns-in_err-owner-clause-does : goal.extended-returns-in_err-owner-clause-does
 extended-returns-in_err-owner-clause-does g t c =
-    let subscripts = exprs_of (map expr_tree c.args.subscripts.now) in
-    evaluates_stopped (λ i owner. values i [] subscripts >>= (λ xs. give (of_global (node_of owner c.args.name.now xs)))) c.in_err-owner.ensures.does c.from_residual.ensures
+    evaluates_stopped (owned c.args.name.now _) c.in_err-owner.ensures.does c.from_residual.ensures
 
 pub extended-returns-in_err-account-clause-does : goal.extended-returns-in_err-account-clause-does
 extended-returns-in_err-account-clause-does g t c =
-    let subscripts = exprs_of (map expr_tree c.args.subscripts.now) in
-    evaluates_then (λ i owner. values i [] subscripts >>= (λ xs. give (of_global (node_of owner c.args.name.now xs)))) c.in_ok-owner.ensures.does (evaluates_wanting _ _ _ c.from_residual-in_err-account.ensures)
+    evaluates_then (owned c.args.name.now _) c.in_ok-owner.ensures.does (evaluates_wanting _ _ _ c.from_residual-in_err-account.ensures)
 
 pub extended-returns-in_err-subscripts-clause-does : goal.extended-returns-in_err-subscripts-clause-does
 extended-returns-in_err-subscripts-clause-does g t c =
-    let subscripts = exprs_of (map expr_tree c.args.subscripts.now) in
-    evaluates_then (λ i owner. values i [] subscripts >>= (λ xs. give (of_global (node_of owner c.args.name.now xs)))) c.in_ok-owner.ensures.does
+    evaluates_then (owned c.args.name.now _) c.in_ok-owner.ensures.does
     (evaluates_stopped (λ i xs. give (of_global (node_of c.in_ok-owner.owner c.args.name.now xs))) c.in_err-subscripts.ensures.does c.from_residual-in_err-subscripts.ensures)
 
 pub extended-returns-in_err-copy-clause-does : goal.extended-returns-in_err-copy-clause-does
 extended-returns-in_err-copy-clause-does g t c =
-    let subscripts = exprs_of (map expr_tree c.args.subscripts.now) in
-    evaluates_then (λ i owner. values i [] subscripts >>= (λ xs. give (of_global (node_of owner c.args.name.now xs)))) c.in_ok-owner.ensures.does
+    evaluates_then (owned c.args.name.now _) c.in_ok-owner.ensures.does
     (evaluates_then (λ i xs. give (of_global (node_of c.in_ok-owner.owner c.args.name.now xs))) c.in_ok-subscripts.ensures.does (evaluates_wanting _ _ _ c.from_residual-in_err-copy.ensures))
 
 pub extended-returns-clause-does : goal.extended-returns-clause-does
 extended-returns-clause-does g t c =
-    let subscripts = exprs_of (map expr_tree c.args.subscripts.now) in
     let is = rw (c.in_ok-account.ensures, c.in_ok-copy.ensures) at c.new-node.ensures in
-    evaluates_then (λ i owner. values i [] subscripts >>= (λ xs. give (of_global (node_of owner c.args.name.now xs)))) c.in_ok-owner.ensures.does
+    evaluates_then (owned c.args.name.now _) c.in_ok-owner.ensures.does
     (evaluates_then (λ i xs. give (of_global (node_of c.in_ok-owner.owner c.args.name.now xs))) c.in_ok-subscripts.ensures.does (evaluates_gives _ pending_view _ (ap of_global is)))
 
 -- ---- indirection
 
 pub named-returns-in_err-value-clause-does : goal.named-returns-in_err-value-clause-does
 named-returns-in_err-value-clause-does g t c =
-    let subscripts = exprs_of (map expr_tree c.args.subscripts.now) in
-    evaluates_stopped (λ i x. named_by i subscripts x) c.in_err-value.ensures.does c.from_residual.ensures
+    evaluates_stopped (λ i x. named_by i _ x) c.in_err-value.ensures.does c.from_residual.ensures
 
 pub named-returns-in_default-clause-does : goal.named-returns-in_default-clause-does
 named-returns-in_default-clause-does g t c =
-    let subscripts = exprs_of (map expr_tree c.args.subscripts.now) in
     let full = not_free _ _ c.in_default.is c.indirected.ensures.free in
-    evaluates_then (λ i x. named_by i subscripts x) c.in_ok-value.ensures.does (evaluates_deep subscripts _ full)
+    evaluates_then (λ i x. named_by i _ x) c.in_ok-value.ensures.does (evaluates_deep _ _ full)
 
 pub named-returns-in_err-text-clause-does : goal.named-returns-in_err-text-clause-does
 named-returns-in_err-text-clause-does g t c =
-    let subscripts = exprs_of (map expr_tree c.args.subscripts.now) in
-    evaluates_then (λ i x. named_by i subscripts x) c.in_ok-value.ensures.does (evaluates_wanting _ _ _ c.from_residual-in_err-text.ensures)
+    evaluates_then (λ i x. named_by i _ x) c.in_ok-value.ensures.does (evaluates_wanting _ _ _ c.from_residual-in_err-text.ensures)
 
 pub named-returns-in_err-reference-clause-does : goal.named-returns-in_err-reference-clause-does
 named-returns-in_err-reference-clause-does g t c =
-    let subscripts = exprs_of (map expr_tree c.args.subscripts.now) in
     let free = is_free _ _ c.in-Some.is c.indirected.ensures.free in
     let none = rw (c.as_bytes.ensures.bytes, c.in_ok-text.ensures) at c.in_err-reference.ensures in
-    evaluates_then (λ i x. named_by i subscripts x) c.in_ok-value.ensures.does (evaluates_unnamed subscripts _ free none c.from_residual-in_err-reference.ensures)
+    evaluates_then (λ i x. named_by i _ x) c.in_ok-value.ensures.does (evaluates_unnamed _ _ free none c.from_residual-in_err-reference.ensures)
 
 pub named-returns-clause-does : goal.named-returns-clause-does
 named-returns-clause-does g t c =
-    let subscripts = exprs_of (map expr_tree c.args.subscripts.now) in
     let free = is_free _ _ c.in-Some.is c.indirected.ensures.free in
     let deeper = rw c.in-Some.is at c.indirected.ensures.deeper in
     let named = rw (c.as_bytes.ensures.bytes, c.in_ok-text.ensures) at c.in_ok-reference.ensures in
-    evaluates_entry _ subscripts _ reference_tree _ _ c.in_ok-value.ensures.does c.in_ok-value.ensures.spent free deeper named c.through-result.ensures.does
+    evaluates_entry _ _ _ reference_tree _ _ c.in_ok-value.ensures.does c.in_ok-value.ensures.spent free deeper named c.through-result.ensures.does
 
 pub through-returns-in_err-front-clause-does : goal.through-returns-in_err-front-clause-does
 through-returns-in_err-front-clause-does g t c =
-    let subscripts = exprs_of (map expr_tree c.args.subscripts.now) in
-    evaluates_stopped (λ i v. values i (subscripts_of v) subscripts >>= (λ xs. give (with_subscripts xs v))) c.in_err-front.ensures.does c.from_residual.ensures
+    evaluates_stopped (λ i v. values i (subscripts_of v) _ >>= (λ xs. give (with_subscripts xs v))) c.in_err-front.ensures.does c.from_residual.ensures
 
 pub through-returns-in_err-values-clause-does : goal.through-returns-in_err-values-clause-does
 through-returns-in_err-values-clause-does g t c =
-    let subscripts = exprs_of (map expr_tree c.args.subscripts.now) in
     let v = pending_view c.in_ok-front.front in
-    evaluates_then (λ i v. values i (subscripts_of v) subscripts >>= (λ xs. give (with_subscripts xs v))) c.in_ok-front.ensures.does
-    (evaluates_behind subscripts v (evaluates_stopped (λ i ys. give (with_subscripts (subscripts_of v ++ ys) v)) c.in_err-values.ensures.does c.from_residual-in_err-values.ensures))
+    evaluates_then (λ i v. values i (subscripts_of v) _ >>= (λ xs. give (with_subscripts xs v))) c.in_ok-front.ensures.does
+    (evaluates_behind _ v (evaluates_stopped (λ i ys. give (with_subscripts (subscripts_of v ++ ys) v)) c.in_err-values.ensures.does c.from_residual-in_err-values.ensures))
 
 pub through-returns-in_err-extended-clause-does : goal.through-returns-in_err-extended-clause-does
 through-returns-in_err-extended-clause-does g t c =
-    let subscripts = exprs_of (map expr_tree c.args.subscripts.now) in
     let v = pending_view c.in_ok-front.front in
-    evaluates_then (λ i v. values i (subscripts_of v) subscripts >>= (λ xs. give (with_subscripts xs v))) c.in_ok-front.ensures.does
-    (evaluates_behind subscripts v
+    evaluates_then (λ i v. values i (subscripts_of v) _ >>= (λ xs. give (with_subscripts xs v))) c.in_ok-front.ensures.does
+    (evaluates_behind _ v
     (evaluates_then (λ i ys. give (with_subscripts (subscripts_of v ++ ys) v)) c.in_ok-values.ensures.does (evaluates_wanting _ _ _ c.from_residual-in_err-extended.ensures)))
 
 pub through-returns-clause-does : goal.through-returns-clause-does
 through-returns-clause-does g t c =
-    let subscripts = exprs_of (map expr_tree c.args.subscripts.now) in
     let v = pending_view c.in_ok-front.front in
-    evaluates_then (λ i v. values i (subscripts_of v) subscripts >>= (λ xs. give (with_subscripts xs v))) c.in_ok-front.ensures.does
-    (evaluates_behind subscripts v (evaluates_then (λ i ys. give (with_subscripts (subscripts_of v ++ ys) v)) c.in_ok-values.ensures.does (evaluates_gives _ pending_view _ c.in_ok-extended.ensures)))
+    evaluates_then (λ i v. values i (subscripts_of v) _ >>= (λ xs. give (with_subscripts xs v))) c.in_ok-front.ensures.does
+    (evaluates_behind _ v (evaluates_then (λ i ys. give (with_subscripts (subscripts_of v ++ ys) v)) c.in_ok-values.ensures.does (evaluates_gives _ pending_view _ c.in_ok-extended.ensures)))
 
 -- ---- functions of a variable
 
+pub referring-returns-in-Node-clause-does : goal.referring-returns-in-Node-clause-does
+referring-returns-in-Node-clause-does g t c =
+    let k = rw (c.deref.ensures, c.deref-in-Node.ensures.value) at c.fast_referring.ensures.does in
+    rw (c.function-function.ensures.1, c.in-Node.is, node_is c.in-Node.name c.in-Node.subscript) k
+
+pub fast_referring-returns-in_err-eval_into-clause-does : goal.fast_referring-returns-in_err-eval_into-clause-does
+fast_referring-returns-in_err-eval_into-clause-does g t c =
+    rw (residual_is _ _ c.from_residual.ensures)
+    (function_failed (variable_function_tree c.args.function) _ (node_failed c.args.name.now (expr_tree c.args.subscript.now) _ c.in_err-eval_into.ensures.does))
+
+pub fast_referring-returns-in-Data-clause-does : goal.fast_referring-returns-in-Data-clause-does
+fast_referring-returns-in-Data-clause-does g t c =
+    rw c.in-Data.is (evaluates_then (λ i v. data_act v) (node_evaluated c.args.name.now (expr_tree c.args.subscript.now) _ c.in_ok-eval_into.ensures.does) c.fast_data.ensures.does)
+
+pub fast_referring-returns-in-Get-clause-does : goal.fast_referring-returns-in-Get-clause-does
+fast_referring-returns-in-Get-clause-does g t c =
+    rw c.in-Get.is (evaluates_then (get_act _) (node_evaluated c.args.name.now (expr_tree c.args.subscript.now) _ c.in_ok-eval_into.ensures.does) c.fast_get.ensures.does)
+
+pub fast_referring-returns-clause-does : goal.fast_referring-returns-clause-does
+fast_referring-returns-clause-does g t c =
+    rw c.in-Order.is (evaluates_then (order_behind _) (node_evaluated c.args.name.now (expr_tree c.args.subscript.now) _ c.in_ok-eval_into.ensures.does) c.fast_order.ensures.does)
+
+pub fast_get-returns-in_err-more-clause-does : goal.fast_get-returns-in_err-more-clause-does
+fast_get-returns-in_err-more-clause-does g t c =
+    let passed = sym (rw (c.if-not-values_ok.false, c.from_ref-subscripts.ensures.value) at (decides_subscripts _ _ c.values_ok.ensures)) in
+    evaluates_then (got _) (let_through c.args.name.now (c.args.subscript.now ∷ []) passed)
+    (evaluates_stopped (λ i xs. read_or (unwrap_or (slice_get xs 0) []) (at_local c.args.name.now (c.args.subscript.now ∷ []))) c.in_err-more.ensures.does c.from_residual.ensures)
+
+pub fast_get-returns-clause-does : goal.fast_get-returns-clause-does
+fast_get-returns-clause-does g t c =
+    let passed = sym (rw (c.if-not-values_ok.false, c.from_ref-subscripts.ensures.value) at (decides_subscripts _ _ c.values_ok.ensures)) in
+    let read = rw c.from_ref-subscripts.ensures.value at c.fast_read_or.ensures.does in
+    evaluates_then (got _) (let_through c.args.name.now (c.args.subscript.now ∷ []) passed)
+    (evaluates_then (λ i xs. read_or (unwrap_or (slice_get xs 0) []) (at_local c.args.name.now (c.args.subscript.now ∷ []))) c.in_ok-more.ensures.does read)
+
 pub referring-returns-in-Data-clause-does : goal.referring-returns-in-Data-clause-does
 referring-returns-in-Data-clause-does g t c =
-    let is = rw c.in-Data.is at c.function.ensures in
+    let is = rw c.in-Data.is at c.function-function.ensures in
     rw is.1 c.data_of.ensures.does
 
 pub referring-returns-in-Get-clause-does : goal.referring-returns-in-Get-clause-does
 referring-returns-in-Get-clause-does g t c =
-    let is = rw c.in-Get.is at c.function.ensures in
-    let k = rw c.deref.ensures.value at c.get_of.ensures.does in
+    let is = rw c.in-Get.is at c.function-function.ensures in
+    let k = rw c.deref-in-Get.ensures.value at c.get_of.ensures.does in
     rw is.1 k
 
 pub referring-returns-in-Order-clause-does : goal.referring-returns-in-Order-clause-does
 referring-returns-in-Order-clause-does g t c =
-    let is = rw c.in-Order.is at c.function.ensures in
+    let is = rw c.in-Order.is at c.function-function.ensures in
     let k = rw c.deref-in-Order.ensures.value at c.order_of.ensures.does in
     rw is.1 k
 
@@ -276,70 +359,50 @@ direction-returns-clause-does g t c =
     let told = rw c.as_slice.ensures at c.direction.ensures in
     evaluates_then (λ i xs. direction_of (slice_get xs 0)) c.in_ok-values.ensures.does (evaluates_yielded told)
 
-pub order_of_node-returns-in-Some-clause-does : goal.order_of_node-returns-in-Some-clause-does
-order_of_node-returns-in-Some-clause-does g t c =
-    let more = exprs_of (map expr_tree c.args.more.now) in
-    let value = evaluates_seen c.in-Some.number _ refl c.in-Some.ensures.does in
-    let k = rw c.of_number.ensures at c.order_behind-in-Some.ensures.does in
-    evaluates_then (order_behind more) (node_evaluated c.args.name.now (expr_tree c.args.subscript.now) _ value) k
-
-pub order_of_node-returns-in_err-value-in-None-clause-does : goal.order_of_node-returns-in_err-value-in-None-clause-does
-order_of_node-returns-in_err-value-in-None-clause-does g t c =
-    let more = exprs_of (map expr_tree c.args.more.now) in
-    let k = rw (c.in-None.ensures.none refl) at c.in_err-value-in-None.ensures.does in
-    evaluates_stopped (order_behind more) (node_failed c.args.name.now (expr_tree c.args.subscript.now) _ k) c.from_residual.ensures
-
-pub order_of_node-returns-in_ok-value-in-None-clause-does : goal.order_of_node-returns-in_ok-value-in-None-clause-does
-order_of_node-returns-in_ok-value-in-None-clause-does g t c =
-    let more = exprs_of (map expr_tree c.args.more.now) in
-    let k = rw (c.in-None.ensures.none refl) at c.in_ok-value-in-None.ensures.does in
-    evaluates_then (order_behind more) (node_evaluated c.args.name.now (expr_tree c.args.subscript.now) _ k) c.order_behind-in-None.ensures.does
-
-pub order_behind-returns-in_err-check_walk-clause-does : goal.order_behind-returns-in_err-check_walk-clause-does
-order_behind-returns-in_err-check_walk-clause-does g t c =
+pub fast_order-returns-in_err-check_walk-clause-does : goal.fast_order-returns-in_err-check_walk-clause-does
+fast_order-returns-in_err-check_walk-clause-does g t c =
     let more = exprs_of (map expr_tree c.args.more.now) in
     let name = c.args.name.now in
-    let refused = rw c.from_ref.ensures.value at c.in_err-check_walk.ensures.checked in
+    let refused = rw c.from_ref-subscripts.ensures.value at c.in_err-check_walk.ensures.checked in
     walk_refused more name (c.args.subscript.now ∷ []) (evaluates_stopped (λ i _. give (at_local name (c.args.subscript.now ∷ [])) >>= order_from more i) (evaluates_yielded refused) c.from_residual.ensures)
 
-pub order_behind-returns-in_err-direction-clause-does : goal.order_behind-returns-in_err-direction-clause-does
-order_behind-returns-in_err-direction-clause-does g t c =
-    let more = exprs_of (map expr_tree c.args.more.now) in
-    let xs = c.args.subscript.now ∷ [] in
-    let passed = rw c.from_ref.ensures.value at c.in_ok-check_walk.ensures.checked in
-    evaluates_then (order_from more) (walk_through c.args.name.now xs passed) (ordered_stopped more (at_local c.args.name.now xs) c.in_err-direction.ensures.does c.from_residual-in_err-direction.ensures)
+pub fast_order-returns-in_err-direction-clause-does : goal.fast_order-returns-in_err-direction-clause-does
+fast_order-returns-in_err-direction-clause-does g t c =
+    let passed = rw c.from_ref-subscripts.ensures.value at c.in_ok-check_walk.ensures.checked in
+    evaluates_then (order_from _) (walk_through c.args.name.now (c.args.subscript.now ∷ []) passed) (ordered_stopped _ (at_local c.args.name.now (c.args.subscript.now ∷ [])) c.in_err-direction.ensures.does c.from_residual-in_err-direction.ensures)
 
-pub order_behind-returns-clause-does : goal.order_behind-returns-clause-does
-order_behind-returns-clause-does g t c =
-    let more = exprs_of (map expr_tree c.args.more.now) in
-    let xs = c.args.subscript.now ∷ [] in
-    let passed = rw c.from_ref.ensures.value at c.in_ok-check_walk.ensures.checked in
-    evaluates_then (order_from more) (walk_through c.args.name.now xs passed) (ordered_next more (at_local c.args.name.now xs) c.in_ok-direction.direction c.in_ok-direction.ensures.does c.next_local.ensures.does)
+pub fast_order-returns-clause-does : goal.fast_order-returns-clause-does
+fast_order-returns-clause-does g t c =
+    let passed = rw c.from_ref-subscripts.ensures.value at c.in_ok-check_walk.ensures.checked in
+    let next = rw c.from_ref-subscripts.ensures.value at c.fast_next.ensures.does in
+    evaluates_then (order_from _) (walk_through c.args.name.now (c.args.subscript.now ∷ []) passed) (ordered_next _ (at_local c.args.name.now (c.args.subscript.now ∷ [])) c.in_ok-direction.direction c.in_ok-direction.ensures.does next)
 
-pub order_of-returns-in-Some-clause-does : goal.order_of-returns-in-Some-clause-does
-order_of-returns-in-Some-clause-does g t c = rw c.in-Some.ensures c.order_of_node.ensures.does
+pub order_of-returns-in_err-pending-clause-does : goal.order_of-returns-in_err-pending-clause-does
+order_of-returns-in_err-pending-clause-does g t c = evaluates_stopped (order_behind (exprs_of (map expr_tree c.args.more.now))) c.in_err-pending.ensures.does c.from_residual.ensures
 
-pub order_of_place-returns-in_err-pending-clause-does : goal.order_of_place-returns-in_err-pending-clause-does
-order_of_place-returns-in_err-pending-clause-does g t c = evaluates_stopped (order_behind (exprs_of (map expr_tree c.args.more.now))) c.in_err-pending.ensures.does c.from_residual.ensures
+pub order_of-returns-in_err-walk-clause-does : goal.order_of-returns-in_err-walk-clause-does
+order_of-returns-in_err-walk-clause-does g t c =
+    evaluates_then (order_behind _) c.in_ok-pending.ensures.does (evaluates_stopped (order_from _) c.in_err-walk.ensures.does c.from_residual-in_err-walk.ensures)
 
-pub order_of_place-returns-in_err-walk-clause-does : goal.order_of_place-returns-in_err-walk-clause-does
-order_of_place-returns-in_err-walk-clause-does g t c =
-    let more = exprs_of (map expr_tree c.args.more.now) in
-    evaluates_then (order_behind more) c.in_ok-pending.ensures.does (evaluates_stopped (order_from more) c.in_err-walk.ensures.does c.from_residual-in_err-walk.ensures)
+pub order_of-returns-in_err-direction-clause-does : goal.order_of-returns-in_err-direction-clause-does
+order_of-returns-in_err-direction-clause-does g t c =
+    evaluates_then (order_behind _) c.in_ok-pending.ensures.does
+    (evaluates_then (order_from _) c.in_ok-walk.ensures.does (ordered_stopped _ (walk_view c.in_ok-walk.walk) c.in_err-direction.ensures.does c.from_residual-in_err-direction.ensures))
 
-pub order_of_place-returns-in_err-direction-clause-does : goal.order_of_place-returns-in_err-direction-clause-does
-order_of_place-returns-in_err-direction-clause-does g t c =
-    let more = exprs_of (map expr_tree c.args.more.now) in
-    evaluates_then (order_behind more) c.in_ok-pending.ensures.does
-    (evaluates_then (order_from more) c.in_ok-walk.ensures.does (ordered_stopped more (walk_view c.in_ok-walk.walk) c.in_err-direction.ensures.does c.from_residual-in_err-direction.ensures))
-
-pub order_of_place-returns-clause-does : goal.order_of_place-returns-clause-does
-order_of_place-returns-clause-does g t c =
-    let more = exprs_of (map expr_tree c.args.more.now) in
-    evaluates_then (order_behind more) c.in_ok-pending.ensures.does
-    (evaluates_then (order_from more) c.in_ok-walk.ensures.does (ordered_next more (walk_view c.in_ok-walk.walk) c.in_ok-direction.direction c.in_ok-direction.ensures.does c.next.ensures.does))
+pub order_of-returns-clause-does : goal.order_of-returns-clause-does
+order_of-returns-clause-does g t c =
+    evaluates_then (order_behind _) c.in_ok-pending.ensures.does
+    (evaluates_then (order_from _) c.in_ok-walk.ensures.does (ordered_next _ (walk_view c.in_ok-walk.walk) c.in_ok-direction.direction c.in_ok-direction.ensures.does c.next.ensures.does))
 
 -- ---- steps
+
+pub tail-returns-in_err-operand_into-in-Apply-clause-does : goal.tail-returns-in_err-operand_into-in-Apply-clause-does
+tail-returns-in_err-operand_into-in-Apply-clause-does g t c =
+    rw (c.in-Apply.is, apply_is c.in-Apply.operator c.in-Apply.operand) (evaluates_stopped _ c.in_err-operand_into-in-Apply.ensures.does c.from_residual.ensures)
+
+pub tail-returns-in_ok-operand_into-in-Apply-clause-does : goal.tail-returns-in_ok-operand_into-in-Apply-clause-does
+tail-returns-in_ok-operand_into-in-Apply-clause-does g t c =
+    rw (c.in-Apply.is, apply_is c.in-Apply.operator c.in-Apply.operand) (evaluates_then _ c.in_ok-operand_into-in-Apply.ensures.does (evaluates_yielded c.binary.ensures.value))
 
 pub tail-returns-in_err-matches-in-Matches-clause-does : goal.tail-returns-in_err-matches-in-Matches-clause-does
 tail-returns-in_err-matches-in-Matches-clause-does g t c =
@@ -363,20 +426,52 @@ tail-returns-in_ok-matches-in-MatchesNot-clause-does g t c =
 
 -- ---- expressions
 
-pub value-returns-then-is_empty-clause-does : goal.value-returns-then-is_empty-clause-does
-value-returns-then-is_empty-clause-does g t c =
+pub eval_into-returns-in_err-operand_into-clause-does : goal.eval_into-returns-in_err-operand_into-clause-does
+eval_into-returns-in_err-operand_into-clause-does g t c = rw (expr_is c.args.e.now) (evaluates_stopped _ c.in_err-operand_into.ensures.does c.from_residual.ensures)
+
+pub eval_into-returns-then-is_empty-clause-does : goal.eval_into-returns-then-is_empty-clause-does
+eval_into-returns-then-is_empty-clause-does g t c =
     let v = c.args.e.now.rest in
     let zero : v.len ≡ 0 = grind (arith, nat_tests, c.if-is_empty.ensures) in
     let none : v.items ≡ [] = nil_from_length v.items (omega (arith, v.ok, zero)) in
-    rw (expr_is c.args.e.now, none) (evaluates_whole _ c.operand.ensures.does)
+    rw (expr_is c.args.e.now, none) (evaluates_whole (Ok tt) c.in_ok-operand_into.ensures.does)
+
+pub eval_into-returns-clause-does : goal.eval_into-returns-clause-does
+eval_into-returns-clause-does g t c =
+    let rest = rw c.deref.ensures.value at c.with_rest.ensures.does in
+    rw (expr_is c.args.e.now) (evaluates_then _ c.in_ok-operand_into.ensures.does rest)
+
+pub eval-returns-in_err-eval_into-clause-does : goal.eval-returns-in_err-eval_into-clause-does
+eval-returns-in_err-eval_into-clause-does g t c = rw (residual_is _ _ c.from_residual.ensures) (evaluates_refused _ c.in_err-eval_into.ensures.does)
+
+pub eval-returns-clause-does : goal.eval-returns-clause-does
+eval-returns-clause-does g t c = evaluates_seen tt _ refl c.in_ok-eval_into.ensures.does
+
+pub eval-returns-in_err-eval_into-clause-steady : goal.eval-returns-in_err-eval_into-clause-steady
+eval-returns-in_err-eval_into-clause-steady g t c =
+    rw (residual_is _ _ c.from_residual.ensures) (never_refused g.met.S.NodeStore.steady_is_sound (evaluates_refused (λ (v : Text). v) c.in_err-eval_into.ensures.does))
 
 -- ---- numbers
 
-pub operand_number-returns-then-number_at_once-clause-does : goal.operand_number-returns-then-number_at_once-clause-does
-operand_number-returns-then-number_at_once-clause-does g t c = number_seen c.number_at_once.new.place (c.number_at_once.ensures.does c.if-number_at_once.true)
+pub operand_number-returns-in-Some-clause-does : goal.operand_number-returns-in-Some-clause-does
+operand_number-returns-in-Some-clause-does g t c = rw c.in-Some.ensures (of_primary (at_hand_tree c.in-Some.at_hand) c.fast_number.ensures.does)
 
-pub operand_number-returns-clause-does : goal.operand_number-returns-clause-does
-operand_number-returns-clause-does g t c = rw (c.number_at_once.ensures.none c.if-number_at_once.false) at c.other_number.ensures.does
+pub expression_number-returns-then-is_empty-clause-does : goal.expression_number-returns-then-is_empty-clause-does
+expression_number-returns-then-is_empty-clause-does g t c =
+    let v = c.args.e.now.rest in
+    let zero : v.len ≡ 0 = grind (arith, nat_tests, c.if-is_empty.ensures) in
+    let none : v.items ≡ [] = nil_from_length v.items (omega (arith, v.ok, zero)) in
+    rw (expr_is c.args.e.now, none) (alone (operand_tree c.args.e.now.first) c.operand_number.ensures.does)
+
+pub expression_number-returns-in_err-eval_into-clause-does : goal.expression_number-returns-in_err-eval_into-clause-does
+expression_number-returns-in_err-eval_into-clause-does g t c = evaluates_stopped _ c.in_err-eval_into.ensures.does c.from_residual.ensures
+
+pub expression_number-returns-in_err-place-clause-does : goal.expression_number-returns-in_err-place-clause-does
+expression_number-returns-in_err-place-clause-does g t c =
+    rw (residual_is _ _ c.from_residual-in_err-place.ensures) (evaluates_then _ c.in_ok-eval_into.ensures.does (evaluates_refused _ (evaluates_yielded c.in_err-place.ensures.number)))
+
+pub expression_number-returns-clause-does : goal.expression_number-returns-clause-does
+expression_number-returns-clause-does g t c = evaluates_then _ c.in_ok-eval_into.ensures.does (evaluates_seen c.in_ok-place.field-0 tt refl (evaluates_yielded c.in_ok-place.ensures.number))
 
 pub other_number-returns-in_err-charge-clause-does : goal.other_number-returns-in_err-charge-clause-does
 other_number-returns-in_err-charge-clause-does g t c =
@@ -395,66 +490,20 @@ other_number-returns-in_err-place-clause-does g t c =
 pub other_number-returns-clause-does : goal.other_number-returns-clause-does
 other_number-returns-clause-does g t c = evaluates_then _ c.in_ok-value.ensures.does (evaluates_seen c.in_ok-place.field-0 tt refl (evaluates_yielded c.in_ok-place.ensures.number))
 
-pub expression_number-returns-then-is_empty-clause-does : goal.expression_number-returns-then-is_empty-clause-does
-expression_number-returns-then-is_empty-clause-does g t c =
-    let v = c.args.e.now.rest in
-    let zero : v.len ≡ 0 = grind (arith, nat_tests, c.if-is_empty.ensures) in
-    let none : v.items ≡ [] = nil_from_length v.items (omega (arith, v.ok, zero)) in
-    rw (expr_is c.args.e.now, none) (alone (operand_tree c.args.e.now.first) c.operand_number.ensures.does)
-
-pub expression_number-returns-in_err-value-clause-does : goal.expression_number-returns-in_err-value-clause-does
-expression_number-returns-in_err-value-clause-does g t c =
-    let k = rw (c.number_at_once.ensures.none c.if-not-number_at_once.true) at c.in_err-value.ensures.does in
-    evaluates_stopped _ k c.from_residual.ensures
-
-pub expression_number-returns-in_err-place-clause-does : goal.expression_number-returns-in_err-place-clause-does
-expression_number-returns-in_err-place-clause-does g t c =
-    let k = rw (c.number_at_once.ensures.none c.if-not-number_at_once.true) at c.in_ok-value.ensures.does in
-    rw (residual_is _ _ c.from_residual-in_err-place.ensures) (evaluates_then _ k (evaluates_refused _ (evaluates_yielded c.in_err-place.ensures.number)))
-
-pub expression_number-returns-then-not-number_at_once-clause-does : goal.expression_number-returns-then-not-number_at_once-clause-does
-expression_number-returns-then-not-number_at_once-clause-does g t c =
-    let k = rw (c.number_at_once.ensures.none c.if-not-number_at_once.true) at c.in_ok-value.ensures.does in
-    evaluates_then _ k (evaluates_seen c.in_ok-place.field-0 tt refl (evaluates_yielded c.in_ok-place.ensures.number))
-
-pub expression_number-returns-in_err-count-clause-does : goal.expression_number-returns-in_err-count-clause-does
-expression_number-returns-in_err-count-clause-does g t c =
-    let stops = rw c.deref.ensures.value at c.in_err-count.ensures.stops in
-    rw (residual_is _ _ c.from_residual-in_err-count.ensures, expr_is c.args.e.now)
-    (evaluates_failed _ (evaluates_then (λ i x. tails_value i x (tails_of (map tail_tree c.args.e.now.rest.items))) (c.number_at_once.ensures.does c.if-not-number_at_once.false) stops))
-
-pub expression_number-returns-in_err-with_tails-clause-does : goal.expression_number-returns-in_err-with_tails-clause-does
-expression_number-returns-in_err-with_tails-clause-does g t c =
-    let leads = rw c.deref.ensures.value at c.in_ok-count.ensures.leads in
-    let same : c.of_number-value.result ≡ number_text (units c.chain.new.left) = first_of (search rules, cc) in
-    let rest = rw (same, c.tails_behind.ensures, c.deref-then-count-len.ensures.value) at c.in_err-with_tails.ensures.does in
-    rw (residual_is _ _ c.from_residual-in_err-with_tails.ensures, expr_is c.args.e.now)
-    (evaluates_failed _ (evaluates_then (λ i x. tails_value i x (tails_of (map tail_tree c.args.e.now.rest.items))) (c.number_at_once.ensures.does c.if-not-number_at_once.false) (leads.on _ _ (evaluates_refused (λ (v : Text). v) rest))))
-
-pub expression_number-returns-in_err-place-2-clause-does : goal.expression_number-returns-in_err-place-2-clause-does
-expression_number-returns-in_err-place-2-clause-does g t c =
-    let leads = rw c.deref.ensures.value at c.in_ok-count.ensures.leads in
-    let same : c.of_number-value.result ≡ number_text (units c.chain.new.left) = first_of (search rules, cc) in
-    let rest = rw (same, c.tails_behind.ensures, c.deref-then-count-len.ensures.value) at c.in_ok-with_tails.ensures.does in
-    rw (residual_is _ _ c.from_residual-in_err-place-2.ensures, expr_is c.args.e.now)
-    (evaluates_then _ (evaluates_then (λ i x. tails_value i x (tails_of (map tail_tree c.args.e.now.rest.items))) (c.number_at_once.ensures.does c.if-not-number_at_once.false) (leads.on _ _ (evaluates_seen tt _ refl rest))) (evaluates_refused _ (evaluates_yielded c.in_err-place-2.ensures.number)))
-
-pub expression_number-returns-in_ok-place-2-clause-does : goal.expression_number-returns-in_ok-place-2-clause-does
-expression_number-returns-in_ok-place-2-clause-does g t c =
-    let leads = rw c.deref.ensures.value at c.in_ok-count.ensures.leads in
-    let same : c.of_number-value.result ≡ number_text (units c.chain.new.left) = first_of (search rules, cc) in
-    let rest = rw (same, c.tails_behind.ensures, c.deref-then-count-len.ensures.value) at c.in_ok-with_tails.ensures.does in
-    rw (expr_is c.args.e.now)
-    (evaluates_then _ (evaluates_then (λ i x. tails_value i x (tails_of (map tail_tree c.args.e.now.rest.items))) (c.number_at_once.ensures.does c.if-not-number_at_once.false) (leads.on _ _ (evaluates_seen tt _ refl rest))) (evaluates_seen c.in_ok-place-2.field-0 tt refl (evaluates_yielded c.in_ok-place-2.ensures.number)))
-
-pub expression_number-returns-else-count-len-clause-does : goal.expression_number-returns-else-count-len-clause-does
-expression_number-returns-else-count-len-clause-does g t c =
-    let v = c.args.e.now.rest in
-    let leads = rw c.deref.ensures.value at c.in_ok-count.ensures.leads in
-    let past : length v.items ≤ c.in_ok-count.count = omega (arith, v.ok, c.len.ensures) in
-    rw (expr_is c.args.e.now) (number_read c.chain.new.left (evaluates_then (λ i x. tails_value i x (tails_of (map tail_tree c.args.e.now.rest.items))) (c.number_at_once.ensures.does c.if-not-number_at_once.false) (leads_end v.items c.in_ok-count.count _ past leads)))
-
 -- ---- a chain
+
+pub with_rest-returns-in_err-count-clause-does : goal.with_rest-returns-in_err-count-clause-does
+with_rest-returns-in_err-count-clause-does g t c =
+    let same = ap kind_text (sym c.in-Number.is) ∙ c.kind.ensures in
+    let stops = rw same at c.in_err-count.ensures.stops in
+    rw (residual_is _ _ c.from_residual.ensures) (evaluates_refused _ stops)
+
+pub with_rest-returns-clause-does : goal.with_rest-returns-clause-does
+with_rest-returns-clause-does g t c =
+    let same = ap kind_text (sym c.in-Number.is) ∙ c.kind.ensures in
+    let leads = rw same at c.in_ok-count.ensures.leads in
+    let rest = rw (c.of_number.ensures, c.tails_behind.ensures) at c.with_tails-2.ensures.does in
+    leads_into leads rest
 
 pub chain-loop-i-init : goal.chain-loop-i-init
 chain-loop-i-init g t c = record {
@@ -494,65 +543,6 @@ pub chain-returns-clause-leads : goal.chain-returns-clause-leads
 chain-returns-clause-leads g t c =
     let end : c.loop-i.i ≡ length c.args.tails.now = omega arith in
     rw end at c.loop-i.invariant.leads
-
-pub with_number-returns-in_err-count-clause-does : goal.with_number-returns-in_err-count-clause-does
-with_number-returns-in_err-count-clause-does g t c = rw (residual_is _ _ c.from_residual.ensures) c.in_err-count.ensures.stops
-
-pub with_number-returns-in_err-with_tails-clause-does : goal.with_number-returns-in_err-with_tails-clause-does
-with_number-returns-in_err-with_tails-clause-does g t c =
-    let same : c.of_number-value.result ≡ number_text (units c.chain.new.left) = first_of (search rules, cc) in
-    let rest = rw (same, c.tails_behind.ensures) at c.in_err-with_tails.ensures.does in
-    rw (residual_is _ _ c.from_residual-in_err-with_tails.ensures) (c.in_ok-count.ensures.leads.on _ _ (evaluates_refused (λ (v : Text). v) rest))
-
-pub with_number-returns-clause-does : goal.with_number-returns-clause-does
-with_number-returns-clause-does g t c =
-    let same : c.of_number-value.result ≡ number_text (units c.chain.new.left) = first_of (search rules, cc) in
-    let rest = rw (same, c.tails_behind.ensures) at c.in_ok-with_tails.ensures.does in
-    c.in_ok-count.ensures.leads.on _ _ (evaluates_seen tt _ refl rest)
-
-pub tail-returns-then-number_at_once-clause-does : goal.tail-returns-then-number_at_once-clause-does
-tail-returns-then-number_at_once-clause-does g t c =
-    let k = rw c.of_number.ensures at c.binary-then-number_at_once.ensures.value in
-    rw (c.in-Apply.is, apply_is c.in-Apply.operator c.in-Apply.operand) (evaluates_then _ (c.number_at_once.ensures.does c.if-number_at_once.true) (evaluates_yielded k))
-
-pub tail-returns-in_err-right-in-Apply-clause-does : goal.tail-returns-in_err-right-in-Apply-clause-does
-tail-returns-in_err-right-in-Apply-clause-does g t c =
-    let k = rw (c.number_at_once.ensures.none c.if-number_at_once.false) at c.in_err-right-in-Apply.ensures.does in
-    rw (c.in-Apply.is, apply_is c.in-Apply.operator c.in-Apply.operand) (evaluates_stopped _ k c.from_residual.ensures)
-
-pub tail-returns-in_ok-right-in-Apply-clause-does : goal.tail-returns-in_ok-right-in-Apply-clause-does
-tail-returns-in_ok-right-in-Apply-clause-does g t c =
-    let k = rw (c.number_at_once.ensures.none c.if-number_at_once.false) at c.in_ok-right-in-Apply.ensures.does in
-    rw (c.in-Apply.is, apply_is c.in-Apply.operator c.in-Apply.operand) (evaluates_then _ k (evaluates_yielded c.binary-in-Apply.ensures.value))
-
-pub value-returns-then-number_at_once-clause-does : goal.value-returns-then-number_at_once-clause-does
-value-returns-then-number_at_once-clause-does g t c =
-    let rest = rw c.deref.ensures.value at c.with_number.ensures.does in
-    rw (expr_is c.args.e.now) (evaluates_then _ (c.number_at_once.ensures.does c.if-number_at_once.true) rest)
-
-pub value-returns-in_err-value-clause-does : goal.value-returns-in_err-value-clause-does
-value-returns-in_err-value-clause-does g t c =
-    let k = rw (c.number_at_once.ensures.none c.if-number_at_once.false) at c.in_err-value.ensures.does in
-    rw (expr_is c.args.e.now) (evaluates_stopped _ k c.from_residual.ensures)
-
-pub value-returns-in-Number-clause-does : goal.value-returns-in-Number-clause-does
-value-returns-in-Number-clause-does g t c =
-    let k = rw (c.number_at_once.ensures.none c.if-number_at_once.false) at c.in_ok-value.ensures.does in
-    let same = ap kind_text (sym c.in-Number.is) ∙ c.kind.ensures in
-    let rest = rw (c.deref-in-Number.ensures.value, same) at c.with_number-in-Number.ensures.does in
-    rw (expr_is c.args.e.now) (evaluates_then _ k rest)
-
-pub value-returns-in_err-with_tails-clause-does : goal.value-returns-in_err-with_tails-clause-does
-value-returns-in_err-with_tails-clause-does g t c =
-    let k = rw (c.number_at_once.ensures.none c.if-number_at_once.false) at c.in_ok-value.ensures.does in
-    let rest = rw c.deref-2.ensures.value at c.in_err-with_tails.ensures.does in
-    rw (residual_is _ _ c.from_residual-in_err-with_tails.ensures, expr_is c.args.e.now) (evaluates_then _ k (evaluates_refused _ rest))
-
-pub value-returns-clause-does : goal.value-returns-clause-does
-value-returns-clause-does g t c =
-    let k = rw (c.number_at_once.ensures.none c.if-number_at_once.false) at c.in_ok-value.ensures.does in
-    let rest = rw c.deref-2.ensures.value at c.in_ok-with_tails.ensures.does in
-    rw (expr_is c.args.e.now) (evaluates_then _ k (evaluates_seen tt _ refl rest))
 
 pub with_tails-loop-tail-init : goal.with_tails-loop-tail-init
 with_tails-loop-tail-init g t c = record {
@@ -646,7 +636,7 @@ chosen-returns-then-branch-clause-does g t c =
     c.loop-choice.invariant.leads _ _
     (next_choice c.args.choices.now c.loop-choice.choice-index c.choice-item.result _ c.loop-choice-test.true c.choice-item.is
     (evaluates_then _ c.in_ok-condition.ensures.does
-    (evaluates_then _ (evaluates_yielded c.in_ok-truth_of.ensures.truth) (is_chosen c.in_ok-truth_of.field-0 _ _ c.if-branch.true c.value-then-branch.ensures.does))))
+    (evaluates_then _ (evaluates_yielded c.in_ok-truth_of.ensures.truth) (is_chosen c.in_ok-truth_of.field-0 _ _ c.if-branch.true c.eval-then-branch.ensures.does))))
 
 pub chosen-loop-choice-preserved : goal.chosen-loop-choice-preserved
 chosen-loop-choice-preserved g t c = record {

@@ -16,80 +16,89 @@ decreases-operand g l = 16 * l.self.now.steps + 1
 abbrev pub decreases-named : goal.decreases-named
 decreases-named g l = 16 * l.self.now.steps + 1
 
-abbrev pub decreases-tail : goal.decreases-tail
-decreases-tail g l = 16 * l.self.now.steps + 2
-
-abbrev pub decreases-with_tails : goal.decreases-with_tails
-decreases-with_tails g l = 16 * l.self.now.steps + 3
+abbrev pub decreases-operand_into : goal.decreases-operand_into
+decreases-operand_into g l = 16 * l.self.now.steps + 2
 
 abbrev pub decreases-other_number : goal.decreases-other_number
 decreases-other_number g l = 16 * l.self.now.steps + 2
 
+abbrev pub decreases-eval_into : goal.decreases-eval_into
+decreases-eval_into g l = 16 * l.self.now.steps + 3
+
 abbrev pub decreases-operand_number : goal.decreases-operand_number
 decreases-operand_number g l = 16 * l.self.now.steps + 3
+
+abbrev pub decreases-tail : goal.decreases-tail
+decreases-tail g l = 16 * l.self.now.steps + 3
+
+abbrev pub decreases-with_tails : goal.decreases-with_tails
+decreases-with_tails g l = 16 * l.self.now.steps + 4
 
 abbrev pub decreases-chain : goal.decreases-chain
 decreases-chain g l = 16 * l.self.now.steps + 4
 
-abbrev pub decreases-with_number : goal.decreases-with_number
-decreases-with_number g l = 16 * l.self.now.steps + 5
+abbrev pub decreases-with_rest : goal.decreases-with_rest
+decreases-with_rest g l = 16 * l.self.now.steps + 5
+
+abbrev pub decreases-eval : goal.decreases-eval
+decreases-eval g l = 16 * l.self.now.steps + 4
 
 abbrev pub decreases-expression_number : goal.decreases-expression_number
-decreases-expression_number g l = 16 * l.self.now.steps + 7
-
-abbrev pub decreases-value : goal.decreases-value
-decreases-value g l = 16 * l.self.now.steps + 6
+decreases-expression_number g l = 16 * l.self.now.steps + 4
 
 abbrev pub decreases-values : goal.decreases-values
-decreases-values g l = 16 * l.self.now.steps + 7
+decreases-values g l = 16 * l.self.now.steps + 5
 
 abbrev pub decreases-chosen : goal.decreases-chosen
-decreases-chosen g l = 16 * l.self.now.steps + 7
+decreases-chosen g l = 16 * l.self.now.steps + 5
 
 abbrev pub decreases-called : goal.decreases-called
-decreases-called g l = 16 * l.self.now.steps + 8
+decreases-called g l = 16 * l.self.now.steps + 6
+
+abbrev pub decreases-global : goal.decreases-global
+decreases-global g l = 16 * l.self.now.steps + 6
 
 abbrev pub decreases-extended : goal.decreases-extended
-decreases-extended g l = 16 * l.self.now.steps + 8
+decreases-extended g l = 16 * l.self.now.steps + 6
 
 abbrev pub decreases-direction : goal.decreases-direction
-decreases-direction g l = 16 * l.self.now.steps + 8
+decreases-direction g l = 16 * l.self.now.steps + 6
 
 abbrev pub decreases-evaluated : goal.decreases-evaluated
-decreases-evaluated g l = 16 * l.self.now.steps + 9
+decreases-evaluated g l = 16 * l.self.now.steps + 7
 
-abbrev pub decreases-order_behind : goal.decreases-order_behind
-decreases-order_behind g l = 16 * l.self.now.steps + 9
+abbrev pub decreases-fast_node : goal.decreases-fast_node
+decreases-fast_node g l = 16 * l.self.now.steps + 4
 
-abbrev pub decreases-order_of_node : goal.decreases-order_of_node
-decreases-order_of_node g l = 16 * l.self.now.steps + 10
+abbrev pub decreases-fast_referring : goal.decreases-fast_referring
+decreases-fast_referring g l = 16 * l.self.now.steps + 4
 
-abbrev pub decreases-order_of_place : goal.decreases-order_of_place
-decreases-order_of_place g l = 16 * l.self.now.steps + 10
+abbrev pub decreases-fast_get : goal.decreases-fast_get
+decreases-fast_get g l = 16 * l.self.now.steps + 6
 
-abbrev pub decreases-data_of : goal.decreases-data_of
-decreases-data_of g l = 16 * l.self.now.steps + 10
-
-abbrev pub decreases-get_of : goal.decreases-get_of
-decreases-get_of g l = 16 * l.self.now.steps + 10
-
-abbrev pub decreases-order_of : goal.decreases-order_of
-decreases-order_of g l = 16 * l.self.now.steps + 11
+abbrev pub decreases-fast_order : goal.decreases-fast_order
+decreases-fast_order g l = 16 * l.self.now.steps + 7
 
 abbrev pub decreases-place_value : goal.decreases-place_value
-decreases-place_value g l = 16 * l.self.now.steps + 10
+decreases-place_value g l = 16 * l.self.now.steps + 8
 
-abbrev pub decreases-node_value : goal.decreases-node_value
-decreases-node_value g l = 16 * l.self.now.steps + 7
+abbrev pub decreases-data_of : goal.decreases-data_of
+decreases-data_of g l = 16 * l.self.now.steps + 8
+
+abbrev pub decreases-get_of : goal.decreases-get_of
+decreases-get_of g l = 16 * l.self.now.steps + 8
+
+abbrev pub decreases-order_of : goal.decreases-order_of
+decreases-order_of g l = 16 * l.self.now.steps + 8
 
 abbrev pub decreases-variable : goal.decreases-variable
-decreases-variable g l = 16 * l.self.now.steps + 11
+decreases-variable g l = 16 * l.self.now.steps + 9
 
 abbrev pub decreases-through : goal.decreases-through
-decreases-through g l = 16 * l.self.now.steps + 11
+decreases-through g l = 16 * l.self.now.steps + 9
 
 abbrev pub decreases-referring : goal.decreases-referring
-decreases-referring g l = 16 * l.self.now.steps + 12
+decreases-referring g l = 16 * l.self.now.steps + 9
 
 abbrev pub invariant-chosen-loop-choice : goal.invariant-chosen-loop-choice
 invariant-chosen-loop-choice g l = record {

@@ -1,8 +1,8 @@
 -- SPDX-License-Identifier: Apache-2.0
 use Rattle.meval.proofs.EvalWords.{[], ◌∷◌, sym, decides_subscripts, put_at}
 use Rattle.meval.proofs.Calls.{evaluates_then}
-use Rattle.meval.proofs.AtOnce.{let_through}
-use Rattle.meval.proofs.eval.Eval.put_local.Goals as goal
+use Rattle.meval.proofs.LocalVariables.{let_through}
+use Rattle.meval.proofs.eval.Eval.fast_put.Goals as goal
 
 pub returns-clause-does : goal.returns-clause-does
 returns-clause-does g c =

@@ -1,0 +1,280 @@
+// SPDX-License-Identifier: Apache-2.0
+// The short ways. Each function here does what the one that is named beside it does, but faster: delete any of them, and nothing changes but
+// time. They are for what most lines refer to: a literal, a local variable without subscripts, and one by one subscript, whose shape the tree
+// has already. A value is lent where it stands, or put in a place of the caller's.
+ghost use Rattle.std.specs.Prelude.{◌≡◌, ◌≤◌, ◌<◌, [], ◌∷◌, map, slice_get, unwrap_or, IfOk, IfSome};
+ghost use Rattle.mgrammar.specs.Grammar as grammar;
+ghost use Rattle.mgrammar.specs.Grammar.{local, no_exprs, exprs, exprs_of};
+ghost use Rattle.mmeaning.specs.Expression as meaning;
+ghost use Rattle.mmeaning.specs.Variables as variables;
+ghost use Rattle.mnum.specs.Num.{units};
+ghost use Rattle.mspec.specs.Act.{get_local};
+ghost use Rattle.mspec.specs.KeyBytes.{AreSubscripts};
+ghost use Rattle.mspec.specs.Trees.{AreOrderSubscripts};
+ghost use Rattle.mkey.specs.Way.{way};
+ghost use Rattle.mtree.specs.Tree.{expr_tree, operand_tree};
+ghost use Rattle.mtree.specs.Functions.{variable_function_tree};
+ghost use Rattle.meval.specs.Evaluates.{Evaluates, KeepsEval};
+ghost use Rattle.meval.specs.Acts as acts;
+ghost use Rattle.meval.specs.AtHand.{at_hand_tree};
+
+use crate::eval::Eval;
+use crate::place::check_walk;
+use crate::value_list::Values;
+use crate::walk::{data_value, first_or_empty, next_value};
+use mkey::{Direction, values_ok};
+use mnum::{Name, Num};
+use moperator::{Code, computed, number_of};
+use mstore::NodeStore;
+use mtree::{Expr, Literal, Operand, Primary, Reference, VariableFunction};
+use mvalue::Value;
+use std::alloc::Global;
+use std::slice::from_ref;
+
+// What has its value at hand. Contracts see it by `at_hand_tree`, as a primary of the grammar.
+#[derive(Clone, Copy)]
+pub(crate) enum AtHand<'t> {
+    // A number, as it is written.
+    Number(&'t Literal),
+    // A local variable without subscripts.
+    Variable(&'t Name),
+}
+
+// What an operand is that has its value at hand, and no sign.
+pub(crate) fn at_hand(operand: &Operand) -> Option<AtHand<'_>>
+    ensures { IfSome result (λ at_hand. operand_tree operand.now ≡ grammar.operand [] (at_hand_tree at_hand)) }
+{
+    if !operand.signs.is_empty() {
+        return None;
+    }
+    match &operand.primary {
+        Primary::Number(literal) => Some(AtHand::Number(literal)),
+        Primary::Reference(Reference::Variable(name)) => Some(AtHand::Variable(name)),
+        _ => None,
+    }
+}
+
+impl<'a, S: NodeStore> Eval<'a, S> {
+    // `place_value`, of a local variable without subscripts.
+    pub(crate) fn fast_lent(&self, name: &Name) -> Result<&Value, Code>
+        ensures { Evaluates S.NodeStore (λ i. get_local name.now []) (λ value. value.now) self.now result self.now }
+    {
+        match self.session.locals.own(name) {
+            Some(value) => Ok(value),
+            None => Err(Code::M6),
+        }
+    }
+
+    // `primary`, of what has its value at hand.
+    pub(crate) fn fast_value(&mut self, at_hand: AtHand, place: &mut Value) -> Result<(), Code>
+        ensures loans { KeepsEval self.old self.new }
+        ensures fewer { self.new.steps ≤ self.old.steps }
+        ensures spent { IfOk result (λ _. self.new.steps < self.old.steps) }
+        ensures does { Evaluates S.NodeStore (λ i. meaning.primary_value i (at_hand_tree at_hand.entry)) (λ _. place.new) self.old result self.new }
+    {
+        self.charge()?;
+        match at_hand {
+            AtHand::Number(literal) => {
+                *place = computed(literal.number())?;
+                Ok(())
+            }
+            AtHand::Variable(name) => {
+                let value = self.fast_lent(name)?;
+                *place = value.copy()?;
+                Ok(())
+            }
+        }
+    }
+
+    // `other_number`, of what has its value at hand.
+    pub(crate) fn fast_number(&mut self, at_hand: AtHand, place: &mut Num) -> Result<(), Code>
+        ensures loans { KeepsEval self.old self.new }
+        ensures fewer { self.new.steps ≤ self.old.steps }
+        ensures spent { IfOk result (λ _. self.new.steps < self.old.steps) }
+        ensures does { Evaluates S.NodeStore (λ i. acts.primary_number i (at_hand_tree at_hand.entry)) (λ _. units place.new) self.old result self.new }
+    {
+        self.charge()?;
+        match at_hand {
+            AtHand::Number(literal) => match literal.as_number() {
+                Some(number) => {
+                    *place = *number;
+                    Ok(())
+                }
+                None => Err(Code::Zover),
+            },
+            AtHand::Variable(name) => {
+                let value = self.fast_lent(name)?;
+                *place = number_of(value)?;
+                Ok(())
+            }
+        }
+    }
+
+    // `place_value`, of a local variable by one subscript.
+    #[cycle(eval)]
+    #[inline(never)]
+    pub(crate) fn fast_node(
+        &mut self,
+        alloc: Global,
+        name: &Name,
+        subscript: &Expr,
+    ) -> Result<Value, Code>
+        ensures loans { KeepsEval self.old self.new }
+        ensures fewer { self.new.steps ≤ self.old.steps }
+        ensures does { Evaluates S.NodeStore (λ i. acts.variable_value i (local name.now (exprs (expr_tree subscript.now) no_exprs))) (λ v. v) self.old result self.new }
+    {
+        let mut value = Value::of_whole(0);
+        self.eval_into(alloc, subscript, &mut value)?;
+        self.fast_read(name, &value)
+    }
+
+    // `resolved` and `read`, of a local variable by this subscript.
+    fn fast_read(&mut self, name: &Name, subscript: &Value) -> Result<Value, Code>
+        ensures loans { KeepsEval self.old self.new }
+        ensures fewer { self.new.steps ≤ self.old.steps }
+        ensures does { Evaluates S.NodeStore (λ i. acts.read_act (variables.of_local name.now (subscript.now ∷ []))) (λ v. v) self.old result self.new }
+    {
+        let subscripts = from_ref(subscript);
+        if !values_ok(subscripts) {
+            return Err(Code::Zsub);
+        }
+        match self.session.locals.get(name, subscripts)? {
+            Some(value) => Ok(value.copy()?),
+            None => Err(Code::M6),
+        }
+    }
+
+    // `referring`, of a local variable by one subscript.
+    #[cycle(eval)]
+    #[inline(never)]
+    pub(crate) fn fast_referring(
+        &mut self,
+        alloc: Global,
+        function: VariableFunction,
+        name: &Name,
+        subscript: &Expr,
+        more: &[Expr],
+    ) -> Result<Value, Code>
+        ensures loans { KeepsEval self.old self.new }
+        ensures fewer { self.new.steps ≤ self.old.steps }
+        ensures does { Evaluates S.NodeStore (λ i. variables.variable_function_value (variable_function_tree function) (meaning.evaluated i (local name.now (exprs (expr_tree subscript.now) no_exprs))) (meaning.values i [] (exprs_of (map expr_tree more.now)))) (λ v. v) self.old result self.new }
+    {
+        let mut value = Value::of_whole(0);
+        self.eval_into(alloc, subscript, &mut value)?;
+        match function {
+            VariableFunction::Data => self.fast_data(name, &value),
+            VariableFunction::Get => self.fast_get(alloc, name, &value, more),
+            VariableFunction::Order => self.fast_order(alloc, name, &value, more),
+        }
+    }
+
+    // `data`, of a local variable by this subscript.
+    #[inline(never)]
+    fn fast_data(&mut self, name: &Name, subscript: &Value) -> Result<Value, Code>
+        ensures loans { KeepsEval self.old self.new }
+        ensures fewer { self.new.steps ≤ self.old.steps }
+        ensures does { Evaluates S.NodeStore (λ i. acts.data_act (variables.of_local name.now (subscript.now ∷ []))) (λ v. v) self.old result self.new }
+    {
+        let subscripts = from_ref(subscript);
+        if !values_ok(subscripts) {
+            return Err(Code::Zsub);
+        }
+        let data = self.session.locals.data(name, subscripts)?;
+        Ok(data_value(data))
+    }
+
+    // `get_of`, of a local variable by this subscript.
+    #[cycle(eval)]
+    #[inline(never)]
+    fn fast_get(
+        &mut self,
+        alloc: Global,
+        name: &Name,
+        subscript: &Value,
+        more: &[Expr],
+    ) -> Result<Value, Code>
+        ensures loans { KeepsEval self.old self.new }
+        ensures fewer { self.new.steps ≤ self.old.steps }
+        ensures does { Evaluates S.NodeStore (λ i. acts.get_act (exprs_of (map expr_tree more.now)) i (variables.of_local name.now (subscript.now ∷ []))) (λ v. v) self.old result self.new }
+    {
+        let subscripts = from_ref(subscript);
+        if !values_ok(subscripts) {
+            return Err(Code::Zsub);
+        }
+        let more = self.values(alloc, more)?;
+        self.fast_read_or(alloc, name, subscripts, more)
+    }
+
+    // `read_or`, of a local variable by subscripts that are let through.
+    fn fast_read_or(
+        &mut self,
+        alloc: Global,
+        name: &Name,
+        subscripts: &[Value],
+        others: Values,
+    ) -> Result<Value, Code>
+        requires { AreSubscripts subscripts.now }
+        ensures loans { KeepsEval self.old self.new }
+        ensures fewer { self.new.steps ≤ self.old.steps }
+        ensures does { Evaluates S.NodeStore (λ i. variables.read_or (unwrap_or (slice_get others 0) []) (variables.at_local name.now subscripts.now)) (λ v. v) self.old result self.new }
+    {
+        match self.session.locals.get(name, subscripts)? {
+            Some(value) => Ok(value.copy()?),
+            None => Ok(first_or_empty(alloc, others)),
+        }
+    }
+
+    // `order_of`, of a local variable by this subscript.
+    #[cycle(eval)]
+    #[inline(never)]
+    fn fast_order(
+        &mut self,
+        alloc: Global,
+        name: &Name,
+        subscript: &Value,
+        more: &[Expr],
+    ) -> Result<Value, Code>
+        ensures loans { KeepsEval self.old self.new }
+        ensures fewer { self.new.steps ≤ self.old.steps }
+        ensures does { Evaluates S.NodeStore (λ i. acts.order_behind (exprs_of (map expr_tree more.now)) i (variables.of_local name.now (subscript.now ∷ []))) (λ v. v) self.old result self.new }
+    {
+        let subscripts = from_ref(subscript);
+        check_walk(subscripts)?;
+        let direction = self.direction(alloc, more)?;
+        self.fast_next(alloc, name, subscripts, direction)
+    }
+
+    // `next`, of a local variable by subscripts that are let through.
+    fn fast_next(
+        &mut self,
+        alloc: Global,
+        name: &Name,
+        subscripts: &[Value],
+        direction: Direction,
+    ) -> Result<Value, Code>
+        requires { AreOrderSubscripts subscripts.now }
+        ensures loans { KeepsEval self.old self.new }
+        ensures fewer { self.new.steps ≤ self.old.steps }
+        ensures does { Evaluates S.NodeStore (λ i. variables.next_at (way direction) (variables.at_local name.now subscripts.now)) (λ v. v) self.old result self.new }
+    {
+        let next = self.session.locals.order(name, subscripts, direction)?;
+        Ok(next_value(alloc, next))
+    }
+
+    /// `resolved` and `put`, of a local variable by this subscript: gives it a value.
+    ///
+    /// # Errors
+    ///
+    /// `Zsub` where the subscript is empty or has more than 255 characters; `Zmem` for want of memory. The variable is then as it was.
+    pub fn fast_put(&mut self, name: &Name, subscript: &Value, value: Value) -> Result<(), Code>
+        ensures loans { KeepsEval self.old self.new }
+        ensures fewer { self.new.steps ≤ self.old.steps }
+        ensures does { Evaluates S.NodeStore (λ i. acts.put_act (variables.of_local name.now (subscript.now ∷ [])) value) (λ u. u) self.old result self.new }
+    {
+        let subscripts = from_ref(subscript);
+        if !values_ok(subscripts) {
+            return Err(Code::Zsub);
+        }
+        self.set_local(name, subscripts, value)
+    }
+}

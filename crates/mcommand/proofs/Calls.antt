@@ -1,6 +1,6 @@
 -- SPDX-License-Identifier: Apache-2.0
 -- How the calls of this crate are put together.
-use Rattle.mcommand.proofs.CommandWords.{◌≡◌, Bool, true, false, cond, List, [], ◌∷◌, ◌++◌, Result, Ok, Err, refl, sym, ap, ◌∙◌, subst, arith, IsErr, IsErrAnd, into_iter_items, into_iter_steps, Text, Act, Gives, ◌>>=◌, give, write, ExprTree, as_truth, Inside, inside, value, Yields, did_then, did_failed, did_gives, did_lost, residual_is, assoc, Ghosts, fault_of, Code, Zmem, truth, Evaluates, KeepsEval, standing_of, eval_here, inside_at, depth_of, Parts, Does, DoesAt, KeepsLoans, here_of}
+use Rattle.mcommand.proofs.CommandWords.{◌≡◌, ℕ, ◌+◌, ◌<◌, Bool, true, false, cond, List, [], ◌∷◌, ◌++◌, length, drop, get_or, map, next_item, Result, Ok, Err, refl, sym, ap, ◌∙◌, subst, arith, IsErr, IsErrAnd, into_iter_items, into_iter_steps, Text, Act, Gives, ◌>>=◌, give, write, ExprTree, as_truth, Inside, inside, value, Yields, did_then, did_failed, did_gives, did_lost, residual_is, assoc, Ghosts, fault_of, Code, Zmem, truth, Evaluates, KeepsEval, standing_of, eval_here, inside_at, depth_of, Parts, Does, DoesAt, KeepsLoans, here_of}
 use Rattle.std.specs.Iterator.{Yields as IterYields}
 use Rattle.std.specs.declared.vec.IntoIter.{IntoIter}
 use Rattle.mmeaning.proofs.Yieldings.{yielded}
@@ -15,19 +15,18 @@ does_then q {f = f} {old = old} {x = x} d k = record {
   depth = k.depth ∙ d.depth;
 }
 
-pub does_failed : {S A B X Y : Type 0} {g : Ghosts S} {p : Inside → Act A} (q : Inside → A → Act B) {f : X → A} {j : Y → B} {old new : Parts S} {e : Code}
-    → Does g p f old (Err e) new → Does g (λ i. p i >>= q i) j old (Err e) new
-does_failed q {old = old} d = record {
+-- where it is by a `?` that the call returns
+pub does_stopped : {S A B X Y : Type 0} {g : Ghosts S} {p : Inside → Act A} (q : Inside → A → Act B) {f : X → A} {j : Y → B} {old new : Parts S} {e : Code} {r : Result Y Code}
+    → Does g p f old (Err e) new → IsErr r × IsErrAnd r (λ x. x ≡ e) → Does g (λ i. p i >>= q i) j old r new
+does_stopped {g = g} {p = p} q {j = j} {old = old} {new = new} {e = e} {r = r} d h = subst (λ r. Does g (λ i. p i >>= q i) j old r new) (sym (residual_is r e h)) (record {
   at = λ sound. did_failed (λ n. q (inside_at old.eval n)) (d.at sound);
   same = d.same;
   depth = d.depth;
-}
+})
 
--- the same, where it is by a `?` that the call returns
-pub does_stopped : {S A B X Y : Type 0} {g : Ghosts S} {p : Inside → Act A} (q : Inside → A → Act B) {f : X → A} {j : Y → B} {old new : Parts S} {e : Code} {r : Result Y Code}
-    → Does g p f old (Err e) new → IsErr r × IsErrAnd r (λ x. x ≡ e) → Does g (λ i. p i >>= q i) j old r new
-does_stopped {g = g} {p = p} q {j = j} {old = old} {new = new} {r = r} d h =
-    subst (λ r. Does g (λ i. p i >>= q i) j old r new) (sym (residual_is r _ h)) (does_failed q d)
+pub does_failed : {S A B X Y : Type 0} {g : Ghosts S} {p : Inside → Act A} (q : Inside → A → Act B) {f : X → A} {j : Y → B} {old new : Parts S} {e : Code}
+    → Does g p f old (Err e) new → Does g (λ i. p i >>= q i) j old (Err e) new
+does_failed q d = does_stopped q d (refl, refl)
 
 pub does_gives : {S A X : Type 0} {g : Ghosts S} {parts : Parts S} (a : A) (f : X → A) (x : X) → f x ≡ a → Does g (λ i. give a) f parts (Ok x) parts
 does_gives a f x same = record {
@@ -55,6 +54,22 @@ module _ {S A X : Type 0} {g : Ghosts S} {f : X → A} {old new : Parts S} {r : 
 
   pub does_false : b ≡ false → Does g (λ i. q) f old r new → Does g (λ i. cond b p q) f old r new
   does_false is k = subst (λ b. Does g (λ i. cond b p q) f old r new) (sym is) k
+
+-- what is done with items, one after another, where what each gives is added to what is there
+module _ {S T B V : Type 0} {g : Ghosts S} (all : Inside → List V → List B → Act (List V)) (one : Inside → B → Act V) (tree : T → B)
+    (is_one : (i : Inside) (vs : List V) (t : B) (ts : List B) → ◌≡◌ {A = Act (List V)} (all i vs (t ∷ ts)) (one i t >>= (λ v. all i (vs ++ v ∷ []) ts)))
+    {X : Type 0} (view : X → List V) (items : List T) (k : ℕ) (item : T) (vs : List V) (less : k < length items) (is : item ≡ get_or items k item) where
+  from_item : {old new : Parts S} {r : Result X Code} → Does g (λ i. one i (tree item) >>= (λ v. all i (vs ++ v ∷ []) (map tree (drop (k + 1) items)))) view old r new → Does g (λ i. all i vs (map tree (drop k items))) view old r new
+  from_item {old = old} {new = new} {r = r} h =
+      subst (λ (xs : List T). Does g (λ i. all i vs (map tree xs)) view old r new) (sym (next_item items k item less is)) (does_is (λ i. is_one i vs (tree item) (map tree (drop (k + 1) items))) h)
+
+  pub item_then : {Y : Type 0} {f : Y → V} {old mid new : Parts S} {r : Result X Code} (y : Y) → Does g (λ i. one i (tree item)) f old (Ok y) mid
+      → Does g (λ i. all i (vs ++ f y ∷ []) (map tree (drop (k + 1) items))) view mid r new → Does g (λ i. all i vs (map tree (drop k items))) view old r new
+  item_then y h rest = from_item (does_then (λ i v. all i (vs ++ v ∷ []) (map tree (drop (k + 1) items))) h rest)
+
+  pub item_stopped : {Y : Type 0} {f : Y → V} {old new : Parts S} {e : Code} {r : Result X Code} → Does g (λ i. one i (tree item)) f old (Err e) new → IsErr r × IsErrAnd r (λ x. x ≡ e)
+      → Does g (λ i. all i vs (map tree (drop k items))) view old r new
+  item_stopped h stopped = from_item (does_stopped (λ i v. all i (vs ++ v ∷ []) (map tree (drop (k + 1) items))) h stopped)
 
 -- a call that needs no point
 pub does_yielded : {S A X : Type 0} {g : Ghosts S} {p : Act A} {f : X → A} {parts : Parts S} {r : Result X Code} → Yields fault_of p f r → Does g (λ i. p) f parts r parts

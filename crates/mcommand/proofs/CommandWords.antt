@@ -28,6 +28,6 @@ pub use Rattle.mtree.specs.Tree.{condition_tree, entry_tree, expr_tree, kind_tre
 pub use Rattle.mcommand.specs.Does.{Does, DoesAt, KeepsLoans, here_of}
 pub use Rattle.mcommand.specs.LockNames.{MayTake}
 pub use Rattle.mcommand.specs.Prepared.{prepared_view}
-pub use Rattle.mcommand.specs.Turns.{added, course_view}
+pub use Rattle.mcommand.specs.ForParameters.{added, course_view}
 pub use Rattle.mcommand.specs.declared.parts.Parts.{Parts}
 pub use Rattle.mcommand.specs.declared.set.Prepared.{Prepared}

@@ -2,5 +2,4 @@
 mod CommandWords
 pub mod Calls
 pub mod Targets
-pub mod Sums
 pub mod Locking

@@ -1,15 +1,14 @@
 -- SPDX-License-Identifier: Apache-2.0
 -- What LOCK asks of the locks.
-use Rattle.mcommand.proofs.CommandWords.{◌≡◌, ℕ, ◌+◌, ◌<◌, Bool, true, false, List, [], ◌∷◌, ◌++◌, Option, Some, None, MutBor, Result, Ok, Err, length, drop, get_or, map, refl, sym, ap, ◌∙◌, subst, if◌then◌else◌, ◌&&◌, IsErr, IsErrAnd, Op, Answer, Take, Give_back, Release, Text, Act, ◌>>=◌, ◌>>◌, give, ask, next_item, ReferenceTree, named_lock, Inside, evaluated, asked, assoc, reference_tree, Ghosts, Code, lock_name_act, standing_of, Parts, Does, here_of, MayTake}
+use Rattle.mcommand.proofs.CommandWords.{◌≡◌, ℕ, ◌+◌, ◌<◌, Bool, true, false, List, [], ◌∷◌, ◌++◌, Some, None, MutBor, Result, Ok, length, drop, get_or, refl, sym, ap, ◌∙◌, subst, if◌then◌else◌, ◌&&◌, Op, Answer, Take, Give_back, Release, Act, ◌>>=◌, ◌>>◌, ask, next_item, ReferenceTree, named_lock, Inside, evaluated, asked, assoc, Ghosts, Code, lock_name_act, standing_of, Parts, Does, here_of, MayTake}
 use Rattle.std.specs.List.{list_all}
 use Rattle.std.proofs.lemmas.List.Folds.{list_all-append}
 use Rattle.mspec.specs.LockConflict.{LockName, Locks, taken, given_back, released}
-use Rattle.mmeaning.specs.Shared.{Shared, may_lock, took}
+use Rattle.mmeaning.specs.Shared.{may_lock, took}
 use Rattle.mmeaning.specs.Locking as meaning
 use Rattle.mmeaning.specs.Calls.{Standing, ops_of}
 use Rattle.mmeaning.proofs.LockMoves.{take_open}
-use Rattle.mtree.specs.declared.tree.Reference.{Reference}
-use Rattle.mcommand.proofs.Calls.{does_then, does_failed, does_is}
+use Rattle.mcommand.proofs.Calls.{does_then}
 
 -- ---- names that may be taken
 
@@ -22,7 +21,7 @@ one_more_taken b names n all this = list_all-append (may_lock b.settings b.accou
     both false y h k = h
 
 -- the act of a reference, before those behind it
-name_is : (i : Inside) (names : List LockName) (r : ReferenceTree) (rs : List ReferenceTree)
+pub name_is : (i : Inside) (names : List LockName) (r : ReferenceTree) (rs : List ReferenceTree)
     → ◌≡◌ {A = Act (List LockName)} (meaning.lock_names i names (r ∷ rs)) (lock_name_act i r >>= (λ n. meaning.lock_names i (names ++ n ∷ []) rs))
 name_is i names r rs = sym (assoc (evaluated i r) (named_lock i.account) (λ n. meaning.lock_names i (names ++ n ∷ []) rs))
 
@@ -60,21 +59,3 @@ module _ {S : Type 0} {g : Ghosts S} where
   next_given {old = old} {new = new} {r = r} names k d within is h rest =
       subst (λ (ns : List LockName). Does g (λ i. meaning.given_back_all ns) (λ (u : Unit {0}). u) old r new) (sym (next_item names k d within is))
       (does_then (λ i _. meaning.given_back_all (drop (k + 1) names)) h rest)
-
-  -- ---- names
-
-  module _ {X : Type 0} (view : X → List LockName) where
-    pub next_name : {old mid new : Parts S} (references : List Reference) (k : ℕ) (d : Reference) (names : List LockName) (n : LockName) (r : Result X Code) → k < length references → d ≡ get_or references k d
-        → Does g (λ i. lock_name_act i (reference_tree d)) (λ (n : LockName). n) old (Ok n) mid → Does g (λ i. meaning.lock_names i (names ++ n ∷ []) (map reference_tree (drop (k + 1) references))) view mid r new
-        → Does g (λ i. meaning.lock_names i names (map reference_tree (drop k references))) view old r new
-    next_name {old = old} {new = new} references k d names n r within is h rest =
-        subst (λ (rs : List Reference). Does g (λ i. meaning.lock_names i names (map reference_tree rs)) view old r new) (sym (next_item references k d within is))
-        (does_is (λ i. name_is i names (reference_tree d) (map reference_tree (drop (k + 1) references)))
-        (does_then (λ i n. meaning.lock_names i (names ++ n ∷ []) (map reference_tree (drop (k + 1) references))) h rest))
-
-    pub name_failed : {old new : Parts S} (references : List Reference) (k : ℕ) (d : Reference) (names : List LockName) (e : Code) → k < length references → d ≡ get_or references k d
-        → Does g (λ i. lock_name_act i (reference_tree d)) (λ (n : LockName). n) old (Err e) new → Does g (λ i. meaning.lock_names i names (map reference_tree (drop k references))) view old (Err e) new
-    name_failed {old = old} {new = new} references k d names e within is h =
-        subst (λ (rs : List Reference). Does g (λ i. meaning.lock_names i names (map reference_tree rs)) view old (Err e) new) (sym (next_item references k d within is))
-        (does_is (λ i. name_is i names (reference_tree d) (map reference_tree (drop (k + 1) references)))
-        (does_failed (λ i n. meaning.lock_names i (names ++ n ∷ []) (map reference_tree (drop (k + 1) references))) h))

@@ -1,13 +1,12 @@
 -- SPDX-License-Identifier: Apache-2.0
 -- Targets of SET.
-use Rattle.mcommand.proofs.CommandWords.{◌≡◌, ℕ, ◌+◌, ◌<◌, List, [], ◌∷◌, ◌++◌, Option, Result, Ok, Err, length, drop, get_or, map, refl, sym, subst, IsErr, IsErrAnd, set_piece_of, Text, Act, ◌>>=◌, ◌>>◌, give, next_item, TargetTree, ExprTree, one, several, variable, local, exprs, no_exprs, outcome, Evaluated, Place, at_local, of_local, read_or, put_at, value, values, evaluated, Yields, Answers, target_tree, Ghosts, fault_of, Code, Zmem, put_act, Parts, Prepared, Does, prepared_view}
+use Rattle.mcommand.proofs.CommandWords.{◌≡◌, List, [], ◌∷◌, Option, Result, Ok, Err, refl, sym, subst, IsErr, IsErrAnd, set_piece_of, Text, Act, ◌>>=◌, ◌>>◌, give, TargetTree, ExprTree, one, several, variable, local, exprs, no_exprs, outcome, Evaluated, Place, at_local, of_local, read_or, put_at, value, values, evaluated, Yields, Answers, Ghosts, fault_of, Code, Zmem, put_act, Parts, Prepared, Does, prepared_view}
 use Rattle.std.specs.Prelude.{ℤ}
 use Rattle.mspec.specs.Code as spec
 use Rattle.mmeaning.specs.Functions.{as_whole_or_none}
 use Rattle.mmeaning.specs.LineMeaning as meaning
 use Rattle.mtext.specs.declared.fault.TextFault.{TextFault}
 use Rattle.mtext.specs.declared.fault.TextFault.TheVariants as fault
-use Rattle.mtree.specs.declared.tree.Target.{Target}
 use Rattle.moperator.specs.Faults.{fault_code}
 use Rattle.mcommand.proofs.Calls.{does_then, does_failed, does_stopped, does_yielded, does_gives, does_wanting}
 
@@ -54,22 +53,6 @@ module _ {S : Type 0} {g : Ghosts S} where
 
         pub piece_refused : (f : TextFault) (r : Result (Unit {0}) Code) → Answers (set_piece_of old d n x) (Err f) → IsErr r × IsErrAnd r (λ e. e ≡ fault_code f) → Does g (λ i. piece_put d x place p) (λ u. u) parts r mid
         piece_refused f r refused e = piece_read (does_then (λ i. piece_given p d x n) found (does_stopped (λ i. put_at p) (refused_by (set_piece_of old d n x) f mid refused) e))
-
-  -- ---- lists of targets
-
-  module _ {X : Type 0} (view : X → List meaning.Prepared) where
-    pub next_prepared : {old mid new : Parts S} (targets : List Target) (k : ℕ) (d : Target) (ps : List meaning.Prepared) (x : Prepared) (r : Result X Code) → k < length targets → d ≡ get_or targets k d
-        → Does g (λ i. meaning.prepared i (target_tree d)) prepared_view old (Ok x) mid → Does g (λ i. meaning.all_prepared i (ps ++ prepared_view x ∷ []) (map target_tree (drop (k + 1) targets))) view mid r new
-        → Does g (λ i. meaning.all_prepared i ps (map target_tree (drop k targets))) view old r new
-    next_prepared {old = old} {new = new} targets k d ps x r within is h rest =
-        subst (λ (ts : List Target). Does g (λ i. meaning.all_prepared i ps (map target_tree ts)) view old r new) (sym (next_item targets k d within is))
-        (does_then (λ i p. meaning.all_prepared i (ps ++ p ∷ []) (map target_tree (drop (k + 1) targets))) h rest)
-
-    pub prepared_failed : {old new : Parts S} (targets : List Target) (k : ℕ) (d : Target) (ps : List meaning.Prepared) (e : Code) → k < length targets → d ≡ get_or targets k d
-        → Does g (λ i. meaning.prepared i (target_tree d)) prepared_view old (Err e) new → Does g (λ i. meaning.all_prepared i ps (map target_tree (drop k targets))) view old (Err e) new
-    prepared_failed {old = old} {new = new} targets k d ps e within is h =
-        subst (λ (ts : List Target). Does g (λ i. meaning.all_prepared i ps (map target_tree ts)) view old (Err e) new) (sym (next_item targets k d within is))
-        (does_failed (λ i p. meaning.all_prepared i (ps ++ p ∷ []) (map target_tree (drop (k + 1) targets))) h)
 
   -- ---- one target
 

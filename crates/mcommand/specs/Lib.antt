@@ -3,5 +3,5 @@ pub mod Does
 pub mod Prepared
 pub mod Conditions
 pub mod Targets
-pub mod Turns
+pub mod ForParameters
 pub mod LockNames

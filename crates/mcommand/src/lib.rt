@@ -3,15 +3,15 @@
 #![tactic(auto)]
 
 mod condition;
+mod for_parameter;
 mod kill;
 mod lock;
 mod parts;
 mod set;
 mod target;
-mod turn;
 mod write;
 
+pub use for_parameter::Course;
 pub use parts::Parts;
 pub use target::Target;
-pub use turn::Course;
 pub use write::LINE_END;

@@ -1,6 +1,6 @@
 -- SPDX-License-Identifier: Apache-2.0
 -- How the calls of this crate are put together.
-use Rattle.mexec.proofs.ExecWords.{◌≡◌, ℕ, zero, suc, ◌≤◌, ◌<◌, ◌+◌, ◌++◌, List, [], ◌∷◌, Result, Ok, Err, length, drop, get_or, refl, sym, ◌∙◌, subst, arith, drop_more, IsErr, IsErrAnd, Text, Act, ◌>>=◌, ◌>>◌, give, set_test, ExprTree, ArgTree, CommandTree, as_truth, Inside, inside, value, Go_on, after, Standing, Here, Did, View, Rests, Lists, left, frame, Enough, MovedOn, residual_is, did_then, did_failed, did_gives, then_follows, then_failed, assoc, ended, Ghosts, fault_of, Code, Zmem, standing_of, depth_of, Parts, Does, DoesAt, KeepsLoans, here_of, Runs, view, stack, stacked, resting, completion_of, went, listing}
+use Rattle.mexec.proofs.ExecWords.{◌≡◌, ℕ, zero, suc, ◌≤◌, ◌<◌, ◌+◌, ◌++◌, List, [], ◌∷◌, Result, Ok, Err, length, drop, get_or, refl, sym, ◌∙◌, subst, arith, drop_more, IsErr, IsErrAnd, Text, Act, ◌>>=◌, ◌>>◌, give, set_test, ExprTree, ArgTree, CommandTree, as_truth, Inside, inside, value, Go_on, after, Standing, Here, Did, View, Rests, Lists, left, frame, Enough, MovedOn, residual_is, did_then, did_failed, did_gives, then_follows, then_failed, assoc, ended, Ghosts, fault_of, Code, Zmem, standing_of, depth_of, Parts, Does, DoesAt, KeepsLoans, here_of, Runs, view, stack, stacked, resting, completion_of, went, listing, at_done}
 use Rattle.mmeaning.specs.LineMeaning as meaning
 use Rattle.mmeaning.proofs.Moves.{on_then, on_failed, on_lost, on_completion, on_frame, on_top, enough}
 use Rattle.meval.specs.declared.depth.Depth.{Depth}
@@ -20,17 +20,16 @@ at_then {g = g} q {f = f} {j = j} {old = old} {mid = mid} {new = new} {x = x} {r
   same = k.same ∙ d.same;
 }
 
-pub at_failed : {S A B X Y : Type 0} {g : Ghosts S} {p : Text → ℕ → Act A} (q : Text → ℕ → A → Act B) {f : X → A} {j : Y → B} {old new : Parts S} {e : Code} → DoesAt g p f old (Err e) new → DoesAt g (λ a n. p a n >>= q a n) j old (Err e) new
-at_failed q {old = old} d = record {
-  at = λ sound. did_failed (q (standing_of old.eval).account) (d.at sound);
-  same = d.same;
-}
-
--- the same, where it is by a `?` that the call returns
+-- where it is by a `?` that the call returns
 pub at_stopped : {S A B X Y : Type 0} {g : Ghosts S} {p : Text → ℕ → Act A} (q : Text → ℕ → A → Act B) {f : X → A} {j : Y → B} {old new : Parts S} {e : Code} {r : Result Y Code}
     → DoesAt g p f old (Err e) new → IsErr r × IsErrAnd r (λ x. x ≡ e) → DoesAt g (λ a n. p a n >>= q a n) j old r new
-at_stopped {g = g} {p = p} q {j = j} {old = old} {new = new} {r = r} d h =
-    subst (λ r. DoesAt g (λ a n. p a n >>= q a n) j old r new) (sym (residual_is r _ h)) (at_failed q d)
+at_stopped {g = g} {p = p} q {j = j} {old = old} {new = new} {e = e} {r = r} d h = subst (λ r. DoesAt g (λ a n. p a n >>= q a n) j old r new) (sym (residual_is r e h)) (record {
+  at = λ sound. did_failed (q (standing_of old.eval).account) (d.at sound);
+  same = d.same;
+})
+
+pub at_failed : {S A B X Y : Type 0} {g : Ghosts S} {p : Text → ℕ → Act A} (q : Text → ℕ → A → Act B) {f : X → A} {j : Y → B} {old new : Parts S} {e : Code} → DoesAt g p f old (Err e) new → DoesAt g (λ a n. p a n >>= q a n) j old (Err e) new
+at_failed q d = at_stopped q d (refl, refl)
 
 pub at_gives : {S A X : Type 0} {g : Ghosts S} {parts : Parts S} (a : A) (f : X → A) (x : X) → f x ≡ a → DoesAt g (λ b n. give a) f parts (Ok x) parts
 at_gives a f x same = record {
@@ -40,12 +39,9 @@ at_gives a f x same = record {
 
 -- a call at a depth of its own, which goes on with what is next
 module _ {S : Type 0} {g : Ghosts S} (p : Inside → Act (Unit {0})) (depth : Depth) {old new : Parts S} where
-  there : {r : Result (Unit {0}) Code} → Does g p (λ (u : Unit {0}). u) (record old { eval = record old.eval { depth = depth } }) r new → DoesAt g (λ a n. p (inside a n (depth_of depth))) (λ (u : Unit {0}). u) old r new
-  there d = record { at = λ sound. d.at sound; same = d.same }
-
   pub goes_on : (r : Result (Unit {0}) Code) → Does g p (λ (u : Unit {0}). u) (record old { eval = record old.eval { depth = depth } }) r new → DoesAt g (λ a n. p (inside a n (depth_of depth)) >> give Go_on) completion_of old (went r) new
-  goes_on (Ok u) d = at_then (λ a n _. give Go_on) (there d) (at_gives Go_on completion_of completion.GoOn refl)
-  goes_on (Err e) d = at_failed (λ a n _. give Go_on) (there d)
+  goes_on (Ok u) d = at_then (λ a n _. give Go_on) (at_done depth d) (at_gives Go_on completion_of completion.GoOn refl)
+  goes_on (Err e) d = at_failed (λ a n _. give Go_on) (at_done depth d)
 
 -- IF is a condition that is tested, and what follows from it
 pub testing_is : (i : Inside) (e : ExprTree) → ◌≡◌ {A = Act meaning.Completion} (meaning.testing i e) (tested i e >>= (λ b. give (meaning.where_true b)))

@@ -5,7 +5,7 @@ pub use Rattle.std.proofs.lemmas.List.{drop-drop, drop_more, get_or-drop, get_or
 pub use Rattle.std.specs.Result.{IfOk, IsErr, IsErrAnd}
 pub use Rattle.mcommand.proofs.Calls.{at_done, at_evaluated, does_evaluated, keeps_evaluated, keeps_itself, keeps_on}
 pub use Rattle.mcommand.specs.Does.{Does, DoesAt, KeepsLoans, here_of}
-pub use Rattle.mcommand.specs.Turns.{added, advanced, course_view}
+pub use Rattle.mcommand.specs.ForParameters.{added, advanced, course_view}
 pub use Rattle.mcommand.specs.declared.parts.Parts.{Parts}
 pub use Rattle.meval.specs.Evaluates.{Evaluates, depth_of, standing_of}
 pub use Rattle.mgrammar.specs.Commands.{form_of}
@@ -29,10 +29,10 @@ pub use Rattle.mstore.specs.declared.store.NodeStore.{Ghosts}
 pub use Rattle.mtree.specs.Tree.{arg_tree, command_tree, condition_tree, destination_tree, entry_tree, expr_tree, keyword_tree, kind_tree, line_tree, locked_tree, parameter_tree, primary_tree, reference_tree, spaced_tree}
 pub use Rattle.mtree.specs.declared.tree.Arg.{Arg}
 pub use Rattle.mtree.specs.declared.tree.Line.{Line}
-pub use Rattle.mexec.specs.Arguments.{Entrance, Start, entered, enters, entrance_of, finished, gave, given, into_given, into_lines, into_text, listing, start_of, where_applies}
+pub use Rattle.mexec.specs.Arguments.{Entrance, entered, entrance_of, finished, into_given, into_lines, into_text, listing, start_of, where_applies}
 pub use Rattle.mexec.specs.Entering.{at_next, entering, next_reached, on_body, reached, so_deep, text_position}
 pub use Rattle.mexec.specs.Frames.{Leads, Runs, closing_of, commands_from, completion_of, loop_before, position_of, rest_tree, resting, source_args, source_position, stack, stacked, turning, view, went}
-pub use Rattle.mexec.specs.Fronts.{IfStops, StopsIn, args_left, args_outcome, args_started, at_begun, at_block, at_loop, at_turns, begun_of, behind, behind_command, command_started, effect_started, ends, finishes, front, front_of, line_left, outcome_of, over, stop_of, stops, stops_at, turn_ends, turn_left, word_started}
+pub use Rattle.mexec.specs.Fronts.{StopsIn, args_left, args_outcome, args_started, at_begun, at_block, at_loop, at_turns, begun_of, command_started, effect_started, finishes, front, front_of, line_left, outcome_of, stop_of, stops_at, turn_ends, turn_left, word_started}
 pub use Rattle.mexec.specs.Loops.{has_course, has_index, is_loop}
-pub use Rattle.mexec.specs.declared.arguments.Begun.{Begun}
+pub use Rattle.mexec.specs.Progress.{IfStops, Progress, behind, ends, over, progress_of, stops}
 pub use Rattle.mexec.specs.declared.frames.ForLoop.{ForLoop}

@@ -1,28 +1,31 @@
 -- SPDX-License-Identifier: Apache-2.0
 -- Arguments, commands and lines up to where they stop, and then what is left of them, is what they do.
-use Rattle.mexec.proofs.ExecWords.{◌≡◌, ℕ, ◌+◌, ◌*◌, ◌-◌, ◌≤◌, ◌<◌, Bool, true, false, cond, List, [], ◌∷◌, None, Some, Result, Ok, Err, length, get_or, map, drop, refl, sym, ap, ◌∙◌, subst, arith, IsErr, IsErrAnd, IfOk, Text, Act, ◌>>=◌, ◌>>◌, give, charge, next_item, KeywordTree, for_word, do_word, ArgTree, loop, CommandTree, Context, Turning, Go_on, after, arguments, bare, commands, conditional, context, effect, holds, inside_of, View, assoc, ended, arg_tree, command_tree, spaced_tree, Arg, Line, Ghosts, Code, Parts, DoesAt, Begun, Start, gave, enters, finished, start_of, Runs, commands_from, completion_of, over, behind, args_started, args_left, args_outcome, word_started, effect_started, command_started, finishes, behind_command, front, line_left, begun_of, outcome_of, front_of, StopsIn, IfStops, ends, at_begun, stops_at, turn_ends, turn_left}
+use Rattle.mexec.proofs.ExecWords.{◌≡◌, ℕ, ◌+◌, ◌-◌, ◌≤◌, ◌<◌, Bool, true, false, cond, List, [], ◌∷◌, None, Some, Result, Ok, Err, length, get_or, map, drop, refl, sym, ap, ◌∙◌, subst, arith, IsErr, IsErrAnd, IfOk, Text, Act, ◌>>=◌, ◌>>◌, give, charge, next_item, KeywordTree, for_word, do_word, ArgTree, loop, CommandTree, Context, Turning, Go_on, after, arguments, bare, commands, conditional, context, effect, holds, inside_of, View, assoc, ended, arg_tree, command_tree, spaced_tree, Arg, Line, Ghosts, Code, Parts, DoesAt, advanced, course_view, ForLoop, turning, position_of, rest_tree, finished, start_of, Runs, commands_from, completion_of, args_started, args_left, args_outcome, word_started, effect_started, command_started, finishes, front, line_left, begun_of, outcome_of, front_of, StopsIn, at_begun, stops_at, turn_ends, turn_left, Entrance, Progress, IfStops, behind, over, stops}
 use Rattle.std.proofs.lemmas.Option.{slice_get_read}
 use Rattle.mmeaning.specs.LineMeaning as meaning
 use Rattle.mmeaning.specs.LineMeaning.{Position}
+use Rattle.mmeaning.specs.Frames.{Turns}
 use Rattle.mtree.specs.declared.tree.Arg.TheVariants as arg
 use Rattle.mtree.specs.declared.tree.Spaced.{Spaced}
 use Rattle.mexec.specs.declared.completion.Completion.{Completion}
 use Rattle.mexec.specs.declared.completion.Completion.TheVariants as completion
-use Rattle.mexec.specs.declared.front.Outcome as the_outcome
-use Rattle.mexec.specs.declared.front.Outcome.TheVariants as outcome
-use Rattle.mexec.specs.declared.arguments.Begun.TheVariants as begun
+use Rattle.mexec.specs.declared.arguments.Entrance as entrances
+use Rattle.mexec.specs.declared.front.Stop as the_stop
+use Rattle.mexec.specs.declared.completion.Progress as the_progress
+use Rattle.mexec.specs.declared.completion.Progress.TheVariants as progress
 use Rattle.mexec.specs.Arguments.{started}
-use Rattle.mexec.specs.Fronts.{Outcome}
+use Rattle.mexec.specs.Fronts.{Stop}
 use Rattle.mexec.specs.Loops.{args_before}
 use Rattle.mexec.proofs.ArgumentRuns.{argument_is}
+use Rattle.mexec.proofs.Loops.{course_runs, turn_begins, turn_done}
 use Rattle.mexec.proofs.Calls.{at_then, at_failed, at_stopped, at_gives, at_as, runs_then, runs_stopped, runs_as, some_item}
 
 -- ---- acts
 
 module _ (x : Context) where
-  behind_is : (st : Start) (more : List ArgTree) → ◌≡◌ {A = Act meaning.Completion} (arguments x more) (args_started x more >>= (λ w. args_left x w.0 w.1))
+  behind_is : (st : Progress Entrance) (more : List ArgTree) → ◌≡◌ {A = Act meaning.Completion} (arguments x more) (args_started x more >>= (λ w. args_left x w.0 w.1))
       → ◌≡◌ {A = Act meaning.Completion} (finished x st >>= (λ s. after s (arguments x more))) (behind st more (args_started x more) >>= (λ w. args_left x w.0 w.1))
-  behind_is (gave Go_on) more e = e
+  behind_is (over Go_on) more e = e
   behind_is st more e = refl
 
   pub arguments_is : (args : List ArgTree) → ◌≡◌ {A = Act meaning.Completion} (arguments x args) (args_started x args >>= (λ w. args_left x w.0 w.1))
@@ -38,9 +41,9 @@ module _ (x : Context) where
   word_is do_word rest = refl
   word_is k rest = sym (assoc (bare x k []) (λ s. give (over s)) (finishes x rest) ∙ ended (bare x k []))
 
-  args_end : (st : Start) (more : List ArgTree) (rest : List CommandTree) → ◌≡◌ {A = Act meaning.Completion} (args_left x st more) (finishes x rest (args_outcome st more))
-  args_end (gave s) more rest = refl
-  args_end (enters e) more rest = refl
+  args_end : (st : Progress Entrance) (more : List ArgTree) (rest : List CommandTree) → ◌≡◌ {A = Act meaning.Completion} (args_left x st more) (finishes x rest (args_outcome st more))
+  args_end (over s) more rest = refl
+  args_end (stops e) more rest = refl
 
   effect_is : (k : KeywordTree) (args : List ArgTree) (rest : List CommandTree) → ◌≡◌ {A = Act meaning.Completion} (effect x k args rest) (effect_started x k args >>= finishes x rest)
   effect_is k [] rest = word_is k rest
@@ -58,8 +61,8 @@ module _ (x : Context) where
       either true = sym (effect_is c.keyword c.args rest)
       either false = refl
 
-  behind_command_is : (o : Outcome) (rest : List CommandTree) → ◌≡◌ {A = Act meaning.Completion} (commands x rest) (front x rest >>= (λ w. line_left x w.0 w.1))
-      → ◌≡◌ {A = Act meaning.Completion} (finishes x rest o >>= (λ s. after s (commands x rest))) (behind_command o rest (front x rest) >>= (λ w. line_left x w.0 w.1))
+  behind_command_is : (o : Progress Stop) (rest : List CommandTree) → ◌≡◌ {A = Act meaning.Completion} (commands x rest) (front x rest >>= (λ w. line_left x w.0 w.1))
+      → ◌≡◌ {A = Act meaning.Completion} (finishes x rest o >>= (λ s. after s (commands x rest))) (behind o rest (front x rest) >>= (λ w. line_left x w.0 w.1))
   behind_command_is (over Go_on) rest e = e
   behind_command_is o rest e = refl
 
@@ -69,25 +72,19 @@ module _ (x : Context) where
       (λ i. charge >> (conditional_is c rest i >>= (λ s. after s (commands x rest))))
       ∙ (λ i. charge >> assoc (command_started x c) (finishes x rest) (λ s. after s (commands x rest)) i)
       ∙ (λ i. charge >> (command_started x c >>= (λ o. behind_command_is o rest (commands_is rest) i)))
-      ∙ (λ i. charge >> sym (assoc (command_started x c) (λ o. behind_command o rest (front x rest)) (λ w. line_left x w.0 w.1)) i)
-      ∙ sym (assoc charge (λ _. command_started x c >>= (λ o. behind_command o rest (front x rest))) (λ w. line_left x w.0 w.1))
+      ∙ (λ i. charge >> sym (assoc (command_started x c) (λ o. behind o rest (front x rest)) (λ w. line_left x w.0 w.1)) i)
+      ∙ sym (assoc charge (λ _. command_started x c >>= (λ o. behind o rest (front x rest))) (λ w. line_left x w.0 w.1))
 
 -- a command whose first argument is not that of a FOR
 pub other_started : (x : Context) (k : KeywordTree) (a : Arg) (more : List ArgTree) → ((index : _) (ps : _) → a ≡ arg.Loop index ps → ⊥)
-    → ◌≡◌ {A = Act Outcome} (effect_started x k (arg_tree a ∷ more)) (args_started x (arg_tree a ∷ more) >>= (λ w. give (args_outcome w.0 w.1)))
+    → ◌≡◌ {A = Act (Progress Stop)} (effect_started x k (arg_tree a ∷ more)) (args_started x (arg_tree a ∷ more) >>= (λ w. give (args_outcome w.0 w.1)))
 other_started x k (arg.Loop index ps) more h = absurd (h index ps refl)
 other_started x k a more h = refl
 
 -- a completion that passes what is next
-pub passes_argument : (s : Completion) (more : List ArgTree) (next : Act (Start × List ArgTree)) → (s ≡ completion.GoOn → ⊥)
-    → ◌≡◌ {A = Act (Start × List ArgTree)} (behind (gave (completion_of s)) more next) (give (gave (completion_of s), more))
-passes_argument completion.GoOn more next h = absurd (h refl)
-passes_argument s more next h = refl
-
-pub passes_command : (s : Completion) (rest : List CommandTree) (next : Act (Outcome × List CommandTree)) → (s ≡ completion.GoOn → ⊥)
-    → ◌≡◌ {A = Act (Outcome × List CommandTree)} (behind_command (over (completion_of s)) rest next) (give (over (completion_of s), rest))
-passes_command completion.GoOn rest next h = absurd (h refl)
-passes_command s rest next h = refl
+pub passes_next : {T A : Type 0} (s : Completion) (more : List A) (next : Act (Progress T × List A)) → (s ≡ completion.GoOn → ⊥) → ◌≡◌ {A = Act (Progress T × List A)} (behind (over (completion_of s)) more next) (give (over (completion_of s), more))
+passes_next completion.GoOn more next h = absurd (h refl)
+passes_next s more next h = refl
 
 -- what follows a turn
 after_turn_is : (x : Context) (t : Turning) (s : meaning.Completion) → ◌≡◌ {A = Act meaning.Completion} (meaning.after_turn x t s) (turn_left x t (turn_ends s))
@@ -108,63 +105,54 @@ turn_is_over x t s ended e = after_turn_is x t s ∙ ap (turn_left x t) (sym e)
 pub args_there : (l : Line) (k : ℕ) (x : Spaced) → k < length l.commands.items → x ≡ get_or l.commands.items k x → args_before l (k + 1) ≡ x.command.args.items
 args_there l k x less is = let at : (k + 1) - 1 ≡ k = omega arith in rw (at, slice_get_read l.commands.items (length l.commands.items) k x refl less is) refl
 
-pub begun_stops : (args : List Arg) (r : Result (Begun × ℕ) Code) → IfOk (stops_at r) (λ o. IfStops o (StopsIn args))
-begun_stops args (Ok (begun.Gave s, at)) = tt
+pub begun_stops : (args : List Arg) (r : Result (the_progress.Progress entrances.Entrance × ℕ) Code) → IfOk (stops_at r) (λ o. IfStops o (StopsIn args))
+begun_stops args (Ok (progress.Over s, at)) = tt
 begun_stops args r = tt
 
--- a step that was spent pays for the frames that are left
-pub falls_spent : {X E : Type 0} (k new mid old frames left : ℕ) (r : Result X E) → mid < old → k ≤ 6 → IfOk r (λ _. 6 * new + frames ≤ 6 * mid + left + k) → IfOk r (λ _. 6 * new + frames ≤ 6 * old + left)
-falls_spent k new mid old frames left (Ok x) less few h = omega (arith, less, few, h)
-falls_spent k new mid old frames left (Err e) less few h = tt
+begun_is : (args : List Arg) (b : the_progress.Progress entrances.Entrance) (at : ℕ) → outcome_of args (at_begun b at) ≡ args_outcome (start_of b) (map arg_tree (drop at args))
+begun_is args (progress.Over s) at = refl
+begun_is args (progress.Stops e) at = refl
 
-begun_is : (args : List Arg) (b : Begun) (at : ℕ) → outcome_of args (at_begun b at) ≡ args_outcome (start_of b) (map arg_tree (drop at args))
-begun_is args (begun.Gave s) at = refl
-begun_is args (begun.Enters e) at = refl
+-- those behind a command go on
+abbrev pub commands_behind : Position → List CommandTree → Text → ℕ → Progress Stop → Act (Progress Stop × List CommandTree)
+commands_behind p rest a n o = behind o rest (front (context a n p) rest)
 
 -- ---- calls
 
 module _ {S : Type 0} {g : Ghosts S} where
-  -- a word that gives its completion
-  pub gives_over : {p : Text → ℕ → Act meaning.Completion} {old new : Parts S} (args : List Arg) (r : Result Completion Code) → DoesAt g p completion_of old r new → DoesAt g (λ a n. p a n >>= (λ s. give (over s))) (outcome_of args) old (ends r) new
-  gives_over args (Ok s) d = at_then (λ a n s. give (over s)) d (at_gives (over (completion_of s)) (outcome_of args) (outcome.Over s) refl)
-  gives_over args (Err c) d = at_failed (λ a n s. give (over s)) d
-
   -- arguments that have begun
-  pub gives_stop : {p : Text → ℕ → Act (Start × List ArgTree)} {old new : Parts S} (args : List Arg) (r : Result (Begun × ℕ) Code) → DoesAt g p (begun_of args) old r new
+  pub gives_stop : {p : Text → ℕ → Act (Progress Entrance × List ArgTree)} {old new : Parts S} (args : List Arg) (r : Result (the_progress.Progress entrances.Entrance × ℕ) Code) → DoesAt g p (begun_of args) old r new
       → DoesAt g (λ a n. p a n >>= (λ w. give (args_outcome w.0 w.1))) (outcome_of args) old (stops_at r) new
   gives_stop args (Ok (b, at)) d = at_then (λ a n w. give (args_outcome w.0 w.1)) d (at_gives (args_outcome (start_of b) (map arg_tree (drop at args))) (outcome_of args) (at_begun b at) (begun_is args b at))
   gives_stop args (Err c) d = at_failed (λ a n w. give (args_outcome w.0 w.1)) d
 
 module _ {S : Type 0} {g : Ghosts S} (p : Position) (l : Line) (k : ℕ) (x : Spaced) (less : k < length l.commands.items) (is : x ≡ get_or l.commands.items k x) where
-  -- a command is done up to where it stops, and then those behind it go on
-  pub command_begins : {X : Type 0} {f : X → Unit {0}} {u : X} {o : the_outcome.Outcome} {old mid next new : Parts S} {r : Result (the_outcome.Outcome × ℕ) Code} → DoesAt g (λ a n. charge) f old (Ok u) mid
-      → DoesAt g (λ a n. command_started (context a n p) (command_tree x.command)) (outcome_of x.command.args.items) mid (Ok o) next
-      → DoesAt g (λ a n. behind_command (outcome_of x.command.args.items o) (commands_from l (k + 1)) (front (context a n p) (commands_from l (k + 1)))) (front_of l) next r new
+  from_command : {old new : Parts S} {r : Result (the_progress.Progress the_stop.Stop × ℕ) Code} → DoesAt g (λ a n. charge >> (command_started (context a n p) (command_tree x.command) >>= commands_behind p (commands_from l (k + 1)) a n)) (front_of l) old r new
       → DoesAt g (λ a n. front (context a n p) (commands_from l k)) (front_of l) old r new
-  command_begins {old = old} {new = new} {r = r} c does then_does =
-      subst (λ (xs : List Spaced). DoesAt g (λ a n. front (context a n p) (map (λ c. c.0) (map spaced_tree xs))) (front_of l) old r new) (sym (next_item l.commands.items k x less is))
-      (at_then (λ a n _. command_started (context a n p) (command_tree x.command) >>= (λ o. behind_command o (commands_from l (k + 1)) (front (context a n p) (commands_from l (k + 1))))) c
-      (at_then (λ a n o. behind_command o (commands_from l (k + 1)) (front (context a n p) (commands_from l (k + 1)))) does then_does))
+  from_command {old = old} {new = new} {r = r} does = subst (λ (xs : List Spaced). DoesAt g (λ a n. front (context a n p) (map (λ c. c.0) (map spaced_tree xs))) (front_of l) old r new) (sym (next_item l.commands.items k x less is)) does
 
-  pub command_stopped : {X : Type 0} {f : X → Unit {0}} {u : X} {old mid new : Parts S} {r : Result (the_outcome.Outcome × ℕ) Code} {e : Code} → DoesAt g (λ a n. charge) f old (Ok u) mid
+  -- a command is done up to where it stops, and then they do
+  pub command_begins : {X : Type 0} {f : X → Unit {0}} {u : X} {o : the_progress.Progress the_stop.Stop} {old mid next new : Parts S} {r : Result (the_progress.Progress the_stop.Stop × ℕ) Code} → DoesAt g (λ a n. charge) f old (Ok u) mid
+      → DoesAt g (λ a n. command_started (context a n p) (command_tree x.command)) (outcome_of x.command.args.items) mid (Ok o) next → DoesAt g (λ a n. commands_behind p (commands_from l (k + 1)) a n (outcome_of x.command.args.items o)) (front_of l) next r new
+      → DoesAt g (λ a n. front (context a n p) (commands_from l k)) (front_of l) old r new
+  command_begins c does then_does = from_command (at_then (λ a n _. command_started (context a n p) (command_tree x.command) >>= commands_behind p (commands_from l (k + 1)) a n) c (at_then (commands_behind p (commands_from l (k + 1))) does then_does))
+
+  pub command_stopped : {X : Type 0} {f : X → Unit {0}} {u : X} {old mid new : Parts S} {r : Result (the_progress.Progress the_stop.Stop × ℕ) Code} {e : Code} → DoesAt g (λ a n. charge) f old (Ok u) mid
       → DoesAt g (λ a n. command_started (context a n p) (command_tree x.command)) (outcome_of x.command.args.items) mid (Err e) new → IsErr r × IsErrAnd r (λ x. x ≡ e)
       → DoesAt g (λ a n. front (context a n p) (commands_from l k)) (front_of l) old r new
-  command_stopped {old = old} {new = new} {r = r} c does h =
-      subst (λ (xs : List Spaced). DoesAt g (λ a n. front (context a n p) (map (λ c. c.0) (map spaced_tree xs))) (front_of l) old r new) (sym (next_item l.commands.items k x less is))
-      (at_then (λ a n _. command_started (context a n p) (command_tree x.command) >>= (λ o. behind_command o (commands_from l (k + 1)) (front (context a n p) (commands_from l (k + 1))))) c
-      (at_stopped (λ a n o. behind_command o (commands_from l (k + 1)) (front (context a n p) (commands_from l (k + 1)))) does h))
+  command_stopped c does h = from_command (at_then (λ a n _. command_started (context a n p) (command_tree x.command) >>= commands_behind p (commands_from l (k + 1)) a n) c (at_stopped (commands_behind p (commands_from l (k + 1))) does h))
 
 -- want of a step for the next command
-pub charge_stopped : {S X : Type 0} {g : Ghosts S} (p : Position) (l : Line) (k : ℕ) {f : X → Unit {0}} {old new : Parts S} {r : Result (the_outcome.Outcome × ℕ) Code} {e : Code} → k < length l.commands.items → DoesAt g (λ a n. charge) f old (Err e) new → IsErr r × IsErrAnd r (λ x. x ≡ e)
+pub charge_stopped : {S X : Type 0} {g : Ghosts S} (p : Position) (l : Line) (k : ℕ) {f : X → Unit {0}} {old new : Parts S} {r : Result (the_progress.Progress the_stop.Stop × ℕ) Code} {e : Code} → k < length l.commands.items → DoesAt g (λ a n. charge) f old (Err e) new → IsErr r × IsErrAnd r (λ x. x ≡ e)
     → DoesAt g (λ a n. front (context a n p) (commands_from l k)) (front_of l) old r new
 charge_stopped {g = g} p l k {old = old} {new = new} {r = r} less c h =
     let some = some_item k l.commands.items less in
     subst (λ (xs : List Spaced). DoesAt g (λ a n. front (context a n p) (map (λ c. c.0) (map spaced_tree xs))) (front_of l) old r new) (sym some.1)
-    (at_stopped (λ a n _. command_started (context a n p) (command_tree some.0.command) >>= (λ o. behind_command o (commands_from l (k + 1)) (front (context a n p) (commands_from l (k + 1))))) c h)
+    (at_stopped (λ a n _. command_started (context a n p) (command_tree some.0.command) >>= (λ o. behind o (commands_from l (k + 1)) (front (context a n p) (commands_from l (k + 1))))) c h)
 
 module _ {S : Type 0} {g : Ghosts S} (p : Position) (l : Line) where
   -- a line up to where it stops, and then what is left of it
-  pub front_runs : (from : ℕ) {at : ℕ} {o : the_outcome.Outcome} {fs fs' : List View} {old mid new : Parts S} {r : Result Completion Code} → DoesAt g (λ a n. front (context a n p) (commands_from l from)) (front_of l) old (Ok (o, at)) mid → mid.eval.steps ≤ old.eval.steps
+  pub front_runs : (from : ℕ) {at : ℕ} {o : the_progress.Progress the_stop.Stop} {fs fs' : List View} {old mid new : Parts S} {r : Result Completion Code} → DoesAt g (λ a n. front (context a n p) (commands_from l from)) (front_of l) old (Ok (o, at)) mid → mid.eval.steps ≤ old.eval.steps
       → Runs g (λ a n. line_left (context a n p) (front_of l (o, at)).0 (commands_from l at)) fs mid r fs' new
       → Runs g (λ a n. commands (context a n p) (commands_from l from)) fs old r fs' new
   front_runs from does few k =
@@ -176,7 +164,26 @@ module _ {S : Type 0} {g : Ghosts S} (p : Position) (l : Line) where
       runs_as (λ a n. commands_is (context a n p) (commands_from l from)) (runs_stopped (λ a n w. line_left (context a n p) w.0 w.1) does few h)
 
   -- a line that is over
-  pub front_over : (from : ℕ) {at : ℕ} {s : Completion} {old mid : Parts S} → DoesAt g (λ a n. front (context a n p) (commands_from l from)) (front_of l) old (Ok (outcome.Over s, at)) mid
+  pub front_over : (from : ℕ) {at : ℕ} {s : Completion} {old mid : Parts S} → DoesAt g (λ a n. front (context a n p) (commands_from l from)) (front_of l) old (Ok (progress.Over s, at)) mid
       → DoesAt g (λ a n. commands (context a n p) (commands_from l from)) completion_of old (Ok s) mid
   front_over from {s = s} does =
       at_as (λ a n. commands_is (context a n p) (commands_from l from)) (at_then (λ a n w. line_left (context a n p) w.0 w.1) does (at_gives (completion_of s) completion_of s refl))
+
+-- ---- a turn more of a FOR
+
+module _ {S X : Type 0} {g : Ghosts S} {f : X → Unit {0}} {u : X} {fs fs' : List View} (t : ForLoop) {old mid next : Parts S} (gone : DoesAt g (λ a n. advanced (turning t).index (course_view t.course)) (λ (b : Bool). b) old (Ok true) mid) (few : mid.eval.steps ≤ old.eval.steps)
+    (c : DoesAt g (λ a n. charge) f mid (Ok u) next) (less : next.eval.steps < mid.eval.steps) where
+  -- its body up to where it stops, and then what is left of that
+  pub turn_runs : {at : ℕ} {o : the_progress.Progress the_stop.Stop} {last new : Parts S} {r : Result Completion Code} → DoesAt g (λ a n. front (context a n (position_of t.body.position.value)) (rest_tree t.body)) (front_of t.body.line.value) next (Ok (o, at)) last → last.eval.steps ≤ next.eval.steps
+      → Runs g (λ a n. line_left (context a n (position_of t.body.position.value)) (front_of t.body.line.value (o, at)).0 (commands_from t.body.line.value at)) (Turns (position_of t.body.position.value) (turning t) ∷ fs) last r fs' new
+      → Runs g (λ a n. meaning.after_course (context a n (position_of t.body.position.value)) (turning t) (course_view t.course)) fs old r fs' new
+  turn_runs does fewer k = course_runs t gone few (turn_begins (position_of t.body.position.value) (turning t) c less (front_runs (position_of t.body.position.value) t.body.line.value t.body.at does fewer k))
+
+  pub turn_stopped : {new : Parts S} {r : Result Completion Code} {e : Code} → DoesAt g (λ a n. front (context a n (position_of t.body.position.value)) (rest_tree t.body)) (front_of t.body.line.value) next (Err e) new → new.eval.steps ≤ next.eval.steps → IsErr r × IsErrAnd r (λ x. x ≡ e)
+      → Runs g (λ a n. meaning.after_course (context a n (position_of t.body.position.value)) (turning t) (course_view t.course)) fs old r fs' new
+  turn_stopped does fewer h = course_runs t gone few (turn_begins (position_of t.body.position.value) (turning t) c less (front_stopped (position_of t.body.position.value) t.body.line.value t.body.at does fewer h))
+
+  -- one that is over
+  pub turn_over : {at : ℕ} {s : Completion} {last new : Parts S} {r : Result Completion Code} → DoesAt g (λ a n. front (context a n (position_of t.body.position.value)) (rest_tree t.body)) (front_of t.body.line.value) next (Ok (progress.Over s, at)) last → last.eval.steps ≤ next.eval.steps
+      → Runs g (λ a n. meaning.after_turn (context a n (position_of t.body.position.value)) (turning t) (completion_of s)) fs last r fs' new → Runs g (λ a n. meaning.after_course (context a n (position_of t.body.position.value)) (turning t) (course_view t.course)) fs old r fs' new
+  turn_over does fewer k = course_runs t gone few (turn_done (position_of t.body.position.value) (turning t) c less (front_over (position_of t.body.position.value) t.body.line.value t.body.at does) fewer k)

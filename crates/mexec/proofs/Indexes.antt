@@ -3,8 +3,8 @@
 use Rattle.mexec.proofs.ExecWords.{◌≡◌, ℕ, Bool, true, false, List, [], ◌∷◌, Option, Some, None, is_some, refl, sym, ◌∙◌, Arg, Line, is_loop, has_index, has_course}
 use Rattle.std.proofs.lemmas.Bool.{false≢true}
 use Rattle.mtree.specs.declared.tree.Arg.TheVariants as arg
-use Rattle.mcommand.specs.declared.turn.Course.{Course}
-use Rattle.mcommand.specs.declared.turn.Course.TheVariants as course
+use Rattle.mcommand.specs.declared.for_parameter.Course.{Course}
+use Rattle.mcommand.specs.declared.for_parameter.Course.TheVariants as course
 use Rattle.mexec.specs.Loops.{loop_in}
 
 -- where there is none, no parameter is left

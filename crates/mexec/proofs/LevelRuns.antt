@@ -1,6 +1,6 @@
 -- SPDX-License-Identifier: Apache-2.0
 -- Lines and texts that are entered, frame by frame.
-use Rattle.mexec.proofs.ExecWords.{◌≡◌, ℕ, zero, suc, ◌<◌, ◌+◌, Bool, true, false, cond, List, [], ◌∷◌, Option, Some, None, Result, Ok, Err, length, drop, get_or, slice_get, refl, sym, ap, ◌∙◌, subst, eqb-true, le-ltb, arith, drop-drop, get_or-drop, IsErr, IsErrAnd, Text, Act, ◌>>=◌, ◌>>◌, give, give_some, charge, ArgTree, CommandTree, BodyTree, short, spaced_out, RoutineLineTree, dots_of, routine_line_at, indirected, Level, Closing, leaves, deeper, within_indirection, has_dots, commands_of, commands_in, Context, Go_on, texts, context, commands, lines_reached, lines_from, lines_next, line_entered, after_level, closed, View, Rests, Lists, Levels, frame, assoc, Ghosts, fault_of, Code, Zmem, Evaluates, Parts, Does, DoesAt, here_of, Runs, reached, next_reached, entering, so_deep, at_next, text_position, on_body, next_item}
+use Rattle.mexec.proofs.ExecWords.{◌≡◌, ℕ, zero, suc, ◌<◌, ◌≤◌, ◌+◌, Bool, true, false, cond, List, [], ◌∷◌, Option, Some, None, Result, Ok, Err, length, drop, get_or, slice_get, refl, sym, ap, ◌∙◌, subst, eqb-true, le-ltb, lt-ltb, arith, drop-drop, get_or-drop, IsErr, IsErrAnd, Text, Act, ◌>>=◌, ◌>>◌, give, give_some, charge, ArgTree, CommandTree, BodyTree, short, spaced_out, RoutineLineTree, dots_of, routine_line_at, indirected, Level, Closing, leaves, deeper, within_indirection, has_dots, commands_of, commands_in, Context, Go_on, texts, context, commands, lines_reached, lines_from, lines_next, line_entered, after_level, closed, View, Rests, Lists, Levels, frame, assoc, Ghosts, fault_of, Code, Zmem, Evaluates, Parts, Does, DoesAt, here_of, Runs, reached, next_reached, entering, so_deep, at_next, text_position, on_body, next_item}
 use Rattle.std.specs.Prelude.{nat_lt, ◌==◌}
 use Rattle.mspec.specs.Code.{Zsyntax}
 use Rattle.mmeaning.specs.Expression.{Depth}
@@ -131,17 +131,17 @@ module _ {S : Type 0} {g : Ghosts S} where
 
   module _ (dots k : ℕ) (lines : List Text) (x : Text) (less : k < length lines) (is : x ≡ get_or lines k x) where
     -- a line with more dots
-    pub passes_line : nat_lt dots (dots_of x) ≡ true → {X : Type 0} {f : X → Unit {0}} {u : X} {old mid new : Parts S} {r : Result (Option ℕ) Code} → DoesAt g (λ a n. charge) f old (Ok u) mid
+    pub passes_line : dots < dots_of x → {X : Type 0} {f : X → Unit {0}} {u : X} {old mid new : Parts S} {r : Result (Option ℕ) Code} → DoesAt g (λ a n. charge) f old (Ok u) mid
         → DoesAt g (λ a n. reached dots (k + 1) (drop (k + 1) lines)) (λ (found : Option ℕ). found) mid r new → DoesAt g (λ a n. reached dots k (drop k lines)) (λ (found : Option ℕ). found) old r new
-    passes_line more d then_does = rw (next_item lines k x less is, more) (at_then (λ a n _. reached dots (k + 1) (drop (k + 1) lines)) d then_does)
+    passes_line more d then_does = rw (next_item lines k x less is, lt-ltb dots (dots_of x) more) (at_then (λ a n _. reached dots (k + 1) (drop (k + 1) lines)) d then_does)
 
-    pub passing_failed : nat_lt dots (dots_of x) ≡ true → {X : Type 0} {f : X → Unit {0}} {old new : Parts S} {e : Code} {r : Result (Option ℕ) Code} → DoesAt g (λ a n. charge) f old (Err e) new → IsErr r × IsErrAnd r (λ x. x ≡ e)
+    pub passing_failed : dots < dots_of x → {X : Type 0} {f : X → Unit {0}} {old new : Parts S} {e : Code} {r : Result (Option ℕ) Code} → DoesAt g (λ a n. charge) f old (Err e) new → IsErr r × IsErrAnd r (λ x. x ≡ e)
         → DoesAt g (λ a n. reached dots k (drop k lines)) (λ (found : Option ℕ). found) old r new
-    passing_failed more d h = rw (next_item lines k x less is, more) (at_stopped (λ a n _. reached dots (k + 1) (drop (k + 1) lines)) d h)
+    passing_failed more d h = rw (next_item lines k x less is, lt-ltb dots (dots_of x) more) (at_stopped (λ a n _. reached dots (k + 1) (drop (k + 1) lines)) d h)
 
     -- one with as many or fewer
-    pub stops_at : nat_lt dots (dots_of x) ≡ false → {parts : Parts S} → DoesAt g (λ a n. reached dots k (drop k lines)) (λ (found : Option ℕ). found) parts (Ok (cond (dots_of x == dots) (Some k) None)) parts
-    stops_at not_more = rw (next_item lines k x less is, not_more) (at_gives (cond (dots_of x == dots) (Some k) None) (λ found. found) (cond (dots_of x == dots) (Some k) None) refl)
+    pub stops_at : dots_of x ≤ dots → {parts : Parts S} → DoesAt g (λ a n. reached dots k (drop k lines)) (λ (found : Option ℕ). found) parts (Ok (cond (dots_of x == dots) (Some k) None)) parts
+    stops_at few = rw (next_item lines k x less is, le-ltb dots (dots_of x) few) (at_gives (cond (dots_of x == dots) (Some k) None) (λ found. found) (cond (dots_of x == dots) (Some k) None) refl)
 
   -- ---- a line that is entered
 

@@ -1,6 +1,6 @@
 -- SPDX-License-Identifier: Apache-2.0
 -- The turns of a FOR: what the code does one after another is what the meaning has inside of one act.
-use Rattle.mexec.proofs.ExecWords.{◌≡◌, ℤ, ◌+ℤ◌, ℕ, ◌<◌, Bool, true, false, cond, List, [], ◌∷◌, Option, Some, None, Result, Ok, Err, length, get_or, map, drop, refl, sym, ap, ◌∙◌, subst, arith, ◌≤◌, ◌+◌, ◌*◌, Text, Act, ◌>>=◌, ◌>>◌, give, charge, IsErr, IsErrAnd, IfOk, next_item, none_left, ParameterTree, once, onward, until, CommandTree, as_text, value, inside, Context, Turning, Skips, context, inside_of, index_number, number_of, next_parameter, after_course, begin_turn, View, assoc, parameter_tree, Ghosts, Code, Parts, DoesAt, course_view, added, advanced, ForLoop, Runs, commands_from, loop_before, turning, completion_of, position_of}
+use Rattle.mexec.proofs.ExecWords.{◌≡◌, ℤ, ◌+ℤ◌, ℕ, ◌<◌, Bool, true, false, cond, List, [], ◌∷◌, Option, Some, None, Result, Ok, Err, length, get_or, map, drop, refl, sym, ap, ◌∙◌, subst, arith, ◌≤◌, ◌+◌, ◌*◌, Text, Act, ◌>>=◌, ◌>>◌, give, charge, IsErr, IsErrAnd, IfOk, next_item, none_left, ExprTree, ParameterTree, once, onward, until, CommandTree, Inside, as_text, value, inside, Context, Turning, Skips, context, inside_of, index_number, number_of, next_parameter, after_course, begin_turn, View, assoc, parameter_tree, Ghosts, Code, Parts, DoesAt, course_view, added, advanced, ForLoop, Runs, commands_from, loop_before, turning, completion_of, position_of}
 use Rattle.mspec.specs.Number.{sum_of}
 use Rattle.mspec.specs.NumberText.{number_text}
 use Rattle.mmeaning.specs.Courses.{Course, last_turn, endless, limited, forever, is_past}
@@ -9,7 +9,7 @@ use Rattle.mmeaning.specs.LineMeaning as meaning
 use Rattle.mmeaning.specs.LineMeaning.{Position}
 use Rattle.mmeaning.specs.Frames as frames
 use Rattle.mtree.specs.declared.tree.Parameter.{Parameter}
-use Rattle.mcommand.specs.Turns.{started}
+use Rattle.mcommand.specs.ForParameters.{start_and_increment, begun_within, started}
 use Rattle.mexec.specs.declared.completion.Completion.{Completion}
 use Rattle.mexec.specs.declared.completion.Completion.TheVariants as completion
 use Rattle.mexec.proofs.Calls.{runs_then, runs_stopped, runs_as, runs_spent, runs_frame, runs_completion}
@@ -19,8 +19,10 @@ use Rattle.mexec.proofs.Calls.{runs_then, runs_stopped, runs_as, runs_spent, run
 two : {A B C D : Type 0} (p : Act A) (q : Act B) (f : A → B → Act C) (k : C → Act D) → ◌≡◌ {A = Act D} ((p >>= (λ a. q >>= (λ b. f a b))) >>= k) (p >>= (λ a. q >>= (λ b. f a b >>= k)))
 two p q f k = assoc p (λ a. q >>= (λ b. f a b)) k ∙ (λ i. p >>= (λ a. assoc q (λ b. f a b) k i))
 
-three : {A B C D E : Type 0} (p : Act A) (q : Act B) (r : Act C) (f : A → B → C → Act D) (k : D → Act E) → ◌≡◌ {A = Act E} ((p >>= (λ a. q >>= (λ b. r >>= (λ c. f a b c)))) >>= k) (p >>= (λ a. q >>= (λ b. r >>= (λ c. f a b c >>= k))))
-three p q r f k = assoc p (λ a. q >>= (λ b. r >>= (λ c. f a b c))) k ∙ (λ i. p >>= (λ a. two q r (λ b c. f a b c) k i))
+-- with a start and an increment
+numbers_then : {A B : Type 0} (i : Inside) (e by : ExprTree) (f : ℤ × ℤ → Act A) (k : A → Act B)
+    → ◌≡◌ {A = Act B} ((start_and_increment i e by >>= f) >>= k) (number_of i e >>= (λ a. number_of i by >>= (λ b. f (a, b) >>= k)))
+numbers_then i e by f k = assoc (start_and_increment i e by) f k ∙ two (number_of i e) (number_of i by) (λ a b. give (a, b)) (λ numbers. f numbers >>= k)
 
 past_or_not : {A : Type 0} {B : Type 0} (b : Bool) (u v : A) (k : A → B) → k (cond b u v) ≡ cond b (k u) (k v)
 past_or_not true u v k = refl
@@ -35,10 +37,11 @@ begun x index body rest (Some c) = begin_turn x (record { index = index; course 
 
 pub next_is : (x : Context) (index : Text) (body : List CommandTree) (p : ParameterTree) (rest : List ParameterTree) → ◌≡◌ {A = Act meaning.Completion} (next_parameter x index body (p ∷ rest)) (started (inside_of x) index p >>= begun x index body rest)
 next_is x index body (once e) rest = sym (assoc (value (inside_of x) e) (λ a. put_at (at_local index []) a >> give (Some last_turn)) (begun x index body rest))
-next_is x index body (onward e by) rest =
-    sym (two (number_of (inside_of x) e) (number_of (inside_of x) by) (λ a b. put_at (at_local index []) (number_text a) >> give (Some (endless b))) (begun x index body rest))
+next_is x index body (onward e by) rest = sym (numbers_then (inside_of x) e by (λ numbers. put_at (at_local index []) (number_text numbers.0) >> give (Some (endless numbers.1))) (begun x index body rest))
 next_is x index body (until e by to) rest = sym (
-    three (number_of (inside_of x) e) (number_of (inside_of x) by) (number_of (inside_of x) to) (λ a b c. put_at (at_local index []) (number_text a) >> give (cond (is_past b a c) None (Some (limited b c)))) (begun x index body rest)
+    numbers_then (inside_of x) e by (λ numbers. number_of (inside_of x) to >>= (λ limit. put_at (at_local index []) (number_text numbers.0) >> give (begun_within numbers.0 numbers.1 limit))) (begun x index body rest)
+    ∙ (λ i. number_of (inside_of x) e >>= (λ a. number_of (inside_of x) by >>= (λ b.
+    assoc (number_of (inside_of x) to) (λ limit. put_at (at_local index []) (number_text a) >> give (begun_within a b limit)) (begun x index body rest) i)))
     ∙ (λ i. number_of (inside_of x) e >>= (λ a. number_of (inside_of x) by >>= (λ b. number_of (inside_of x) to >>= (λ c.
     put_at (at_local index []) (number_text a) >> past_or_not {B = Act meaning.Completion} (is_past b a c) None (Some (limited b c)) (begun x index body rest) i)))))
 
@@ -81,9 +84,9 @@ pub turn_charge_failed : {S X : Type 0} {g : Ghosts S} {f : X → Unit {0}} {fs 
 turn_charge_failed d t c few h = runs_stopped (λ a n _. (context a n d).texts.turn d t) c few h
 
 -- what falls from a later point on falls from an earlier one on
-pub falls_on : {X E : Type 0} (new mid old frames left : ℕ) (r : Result X E) → mid ≤ old → IfOk r (λ _. 6 * new + frames ≤ 6 * mid + left) → IfOk r (λ _. 6 * new + frames ≤ 6 * old + left)
-falls_on new mid old frames left (Ok x) few h = omega (arith, few, h)
-falls_on new mid old frames left (Err e) few h = tt
+pub falls_within : {X E : Type 0} (left from to : ℕ) (r : Result X E) → from ≤ to → IfOk r (λ _. left ≤ from) → IfOk r (λ _. left ≤ to)
+falls_within left from to (Ok x) few h = omega (arith, few, h)
+falls_within left from to (Err e) few h = tt
 
 -- ---- turns as the frames have them
 
@@ -98,24 +101,21 @@ turning_of_none t e = turning_of t [] [] e ∙ (λ i. record { index = []; cours
 
 -- ---- calls
 
-module _ {S : Type 0} {g : Ghosts S} (d : Position) (index : Text) (body : List CommandTree) where
-  -- a parameter is begun, and then the turns go on
-  pub parameter_runs : (ps : List Parameter) (k : ℕ) (p : Parameter) {X : Type 0} {view : X → Option Course} {o : X} {fs fs' : List View} {old mid new : Parts S} {r : Result Completion Code} → k < length ps → p ≡ get_or ps k p
-      → DoesAt g (λ a n. started (inside a n d.depth) index (parameter_tree p)) view old (Ok o) mid → mid.eval.steps ≤ old.eval.steps
-      → Runs g (λ a n. begun (context a n d) index body (map parameter_tree (drop (k + 1) ps)) (view o)) fs mid r fs' new
+module _ {S : Type 0} {g : Ghosts S} (d : Position) (index : Text) (body : List CommandTree) (ps : List Parameter) (k : ℕ) (p : Parameter) (less : k < length ps) (is : p ≡ get_or ps k p) {fs fs' : List View} where
+  from_parameter : {old new : Parts S} {r : Result Completion Code} → Runs g (λ a n. started (inside a n d.depth) index (parameter_tree p) >>= begun (context a n d) index body (map parameter_tree (drop (k + 1) ps))) fs old r fs' new
       → Runs g (λ a n. next_parameter (context a n d) index body (map parameter_tree (drop k ps))) fs old r fs' new
-  parameter_runs ps k p {fs = fs} {fs' = fs'} {old = old} {new = new} {r = r} less is does few then_runs =
+  from_parameter {old = old} {new = new} {r = r} runs =
       subst (λ (xs : List Parameter). Runs g (λ a n. next_parameter (context a n d) index body (map parameter_tree xs)) fs old r fs' new) (sym (next_item ps k p less is))
-      (runs_as (λ a n. next_is (context a n d) index body (parameter_tree p) (map parameter_tree (drop (k + 1) ps)))
-      (runs_then (λ a n. begun (context a n d) index body (map parameter_tree (drop (k + 1) ps))) does few then_runs))
+      (runs_as (λ a n. next_is (context a n d) index body (parameter_tree p) (map parameter_tree (drop (k + 1) ps))) runs)
 
-  pub parameter_stopped : (ps : List Parameter) (k : ℕ) (p : Parameter) {X : Type 0} {view : X → Option Course} {fs fs' : List View} {old new : Parts S} {r : Result Completion Code} {e : Code} → k < length ps → p ≡ get_or ps k p
-      → DoesAt g (λ a n. started (inside a n d.depth) index (parameter_tree p)) view old (Err e) new → new.eval.steps ≤ old.eval.steps → IsErr r × IsErrAnd r (λ x. x ≡ e)
+  -- a parameter is begun, and then the turns go on
+  pub parameter_runs : {X : Type 0} {view : X → Option Course} {o : X} {old mid new : Parts S} {r : Result Completion Code} → DoesAt g (λ a n. started (inside a n d.depth) index (parameter_tree p)) view old (Ok o) mid → mid.eval.steps ≤ old.eval.steps
+      → Runs g (λ a n. begun (context a n d) index body (map parameter_tree (drop (k + 1) ps)) (view o)) fs mid r fs' new → Runs g (λ a n. next_parameter (context a n d) index body (map parameter_tree (drop k ps))) fs old r fs' new
+  parameter_runs does few then_runs = from_parameter (runs_then (λ a n. begun (context a n d) index body (map parameter_tree (drop (k + 1) ps))) does few then_runs)
+
+  pub parameter_stopped : {X : Type 0} {view : X → Option Course} {old new : Parts S} {r : Result Completion Code} {e : Code} → DoesAt g (λ a n. started (inside a n d.depth) index (parameter_tree p)) view old (Err e) new → new.eval.steps ≤ old.eval.steps → IsErr r × IsErrAnd r (λ x. x ≡ e)
       → Runs g (λ a n. next_parameter (context a n d) index body (map parameter_tree (drop k ps))) fs old r fs' new
-  parameter_stopped ps k p {fs = fs} {fs' = fs'} {old = old} {new = new} {r = r} less is does few h =
-      subst (λ (xs : List Parameter). Runs g (λ a n. next_parameter (context a n d) index body (map parameter_tree xs)) fs old r fs' new) (sym (next_item ps k p less is))
-      (runs_as (λ a n. next_is (context a n d) index body (parameter_tree p) (map parameter_tree (drop (k + 1) ps)))
-      (runs_stopped (λ a n. begun (context a n d) index body (map parameter_tree (drop (k + 1) ps))) does few h))
+  parameter_stopped does few h = from_parameter (runs_stopped (λ a n. begun (context a n d) index body (map parameter_tree (drop (k + 1) ps))) does few h)
 
 -- a turn of turns as the frames have them
 pub begun_runs : {S : Type 0} {g : Ghosts S} {fs fs' : List View} {old new : Parts S} {r : Result Completion Code} (t : ForLoop) (index : Text) (parameters : List Parameter) → loop_before t.body.line.value t.body.at ≡ (index, parameters)
@@ -135,14 +135,9 @@ pub no_parameters_run : {S : Type 0} {g : Ghosts S} {fs : List View} {old : Part
 no_parameters_run t e = runs_as (λ a n. ap (λ u. next_parameter (context a n (position_of t.body.position.value)) u.index u.body u.parameters) (turning_of_none t e)) (runs_completion completion.Skips)
 
 module _ {S : Type 0} {g : Ghosts S} (t : ForLoop) {fs fs' : List View} where
-  pub one_more : {old mid new : Parts S} {r : Result Completion Code} → DoesAt g (λ a n. advanced (turning t).index (course_view t.course)) (λ (b : Bool). b) old (Ok true) mid → mid.eval.steps ≤ old.eval.steps
-      → Runs g (λ a n. begin_turn (context a n (position_of t.body.position.value)) (turning t)) fs mid r fs' new → Runs g (λ a n. after_course (context a n (position_of t.body.position.value)) (turning t) (course_view t.course)) fs old r fs' new
-  one_more does few k = runs_as (λ a n. course_is (context a n (position_of t.body.position.value)) (turning t) (course_view t.course)) (runs_then (λ a n. gone_on (context a n (position_of t.body.position.value)) (turning t)) does few k)
-
-  pub no_more : {old mid new : Parts S} {r : Result Completion Code} → DoesAt g (λ a n. advanced (turning t).index (course_view t.course)) (λ (b : Bool). b) old (Ok false) mid → mid.eval.steps ≤ old.eval.steps
-      → Runs g (λ a n. next_parameter (context a n (position_of t.body.position.value)) (turning t).index (turning t).body (turning t).parameters) fs mid r fs' new
-      → Runs g (λ a n. after_course (context a n (position_of t.body.position.value)) (turning t) (course_view t.course)) fs old r fs' new
-  no_more does few k = runs_as (λ a n. course_is (context a n (position_of t.body.position.value)) (turning t) (course_view t.course)) (runs_then (λ a n. gone_on (context a n (position_of t.body.position.value)) (turning t)) does few k)
+  pub course_runs : {b : Bool} {old mid new : Parts S} {r : Result Completion Code} → DoesAt g (λ a n. advanced (turning t).index (course_view t.course)) (λ (b : Bool). b) old (Ok b) mid → mid.eval.steps ≤ old.eval.steps
+      → Runs g (λ a n. gone_on (context a n (position_of t.body.position.value)) (turning t) b) fs mid r fs' new → Runs g (λ a n. after_course (context a n (position_of t.body.position.value)) (turning t) (course_view t.course)) fs old r fs' new
+  course_runs does few k = runs_as (λ a n. course_is (context a n (position_of t.body.position.value)) (turning t) (course_view t.course)) (runs_then (λ a n. gone_on (context a n (position_of t.body.position.value)) (turning t)) does few k)
 
   pub not_gone_on : {old new : Parts S} {r : Result Completion Code} {c : Code} → DoesAt g (λ a n. advanced (turning t).index (course_view t.course)) (λ (b : Bool). b) old (Err c) new → new.eval.steps ≤ old.eval.steps → IsErr r × IsErrAnd r (λ x. x ≡ c)
       → Runs g (λ a n. after_course (context a n (position_of t.body.position.value)) (turning t) (course_view t.course)) fs old r fs' new

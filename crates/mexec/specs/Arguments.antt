@@ -11,11 +11,10 @@ use Rattle.mtree.specs.Tree.{entry_tree, expr_tree, keyword_tree, primary_tree}
 use Rattle.moperator.specs.declared.code.Code.{Code}
 use Rattle.mexec.specs.declared.arguments.Entrance as entrances
 use Rattle.mexec.specs.declared.arguments.Entrance.TheVariants as entrance
-use Rattle.mexec.specs.declared.arguments.Begun.{Begun}
-use Rattle.mexec.specs.declared.arguments.Begun.TheVariants as begun
-use Rattle.mexec.specs.declared.completion.Completion.{Completion}
+use Rattle.mexec.specs.declared.completion.Progress as the_progress
+use Rattle.mexec.specs.declared.completion.Progress.TheVariants as progress
 use Rattle.mexec.specs.declared.completion.Completion.TheVariants as completion
-use Rattle.mexec.specs.Frames.{completion_of}
+use Rattle.mexec.specs.Progress.{Progress, over, stops, progress_of}
 
 -- what an argument enters: the lines from one on; a text; or arguments of a form that the value of an operand gives
 pub data Entrance : Type 0 where
@@ -23,16 +22,12 @@ pub data Entrance : Type 0 where
   into_text : ExprTree → Entrance
   into_given : FormTree → PrimaryTree → Entrance
 
--- what an argument leaves to be done: nothing, once it has given its completion; or what it enters
-pub data Start : Type 0 where
-  gave : meaning.Completion → Start
-  enters : Entrance → Start
-
-abbrev pub started : Context → ArgTree → Act Start
-started x (do_one e c) = holds (inside_of x) c >>= (λ b. give (cond b (enters (into_lines e)) (gave Go_on)))
-started x (executed e c) = holds (inside_of x) c >>= (λ b. give (cond b (enters (into_text e)) (gave Go_on)))
-started x (indirect_args f p) = give (enters (into_given f p))
-started x a = argument x a >>= (λ s. give (gave s))
+-- up to where an argument enters something
+abbrev pub started : Context → ArgTree → Act (Progress Entrance)
+started x (do_one e c) = holds (inside_of x) c >>= (λ b. give (cond b (stops (into_lines e)) (over Go_on)))
+started x (executed e c) = holds (inside_of x) c >>= (λ b. give (cond b (stops (into_text e)) (over Go_on)))
+started x (indirect_args f p) = give (stops (into_given f p))
+started x a = argument x a >>= (λ s. give (over s))
 
 -- what that does
 abbrev pub entered : Context → Entrance → Act meaning.Completion
@@ -40,9 +35,9 @@ entered x (into_lines e) = doing x e
 entered x (into_text e) = executing x e
 entered x (into_given f p) = meaning.given x f p
 
-abbrev pub finished : Context → Start → Act meaning.Completion
-finished x (gave s) = give s
-finished x (enters e) = entered x e
+abbrev pub finished : Context → Progress Entrance → Act meaning.Completion
+finished x (over s) = give s
+finished x (stops e) = entered x e
 
 -- and then the arguments behind it
 abbrev pub entered_then : Context → Entrance → List ArgTree → Act meaning.Completion
@@ -54,19 +49,13 @@ entrance_of (entrance.Lines e) = into_lines (entry_tree e.now)
 entrance_of (entrance.Text e) = into_text (expr_tree e.now)
 entrance_of (entrance.Indirect k p) = into_given (form_of (keyword_tree k)) (primary_tree p.now)
 
-abbrev pub start_of : Begun → Start
-start_of (begun.Gave s) = gave (completion_of s)
-start_of (begun.Enters e) = enters (entrance_of e)
-
--- an argument that gave its completion
-abbrev pub given : Result Completion Code → Result Begun Code
-given (Ok s) = Ok (begun.Gave s)
-given (Err c) = Err c
+abbrev pub start_of : the_progress.Progress entrances.Entrance → Progress Entrance
+start_of = progress_of entrance_of
 
 -- one that enters where its condition holds
-abbrev pub where_applies : Result Bool Code → entrances.Entrance → Result Begun Code
-where_applies (Ok true) e = Ok (begun.Enters e)
-where_applies (Ok false) e = Ok (begun.Gave completion.GoOn)
+abbrev pub where_applies : Result Bool Code → entrances.Entrance → Result (the_progress.Progress entrances.Entrance) Code
+where_applies (Ok true) e = Ok (progress.Stops e)
+where_applies (Ok false) e = Ok (progress.Over completion.GoOn)
 where_applies (Err c) e = Err c
 
 -- the rest of a command's arguments on top of frames, where there are some

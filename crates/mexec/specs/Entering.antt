@@ -1,11 +1,14 @@
 -- SPDX-License-Identifier: Apache-2.0
 -- Lines and texts that are entered, as the code does it: the place of a line first, then its step, then its commands.
 use Rattle.std.specs.Prelude.{ℕ, ◌+◌, cond, nat_lt, ◌==◌, List, [], ◌∷◌, drop, Option, Some, None}
-use Rattle.mspec.specs.Act.{Text, Act, ◌>>=◌, ◌>>◌, give, charge}
+use Rattle.mspec.specs.Code.{Zsyntax}
+use Rattle.mspec.specs.Act.{Text, Act, ◌>>=◌, ◌>>◌, give, give_some, charge}
+use Rattle.mgrammar.specs.Grammar.{LineTree}
+use Rattle.mgrammar.specs.Reading.{line_at}
 use Rattle.mgrammar.specs.RoutineLine.{BodyTree, short, spaced_out, dots_of}
 use Rattle.mmeaning.specs.Expression.{Depth}
-use Rattle.mmeaning.specs.Levels.{Position, Target, Closing, commands_of}
-use Rattle.mmeaning.specs.LineMeaning.{Completion, Context, line_entered, closed}
+use Rattle.mmeaning.specs.Levels.{Position, Target, Closing, leaves, commands_of}
+use Rattle.mmeaning.specs.LineMeaning.{Completion, Context, line_entered, closed, in_level}
 use Rattle.mmeaning.specs.Frames.{View, Rests, Levels}
 
 -- the place of the line that is entered, where these stand from a place on; none where the level ends
@@ -37,6 +40,14 @@ so_deep depth p = record { depth = depth; level = p.level }
 -- a text of XECUTE stands in a level that has the lines of its own, so deep
 abbrev pub text_position : Depth → Position → Position
 text_position depth p = record { depth = depth; level = record { copy = p.level.copy; next = None; dots = 0 } }
+
+-- once its tree is known
+abbrev pub tree_entered : Context → LineTree → Act Completion
+tree_entered x l = in_level x (record { copy = x.position.level.copy; next = None; dots = 0 }) leaves (λ y. y.texts.enter y.position (commands_of l))
+
+-- a text of XECUTE is read and entered
+abbrev pub text_entered : Context → Text → Act Completion
+text_entered x text = give_some Zsyntax (line_at text) >>= tree_entered x
 
 -- what is behind a label, on top of its level
 abbrev pub on_body : Position → Closing → BodyTree → List View → List View

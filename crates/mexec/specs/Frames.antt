@@ -18,7 +18,7 @@ use Rattle.meval.specs.Evaluates.{standing_of, depth_of}
 use Rattle.mcommand.specs.declared.parts.Parts.{Parts}
 use Rattle.mcommand.specs.Does.{here_of}
 use Rattle.mcommand.specs.Targets.{target_view}
-use Rattle.mcommand.specs.Turns.{course_view}
+use Rattle.mcommand.specs.ForParameters.{course_view}
 pub use Rattle.mexec.specs.Loops.{loop_in, args_of, args_before, loop_before}
 use Rattle.mexec.specs.declared.frames.Level as level
 use Rattle.mexec.specs.declared.frames.Position as position

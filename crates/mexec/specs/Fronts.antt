@@ -9,15 +9,14 @@ use Rattle.mtree.specs.Tree.{arg_tree, parameter_tree}
 use Rattle.mtree.specs.declared.tree.Arg.{Arg}
 use Rattle.mtree.specs.declared.tree.Line.{Line}
 use Rattle.moperator.specs.declared.code.Code.{Code}
-use Rattle.mexec.specs.declared.arguments.Begun.{Begun}
-use Rattle.mexec.specs.declared.arguments.Begun.TheVariants as begun
-use Rattle.mexec.specs.declared.completion.Completion.{Completion}
+use Rattle.mexec.specs.declared.arguments.Entrance as entrances
+use Rattle.mexec.specs.declared.completion.Progress as the_progress
+use Rattle.mexec.specs.declared.completion.Progress.TheVariants as progress
 use Rattle.mexec.specs.declared.front.Stop as the_stop
 use Rattle.mexec.specs.declared.front.Stop.TheVariants as stop
-use Rattle.mexec.specs.declared.front.Outcome as the_outcome
-use Rattle.mexec.specs.declared.front.Outcome.TheVariants as outcome
-use Rattle.mexec.specs.Arguments.{Entrance, Start, gave, enters, started, entered_then, start_of, entrance_of}
-use Rattle.mexec.specs.Frames.{completion_of, commands_from}
+use Rattle.mexec.specs.Progress.{Progress, over, stops, behind, progress_of}
+use Rattle.mexec.specs.Arguments.{Entrance, started, entered_then, start_of, entrance_of}
+use Rattle.mexec.specs.Frames.{commands_from}
 use Rattle.mexec.specs.Loops.{loop_in, is_loop, args_before}
 
 -- where a command needs a frame: at what an argument enters, before those behind it; at a FOR with an index and parameters; at one without
@@ -28,45 +27,35 @@ pub data Stop : Type 0 where
   at_turns : Stop
   at_block : Stop
 
--- how far it is done: to its end, with its completion, or up to where it stops
-pub data Outcome : Type 0 where
-  over : meaning.Completion → Outcome
-  stops : Stop → Outcome
-
 -- ---- arguments
 
--- what comes behind an argument: the next one, where it gave Go_on, and else nothing but what it left
-abbrev pub behind : Start → List ArgTree → Act (Start × List ArgTree) → Act (Start × List ArgTree)
-behind (gave Go_on) more next = next
-behind st more next = give (st, more)
-
-abbrev pub args_started : Context → List ArgTree → Act (Start × List ArgTree)
-args_started x [] = give (gave Go_on, [])
+abbrev pub args_started : Context → List ArgTree → Act (Progress Entrance × List ArgTree)
+args_started x [] = give (over Go_on, [])
 args_started x (a ∷ more) = started x a >>= (λ st. behind st more (args_started x more))
 
 -- what is then left of them
-abbrev pub args_left : Context → Start → List ArgTree → Act meaning.Completion
-args_left x (gave s) more = give s
-args_left x (enters e) more = entered_then x e more
+abbrev pub args_left : Context → Progress Entrance → List ArgTree → Act meaning.Completion
+args_left x (over s) more = give s
+args_left x (stops e) more = entered_then x e more
 
 -- ---- a command
 
-abbrev pub args_outcome : Start → List ArgTree → Outcome
-args_outcome (gave s) more = over s
-args_outcome (enters e) more = stops (at_argument e more)
+abbrev pub args_outcome : Progress Entrance → List ArgTree → Progress Stop
+args_outcome (over s) more = over s
+args_outcome (stops e) more = stops (at_argument e more)
 
 -- a word without arguments
-abbrev pub word_started : Context → KeywordTree → Act Outcome
+abbrev pub word_started : Context → KeywordTree → Act (Progress Stop)
 word_started x for_word = give (stops at_turns)
 word_started x do_word = give (stops at_block)
 word_started x k = bare x k [] >>= (λ s. give (over s))
 
-abbrev pub effect_started : Context → KeywordTree → List ArgTree → Act Outcome
+abbrev pub effect_started : Context → KeywordTree → List ArgTree → Act (Progress Stop)
 effect_started x k [] = word_started x k
 effect_started x k (loop index parameters ∷ more) = give (stops (at_loop index parameters))
 effect_started x k (a ∷ more) = args_started x (a ∷ more) >>= (λ w. give (args_outcome w.0 w.1))
 
-abbrev pub command_started : Context → CommandTree → Act Outcome
+abbrev pub command_started : Context → CommandTree → Act (Progress Stop)
 command_started x c = holds (inside_of x) c.condition >>= (λ b. cond b (effect_started x c.keyword c.args) (give (over Go_on)))
 
 -- what is left of it where it stops, before the rest of its line
@@ -76,25 +65,21 @@ stop_left x rest (at_loop index parameters) = next_parameter x index rest parame
 stop_left x rest at_turns = turns_forever x rest
 stop_left x rest at_block = doing_block x
 
-abbrev pub finishes : Context → List CommandTree → Outcome → Act meaning.Completion
+abbrev pub finishes : Context → List CommandTree → Progress Stop → Act meaning.Completion
 finishes x rest (over s) = give s
 finishes x rest (stops st) = stop_left x rest st
 
 -- ---- a line
 
-abbrev pub behind_command : Outcome → List CommandTree → Act (Outcome × List CommandTree) → Act (Outcome × List CommandTree)
-behind_command (over Go_on) rest next = next
-behind_command o rest next = give (o, rest)
-
-abbrev pub front : Context → List CommandTree → Act (Outcome × List CommandTree)
+abbrev pub front : Context → List CommandTree → Act (Progress Stop × List CommandTree)
 front x [] = give (over Go_on, [])
-front x (c ∷ rest) = charge >> (command_started x c >>= (λ o. behind_command o rest (front x rest)))
+front x (c ∷ rest) = charge >> (command_started x c >>= (λ o. behind o rest (front x rest)))
 
 -- what is left of a line that stops: the command, and the rest
 abbrev pub resumed : Context → Stop → List CommandTree → Act meaning.Completion
 resumed x st rest = stop_left x rest st >>= (λ s. after s (commands x rest))
 
-abbrev pub line_left : Context → Outcome → List CommandTree → Act meaning.Completion
+abbrev pub line_left : Context → Progress Stop → List CommandTree → Act meaning.Completion
 line_left x (over s) rest = give s
 line_left x (stops st) rest = resumed x st rest
 
@@ -115,7 +100,7 @@ turn_left x t (Some s) = give s
 -- ---- the same of the program
 
 -- arguments of these, up to a place
-abbrev pub begun_of : List Arg → Begun × ℕ → Start × List ArgTree
+abbrev pub begun_of : List Arg → the_progress.Progress entrances.Entrance × ℕ → Progress Entrance × List ArgTree
 begun_of args w = (start_of w.0, map arg_tree (drop w.1 args))
 
 abbrev pub stop_of : List Arg → the_stop.Stop → Stop
@@ -124,11 +109,10 @@ stop_of args (stop.Loop index parameters) = at_loop index.now (map parameter_tre
 stop_of args stop.Turns = at_turns
 stop_of args stop.Block = at_block
 
-abbrev pub outcome_of : List Arg → the_outcome.Outcome → Outcome
-outcome_of args (outcome.Over s) = over (completion_of s)
-outcome_of args (outcome.Stops st) = stops (stop_of args st)
+abbrev pub outcome_of : List Arg → the_progress.Progress the_stop.Stop → Progress Stop
+outcome_of args = progress_of (stop_of args)
 
-abbrev pub front_of : Line → the_outcome.Outcome × ℕ → Outcome × List CommandTree
+abbrev pub front_of : Line → the_progress.Progress the_stop.Stop × ℕ → Progress Stop × List CommandTree
 front_of l w = (outcome_of (args_before l w.1) w.0, commands_from l w.1)
 
 -- what a stop says of the arguments of its command
@@ -137,21 +121,11 @@ StopsIn args (stop.Loop index parameters) = (loop_in args ≡ (index.now, parame
 StopsIn args stop.Turns = args ≡ []
 StopsIn args st = Unit {0}
 
--- what holds where a command stops
-abbrev pub IfStops : the_outcome.Outcome → (the_stop.Stop → Type 0) → Type 0
-IfStops (outcome.Over s) P = Unit {0}
-IfStops (outcome.Stops st) P = P st
-
--- a completion as an outcome
-abbrev pub ends : Result Completion Code → Result the_outcome.Outcome Code
-ends (Ok s) = Ok (outcome.Over s)
-ends (Err c) = Err c
-
 -- arguments as an outcome
-abbrev pub at_begun : Begun → ℕ → the_outcome.Outcome
-at_begun (begun.Gave s) at = outcome.Over s
-at_begun (begun.Enters e) at = outcome.Stops (stop.Argument e at)
+abbrev pub at_begun : the_progress.Progress entrances.Entrance → ℕ → the_progress.Progress the_stop.Stop
+at_begun (progress.Over s) at = progress.Over s
+at_begun (progress.Stops e) at = progress.Stops (stop.Argument e at)
 
-abbrev pub stops_at : Result (Begun × ℕ) Code → Result the_outcome.Outcome Code
+abbrev pub stops_at : Result (the_progress.Progress entrances.Entrance × ℕ) Code → Result (the_progress.Progress the_stop.Stop) Code
 stops_at (Ok w) = Ok (at_begun w.0 w.1)
 stops_at (Err c) = Err c

@@ -3,6 +3,7 @@ pub mod Loops
 pub mod Frames
 pub mod Falls
 pub mod Entering
+pub mod Progress
 pub mod Arguments
 pub mod Runs
 pub mod Fronts

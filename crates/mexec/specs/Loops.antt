@@ -7,8 +7,8 @@ use Rattle.mtree.specs.declared.tree.Arg.{Arg}
 use Rattle.mtree.specs.declared.tree.Arg.TheVariants as arg
 use Rattle.mtree.specs.declared.tree.Spaced.{Spaced}
 use Rattle.mtree.specs.declared.tree.Line.{Line}
-use Rattle.mcommand.specs.declared.turn.Course.{Course}
-use Rattle.mcommand.specs.declared.turn.Course.TheVariants as course
+use Rattle.mcommand.specs.declared.for_parameter.Course.{Course}
+use Rattle.mcommand.specs.declared.for_parameter.Course.TheVariants as course
 
 abbrev pub args_of : Option Spaced → List Arg
 args_of None = []

@@ -9,10 +9,11 @@ ghost use Rattle.meval.specs.Evaluates.{depth_of};
 ghost use Rattle.mcommand.specs.Does.{DoesAt, KeepsLoans};
 ghost use Rattle.mexec.specs.Falls.{Falls};
 ghost use Rattle.mexec.specs.Frames.{Runs, completion_of, went, source_args, source_position, position_of, stack};
+ghost use Rattle.mexec.specs.Progress.{ends};
 ghost use Rattle.mexec.specs.Fronts.{args_started, begun_of};
-ghost use Rattle.mexec.specs.Arguments.{started, start_of, given, where_applies, entrance_of, entered_then};
+ghost use Rattle.mexec.specs.Arguments.{started, start_of, where_applies, entrance_of, entered_then};
 
-use crate::completion::{Completion, went_on, where_true};
+use crate::completion::{Completion, Progress, over, went_on, where_true};
 use crate::entering::{doing, executing};
 use crate::frames::Position;
 use crate::indirection::giving;
@@ -32,37 +33,23 @@ pub(crate) enum Entrance<'t> {
     Indirect(Keyword, &'t Primary),
 }
 
-// What an argument leaves to be done: nothing, once it has given its completion; or what it enters.
-#[derive(Drop)]
-pub(crate) enum Begun<'t> {
-    Gave(Completion),
-    Enters(Entrance<'t>),
-}
-
-// An argument that gave its completion.
-fn gave<'t>(completion: Result<Completion, Code>) -> Result<Begun<'t>, Code>
-    ensures { result ≡ given completion }
-{
-    match completion {
-        Ok(completion) => Ok(Begun::Gave(completion)),
-        Err(code) => Err(code),
-    }
-}
-
 // An argument that goes on with the next, once it is done.
-fn done<'t>(done: Result<(), Code>) -> Result<Begun<'t>, Code>
-    ensures { result ≡ given (went done) }
+fn done<'t>(done: Result<(), Code>) -> Result<Progress<Entrance<'t>>, Code>
+    ensures { result ≡ ends (went done) }
 {
-    gave(went_on(done))
+    over(went_on(done))
 }
 
 // One that enters lines or a text where its condition holds.
-fn enters<'t>(applies: Result<bool, Code>, entrance: Entrance<'t>) -> Result<Begun<'t>, Code>
+fn enters<'t>(
+    applies: Result<bool, Code>,
+    entrance: Entrance<'t>,
+) -> Result<Progress<Entrance<'t>>, Code>
     ensures { result ≡ where_applies applies entrance.entry }
 {
     match applies {
-        Ok(true) => Ok(Begun::Enters(entrance)),
-        Ok(false) => Ok(Begun::Gave(Completion::GoOn)),
+        Ok(true) => Ok(Progress::Stops(entrance)),
+        Ok(false) => Ok(Progress::Over(Completion::GoOn)),
         Err(code) => Err(code),
     }
 }
@@ -105,13 +92,13 @@ fn tested<S: NodeStore>(
     Ok(where_true(is_true))
 }
 
-// What an argument does, of whichever command but FOR, up to where it enters lines or a text, or a text gives arguments.
+// What an argument does, of whichever command but FOR, up to where it enters something.
 fn argument<'t, S: NodeStore>(
     alloc: Global,
     parts: &mut Parts<S>,
     position: &Position,
     arg: &'t Arg,
-) -> Result<Begun<'t>, Code>
+) -> Result<Progress<Entrance<'t>>, Code>
     ensures loans { KeepsLoans parts.old parts.new }
     ensures fewer { parts.new.eval.steps ≤ parts.old.eval.steps }
     ensures does { DoesAt S.NodeStore (λ a n. started (context a n (position_of position.now)) (arg_tree arg.now)) start_of parts.old result parts.new }
@@ -128,16 +115,16 @@ fn argument<'t, S: NodeStore>(
         }
         Arg::NewOne(name) => done(parts.eval.hide_one(name)),
         Arg::NewOthers(names) => done(parts.eval.hide_others(alloc, names)),
-        Arg::Tested(e) => gave(tested(alloc, parts, position, e)),
+        Arg::Tested(e) => over(tested(alloc, parts, position, e)),
         Arg::Loop(_, _) => done(Ok(())),
         Arg::DoOne(entry, condition) => {
             enters(parts.holds(alloc, condition), Entrance::Lines(entry))
         }
-        Arg::GoTo(entry, condition) => gave(going(alloc, parts, position, entry, condition)),
+        Arg::GoTo(entry, condition) => over(going(alloc, parts, position, entry, condition)),
         Arg::Executed(e, condition) => enters(parts.holds(alloc, condition), Entrance::Text(e)),
         Arg::Lock(kind, names, timeout) => done(parts.locking(alloc, *kind, names, timeout)),
         Arg::Indirect(keyword, operand) => {
-            Ok(Begun::Enters(Entrance::Indirect(*keyword, operand)))
+            Ok(Progress::Stops(Entrance::Indirect(*keyword, operand)))
         }
     }
 }
@@ -149,7 +136,7 @@ pub(crate) fn arguments_begun<'t, S: NodeStore>(
     position: &Position,
     args: &'t [Arg],
     from: usize,
-) -> Result<(Begun<'t>, usize), Code>
+) -> Result<(Progress<Entrance<'t>>, usize), Code>
     ensures loans { KeepsLoans parts.old parts.new }
     ensures fewer { parts.new.eval.steps ≤ parts.old.eval.steps }
     ensures does { DoesAt S.NodeStore (λ a n. args_started (context a n (position_of position.now)) (map arg_tree (drop from args.now))) (begun_of args.now) parts.old result parts.new }
@@ -157,14 +144,14 @@ pub(crate) fn arguments_begun<'t, S: NodeStore>(
     let mut at = from;
     while at < args.len() {
         match argument(alloc, parts, position, &args[at])? {
-            Begun::Gave(completion) => match completion {
+            Progress::Over(completion) => match completion {
                 Completion::GoOn => at += 1,
-                other => return Ok((Begun::Gave(other), at + 1)),
+                other => return Ok((Progress::Over(other), at + 1)),
             },
-            Begun::Enters(entrance) => return Ok((Begun::Enters(entrance), at + 1)),
+            Progress::Stops(entrance) => return Ok((Progress::Stops(entrance), at + 1)),
         }
     }
-    Ok((Begun::Gave(Completion::GoOn), at))
+    Ok((Progress::Over(Completion::GoOn), at))
 }
 
 // What an argument enters, before those from one on: these stay on the frames.
@@ -205,8 +192,8 @@ pub(crate) fn arguments<S: NodeStore>(
 {
     let (begun, argument) = arguments_begun(alloc, parts, source.position(), source.all(), from)?;
     match begun {
-        Begun::Gave(completion) => Ok(completion),
-        Begun::Enters(entrance) => {
+        Progress::Over(completion) => Ok(completion),
+        Progress::Stops(entrance) => {
             enter_argument(alloc, parts, entrance, source, argument, scratch)
         }
     }

@@ -3,6 +3,7 @@
 ghost use Rattle.std.specs.Prelude.{◌≡◌};
 ghost use Rattle.mmeaning.specs.LineMeaning as meaning;
 ghost use Rattle.mexec.specs.Frames.{completion_of, went};
+ghost use Rattle.mexec.specs.Progress.{ends};
 
 use mcommand::Target;
 use moperator::Code;
@@ -16,6 +17,23 @@ pub(crate) enum Completion {
     Quits,
     Goes(Target),
     Halts,
+}
+
+// How far something is done: to its end, with its completion, or up to where it stops.
+#[derive(Drop)]
+pub(crate) enum Progress<T> {
+    Over(Completion),
+    Stops(T),
+}
+
+// What gave its completion.
+pub(crate) fn over<T>(completion: Result<Completion, Code>) -> Result<Progress<T>, Code>
+    ensures { result ≡ ends completion }
+{
+    match completion {
+        Ok(completion) => Ok(Progress::Over(completion)),
+        Err(code) => Err(code),
+    }
 }
 
 // What is next where this is true, and otherwise what is behind the rest of the line.

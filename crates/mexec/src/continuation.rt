@@ -6,13 +6,13 @@ ghost use Rattle.mmeaning.specs.LineMeaning.{context};
 ghost use Rattle.mcommand.specs.Does.{KeepsLoans};
 ghost use Rattle.mexec.specs.Falls.{Falls};
 ghost use Rattle.mexec.specs.Frames.{Runs, args_before, rest_tree, resting, stack, position_of};
-ghost use Rattle.mexec.specs.Fronts.{StopsIn, resumed, stop_left, stop_of};
+ghost use Rattle.mexec.specs.Fronts.{StopsIn, resumed, stop_of};
 
 use crate::arguments::enter_argument;
-use crate::completion::Completion;
+use crate::completion::{Completion, Progress};
 use crate::entering::doing_block;
 use crate::frames::{Continuation, ForLoop, Frame};
-use crate::front::{Outcome, Stop, front};
+use crate::front::{Stop, front};
 use crate::scratch::Scratch;
 use crate::source::Source;
 use crate::turns::{begin_turn, next_parameter};
@@ -54,43 +54,6 @@ fn leave(rest: &Continuation, scratch: &mut Scratch) -> Result<(), AllocError>
     Ok(())
 }
 
-// Goes on where a command stops, whose rest of the line is left.
-fn enter<S: NodeStore>(
-    alloc: Global,
-    parts: &mut Parts<S>,
-    stop: Stop,
-    behind: &Continuation,
-    scratch: &mut Scratch,
-) -> Result<Completion, Code>
-    requires { StopsIn (args_before behind.now.line.value behind.now.at) stop }
-    ensures loans { KeepsLoans parts.old parts.new }
-    ensures falls { IfOk result (λ _. Falls parts.old scratch.old parts.new scratch.new) }
-    ensures does { Runs S.NodeStore (λ a n. stop_left (context a n (position_of behind.now.position.value)) (rest_tree behind.now) (stop_of (args_before behind.now.line.value behind.now.at) stop.entry)) (stack scratch.old.frames.items) parts.old result (stack scratch.new.frames.items) parts.new }
-{
-    match stop {
-        Stop::Argument(entrance, argument) => {
-            enter_argument(
-                alloc,
-                parts,
-                entrance,
-                Source::Line(behind),
-                argument,
-                scratch,
-            )
-        }
-        Stop::Loop(index, parameters) => {
-            let turns = ForLoop {
-                body: behind.copy()?,
-                parameter: 0,
-                course: Course::LastTurn,
-            };
-            next_parameter(alloc, parts, index, parameters, turns, scratch)
-        }
-        Stop::Turns => forever(alloc, parts, behind, scratch),
-        Stop::Block => doing_block(alloc, parts, &behind.position, scratch),
-    }
-}
-
 // Goes on where a line stops: the rest stays on the frames.
 pub(crate) fn go_on<S: NodeStore>(
     alloc: Global,
@@ -105,7 +68,22 @@ pub(crate) fn go_on<S: NodeStore>(
     ensures does { Runs S.NodeStore (λ a n. resumed (context a n (position_of behind.now.position.value)) (stop_of (args_before behind.now.line.value behind.now.at) stop.entry) (rest_tree behind.now)) (stack scratch.old.frames.items) parts.old result (stack scratch.new.frames.items) parts.new }
 {
     leave(behind, scratch)?;
-    enter(alloc, parts, stop, behind, scratch)
+    match stop {
+        Stop::Argument(entrance, argument) => {
+            let source = Source::Line(behind);
+            enter_argument(alloc, parts, entrance, source, argument, scratch)
+        }
+        Stop::Loop(index, parameters) => {
+            let turns = ForLoop {
+                body: behind.copy()?,
+                parameter: 0,
+                course: Course::LastTurn,
+            };
+            next_parameter(alloc, parts, index, parameters, turns, scratch)
+        }
+        Stop::Turns => forever(alloc, parts, behind, scratch),
+        Stop::Block => doing_block(alloc, parts, &behind.position, scratch),
+    }
 }
 
 // The commands of the rest of a line, up to where one needs frames: what is then left of the line stays on them.
@@ -121,8 +99,8 @@ pub(crate) fn next_command<S: NodeStore>(
 {
     let (outcome, at) = front(alloc, parts, &rest.position, &rest.line, rest.at)?;
     match outcome {
-        Outcome::Over(completion) => Ok(completion),
-        Outcome::Stops(stop) => {
+        Progress::Over(completion) => Ok(completion),
+        Progress::Stops(stop) => {
             let behind = Continuation { at, ..rest.copy()? };
             go_on(alloc, parts, stop, &behind, scratch)
         }

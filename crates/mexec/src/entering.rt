@@ -1,6 +1,6 @@
 // SPDX-License-Identifier: Apache-2.0
 // What opens a level: DO with an argument and without one, and XECUTE.
-ghost use Rattle.std.specs.Prelude.{◌≡◌, ◌≤◌, ◌+◌, None, ◌∷◌, length, IfOk, OnOk};
+ghost use Rattle.std.specs.Prelude.{◌≡◌, ◌≤◌, ◌+◌, ◌*◌, suc, ◌∷◌, length, IfOk, OnOk};
 ghost use Rattle.mmeaning.specs.Levels.{a_level_free, leaves};
 ghost use Rattle.mmeaning.specs.LineMeaning as meaning;
 ghost use Rattle.mmeaning.specs.LineMeaning.{context};
@@ -10,15 +10,16 @@ ghost use Rattle.meval.specs.Evaluates.{depth_of};
 ghost use Rattle.mcommand.specs.Does.{DoesAt, KeepsLoans};
 ghost use Rattle.mexec.specs.Falls.{FallsFurther, Falls};
 ghost use Rattle.mexec.specs.Frames.{Runs, stack, position_of, commands_from};
-ghost use Rattle.mexec.specs.Entering.{text_position};
+ghost use Rattle.mexec.specs.Entering.{text_entered, text_position};
 
 use crate::completion::Completion;
-use crate::frames::{Closing, Continuation, Frame, Level, Position};
-use crate::levels::{enter_line, lines_next};
+use crate::frames::{Closing, Level, Position};
+use crate::levels::{enter_line, leave_commands, lines_next};
 use crate::reading_trees::read_line;
 use crate::scratch::Scratch;
 use mcommand::Parts;
 use meval::Depth;
+use mnum::Bytes7;
 use moperator::Code;
 use mstore::NodeStore;
 use mtree::{Entry, Expr, Line};
@@ -90,7 +91,7 @@ pub(crate) fn doing_block<S: NodeStore>(
 }
 
 // Leaves the commands of a text on the frames, on top of their level. Labels are sought where those of its line are.
-fn enter_text(
+fn leave_text(
     alloc: Global,
     depth: Depth,
     position: &Position,
@@ -105,18 +106,31 @@ fn enter_text(
         next: None,
         dots: 0,
     };
-    let position = Rc::new(alloc, Position { depth, level })?;
-    let level = Frame::Level(position.clone()?, Closing::Leaves);
-    scratch.frames.push(level)?;
-    scratch.frames.push(Frame::Continuation(Continuation {
-        position,
-        line,
-        at: 0,
-    }))?;
-    Ok(())
+    let inner = Rc::new(alloc, Position { depth, level })?;
+    leave_commands(inner, Closing::Leaves, line, scratch)
 }
 
-// XECUTE: a text, in a level of its own.
+// A text, in a level of its own that is so deep.
+fn enter_text<S: NodeStore>(
+    alloc: Global,
+    parts: &mut Parts<S>,
+    depth: Depth,
+    position: &Position,
+    text: &Bytes7,
+    scratch: &mut Scratch,
+) -> Result<Completion, Code>
+    requires { depth_of depth ≡ record { levels = (depth_of position.now.depth).levels + 1; indirections = (depth_of position.now.depth).indirections } }
+    ensures loans { KeepsLoans parts.old parts.new }
+    ensures falls { IfOk result (λ _. 6 * parts.new.eval.steps + length scratch.new.frames.items ≤ 6 * parts.old.eval.steps + length scratch.old.frames.items + 2) }
+    ensures does { Runs S.NodeStore (λ a n. text_entered (context a (suc n) (position_of position.now)) text.now) (stack scratch.old.frames.items) parts.old result (stack scratch.new.frames.items) parts.new }
+{
+    let line = read_line(alloc, &mut scratch.trees, text.as_bytes())?;
+    parts.eval.open_level()?;
+    leave_text(alloc, depth, position, line, scratch)?;
+    Ok(Completion::GoOn)
+}
+
+// XECUTE: the text that the value of an expression is.
 pub(crate) fn executing<S: NodeStore>(
     alloc: Global,
     parts: &mut Parts<S>,
@@ -132,8 +146,5 @@ pub(crate) fn executing<S: NodeStore>(
     let text = parts.eval.eval(alloc, e)?;
     let depth = one_deeper(parts, position.depth)?;
     let text = text.into_text(alloc)?;
-    let line = read_line(alloc, &mut scratch.trees, text.as_bytes())?;
-    parts.eval.open_level()?;
-    enter_text(alloc, depth, position, line, scratch)?;
-    Ok(Completion::GoOn)
+    enter_text(alloc, parts, depth, position, &text, scratch)
 }

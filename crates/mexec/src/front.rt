@@ -8,10 +8,11 @@ ghost use Rattle.mcommand.specs.Does.{DoesAt, KeepsLoans};
 ghost use Rattle.mexec.specs.Frames.{commands_from, position_of};
 ghost use Rattle.mexec.specs.Loops.{args_before};
 ghost use Rattle.mexec.specs.Fronts as fronts;
-ghost use Rattle.mexec.specs.Fronts.{IfStops, StopsIn, command_started, effect_started, ends, front_of, outcome_of, stops_at, word_started};
+ghost use Rattle.mexec.specs.Progress.{IfStops};
+ghost use Rattle.mexec.specs.Fronts.{StopsIn, command_started, effect_started, front_of, outcome_of, stops_at, word_started};
 
-use crate::arguments::{Begun, Entrance, arguments_begun};
-use crate::completion::{Completion, went_on, where_true};
+use crate::arguments::{Entrance, arguments_begun};
+use crate::completion::{Completion, Progress, over, went_on, where_true};
 use crate::frames::Position;
 use mcommand::Parts;
 use mnum::Name;
@@ -30,31 +31,16 @@ pub(crate) enum Stop<'t> {
     Block,
 }
 
-// How far a command is done: to its end, with its completion, or up to where it stops.
-#[derive(Drop)]
-pub(crate) enum Outcome<'t> {
-    Over(Completion),
-    Stops(Stop<'t>),
-}
-
-// A command that gave its completion.
-fn over<'t>(completion: Result<Completion, Code>) -> Result<Outcome<'t>, Code>
-    ensures { result ≡ ends completion }
-{
-    match completion {
-        Ok(completion) => Ok(Outcome::Over(completion)),
-        Err(code) => Err(code),
-    }
-}
-
 // A command whose arguments have begun.
-fn stopped<'t>(begun: Result<(Begun<'t>, usize), Code>) -> Result<Outcome<'t>, Code>
+fn stopped<'t>(
+    begun: Result<(Progress<Entrance<'t>>, usize), Code>,
+) -> Result<Progress<Stop<'t>>, Code>
     ensures { result ≡ stops_at begun.entry }
 {
     match begun {
         Ok((begun, at)) => match begun {
-            Begun::Gave(completion) => Ok(Outcome::Over(completion)),
-            Begun::Enters(entrance) => Ok(Outcome::Stops(Stop::Argument(entrance, at))),
+            Progress::Over(completion) => Ok(Progress::Over(completion)),
+            Progress::Stops(entrance) => Ok(Progress::Stops(Stop::Argument(entrance, at))),
         },
         Err(code) => Err(code),
     }
@@ -65,15 +51,15 @@ fn bare<'t, S: NodeStore>(
     alloc: Global,
     parts: &mut Parts<S>,
     keyword: Keyword,
-) -> Result<Outcome<'t>, Code>
+) -> Result<Progress<Stop<'t>>, Code>
     ensures loans { KeepsLoans parts.old parts.new }
     ensures fewer { parts.new.eval.steps ≤ parts.old.eval.steps }
     ensures turns { IfOk result (λ outcome. IfStops outcome (StopsIn [])) }
     ensures does { (p : meaning.Position) → DoesAt S.NodeStore (λ a n. word_started (context a n p) (keyword_tree keyword)) (outcome_of []) parts.old result parts.new }
 {
     match keyword {
-        Keyword::For => Ok(Outcome::Stops(Stop::Turns)),
-        Keyword::Do => Ok(Outcome::Stops(Stop::Block)),
+        Keyword::For => Ok(Progress::Stops(Stop::Turns)),
+        Keyword::Do => Ok(Progress::Stops(Stop::Block)),
         Keyword::Set => over(Ok(Completion::GoOn)),
         Keyword::Kill => {
             parts.eval.kill_others(&[]);
@@ -94,25 +80,26 @@ fn bare<'t, S: NodeStore>(
     }
 }
 
-// What a command does where its condition holds.
+// What a command with this word and these arguments does, where its condition holds.
 fn effect<'t, S: NodeStore>(
     alloc: Global,
     parts: &mut Parts<S>,
     position: &Position,
-    command: &'t Command,
-) -> Result<Outcome<'t>, Code>
+    keyword: Keyword,
+    args: &'t [Arg],
+) -> Result<Progress<Stop<'t>>, Code>
     ensures loans { KeepsLoans parts.old parts.new }
     ensures fewer { parts.new.eval.steps ≤ parts.old.eval.steps }
-    ensures stops { IfOk result (λ outcome. IfStops outcome (StopsIn command.now.args.items)) }
-    ensures does { DoesAt S.NodeStore (λ a n. effect_started (context a n (position_of position.now)) (keyword_tree command.now.keyword) (map arg_tree command.now.args.items)) (outcome_of command.now.args.items) parts.old result parts.new }
+    ensures stops { IfOk result (λ outcome. IfStops outcome (StopsIn args.now)) }
+    ensures does { DoesAt S.NodeStore (λ a n. effect_started (context a n (position_of position.now)) (keyword_tree keyword) (map arg_tree args.now)) (outcome_of args.now) parts.old result parts.new }
 {
-    match command.args.first() {
-        None => bare(alloc, parts, command.keyword),
+    match args.first() {
+        None => bare(alloc, parts, keyword),
         Some(first) => match first {
             Arg::Loop(index, parameters) => {
-                Ok(Outcome::Stops(Stop::Loop(index, parameters.as_slice())))
+                Ok(Progress::Stops(Stop::Loop(index, parameters.as_slice())))
             }
-            _ => stopped(arguments_begun(alloc, parts, position, &command.args, 0)),
+            _ => stopped(arguments_begun(alloc, parts, position, args, 0)),
         },
     }
 }
@@ -123,7 +110,7 @@ fn command<'t, S: NodeStore>(
     parts: &mut Parts<S>,
     position: &Position,
     command: &'t Command,
-) -> Result<Outcome<'t>, Code>
+) -> Result<Progress<Stop<'t>>, Code>
     ensures loans { KeepsLoans parts.old parts.new }
     ensures fewer { parts.new.eval.steps ≤ parts.old.eval.steps }
     ensures stops { IfOk result (λ outcome. IfStops outcome (StopsIn command.now.args.items)) }
@@ -132,9 +119,9 @@ fn command<'t, S: NodeStore>(
     parts.eval.depth = position.depth;
     let applies = parts.holds(alloc, &command.condition)?;
     if applies {
-        effect(alloc, parts, position, command)
+        effect(alloc, parts, position, command.keyword, &command.args)
     } else {
-        Ok(Outcome::Over(Completion::GoOn))
+        Ok(Progress::Over(Completion::GoOn))
     }
 }
 
@@ -145,7 +132,7 @@ pub(crate) fn front<'t, S: NodeStore>(
     position: &Position,
     line: &'t Line,
     from: usize,
-) -> Result<(Outcome<'t>, usize), Code>
+) -> Result<(Progress<Stop<'t>>, usize), Code>
     ensures loans { KeepsLoans parts.old parts.new }
     ensures fewer { parts.new.eval.steps ≤ parts.old.eval.steps }
     ensures spent { IfOk result (λ x. IfStops x.0 (λ _. parts.new.eval.steps < parts.old.eval.steps)) }
@@ -156,12 +143,12 @@ pub(crate) fn front<'t, S: NodeStore>(
     while at < line.commands.len() {
         parts.eval.charge()?;
         match command(alloc, parts, position, &line.commands[at].command)? {
-            Outcome::Over(completion) => match completion {
+            Progress::Over(completion) => match completion {
                 Completion::GoOn => at += 1,
-                other => return Ok((Outcome::Over(other), at + 1)),
+                other => return Ok((Progress::Over(other), at + 1)),
             },
-            Outcome::Stops(stop) => return Ok((Outcome::Stops(stop), at + 1)),
+            Progress::Stops(stop) => return Ok((Progress::Stops(stop), at + 1)),
         }
     }
-    Ok((Outcome::Over(Completion::GoOn), at))
+    Ok((Progress::Over(Completion::GoOn), at))
 }

@@ -1,15 +1,15 @@
 // SPDX-License-Identifier: Apache-2.0
 // The lines of a level, one after another, until it closes.
-ghost use Rattle.std.specs.Prelude.{◌≡◌, ◌≤◌, ◌<◌, ◌+◌, cond, Ok, Some, None, [], get_or, drop, length, IfOk, IfSome, OnOk};
+ghost use Rattle.std.specs.Prelude.{◌≡◌, ◌≤◌, ◌<◌, ◌+◌, cond, Ok, Some, None, [], ◌∷◌, get_or, drop, length, IfOk, IfSome, OnOk};
 ghost use Rattle.mmeaning.specs.Levels as levels;
 ghost use Rattle.mmeaning.specs.LineMeaning as meaning;
-ghost use Rattle.mmeaning.specs.Frames.{frame, Levels};
+ghost use Rattle.mmeaning.specs.Frames.{frame, Levels, Rests};
 ghost use Rattle.mmeaning.specs.LineMeaning.{context, Go_on};
 ghost use Rattle.mtree.specs.Tree.{body_tree};
 ghost use Rattle.mcommand.specs.Targets.{target_view};
 ghost use Rattle.mcommand.specs.Does.{DoesAt, KeepsLoans};
 ghost use Rattle.mexec.specs.Falls.{FallsFurther, Falls};
-ghost use Rattle.mexec.specs.Frames.{Runs, stack, completion_of, position_of, closing_of};
+ghost use Rattle.mexec.specs.Frames.{Runs, stack, completion_of, position_of, closing_of, commands_from};
 ghost use Rattle.mexec.specs.Entering.{reached as first_reached, next_reached, entering, at_next, at_target, on_body};
 
 use crate::completion::Completion;
@@ -17,10 +17,11 @@ use crate::frames::{Closing, Continuation, Frame, Level, Position};
 use crate::reading_trees::read_routine_line;
 use crate::scratch::Scratch;
 use mcommand::{Parts, Target};
+use mnum::Bytes7;
 use moperator::Code;
 use mparse::dots_of;
 use mstore::NodeStore;
-use mtree::Body;
+use mtree::{Body, Line};
 use std::alloc::{AllocError, Global};
 use std::rc::Rc;
 
@@ -61,22 +62,24 @@ fn place_where(is_entered: bool, at: usize) -> Option<usize>
     if is_entered { Some(at) } else { None }
 }
 
-// The place of the line that is entered, from one on; none where the level ends. A line that is passed over costs a step.
+// The place of the line that is entered among these, from one on; none where a level with so many dots ends. A line that is passed
+// over costs a step.
 fn reached<S: NodeStore>(
     parts: &mut Parts<S>,
-    level: &Level,
+    lines: &[Bytes7],
+    dots: usize,
     from: usize,
 ) -> Result<Option<usize>, Code>
     ensures loans { KeepsLoans parts.old parts.new }
     ensures fewer { parts.new.eval.steps ≤ parts.old.eval.steps }
-    ensures within { IfOk result (λ found. IfSome found (λ at. at < length level.now.copy.value.items)) }
-    ensures does { DoesAt S.NodeStore (λ a n. first_reached level.now.dots from (drop from level.now.copy.value.items)) (λ found. found) parts.old result parts.new }
+    ensures within { IfOk result (λ found. IfSome found (λ at. at < length lines.now)) }
+    ensures does { DoesAt S.NodeStore (λ a n. first_reached dots from (drop from lines.now)) (λ found. found) parts.old result parts.new }
 {
     let mut at = from;
-    while at < level.copy.len() {
-        let dots = dots_of(level.copy[at].as_bytes());
-        if dots <= level.dots {
-            return Ok(place_where(dots == level.dots, at));
+    while at < lines.len() {
+        let line_dots = dots_of(lines[at].as_bytes());
+        if line_dots <= dots {
+            return Ok(place_where(line_dots == dots, at));
         }
         parts.eval.charge()?;
         at += 1;
@@ -93,7 +96,7 @@ fn next_line<S: NodeStore>(parts: &mut Parts<S>, level: &Level) -> Result<Option
 {
     match level.next {
         None => Ok(None),
-        Some(from) => reached(parts, level, from),
+        Some(from) => reached(parts, &level.copy, level.dots, from),
     }
 }
 
@@ -111,28 +114,47 @@ fn coming_next(position: &Position, next: usize) -> Result<Position, AllocError>
     })
 }
 
-// Leaves what is behind a label on the frames, on top of its level.
-fn enter_body(
+// Leaves the commands of a line on the frames, on top of its level.
+pub(crate) fn leave_commands(
     position: Rc<Position>,
     closing: Closing,
-    body: &Body,
+    line: Rc<Line>,
     scratch: &mut Scratch,
 ) -> Result<(), AllocError>
-    ensures frames { OnOk result (stack scratch.new.frames.items ≡ on_body (position_of position.value) (closing_of closing) (body_tree body.now) (stack scratch.old.frames.items)) }
+    ensures frames { OnOk result (stack scratch.new.frames.items ≡ Rests (position_of position.value) (commands_from line.value 0) ∷ Levels (position_of position.value) (closing_of closing) ∷ stack scratch.old.frames.items) }
     ensures most { OnOk result (length scratch.new.frames.items ≤ length scratch.old.frames.items + 2) }
 {
     let level = Frame::Level(position.clone()?, closing);
     scratch.frames.push(level)?;
+    scratch.frames.push(Frame::Continuation(Continuation {
+        position,
+        line,
+        at: 0,
+    }))?;
+    Ok(())
+}
+
+// Leaves what is behind a label on the frames, on top of its level, where another line comes next.
+fn enter_body(
+    alloc: Global,
+    position: &Position,
+    next: usize,
+    closing: Closing,
+    body: &Body,
+    scratch: &mut Scratch,
+) -> Result<(), AllocError>
+    ensures frames { OnOk result (stack scratch.new.frames.items ≡ on_body (at_next (position_of position.now) next) (closing_of closing) (body_tree body.now) (stack scratch.old.frames.items)) }
+    ensures most { OnOk result (length scratch.new.frames.items ≤ length scratch.old.frames.items + 2) }
+{
+    let there = Rc::new(alloc, coming_next(position, next)?)?;
     match body {
-        Body::Short(_) => Ok(()),
+        Body::Short(_) => {
+            scratch.frames.push(Frame::Level(there, closing))?;
+            Ok(())
+        }
         Body::Spaced(_, line) => {
             let line = line.clone()?;
-            scratch.frames.push(Frame::Continuation(Continuation {
-                position,
-                line,
-                at: 0,
-            }))?;
-            Ok(())
+            leave_commands(there, closing, line, scratch)
         }
     }
 }
@@ -154,8 +176,7 @@ pub(crate) fn enter_line<S: NodeStore>(
     parts.eval.charge()?;
     let text = position.level.copy[at].as_bytes();
     let line = read_routine_line(alloc, &mut scratch.trees, text)?;
-    let entered = Rc::new(alloc, coming_next(position, at + 1)?)?;
-    enter_body(entered, closing, &line.body, scratch)?;
+    enter_body(alloc, position, at + 1, closing, &line.body, scratch)?;
     Ok(Completion::GoOn)
 }
 

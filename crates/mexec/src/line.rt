@@ -1,14 +1,13 @@
 // SPDX-License-Identifier: Apache-2.0
 // A line, from its first command to its end.
-ghost use Rattle.std.specs.Prelude.{◌≤◌, [], ◌∷◌, IfOk};
+ghost use Rattle.std.specs.Prelude.{◌≡◌, ◌≤◌, [], ◌∷◌, IfOk, OnOk};
 ghost use Rattle.mmeaning.specs.Levels.{stays, commands_of};
 ghost use Rattle.mmeaning.specs.LineMeaning as meaning;
-ghost use Rattle.mmeaning.specs.LineMeaning.{context};
 ghost use Rattle.mmeaning.specs.Frames.{frame, Levels};
 ghost use Rattle.mtree.specs.Tree.{line_tree};
 ghost use Rattle.mcommand.specs.Does.{DoesAt, KeepsLoans};
 ghost use Rattle.mexec.specs.Falls.{Falls};
-ghost use Rattle.mexec.specs.Frames.{Runs, view, stack, completion_of, commands_from};
+ghost use Rattle.mexec.specs.Frames.{Runs, view, stack, completion_of, position_of};
 
 use crate::arguments::arguments;
 use crate::completion::Completion;
@@ -22,7 +21,7 @@ use mcommand::Parts;
 use moperator::Code;
 use mstore::NodeStore;
 use mtree::Line;
-use std::alloc::Global;
+use std::alloc::{AllocError, Global};
 use std::rc::Rc;
 
 // What the top frame does with a completion.
@@ -60,31 +59,22 @@ fn run_frame<S: NodeStore>(
     }
 }
 
-// Begins a line: nothing but its level is put on the frames, and its first command is carried out, or all where they are done at once.
-fn begin<S: NodeStore>(
-    alloc: Global,
-    parts: &mut Parts<S>,
-    line: Rc<Line>,
-    scratch: &mut Scratch,
-) -> Result<Completion, Code>
-    ensures loans { KeepsLoans parts.old parts.new }
-    ensures fewer { parts.new.eval.steps ≤ parts.old.eval.steps }
-    ensures does { Runs S.NodeStore (λ a n. meaning.commands (context a n meaning.top_level) (commands_from line.value 0)) (Levels meaning.top_level stays ∷ []) parts.old result (stack scratch.new.frames.items) parts.new }
+// Begins a line: nothing but its level is put on the frames, and all its commands are left.
+fn begin(line: Rc<Line>, scratch: &mut Scratch) -> Result<Continuation, AllocError>
+    ensures frames { OnOk result (stack scratch.new.frames.items ≡ Levels meaning.top_level stays ∷ []) }
+    ensures position { IfOk result (λ rest. position_of rest.position.value ≡ meaning.top_level) }
+    ensures line { IfOk result (λ rest. rest.line.value ≡ line.value) }
+    ensures at { IfOk result (λ rest. rest.at ≡ 0) }
 {
     scratch.frames.clear();
     let position = scratch.top_level.position()?;
     let level = Frame::Level(position.clone()?, Closing::Stays);
     scratch.frames.push(level)?;
-    next_command(
-        alloc,
-        parts,
-        Continuation {
-            position,
-            line,
-            at: 0,
-        },
-        scratch,
-    )
+    Ok(Continuation {
+        position,
+        line,
+        at: 0,
+    })
 }
 
 // A line, from its first command to its end.
@@ -98,7 +88,8 @@ pub(crate) fn run_line<S: NodeStore>(
     ensures fewer { parts.new.eval.steps ≤ parts.old.eval.steps }
     ensures does { DoesAt S.NodeStore (λ a n. meaning.run_within a n (commands_of (line_tree line.value))) completion_of parts.old result parts.new }
 {
-    let mut completion = begin(alloc, parts, line, scratch)?;
+    let first = begin(line, scratch)?;
+    let mut completion = next_command(alloc, parts, first, scratch)?;
     while let Some(frame) = scratch.frames.pop() {
         completion = run_frame(alloc, parts, frame, completion, scratch)?;
     }

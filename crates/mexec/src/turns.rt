@@ -1,22 +1,21 @@
 // SPDX-License-Identifier: Apache-2.0
 // The turns of a FOR, frame by frame: a frame of turns means that the body of one is under way.
-ghost use Rattle.std.specs.Prelude.{◌≡◌, ◌≤◌, ◌+◌, ◌*◌, ◌∷◌, drop, is_some, length, map, option_map, true, IfOk, IfSome};
+ghost use Rattle.std.specs.Prelude.{◌≡◌, ◌≤◌, ◌+◌, ◌∷◌, drop, is_some, length, map, option_map, true, IfOk, IfSome, OnOk};
 ghost use Rattle.mmeaning.specs.LineMeaning as meaning;
 ghost use Rattle.mmeaning.specs.LineMeaning.{context};
 ghost use Rattle.mtree.specs.Tree.{parameter_tree};
 ghost use Rattle.mcommand.specs.Does.{DoesAt, KeepsLoans};
-ghost use Rattle.mcommand.specs.Turns.{course_view, advanced};
+ghost use Rattle.mcommand.specs.ForParameters.{course_view, advanced};
 ghost use Rattle.mmeaning.specs.Frames.{Turns};
 ghost use Rattle.mexec.specs.Fronts as fronts;
-ghost use Rattle.mexec.specs.Fronts.{StopsIn, resumed, stop_of};
 ghost use Rattle.mexec.specs.Falls.{Falls};
-ghost use Rattle.mexec.specs.Frames.{Runs, args_before, commands_from, rest_tree, turning, stack, completion_of, position_of};
+ghost use Rattle.mexec.specs.Frames.{Runs, commands_from, turning, stack, completion_of, position_of};
 ghost use Rattle.mexec.specs.Loops.{has_index, loop_before as the_loop_before};
 
-use crate::completion::Completion;
+use crate::completion::{Completion, Progress};
 use crate::continuation::go_on;
 use crate::frames::{Continuation, ForLoop, Frame};
-use crate::front::{Outcome, Stop, front};
+use crate::front::front;
 use crate::scratch::Scratch;
 use crate::source::args_before;
 use mcommand::Parts;
@@ -24,7 +23,7 @@ use mnum::Name;
 use moperator::Code;
 use mstore::NodeStore;
 use mtree::{Arg, Line, Parameter};
-use std::alloc::Global;
+use std::alloc::{AllocError, Global};
 
 // The index and the parameters of the FOR before a place of a line, where it has an index.
 fn loop_before(line: &Line, at: usize) -> Option<(&Name, &[Parameter])>
@@ -75,7 +74,7 @@ pub(crate) fn next_parameter<S: NodeStore>(
     let mut next = turns.parameter;
     while next < parameters.len() {
         parts.eval.depth = turns.body.position.depth;
-        match parts.start(alloc, index, &parameters[next])? {
+        match parts.start_parameter(alloc, index, &parameters[next])? {
             None => next += 1,
             Some(course) => {
                 let turns = ForLoop {
@@ -119,7 +118,7 @@ fn goes_on<S: NodeStore>(parts: &mut Parts<S>, turns: &ForLoop) -> Result<bool, 
 {
     match loop_before(&turns.body.line, turns.body.at) {
         None => Ok(true),
-        Some((index, _)) => parts.advance(index, turns.course),
+        Some((index, _)) => parts.advance_parameter(index, turns.course),
     }
 }
 
@@ -136,22 +135,13 @@ fn turn_ends(completion: Completion) -> Option<Completion>
     }
 }
 
-// Leaves the turns of a FOR on the frames, and goes on where the body of a turn stops.
-fn go_on_in<S: NodeStore>(
-    alloc: Global,
-    parts: &mut Parts<S>,
-    turns: Box<ForLoop>,
-    stop: Stop,
-    behind: &Continuation,
-    scratch: &mut Scratch,
-) -> Result<Completion, Code>
-    requires { StopsIn (args_before behind.now.line.value behind.now.at) stop }
-    ensures loans { KeepsLoans parts.old parts.new }
-    ensures falls { IfOk result (λ _. 6 * parts.new.eval.steps + length scratch.new.frames.items ≤ 6 * parts.old.eval.steps + length scratch.old.frames.items + 2) }
-    ensures does { Runs S.NodeStore (λ a n. resumed (context a n (position_of behind.now.position.value)) (stop_of (args_before behind.now.line.value behind.now.at) stop.entry) (rest_tree behind.now)) (Turns (position_of turns.value.body.position.value) (turning turns.value) ∷ stack scratch.old.frames.items) parts.old result (stack scratch.new.frames.items) parts.new }
+// Leaves the turns of a FOR on the frames.
+fn leave_turns(turns: Box<ForLoop>, scratch: &mut Scratch) -> Result<(), AllocError>
+    ensures frames { OnOk result (stack scratch.new.frames.items ≡ Turns (position_of turns.value.body.position.value) (turning turns.value) ∷ stack scratch.old.frames.items) }
+    ensures most { OnOk result (length scratch.new.frames.items ≤ length scratch.old.frames.items + 1) }
 {
     scratch.frames.push(Frame::ForLoop(turns))?;
-    go_on(alloc, parts, stop, behind, scratch)
+    Ok(())
 }
 
 // What follows a turn: turn after turn, as far as the body needs no frames, and then the parameters that are left.
@@ -174,13 +164,14 @@ fn after_course<S: NodeStore>(
         parts.eval.charge()?;
         let (outcome, at) = front(alloc, parts, &body.position, &body.line, body.at)?;
         match outcome {
-            Outcome::Over(completion) => match turn_ends(completion) {
+            Progress::Over(completion) => match turn_ends(completion) {
                 None => {}
                 Some(completion) => return Ok(completion),
             },
-            Outcome::Stops(stop) => {
+            Progress::Stops(stop) => {
                 let behind = Continuation { at, ..body.copy()? };
-                return go_on_in(alloc, parts, turns, stop, &behind, scratch);
+                leave_turns(turns, scratch)?;
+                return go_on(alloc, parts, stop, &behind, scratch);
             }
         }
     }

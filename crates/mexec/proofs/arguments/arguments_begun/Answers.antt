@@ -1,11 +1,11 @@
 -- SPDX-License-Identifier: Apache-2.0
-use Rattle.mexec.proofs.ExecWords.{◌+◌, [], map, drop, refl, arith, none_left, context, arg_tree, keeps_itself, keeps_on, gave, enters, entrance_of, args_started, begun_of, completion_of, position_of}
+use Rattle.mexec.proofs.ExecWords.{◌+◌, [], map, drop, refl, arith, none_left, context, arg_tree, keeps_itself, keeps_on, over, stops, entrance_of, args_started, begun_of, completion_of, position_of}
 use Rattle.mmeaning.specs.LineMeaning as meaning
-use Rattle.mexec.specs.declared.arguments.Begun.TheVariants as begun
+use Rattle.mexec.specs.declared.completion.Progress.TheVariants as progress
 use Rattle.mexec.specs.declared.completion.Completion.TheVariants as completion
 use Rattle.mexec.proofs.Calls.{at_gives, at_as}
 use Rattle.mexec.proofs.ArgumentRuns.{argument_begins, argument_stopped}
-use Rattle.mexec.proofs.FrontRuns.{passes_argument}
+use Rattle.mexec.proofs.FrontRuns.{passes_next}
 use Rattle.mexec.proofs.arguments.arguments_begun.Goals as goal
 
 pub loop-at-init : goal.loop-at-init
@@ -21,7 +21,7 @@ returns-in_err-completion-clause-does g c =
 
 pub loop-at-preserved : goal.loop-at-preserved
 loop-at-preserved g c =
-    let does = rw (c.in-Gave.is, c.in-GoOn.is) at c.in_ok-completion.ensures.does in
+    let does = rw (c.in-Over.is, c.in-GoOn.is) at c.in_ok-completion.ensures.does in
     record {
       loans = keeps_on c.loop-at.invariant.loans c.in_ok-completion.ensures.loans;
       fewer = omega arith;
@@ -31,24 +31,24 @@ loop-at-preserved g c =
 pub returns-clause-does : goal.returns-clause-does
 returns-clause-does g c =
     let leads = rw (none_left c.loop-at.at c.args.args.now c.loop-at-test.false) at c.loop-at.invariant.leads in
-    leads _ _ (at_gives (gave meaning.Go_on, []) (begun_of c.args.args.now) (begun.Gave completion.GoOn, c.loop-at.at) (rw (none_left c.loop-at.at c.args.args.now c.loop-at-test.false) refl))
+    leads _ _ (at_gives (over meaning.Go_on, []) (begun_of c.args.args.now) (progress.Over completion.GoOn, c.loop-at.at) (rw (none_left c.loop-at.at c.args.args.now c.loop-at-test.false) refl))
 
 pub returns-in_default-clause-does : goal.returns-in_default-clause-does
 returns-in_default-clause-does g c =
     let all = c.args.args.now in
     let p = position_of c.args.position.now in
     let behind = map arg_tree (drop (c.loop-at.at + 1) all) in
-    let s = c.in-Gave.completion in
-    let does = rw c.in-Gave.is at c.in_ok-completion.ensures.does in
+    let s = c.in-Over.completion in
+    let does = rw c.in-Over.is at c.in_ok-completion.ensures.does in
     c.loop-at.invariant.leads _ _
     (argument_begins p all c.loop-at.at c.index-args-at.result c.loop-at-test.true c.index-args-at.is does
-    (at_as (λ a n. passes_argument s behind (args_started (context a n p) behind) c.in_default.not-GoOn) (at_gives (gave (completion_of s), behind) (begun_of all) (begun.Gave s, c.loop-at.at + 1) refl)))
+    (at_as (λ a n. passes_next s behind (args_started (context a n p) behind) c.in_default.not-GoOn) (at_gives (over (completion_of s), behind) (begun_of all) (progress.Over s, c.loop-at.at + 1) refl)))
 
-pub returns-in-Enters-clause-does : goal.returns-in-Enters-clause-does
-returns-in-Enters-clause-does g c =
+pub returns-in-Stops-clause-does : goal.returns-in-Stops-clause-does
+returns-in-Stops-clause-does g c =
     let all = c.args.args.now in
-    let e = c.in-Enters.entrance in
-    let does = rw c.in-Enters.is at c.in_ok-completion.ensures.does in
+    let e = c.in-Stops.entrance in
+    let does = rw c.in-Stops.is at c.in_ok-completion.ensures.does in
     c.loop-at.invariant.leads _ _
     (argument_begins (position_of c.args.position.now) all c.loop-at.at c.index-args-at.result c.loop-at-test.true c.index-args-at.is does
-    (at_gives (enters (entrance_of e), map arg_tree (drop (c.loop-at.at + 1) all)) (begun_of all) (begun.Enters e, c.loop-at.at + 1) refl))
+    (at_gives (stops (entrance_of e), map arg_tree (drop (c.loop-at.at + 1) all)) (begun_of all) (progress.Stops e, c.loop-at.at + 1) refl))

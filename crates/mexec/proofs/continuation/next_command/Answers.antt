@@ -1,7 +1,8 @@
 -- SPDX-License-Identifier: Apache-2.0
 use Rattle.mexec.proofs.ExecWords.{arith, position_of}
 use Rattle.mexec.proofs.Calls.{runs_completion, runs_wanting}
-use Rattle.mexec.proofs.FrontRuns.{front_runs, front_stopped, falls_spent}
+use Rattle.mexec.proofs.Loops.{falls_within}
+use Rattle.mexec.proofs.FrontRuns.{front_runs, front_stopped}
 use Rattle.mexec.proofs.continuation.next_command.Goals as goal
 
 pub returns-in_err-outcome-clause-does : goal.returns-in_err-outcome-clause-does
@@ -30,7 +31,7 @@ go_on-requires g c =
 pub returns-clause-falls : goal.returns-clause-falls
 returns-clause-falls g c =
     let less = rw c.in-Stops.is at c.in_ok-outcome.ensures.spent in
-    falls_spent 1 _ _ _ _ _ c.go_on.result less (omega arith) c.go_on.ensures.falls
+    falls_within _ _ _ c.go_on.result (omega (arith, less)) c.go_on.ensures.falls
 
 pub returns-clause-does : goal.returns-clause-does
 returns-clause-does g c =

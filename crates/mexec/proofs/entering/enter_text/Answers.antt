@@ -1,8 +1,39 @@
 -- SPDX-License-Identifier: Apache-2.0
-use Rattle.mexec.proofs.ExecWords.{refl}
-use Rattle.mexec.proofs.Calls.{stack_push}
+use Rattle.mexec.proofs.ExecWords.{suc, List, arith, ◌>>=◌, Act, leaves, deeper, commands_of, line_tree, Context, context, closed, depth_of, CommandTree, position_of}
+use Rattle.mmeaning.specs.LineMeaning.{Completion}
+use Rattle.mexec.specs.Entering.{text_position, tree_entered}
+use Rattle.mexec.proofs.Calls.{runs_then, runs_stopped, runs_wanting}
+use Rattle.mexec.proofs.LevelRuns.{at_yielded, at_plain, text_opened}
 use Rattle.mexec.proofs.entering.enter_text.Goals as goal
 
-pub returns-clause-frames : goal.returns-clause-frames
-returns-clause-frames c =
-    rw (c.in_ok-push-2.ensures.items, stack_push, c.in_ok-push.ensures.items, stack_push, c.in_ok-clone-2.ensures.cases, c.in_ok-position.ensures.ok, c.in_ok-clone.ensures.cases) refl
+-- once its level is open
+abbrev there : Context → List CommandTree → Act Completion
+there x cs = x.texts.enter (deeper x.position (text_position x.position.depth x.position).level) cs >>= closed leaves
+
+pub returns-in_err-line-clause-does : goal.returns-in_err-line-clause-does
+returns-in_err-line-clause-does g c =
+    let tree = rw c.as_bytes.ensures.bytes at c.in_err-line.ensures in
+    runs_stopped (λ a n. tree_entered (context a (suc n) (position_of c.args.position.now))) (at_yielded tree) (omega arith) c.from_residual.ensures
+
+pub returns-in_err-open_level-clause-does : goal.returns-in_err-open_level-clause-does
+returns-in_err-open_level-clause-does g c =
+    let p = position_of c.args.position.now in
+    let tree = rw c.as_bytes.ensures.bytes at c.in_ok-line.ensures in
+    runs_then (λ a n. tree_entered (context a (suc n) p)) (at_yielded tree) (omega arith)
+    (runs_stopped (λ a n _. there (context a (suc n) p) (commands_of (line_tree c.in_ok-line.line.value))) (at_plain c.in_err-open_level.ensures.does) c.in_err-open_level.ensures.fewer c.from_residual-in_err-open_level.ensures)
+
+pub returns-in_err-leave_text-clause-does : goal.returns-in_err-leave_text-clause-does
+returns-in_err-leave_text-clause-does g c =
+    let p = position_of c.args.position.now in
+    let tree = rw c.as_bytes.ensures.bytes at c.in_ok-line.ensures in
+    runs_then (λ a n. tree_entered (context a (suc n) p)) (at_yielded tree) (omega arith)
+    (runs_then (λ a n _. there (context a (suc n) p) (commands_of (line_tree c.in_ok-line.line.value))) (at_plain c.in_ok-open_level.ensures.does) c.in_ok-open_level.ensures.fewer (runs_wanting _ _ c.from_residual-in_err-leave_text.ensures))
+
+pub returns-clause-does : goal.returns-clause-does
+returns-clause-does g c =
+    let p = position_of c.args.position.now in
+    let cs = commands_of (line_tree c.in_ok-line.line.value) in
+    let tree = rw c.as_bytes.ensures.bytes at c.in_ok-line.ensures in
+    rw c.in_ok-leave_text.ensures.frames
+    (runs_then (λ a n. tree_entered (context a (suc n) p)) (at_yielded tree) (omega arith)
+    (runs_then (λ a n _. there (context a (suc n) p) cs) (at_plain c.in_ok-open_level.ensures.does) c.in_ok-open_level.ensures.fewer (text_opened p (depth_of c.args.depth) c.requires cs)))

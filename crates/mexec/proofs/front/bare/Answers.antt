@@ -1,10 +1,10 @@
 -- SPDX-License-Identifier: Apache-2.0
-use Rattle.mexec.proofs.ExecWords.{Ok, [], not, refl, give, ask, with_locals, killed_except, newed_except, at_evaluated, does_evaluated, completion_of, stops, at_turns, at_block, outcome_of}
+use Rattle.mexec.proofs.ExecWords.{Ok, [], not, refl, give, ask, with_locals, killed_except, newed_except, at_evaluated, does_evaluated, completion_of, stops, at_turns, at_block, outcome_of, stop_of}
 use Rattle.mspec.specs.Plan.{Release}
 use Rattle.mmeaning.specs.LineMeaning as meaning
 use Rattle.mexec.specs.declared.completion.Completion.TheVariants as completion
 use Rattle.mexec.proofs.Calls.{at_then, at_gives, goes_on}
-use Rattle.mexec.proofs.FrontRuns.{gives_over}
+use Rattle.mexec.proofs.ArgumentRuns.{gives_over}
 use Rattle.mexec.proofs.front.bare.Goals as goal
 
 pub returns-in-For-clause-does : goal.returns-in-For-clause-does
@@ -14,19 +14,19 @@ pub returns-in-Do-clause-does : goal.returns-in-Do-clause-does
 returns-in-Do-clause-does g c p = rw c.in-Do.is (at_gives (stops at_block) (outcome_of []) _ refl)
 
 pub returns-in-Kill-clause-does : goal.returns-in-Kill-clause-does
-returns-in-Kill-clause-does g c p = rw (c.in-Kill.is, c.over-in-Kill.ensures) (gives_over [] (Ok completion.GoOn) (goes_on (λ i. with_locals (killed_except [])) c.args.parts.now.eval.depth (Ok tt) (does_evaluated c.kill_others.ensures.does)))
+returns-in-Kill-clause-does g c p = rw (c.in-Kill.is, c.over-in-Kill.ensures) (gives_over (stop_of []) (Ok completion.GoOn) (goes_on (λ i. with_locals (killed_except [])) c.args.parts.now.eval.depth (Ok tt) (does_evaluated c.kill_others.ensures.does)))
 
 pub returns-in-New-clause-does : goal.returns-in-New-clause-does
 returns-in-New-clause-does g c p =
-    rw (c.in-New.is, c.over-in-New.ensures, c.went_on.ensures) (gives_over [] _ (goes_on (λ i. with_locals (newed_except [])) c.args.parts.now.eval.depth c.hide_others.result (does_evaluated c.hide_others.ensures.does)))
+    rw (c.in-New.is, c.over-in-New.ensures, c.went_on.ensures) (gives_over (stop_of []) _ (goes_on (λ i. with_locals (newed_except [])) c.args.parts.now.eval.depth c.hide_others.result (does_evaluated c.hide_others.ensures.does)))
 
 pub returns-in-If-clause-does : goal.returns-in-If-clause-does
 returns-in-If-clause-does g c p =
-    rw (c.in-If.is, c.over-in-If.ensures) (gives_over [] (Ok c.where_true.result) (at_then (λ a n b. give (meaning.where_true b)) (at_evaluated c.args.parts.now.eval.depth c.test.ensures) (at_gives _ completion_of _ c.where_true.ensures)))
+    rw (c.in-If.is, c.over-in-If.ensures) (gives_over (stop_of []) (Ok c.where_true.result) (at_then (λ a n b. give (meaning.where_true b)) (at_evaluated c.args.parts.now.eval.depth c.test.ensures) (at_gives _ completion_of _ c.where_true.ensures)))
 
 pub returns-in-Else-clause-does : goal.returns-in-Else-clause-does
 returns-in-Else-clause-does g c p =
-    rw (c.in-Else.is, c.over-in-Else.ensures) (gives_over [] (Ok c.where_true-in-Else.result) (at_then (λ a n b. give (meaning.where_true (not b))) (at_evaluated c.args.parts.now.eval.depth c.test-in-Else.ensures) (at_gives _ completion_of _ c.where_true-in-Else.ensures)))
+    rw (c.in-Else.is, c.over-in-Else.ensures) (gives_over (stop_of []) (Ok c.where_true-in-Else.result) (at_then (λ a n b. give (meaning.where_true (not b))) (at_evaluated c.args.parts.now.eval.depth c.test-in-Else.ensures) (at_gives _ completion_of _ c.where_true-in-Else.ensures)))
 
 pub returns-in-Lock-clause-does : goal.returns-in-Lock-clause-does
-returns-in-Lock-clause-does g c p = rw (c.in-Lock.is, c.over-in-Lock.ensures) (gives_over [] (Ok completion.GoOn) (goes_on (λ i. ask Release) c.args.parts.now.eval.depth (Ok tt) c.release.ensures.does))
+returns-in-Lock-clause-does g c p = rw (c.in-Lock.is, c.over-in-Lock.ensures) (gives_over (stop_of []) (Ok completion.GoOn) (goes_on (λ i. ask Release) c.args.parts.now.eval.depth (Ok tt) c.release.ensures.does))

@@ -1,12 +1,12 @@
 -- SPDX-License-Identifier: Apache-2.0
-use Rattle.mexec.proofs.ExecWords.{Bool, map, cond, refl, Act, give, Context, Go_on, context, keyword_tree, arg_tree, at_done, position_of, over, effect_started, outcome_of}
+use Rattle.mexec.proofs.ExecWords.{Bool, map, cond, refl, Act, give, Context, Go_on, context, keyword_tree, arg_tree, at_done, position_of, Progress, over, effect_started, outcome_of}
 use Rattle.mtree.specs.declared.tree.Command.{Command}
-use Rattle.mexec.specs.Fronts.{Outcome}
+use Rattle.mexec.specs.Fronts.{Stop}
 use Rattle.mexec.proofs.Calls.{at_then, at_stopped, at_gives}
 use Rattle.mexec.proofs.front.command.Goals as goal
 
 -- once it is known whether its condition holds
-abbrev applied : Context → Command → Bool → Act Outcome
+abbrev applied : Context → Command → Bool → Act (Progress Stop)
 applied x command b = cond b (effect_started x (keyword_tree command.keyword) (map arg_tree command.args.items)) (give (over Go_on))
 
 pub returns-in_err-applies-clause-does : goal.returns-in_err-applies-clause-does
@@ -16,7 +16,11 @@ returns-in_err-applies-clause-does g c =
 pub returns-then-applies-clause-does : goal.returns-then-applies-clause-does
 returns-then-applies-clause-does g c =
     let applies = rw c.if-applies.true at c.in_ok-applies.ensures.does in
-    at_then (λ a n. applied (context a n (position_of c.args.position.now)) c.args.command.now) (at_done c.args.position.now.depth applies) c.effect.ensures.does
+    let effect = rw c.deref.ensures.value at c.effect.ensures.does in
+    at_then (λ a n. applied (context a n (position_of c.args.position.now)) c.args.command.now) (at_done c.args.position.now.depth applies) effect
+
+pub returns-then-applies-clause-stops : goal.returns-then-applies-clause-stops
+returns-then-applies-clause-stops g c = rw c.deref.ensures.value at c.effect.ensures.stops
 
 pub returns-else-applies-clause-does : goal.returns-else-applies-clause-does
 returns-else-applies-clause-does g c =

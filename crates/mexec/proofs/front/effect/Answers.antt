@@ -16,34 +16,34 @@ first_some (y ∷ xs) x e = (xs, ap (λ o. unwrap_or o x ∷ xs) e)
 
 pub returns-in-None-clause-stops : goal.returns-in-None-clause-stops
 returns-in-None-clause-stops g c =
-    let first = rw (c.in-None.is, c.deref.ensures.value) at c.first.ensures.value in
-    rw (first_none c.args.command.now.args.items (sym first)) c.bare.ensures.turns
+    let first = rw c.in-None.is at c.first.ensures.value in
+    rw (first_none c.args.args.now (sym first)) c.bare.ensures.turns
 
 pub returns-in-None-clause-does : goal.returns-in-None-clause-does
 returns-in-None-clause-does g c =
-    let first = rw (c.in-None.is, c.deref.ensures.value) at c.first.ensures.value in
-    rw (first_none c.args.command.now.args.items (sym first)) (c.bare.ensures.does (position_of c.args.position.now))
+    let first = rw c.in-None.is at c.first.ensures.value in
+    rw (first_none c.args.args.now (sym first)) (c.bare.ensures.does (position_of c.args.position.now))
 
 pub returns-in-Loop-clause-stops : goal.returns-in-Loop-clause-stops
 returns-in-Loop-clause-stops g c =
-    let first = rw (c.in-Some.is, c.deref.ensures.value) at c.first.ensures.value in
-    let some = first_some c.args.command.now.args.items (arg.Loop c.in-Loop.index c.in-Loop.parameters) (sym first ∙ ap Some c.in-Loop.is) in
+    let first = rw c.in-Some.is at c.first.ensures.value in
+    let some = first_some c.args.args.now (arg.Loop c.in-Loop.index c.in-Loop.parameters) (sym first ∙ ap Some c.in-Loop.is) in
     rw some.1 (ap (λ ps. (c.in-Loop.index, ps)) (sym c.as_slice.ensures.value), refl)
 
 pub returns-in-Loop-clause-does : goal.returns-in-Loop-clause-does
 returns-in-Loop-clause-does g c =
-    let first = rw (c.in-Some.is, c.deref.ensures.value) at c.first.ensures.value in
-    let some = first_some c.args.command.now.args.items (arg.Loop c.in-Loop.index c.in-Loop.parameters) (sym first ∙ ap Some c.in-Loop.is) in
+    let first = rw c.in-Some.is at c.first.ensures.value in
+    let some = first_some c.args.args.now (arg.Loop c.in-Loop.index c.in-Loop.parameters) (sym first ∙ ap Some c.in-Loop.is) in
     rw some.1 (at_gives (stops (at_loop c.in-Loop.index (map parameter_tree c.in-Loop.parameters.items))) _ _ (ap (λ ps. stops (at_loop c.in-Loop.index (map parameter_tree ps))) c.as_slice.ensures.value))
 
 pub returns-in_default-clause-stops : goal.returns-in_default-clause-stops
-returns-in_default-clause-stops g c = rw c.stopped.ensures (begun_stops c.args.command.now.args.items c.arguments_begun.result)
+returns-in_default-clause-stops g c = rw c.stopped.ensures (begun_stops c.args.args.now c.arguments_begun.result)
 
 pub returns-in_default-clause-does : goal.returns-in_default-clause-does
 returns-in_default-clause-does g c =
-    let first = rw (c.in-Some.is, c.deref.ensures.value) at c.first.ensures.value in
-    let some = first_some c.args.command.now.args.items c.in-Some.first.now (sym first) in
-    let does = rw (c.deref-in_default.ensures.value, some.1) at c.arguments_begun.ensures.does in
+    let first = rw c.in-Some.is at c.first.ensures.value in
+    let some = first_some c.args.args.now c.in-Some.first.now (sym first) in
+    let does = rw some.1 at c.arguments_begun.ensures.does in
     rw (c.stopped.ensures, some.1)
-    (at_as (λ a n. other_started (context a n (position_of c.args.position.now)) (keyword_tree c.args.command.now.keyword) c.in-Some.first.now (map arg_tree some.0) c.in_default.not-Loop)
+    (at_as (λ a n. other_started (context a n (position_of c.args.position.now)) (keyword_tree c.args.keyword) c.in-Some.first.now (map arg_tree some.0) c.in_default.not-Loop)
     (gives_stop (c.in-Some.first.now ∷ some.0) c.arguments_begun.result does))

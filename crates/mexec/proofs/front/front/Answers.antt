@@ -2,10 +2,10 @@
 use Rattle.mexec.proofs.ExecWords.{[], ◌+◌, ◌<◌, ◌≤◌, length, refl, arith, none_left, context, keeps_itself, keeps_on, keeps_evaluated, commands_from, completion_of, position_of, over, stops, front, front_of, stop_of}
 use Rattle.mmeaning.specs.LineMeaning as meaning
 use Rattle.mexec.specs.declared.completion.Completion.TheVariants as completion
-use Rattle.mexec.specs.declared.front.Outcome.TheVariants as outcome
+use Rattle.mexec.specs.declared.completion.Progress.TheVariants as progress
 use Rattle.mexec.proofs.Calls.{at_gives, at_as}
 use Rattle.mexec.proofs.LevelRuns.{at_plain}
-use Rattle.mexec.proofs.FrontRuns.{command_begins, command_stopped, charge_stopped, passes_command, args_there}
+use Rattle.mexec.proofs.FrontRuns.{command_begins, command_stopped, charge_stopped, passes_next, args_there}
 use Rattle.mexec.proofs.front.front.Goals as goal
 
 pub loop-at-init : goal.loop-at-init
@@ -21,7 +21,7 @@ returns-clause-does g c =
     let test = rw c.len.ensures at c.loop-at-test.false in
     let past : length v.items ≤ c.loop-at.at = omega (arith, test, v.ok) in
     let leads = rw (none_left c.loop-at.at v.items past) at c.loop-at.invariant.leads in
-    leads _ _ (at_gives (over meaning.Go_on, []) (front_of c.args.line.now) (outcome.Over completion.GoOn, c.loop-at.at) (rw (none_left c.loop-at.at v.items past) refl))
+    leads _ _ (at_gives (over meaning.Go_on, []) (front_of c.args.line.now) (progress.Over completion.GoOn, c.loop-at.at) (rw (none_left c.loop-at.at v.items past) refl))
 
 pub returns-in_err-charge-clause-does : goal.returns-in_err-charge-clause-does
 returns-in_err-charge-clause-does g c =
@@ -62,7 +62,7 @@ returns-in_default-clause-does g c =
     let does = rw c.in-Over.is at c.in_ok-completion.ensures.does in
     c.loop-at.invariant.leads _ _
     (command_begins p l c.loop-at.at c.index.result.now less c.index.ensures (at_plain c.in_ok-charge.ensures.does) does
-    (at_as (λ a n. passes_command s rest (front (context a n p) rest) c.in_default.not-GoOn) (at_gives (over (completion_of s), rest) (front_of l) (outcome.Over s, c.loop-at.at + 1) refl)))
+    (at_as (λ a n. passes_next s rest (front (context a n p) rest) c.in_default.not-GoOn) (at_gives (over (completion_of s), rest) (front_of l) (progress.Over s, c.loop-at.at + 1) refl)))
 
 pub returns-in-Stops-clause-spent : goal.returns-in-Stops-clause-spent
 returns-in-Stops-clause-spent g c =
@@ -90,4 +90,4 @@ returns-in-Stops-clause-does g c =
     let does = rw c.in-Stops.is at c.in_ok-completion.ensures.does in
     c.loop-at.invariant.leads _ _
     (command_begins (position_of c.args.position.now) l c.loop-at.at x less c.index.ensures (at_plain c.in_ok-charge.ensures.does) does
-    (at_gives (stops (stop_of x.command.args.items st), commands_from l (c.loop-at.at + 1)) (front_of l) (outcome.Stops st, c.loop-at.at + 1) (rw there refl)))
+    (at_gives (stops (stop_of x.command.args.items st), commands_from l (c.loop-at.at + 1)) (front_of l) (progress.Stops st, c.loop-at.at + 1) (rw there refl)))

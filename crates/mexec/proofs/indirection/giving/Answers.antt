@@ -1,8 +1,12 @@
 -- SPDX-License-Identifier: Apache-2.0
-use Rattle.mexec.proofs.ExecWords.{suc, List, arith, Text, Act, ◌>>=◌, give_some, ArgTree, FormTree, form_of, keyword_tree, within_indirection, Context, context, given_by, depth_of, at_evaluated, position_of}
+use Rattle.mexec.proofs.ExecWords.{◌<◌, suc, List, Result, Ok, arith, Text, Act, ◌>>=◌, give_some, ArgTree, FormTree, form_of, keyword_tree, primary_tree, within_indirection, Context, context, inside, given_by, View, Ghosts, Code, fault_of, Parts, DoesAt, Runs, depth_of, at_evaluated, position_of}
 use Rattle.mspec.specs.Code.{Zsyntax}
+use Rattle.mgrammar.specs.Grammar.{PrimaryTree}
 use Rattle.mgrammar.specs.IndirectTexts.{args_of}
-use Rattle.mmeaning.specs.LineMeaning.{Completion}
+use Rattle.mmeaning.specs.Expression.{an_indirection_free, primary_value}
+use Rattle.mmeaning.specs.LineMeaning.{Completion, Position, given}
+use Rattle.mmeaning.specs.Yields.{Yields}
+use Rattle.mexec.specs.declared.completion.Completion as completions
 use Rattle.mexec.proofs.Calls.{runs_then, runs_spent, runs_stopped, runs_wanting}
 use Rattle.mexec.proofs.LevelRuns.{at_yielded, list_opened}
 use Rattle.mexec.proofs.indirection.giving.Goals as goal
@@ -14,6 +18,12 @@ listed x args = x.texts.list (within_indirection x.position) args
 -- once an indirection is free
 abbrev read : Context → FormTree → Text → Act Completion
 read x f text = give_some Zsyntax (args_of f text) >>= listed x
+
+-- they are, once the text is known and an indirection is free
+read_then : {S X : Type 0} {g : Ghosts S} {there : X → Unit {0}} {d : X} {fs fs' : List View} {old mid new : Parts S} {r : Result completions.Completion Code} (p : Position) (f : FormTree) (o : PrimaryTree) (text : Text)
+    → DoesAt g (λ a n. primary_value (inside a n p.depth) o) (λ (v : Text). v) old (Ok text) mid → mid.eval.steps < old.eval.steps → Yields fault_of (an_indirection_free p.depth) there (Ok d)
+    → Runs g (λ a n. read (context a (suc n) p) f text) fs mid r fs' new → Runs g (λ a n. given (context a n p) f o) fs old r fs' new
+read_then p f o text does less free k = runs_spent (λ a n. given_by (context a n p) f) does less (runs_then (λ a n _. read (context a (suc n) p) f text) (at_yielded free) (omega arith) k)
 
 pub returns-in_err-text-clause-does : goal.returns-in_err-text-clause-does
 returns-in_err-text-clause-does g c =
@@ -29,36 +39,27 @@ returns-in_err-depth-clause-does g c =
 
 pub returns-in_err-text-2-clause-does : goal.returns-in_err-text-2-clause-does
 returns-in_err-text-2-clause-does g c =
-    let p = position_of c.args.position.now in
-    let f = form_of (keyword_tree c.args.keyword) in
-    runs_then (λ a n. given_by (context a n p) f) (at_evaluated c.args.position.now.depth c.in_ok-text.ensures.does) c.in_ok-text.ensures.fewer
-    (runs_then (λ a n _. read (context a n p) f c.in_ok-text.text) (at_yielded c.in_ok-depth.ensures.does) (omega arith) (runs_wanting _ _ c.from_residual-in_err-text-2.ensures))
+    read_then (position_of c.args.position.now) (form_of (keyword_tree c.args.keyword)) (primary_tree c.args.operand.now) c.in_ok-text.text (at_evaluated c.args.position.now.depth c.in_ok-text.ensures.does) c.in_ok-text.ensures.spent c.in_ok-depth.ensures.does
+    (runs_wanting _ _ c.from_residual-in_err-text-2.ensures)
 
 pub returns-in_err-args-clause-does : goal.returns-in_err-args-clause-does
 returns-in_err-args-clause-does g c =
     let p = position_of c.args.position.now in
-    let f = form_of (keyword_tree c.args.keyword) in
     let tree = rw (c.as_bytes.ensures.bytes, c.in_ok-text-2.ensures) at c.in_err-args.ensures in
-    runs_then (λ a n. given_by (context a n p) f) (at_evaluated c.args.position.now.depth c.in_ok-text.ensures.does) c.in_ok-text.ensures.fewer
-    (runs_then (λ a n _. read (context a n p) f c.in_ok-text.text) (at_yielded c.in_ok-depth.ensures.does) (omega arith)
-    (runs_stopped (λ a n. listed (context a n p)) (at_yielded tree) (omega arith) c.from_residual-in_err-args.ensures))
+    read_then p (form_of (keyword_tree c.args.keyword)) (primary_tree c.args.operand.now) c.in_ok-text.text (at_evaluated c.args.position.now.depth c.in_ok-text.ensures.does) c.in_ok-text.ensures.spent c.in_ok-depth.ensures.does
+    (runs_stopped (λ a n. listed (context a (suc n) p)) (at_yielded tree) (omega arith) c.from_residual-in_err-args.ensures)
 
 pub returns-in_err-leave_given-clause-does : goal.returns-in_err-leave_given-clause-does
 returns-in_err-leave_given-clause-does g c =
     let p = position_of c.args.position.now in
-    let f = form_of (keyword_tree c.args.keyword) in
     let tree = rw (c.as_bytes.ensures.bytes, c.in_ok-text-2.ensures) at c.in_ok-args.ensures in
-    runs_then (λ a n. given_by (context a n p) f) (at_evaluated c.args.position.now.depth c.in_ok-text.ensures.does) c.in_ok-text.ensures.fewer
-    (runs_then (λ a n _. read (context a n p) f c.in_ok-text.text) (at_yielded c.in_ok-depth.ensures.does) (omega arith)
-    (runs_then (λ a n. listed (context a n p)) (at_yielded tree) (omega arith) (runs_wanting _ _ c.from_residual-in_err-leave_given.ensures)))
+    read_then p (form_of (keyword_tree c.args.keyword)) (primary_tree c.args.operand.now) c.in_ok-text.text (at_evaluated c.args.position.now.depth c.in_ok-text.ensures.does) c.in_ok-text.ensures.spent c.in_ok-depth.ensures.does
+    (runs_then (λ a n. listed (context a (suc n) p)) (at_yielded tree) (omega arith) (runs_wanting _ _ c.from_residual-in_err-leave_given.ensures))
 
 pub returns-clause-does : goal.returns-clause-does
 returns-clause-does g c =
     let p = position_of c.args.position.now in
-    let f = form_of (keyword_tree c.args.keyword) in
     let tree = rw (c.as_bytes.ensures.bytes, c.in_ok-text-2.ensures) at c.in_ok-args.ensures in
     rw c.in_ok-leave_given.ensures.frames
-    (runs_spent (λ a n. given_by (context a n p) f) (at_evaluated c.args.position.now.depth c.in_ok-text.ensures.does) c.in_ok-text.ensures.spent
-    (runs_then (λ a n _. read (context a (suc n) p) f c.in_ok-text.text) (at_yielded c.in_ok-depth.ensures.does) (omega arith)
-    (runs_then (λ a n. listed (context a (suc n) p)) (at_yielded tree) (omega arith)
-    (list_opened p (depth_of c.in_ok-depth.depth) c.in_ok-depth.ensures.deeper _))))
+    (read_then p (form_of (keyword_tree c.args.keyword)) (primary_tree c.args.operand.now) c.in_ok-text.text (at_evaluated c.args.position.now.depth c.in_ok-text.ensures.does) c.in_ok-text.ensures.spent c.in_ok-depth.ensures.does
+    (runs_then (λ a n. listed (context a (suc n) p)) (at_yielded tree) (omega arith) (list_opened p (depth_of c.in_ok-depth.depth) c.in_ok-depth.ensures.deeper _)))

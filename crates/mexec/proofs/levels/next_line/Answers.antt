@@ -7,4 +7,6 @@ pub returns-in-None-clause-does : goal.returns-in-None-clause-does
 returns-in-None-clause-does g c = rw c.in-None.is (at_gives None (λ found. found) None refl)
 
 pub returns-in-Some-clause-does : goal.returns-in-Some-clause-does
-returns-in-Some-clause-does g c = rw c.in-Some.is c.reached.ensures.does
+returns-in-Some-clause-does g c =
+    let does = rw (c.deref-in-Some.ensures.value, c.deref.ensures) at c.reached.ensures.does in
+    rw c.in-Some.is does

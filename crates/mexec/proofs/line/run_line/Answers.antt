@@ -1,18 +1,25 @@
 -- SPDX-License-Identifier: Apache-2.0
-use Rattle.mexec.proofs.ExecWords.{◌≡◌, ◌≤◌, Option, Some, None, length, refl, arith, none_left, commands_of, line_tree, keeps_on}
-use Rattle.mexec.proofs.Calls.{stack_push}
+use Rattle.mexec.proofs.ExecWords.{◌≡◌, ◌≤◌, [], Option, Some, None, Err, length, refl, arith, none_left, Zmem, commands_of, line_tree, keeps_on}
+use Rattle.mexec.proofs.Calls.{runs_wanting, stack_push}
 use Rattle.mexec.proofs.Lines.{leads_first, leads_on, leads_stopped, leads_ends}
 use Rattle.mexec.proofs.line.run_line.Goals as goal
 
+pub returns-in_err-first-clause-does : goal.returns-in_err-first-clause-does
+returns-in_err-first-clause-does g c =
+    leads_stopped _ _ _ (leads_first (commands_of (line_tree c.args.line.value)) c.args.parts.now) (runs_wanting _ {fs' = []} (Err Zmem) (refl, refl)) c.from_residual.ensures
+
 pub returns-in_err-completion-clause-does : goal.returns-in_err-completion-clause-does
 returns-in_err-completion-clause-does g c =
-    leads_stopped _ _ _ (leads_first (commands_of (line_tree c.args.line.value)) c.args.parts.now) c.in_err-completion.ensures.does c.from_residual.ensures
+    let does = rw (c.in_ok-first.ensures.frames, c.in_ok-first.ensures.position, c.in_ok-first.ensures.line, c.in_ok-first.ensures.at) at c.in_err-completion.ensures.does in
+    leads_stopped _ _ _ (leads_first (commands_of (line_tree c.args.line.value)) c.args.parts.now) does c.from_residual-in_err-completion.ensures
 
 pub loop-frame-init : goal.loop-frame-init
-loop-frame-init g c = record {
-  loans = c.in_ok-completion.ensures.loans;
-  leads = leads_on _ _ _ (leads_first (commands_of (line_tree c.args.line.value)) c.args.parts.now) c.in_ok-completion.ensures.does;
-}
+loop-frame-init g c =
+    let does = rw (c.in_ok-first.ensures.frames, c.in_ok-first.ensures.position, c.in_ok-first.ensures.line, c.in_ok-first.ensures.at) at c.in_ok-completion.ensures.does in
+    record {
+      loans = c.in_ok-completion.ensures.loans;
+      leads = leads_on _ _ _ (leads_first (commands_of (line_tree c.args.line.value)) c.args.parts.now) does;
+    }
 
 pub loop-frame-preserved : goal.loop-frame-preserved
 loop-frame-preserved g c =

@@ -2,8 +2,8 @@
 use Rattle.mexec.proofs.ExecWords.{refl, arith, context, keeps_itself, keeps_on, keeps_evaluated, completion_of, position_of, turning}
 use Rattle.mexec.proofs.Calls.{runs_completion, runs_wanting, runs_as}
 use Rattle.mexec.proofs.LevelRuns.{at_plain}
-use Rattle.mexec.proofs.Loops.{one_more, no_more, not_gone_on, turn_begins, turn_done, turn_charge_failed, falls_on}
-use Rattle.mexec.proofs.FrontRuns.{front_over, front_runs, front_stopped, turn_goes_on, turn_is_over, falls_spent}
+use Rattle.mexec.proofs.Loops.{course_runs, not_gone_on, turn_charge_failed, falls_within}
+use Rattle.mexec.proofs.FrontRuns.{turn_goes_on, turn_is_over, turn_runs, turn_stopped, turn_over}
 use Rattle.mexec.proofs.turns.after_course.Goals as goal
 
 pub turns-init : goal.turns-init
@@ -27,13 +27,13 @@ returns-then-not-goes_on-clause-falls g c =
     let before = c.turns.invariant.fewer in
     let here = c.in_ok-goes_on.ensures.fewer in
     let falls = rw c.turns.invariant.scratch at c.further.ensures.falls in
-    falls_on _ _ _ _ _ c.further.result (omega (arith, before, here)) falls
+    falls_within _ _ _ c.further.result (omega (arith, before, here)) falls
 
 pub returns-then-not-goes_on-clause-does : goal.returns-then-not-goes_on-clause-does
 returns-then-not-goes_on-clause-does g c =
     let gone = rw (c.deref-in-turns.ensures, c.if-not-goes_on.true) at c.in_ok-goes_on.ensures.does in
     let further = rw (c.into_inner.ensures, c.turns.invariant.scratch) at c.further.ensures.does in
-    c.turns.invariant.leads _ _ _ (no_more c.args.turns.value gone c.in_ok-goes_on.ensures.fewer further)
+    c.turns.invariant.leads _ _ _ (course_runs c.args.turns.value gone c.in_ok-goes_on.ensures.fewer further)
 
 pub returns-in_err-charge-clause-does : goal.returns-in_err-charge-clause-does
 returns-in_err-charge-clause-does g c =
@@ -41,25 +41,19 @@ returns-in_err-charge-clause-does g c =
     let gone = rw (c.deref-in-turns.ensures, c.if-not-goes_on.false) at c.in_ok-goes_on.ensures.does in
     rw c.turns.invariant.scratch
     (c.turns.invariant.leads _ _ _
-    (one_more t gone c.in_ok-goes_on.ensures.fewer
+    (course_runs t gone c.in_ok-goes_on.ensures.fewer
     (turn_charge_failed (position_of t.body.position.value) (turning t) (at_plain c.in_err-charge.ensures.does) c.in_err-charge.ensures.fewer c.from_residual-in_err-charge.ensures)))
 
 pub returns-in_err-outcome-clause-does : goal.returns-in_err-outcome-clause-does
 returns-in_err-outcome-clause-does g c =
-    let t = c.args.turns.value in
-    let d = position_of t.body.position.value in
     let gone = rw (c.deref-in-turns.ensures, c.if-not-goes_on.false) at c.in_ok-goes_on.ensures.does in
     let body = rw (c.deref-in-turns-2.ensures, c.deref-in-turns-3.ensures, c.in_ok-body.ensures.position, c.in_ok-body.ensures.line, c.in_ok-body.ensures.at, c.deref.ensures) at c.in_err-outcome.ensures.does in
     rw c.turns.invariant.scratch
     (c.turns.invariant.leads _ _ _
-    (one_more t gone c.in_ok-goes_on.ensures.fewer
-    (turn_begins d (turning t) (at_plain c.in_ok-charge.ensures.does) c.in_ok-charge.ensures.spent
-    (front_stopped d t.body.line.value t.body.at body c.in_err-outcome.ensures.fewer c.from_residual-in_err-outcome.ensures))))
+    (turn_stopped c.args.turns.value gone c.in_ok-goes_on.ensures.fewer (at_plain c.in_ok-charge.ensures.does) c.in_ok-charge.ensures.spent body c.in_err-outcome.ensures.fewer c.from_residual-in_err-outcome.ensures))
 
 pub turns-preserved : goal.turns-preserved
 turns-preserved g c =
-    let t = c.args.turns.value in
-    let d = position_of t.body.position.value in
     let before = c.turns.invariant.fewer in
     let fewer = c.in_ok-goes_on.ensures.fewer in
     let spent = c.in_ok-charge.ensures.fewer in
@@ -73,9 +67,8 @@ turns-preserved g c =
       scratch = c.turns.invariant.scratch;
       leads = λ r fs p k.
           c.turns.invariant.leads r fs p
-          (one_more t gone fewer
-          (turn_done d (turning t) (at_plain c.in_ok-charge.ensures.does) c.in_ok-charge.ensures.spent (front_over d t.body.line.value t.body.at body) done
-          (runs_as (λ a n. turn_goes_on (context a n d) (turning t) (completion_of c.in-Over.completion) ends) k)));
+          (turn_over c.args.turns.value gone fewer (at_plain c.in_ok-charge.ensures.does) c.in_ok-charge.ensures.spent body done
+          (runs_as (λ a n. turn_goes_on (context a n (position_of c.args.turns.value.body.position.value)) (turning c.args.turns.value) (completion_of c.in-Over.completion) ends) k));
     }
 
 pub returns-in-Some-clause-falls : goal.returns-in-Some-clause-falls
@@ -89,49 +82,34 @@ returns-in-Some-clause-falls g c =
 pub returns-in-Some-clause-does : goal.returns-in-Some-clause-does
 returns-in-Some-clause-does g c =
     let t = c.args.turns.value in
-    let d = position_of t.body.position.value in
     let gone = rw (c.deref-in-turns.ensures, c.if-not-goes_on.false) at c.in_ok-goes_on.ensures.does in
     let body = rw (c.deref-in-turns-2.ensures, c.deref-in-turns-3.ensures, c.in_ok-body.ensures.position, c.in_ok-body.ensures.line, c.in_ok-body.ensures.at, c.deref.ensures, c.in-Over.is) at c.in_ok-outcome.ensures.does in
     let ends = rw c.in-Some.is at c.turn_ends.ensures in
     rw c.turns.invariant.scratch
     (c.turns.invariant.leads _ _ _
-    (one_more t gone c.in_ok-goes_on.ensures.fewer
-    (turn_done d (turning t) (at_plain c.in_ok-charge.ensures.does) c.in_ok-charge.ensures.spent (front_over d t.body.line.value t.body.at body) c.in_ok-outcome.ensures.fewer
-    (runs_as (λ a n. turn_is_over (context a n d) (turning t) (completion_of c.in-Over.completion) (completion_of c.in-Some.completion) ends) (runs_completion c.in-Some.completion)))))
+    (turn_over t gone c.in_ok-goes_on.ensures.fewer (at_plain c.in_ok-charge.ensures.does) c.in_ok-charge.ensures.spent body c.in_ok-outcome.ensures.fewer
+    (runs_as (λ a n. turn_is_over (context a n (position_of t.body.position.value)) (turning t) (completion_of c.in-Over.completion) (completion_of c.in-Some.completion) ends) (runs_completion c.in-Some.completion))))
 
 pub returns-in_err-copy-in-Stops-clause-does : goal.returns-in_err-copy-in-Stops-clause-does
 returns-in_err-copy-in-Stops-clause-does g c =
-    let t = c.args.turns.value in
-    let d = position_of t.body.position.value in
     let gone = rw (c.deref-in-turns.ensures, c.if-not-goes_on.false) at c.in_ok-goes_on.ensures.does in
     let body = rw (c.deref-in-turns-2.ensures, c.deref-in-turns-3.ensures, c.in_ok-body.ensures.position, c.in_ok-body.ensures.line, c.in_ok-body.ensures.at, c.deref.ensures) at c.in_ok-outcome.ensures.does in
-    c.turns.invariant.leads _ _ _
-    (one_more t gone c.in_ok-goes_on.ensures.fewer
-    (turn_begins d (turning t) (at_plain c.in_ok-charge.ensures.does) c.in_ok-charge.ensures.spent
-    (front_runs d t.body.line.value t.body.at body c.in_ok-outcome.ensures.fewer (runs_wanting _ _ c.from_residual-in_err-copy-in-Stops.ensures))))
+    c.turns.invariant.leads _ _ _ (turn_runs c.args.turns.value gone c.in_ok-goes_on.ensures.fewer (at_plain c.in_ok-charge.ensures.does) c.in_ok-charge.ensures.spent body c.in_ok-outcome.ensures.fewer (runs_wanting _ _ c.from_residual-in_err-copy-in-Stops.ensures))
 
-pub go_on_in-requires : goal.go_on_in-requires
-go_on_in-requires g c =
+pub returns-in_err-leave_turns-in-Stops-clause-does : goal.returns-in_err-leave_turns-in-Stops-clause-does
+returns-in_err-leave_turns-in-Stops-clause-does g c =
+    let gone = rw (c.deref-in-turns.ensures, c.if-not-goes_on.false) at c.in_ok-goes_on.ensures.does in
+    let body = rw (c.deref-in-turns-2.ensures, c.deref-in-turns-3.ensures, c.in_ok-body.ensures.position, c.in_ok-body.ensures.line, c.in_ok-body.ensures.at, c.deref.ensures) at c.in_ok-outcome.ensures.does in
+    c.turns.invariant.leads _ _ _ (turn_runs c.args.turns.value gone c.in_ok-goes_on.ensures.fewer (at_plain c.in_ok-charge.ensures.does) c.in_ok-charge.ensures.spent body c.in_ok-outcome.ensures.fewer (runs_wanting _ _ c.from_residual-in_err-leave_turns-in-Stops.ensures))
+
+pub go_on-requires : goal.go_on-requires
+go_on-requires g c =
     let stops = rw (c.deref-in-turns-3.ensures, c.in-Stops.is) at c.in_ok-outcome.ensures.stops in
     rw c.in_ok-copy-in-Stops.ensures.line stops
 
-pub returns-in-Stops-clause-falls : goal.returns-in-Stops-clause-falls
-returns-in-Stops-clause-falls g c =
-    let before = c.turns.invariant.fewer in
-    let gone = c.in_ok-goes_on.ensures.fewer in
-    let spent = c.in_ok-charge.ensures.spent in
-    let done = c.in_ok-outcome.ensures.fewer in
-    let falls = rw c.turns.invariant.scratch at c.go_on_in.ensures.falls in
-    falls_spent 2 _ _ _ _ _ c.go_on_in.result (omega (arith, before, gone, spent, done)) (omega arith) falls
-
 pub returns-in-Stops-clause-does : goal.returns-in-Stops-clause-does
 returns-in-Stops-clause-does g c =
-    let t = c.args.turns.value in
-    let d = position_of t.body.position.value in
     let gone = rw (c.deref-in-turns.ensures, c.if-not-goes_on.false) at c.in_ok-goes_on.ensures.does in
     let body = rw (c.deref-in-turns-2.ensures, c.deref-in-turns-3.ensures, c.in_ok-body.ensures.position, c.in_ok-body.ensures.line, c.in_ok-body.ensures.at, c.deref.ensures, c.in-Stops.is) at c.in_ok-outcome.ensures.does in
-    let does = rw (c.in_ok-copy-in-Stops.ensures.position, c.in_ok-copy-in-Stops.ensures.line, c.in_ok-body.ensures.position, c.in_ok-body.ensures.line, c.deref.ensures, c.turns.invariant.scratch) at c.go_on_in.ensures.does in
-    c.turns.invariant.leads _ _ _
-    (one_more t gone c.in_ok-goes_on.ensures.fewer
-    (turn_begins d (turning t) (at_plain c.in_ok-charge.ensures.does) c.in_ok-charge.ensures.spent
-    (front_runs d t.body.line.value t.body.at body c.in_ok-outcome.ensures.fewer does)))
+    let does = rw (c.in_ok-copy-in-Stops.ensures.position, c.in_ok-copy-in-Stops.ensures.line, c.in_ok-body.ensures.position, c.in_ok-body.ensures.line, c.deref.ensures, c.in_ok-leave_turns-in-Stops.ensures.frames, c.turns.invariant.scratch) at c.go_on.ensures.does in
+    c.turns.invariant.leads _ _ _ (turn_runs c.args.turns.value gone c.in_ok-goes_on.ensures.fewer (at_plain c.in_ok-charge.ensures.does) c.in_ok-charge.ensures.spent body c.in_ok-outcome.ensures.fewer does)

@@ -13,4 +13,4 @@ returns-in-None-clause-does g c =
 pub returns-in-Some-clause-does : goal.returns-in-Some-clause-does
 returns-in-Some-clause-does g c =
     let found = rw c.deref.ensures at c.in-Some.ensures.found in
-    rw found (at_done c.args.parts.now.eval.depth c.advance.ensures.does)
+    rw found (at_done c.args.parts.now.eval.depth c.advance_parameter.ensures.does)

@@ -18,38 +18,38 @@ pub loop-next-preserved : goal.loop-next-preserved
 loop-next-preserved g c =
     let t = c.args.turns in
     let d = t.body.position.value.depth in
-    let does = rw (c.in-None.is, c.deref.ensures) at c.in_ok-start.ensures.does in
+    let does = rw (c.in-None.is, c.deref.ensures) at c.in_ok-start_parameter.ensures.does in
     record {
-      loans = keeps_on c.loop-next.invariant.loans (keeps_at_depth _ c.in_ok-start.ensures.loans);
+      loans = keeps_on c.loop-next.invariant.loans (keeps_at_depth _ c.in_ok-start_parameter.ensures.loans);
       fewer = omega arith;
       scratch = c.loop-next.invariant.scratch;
       leads = λ r fs p k.
           c.loop-next.invariant.leads r fs p
-          (parameter_runs (position_of t.body.position.value) c.args.index.now (commands_from t.body.line.value t.body.at) c.args.parameters.now c.loop-next.next c.index-parameters-next.result c.loop-next-test.true c.index-parameters-next.is (at_done d does) c.in_ok-start.ensures.fewer k);
+          (parameter_runs (position_of t.body.position.value) c.args.index.now (commands_from t.body.line.value t.body.at) c.args.parameters.now c.loop-next.next c.index-parameters-next.result c.loop-next-test.true c.index-parameters-next.is (at_done d does) c.in_ok-start_parameter.ensures.fewer k);
     }
 
-pub returns-in_err-start-clause-loans : goal.returns-in_err-start-clause-loans
-returns-in_err-start-clause-loans g c = keeps_on c.loop-next.invariant.loans (keeps_at_depth _ c.in_err-start.ensures.loans)
+pub returns-in_err-start_parameter-clause-loans : goal.returns-in_err-start_parameter-clause-loans
+returns-in_err-start_parameter-clause-loans g c = keeps_on c.loop-next.invariant.loans (keeps_at_depth _ c.in_err-start_parameter.ensures.loans)
 
-pub returns-in_err-start-clause-does : goal.returns-in_err-start-clause-does
-returns-in_err-start-clause-does g c =
+pub returns-in_err-start_parameter-clause-does : goal.returns-in_err-start_parameter-clause-does
+returns-in_err-start_parameter-clause-does g c =
     let t = c.args.turns in
     let d = t.body.position.value.depth in
-    let does = rw c.deref.ensures at c.in_err-start.ensures.does in
+    let does = rw c.deref.ensures at c.in_err-start_parameter.ensures.does in
     rw c.loop-next.invariant.scratch
     (c.loop-next.invariant.leads _ _ _
-    (parameter_stopped (position_of t.body.position.value) c.args.index.now (commands_from t.body.line.value t.body.at) c.args.parameters.now c.loop-next.next c.index-parameters-next.result c.loop-next-test.true c.index-parameters-next.is (at_done d does) c.in_err-start.ensures.fewer c.from_residual.ensures))
+    (parameter_stopped (position_of t.body.position.value) c.args.index.now (commands_from t.body.line.value t.body.at) c.args.parameters.now c.loop-next.next c.index-parameters-next.result c.loop-next-test.true c.index-parameters-next.is (at_done d does) c.in_err-start_parameter.ensures.fewer c.from_residual.ensures))
 
 pub returns-in-Some-clause-loans : goal.returns-in-Some-clause-loans
-returns-in-Some-clause-loans g c = keeps_on c.loop-next.invariant.loans (keeps_on (keeps_at_depth _ c.in_ok-start.ensures.loans) c.begin_turn.ensures.loans)
+returns-in-Some-clause-loans g c = keeps_on c.loop-next.invariant.loans (keeps_on (keeps_at_depth _ c.in_ok-start_parameter.ensures.loans) c.begin_turn.ensures.loans)
 
 pub returns-in_err-turns-in-Some-clause-does : goal.returns-in_err-turns-in-Some-clause-does
 returns-in_err-turns-in-Some-clause-does g c =
     let t = c.args.turns in
     let d = t.body.position.value.depth in
-    let does = rw (c.in-Some.is, c.deref.ensures) at c.in_ok-start.ensures.does in
+    let does = rw (c.in-Some.is, c.deref.ensures) at c.in_ok-start_parameter.ensures.does in
     c.loop-next.invariant.leads _ _ _
-    (parameter_runs (position_of t.body.position.value) c.args.index.now (commands_from t.body.line.value t.body.at) c.args.parameters.now c.loop-next.next c.index-parameters-next.result c.loop-next-test.true c.index-parameters-next.is (at_done d does) c.in_ok-start.ensures.fewer
+    (parameter_runs (position_of t.body.position.value) c.args.index.now (commands_from t.body.line.value t.body.at) c.args.parameters.now c.loop-next.next c.index-parameters-next.result c.loop-next-test.true c.index-parameters-next.is (at_done d does) c.in_ok-start_parameter.ensures.fewer
     (runs_wanting _ _ c.from_residual-in_err-turns-in-Some.ensures))
 
 pub returns-in-Some-clause-does : goal.returns-in-Some-clause-does
@@ -57,10 +57,10 @@ returns-in-Some-clause-does g c =
     let t = c.args.turns in
     let d = t.body.position.value.depth in
     let turn : ForLoop = record { body = t.body; parameter = c.loop-next.next + 1; course = c.in-Some.course; indexed = any_course t.body.line.value t.body.at c.in-Some.course c.requires.indexed } in
-    let does = rw (c.in-Some.is, c.deref.ensures) at c.in_ok-start.ensures.does in
+    let does = rw (c.in-Some.is, c.deref.ensures) at c.in_ok-start_parameter.ensures.does in
     let begun = rw (c.in_ok-turns-in-Some.ensures.ok, c.loop-next.invariant.scratch) at c.begin_turn.ensures.does in
     c.loop-next.invariant.leads _ _ _
-    (parameter_runs (position_of t.body.position.value) c.args.index.now (commands_from t.body.line.value t.body.at) c.args.parameters.now c.loop-next.next c.index-parameters-next.result c.loop-next-test.true c.index-parameters-next.is (at_done d does) c.in_ok-start.ensures.fewer
+    (parameter_runs (position_of t.body.position.value) c.args.index.now (commands_from t.body.line.value t.body.at) c.args.parameters.now c.loop-next.next c.index-parameters-next.result c.loop-next-test.true c.index-parameters-next.is (at_done d does) c.in_ok-start_parameter.ensures.fewer
     (begun_runs turn c.args.index.now c.args.parameters.now c.requires.found begun))
 
 pub returns-clause-loans : goal.returns-clause-loans

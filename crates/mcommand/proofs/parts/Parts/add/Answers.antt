@@ -1,8 +1,16 @@
 -- SPDX-License-Identifier: Apache-2.0
-use Rattle.mcommand.proofs.CommandWords.{Bool, true, refl, give, units}
+use Rattle.mcommand.proofs.CommandWords.{◌≡◌, Bool, true, Some, None, Result, Ok, Err, MatchResult, refl, sym, give, units}
+use Rattle.std.proofs.Common.{ℤ}
+use Rattle.mspec.specs.Number.{sum_of}
+use Rattle.mnum.specs.declared.num.Num.{Num}
+use Rattle.mnum.specs.declared.num.Over.{Over}
+use Rattle.moperator.specs.Outcomes.{outcome_units}
 use Rattle.mcommand.proofs.Calls.{does_then, does_stopped, does_gives, does_evaluated, does_yielded}
-use Rattle.mcommand.proofs.Sums.{sum_units}
 use Rattle.mcommand.proofs.parts.Parts.add.Goals as goal
+
+sum_units : (a b : ℤ) (r : Result Num Over) → MatchResult r (λ n. sum_of a b ≡ Some (units n)) (λ _. sum_of a b ≡ None) → outcome_units r ≡ sum_of a b
+sum_units a b (Ok n) e = sym e
+sum_units a b (Err over) e = sym e
 
 pub returns-in_err-next-clause-does : goal.returns-in_err-next-clause-does
 returns-in_err-next-clause-does g c =

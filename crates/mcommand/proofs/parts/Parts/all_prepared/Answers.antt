@@ -1,8 +1,8 @@
 -- SPDX-License-Identifier: Apache-2.0
-use Rattle.mcommand.proofs.CommandWords.{map, arith, refl, Vec, Global, none_left, residual_is, Prepared, prepared_view}
+use Rattle.mcommand.proofs.CommandWords.{map, arith, refl, Vec, Global, none_left, target_tree, Prepared, prepared_view}
 use Rattle.std.proofs.lemmas.List.{map_push}
-use Rattle.mcommand.proofs.Calls.{does_gives, does_wanting, keeps_itself, keeps_on}
-use Rattle.mcommand.proofs.Targets.{next_prepared, prepared_failed}
+use Rattle.mcommand.proofs.Calls.{does_gives, does_wanting, item_then, item_stopped, keeps_itself, keeps_on}
+use Rattle.mmeaning.specs.LineMeaning as meaning
 use Rattle.mcommand.proofs.parts.Parts.all_prepared.Goals as goal
 
 pub loop-target-init : goal.loop-target-init
@@ -20,9 +20,9 @@ returns-in_err-prepared-clause-fewer g c = omega arith
 
 pub returns-in_err-prepared-clause-does : goal.returns-in_err-prepared-clause-does
 returns-in_err-prepared-clause-does g c =
-    rw (residual_is _ _ c.from_residual-in_err-prepared.ensures)
-    (c.loop-target.invariant.leads _ _
-    (prepared_failed (λ (ps : Vec Prepared Global). map prepared_view ps.items) c.args.targets.now c.loop-target.target-index c.target-item.result _ _ c.loop-target-test.true c.target-item.is c.in_err-prepared.ensures.does))
+    c.loop-target.invariant.leads _ _
+    (item_stopped meaning.all_prepared meaning.prepared target_tree (λ i ps t ts. refl) (λ (ps : Vec Prepared Global). map prepared_view ps.items) c.args.targets.now c.loop-target.target-index c.target-item.result _ c.loop-target-test.true c.target-item.is
+    c.in_err-prepared.ensures.does c.from_residual-in_err-prepared.ensures)
 
 pub returns-in_err-push-clause-loans : goal.returns-in_err-push-clause-loans
 returns-in_err-push-clause-loans g c = keeps_on c.loop-target.invariant.loans c.in_ok-prepared.ensures.loans
@@ -30,7 +30,7 @@ returns-in_err-push-clause-loans g c = keeps_on c.loop-target.invariant.loans c.
 pub returns-in_err-push-clause-does : goal.returns-in_err-push-clause-does
 returns-in_err-push-clause-does g c =
     c.loop-target.invariant.leads _ _
-    (next_prepared (λ (ps : Vec Prepared Global). map prepared_view ps.items) c.args.targets.now c.loop-target.target-index c.target-item.result _ c.in_ok-prepared.prepared _ c.loop-target-test.true c.target-item.is c.in_ok-prepared.ensures.does
+    (item_then meaning.all_prepared meaning.prepared target_tree (λ i ps t ts. refl) (λ (ps : Vec Prepared Global). map prepared_view ps.items) c.args.targets.now c.loop-target.target-index c.target-item.result _ c.loop-target-test.true c.target-item.is c.in_ok-prepared.prepared c.in_ok-prepared.ensures.does
     (does_wanting _ _ _ c.from_residual-in_err-push.ensures refl refl))
 
 pub loop-target-preserved : goal.loop-target-preserved
@@ -40,7 +40,7 @@ loop-target-preserved g c = record {
   leads = λ r p k.
       let k = rw (c.in_ok-push.ensures.items, map_push prepared_view c.loop-target.all.items c.in_ok-prepared.prepared) at k in
       c.loop-target.invariant.leads r p
-      (next_prepared (λ (ps : Vec Prepared Global). map prepared_view ps.items) c.args.targets.now c.loop-target.target-index c.target-item.result _ c.in_ok-prepared.prepared r c.loop-target-test.true c.target-item.is c.in_ok-prepared.ensures.does k);
+      (item_then meaning.all_prepared meaning.prepared target_tree (λ i ps t ts. refl) (λ (ps : Vec Prepared Global). map prepared_view ps.items) c.args.targets.now c.loop-target.target-index c.target-item.result _ c.loop-target-test.true c.target-item.is c.in_ok-prepared.prepared c.in_ok-prepared.ensures.does k);
 }
 
 pub returns-clause-does : goal.returns-clause-does

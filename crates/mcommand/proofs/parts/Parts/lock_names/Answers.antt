@@ -1,8 +1,9 @@
 -- SPDX-License-Identifier: Apache-2.0
-use Rattle.mcommand.proofs.CommandWords.{map, arith, refl, sym, subst, Vec, Global, none_left, residual_is, standing_of, MayTake}
+use Rattle.mcommand.proofs.CommandWords.{arith, refl, sym, subst, Vec, Global, none_left, lock_name_act, reference_tree, standing_of, MayTake}
 use Rattle.mlock.specs.declared.name.LockName.{LockName}
-use Rattle.mcommand.proofs.Calls.{does_evaluated, does_gives, does_wanting, keeps_itself, keeps_evaluated}
-use Rattle.mcommand.proofs.Locking.{one_more_taken, next_name, name_failed}
+use Rattle.mcommand.proofs.Calls.{does_evaluated, does_gives, does_wanting, item_then, item_stopped, keeps_itself, keeps_evaluated}
+use Rattle.mmeaning.specs.Locking as meaning
+use Rattle.mcommand.proofs.Locking.{one_more_taken, name_is}
 use Rattle.mcommand.proofs.parts.Parts.lock_names.Goals as goal
 
 pub loop-reference-init : goal.loop-reference-init
@@ -21,9 +22,9 @@ returns-in_err-name-clause-fewer g c = omega arith
 
 pub returns-in_err-name-clause-does : goal.returns-in_err-name-clause-does
 returns-in_err-name-clause-does g c =
-    rw (residual_is _ _ c.from_residual-in_err-name.ensures)
-    (c.loop-reference.invariant.leads _ _
-    (name_failed (λ (ns : Vec LockName Global). ns.items) c.args.references.now c.loop-reference.reference-index c.reference-item.result _ _ c.loop-reference-test.true c.reference-item.is (does_evaluated c.in_err-name.ensures.does)))
+    c.loop-reference.invariant.leads _ _
+    (item_stopped meaning.lock_names lock_name_act reference_tree name_is (λ (ns : Vec LockName Global). ns.items) c.args.references.now c.loop-reference.reference-index c.reference-item.result _ c.loop-reference-test.true c.reference-item.is
+    (does_evaluated c.in_err-name.ensures.does) c.from_residual-in_err-name.ensures)
 
 pub returns-in_err-push-clause-loans : goal.returns-in_err-push-clause-loans
 returns-in_err-push-clause-loans g c = keeps_evaluated c.loop-reference.invariant.loans c.in_ok-name.ensures.loans
@@ -31,7 +32,7 @@ returns-in_err-push-clause-loans g c = keeps_evaluated c.loop-reference.invarian
 pub returns-in_err-push-clause-does : goal.returns-in_err-push-clause-does
 returns-in_err-push-clause-does g c =
     c.loop-reference.invariant.leads _ _
-    (next_name (λ (ns : Vec LockName Global). ns.items) c.args.references.now c.loop-reference.reference-index c.reference-item.result _ c.in_ok-name.name _ c.loop-reference-test.true c.reference-item.is (does_evaluated c.in_ok-name.ensures.does)
+    (item_then meaning.lock_names lock_name_act reference_tree name_is (λ (ns : Vec LockName Global). ns.items) c.args.references.now c.loop-reference.reference-index c.reference-item.result _ c.loop-reference-test.true c.reference-item.is c.in_ok-name.name (does_evaluated c.in_ok-name.ensures.does)
     (does_wanting _ _ _ c.from_residual-in_err-push.ensures refl refl))
 
 pub loop-reference-preserved : goal.loop-reference-preserved
@@ -45,7 +46,7 @@ loop-reference-preserved g c = record {
   leads = λ r p k.
       let k = rw c.in_ok-push.ensures.items at k in
       c.loop-reference.invariant.leads r p
-      (next_name (λ (ns : Vec LockName Global). ns.items) c.args.references.now c.loop-reference.reference-index c.reference-item.result _ c.in_ok-name.name r c.loop-reference-test.true c.reference-item.is (does_evaluated c.in_ok-name.ensures.does) k);
+      (item_then meaning.lock_names lock_name_act reference_tree name_is (λ (ns : Vec LockName Global). ns.items) c.args.references.now c.loop-reference.reference-index c.reference-item.result _ c.loop-reference-test.true c.reference-item.is c.in_ok-name.name (does_evaluated c.in_ok-name.ensures.does) k);
 }
 
 pub returns-clause-does : goal.returns-clause-does

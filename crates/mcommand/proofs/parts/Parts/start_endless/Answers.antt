@@ -4,20 +4,15 @@ use Rattle.mcommand.proofs.Calls.{does_then, does_stopped, does_gives, does_eval
 use Rattle.mcommand.proofs.parts.Parts.start_endless.Goals as goal
 
 pub returns-in_err-number-clause-does : goal.returns-in_err-number-clause-does
-returns-in_err-number-clause-does g c = does_stopped _ (does_evaluated c.in_err-number.ensures.does) c.from_residual.ensures
-
-pub returns-in_err-by-clause-does : goal.returns-in_err-by-clause-does
-returns-in_err-by-clause-does g c = does_then _ (does_evaluated c.in_ok-number.ensures.does) (does_stopped _ (does_evaluated c.in_err-by.ensures.does) c.from_residual-in_err-by.ensures)
+returns-in_err-number-clause-does g c = does_stopped _ c.in_err-number.ensures.does c.from_residual.ensures
 
 pub returns-in_err-set_variable-clause-does : goal.returns-in_err-set_variable-clause-does
 returns-in_err-set_variable-clause-does g c =
     let set = rw c.of_number.ensures at c.in_err-set_variable.ensures.does in
-    does_then _ (does_evaluated c.in_ok-number.ensures.does)
-    (does_then _ (does_evaluated c.in_ok-by.ensures.does) (does_stopped (λ i _. give (Some (endless (units c.in_ok-by.by)))) (does_evaluated set) c.from_residual-in_err-set_variable.ensures))
+    does_then _ c.in_ok-number.ensures.does (does_stopped (λ i _. give (Some (endless (units c.in_ok-number.by)))) (does_evaluated set) c.from_residual-in_err-set_variable.ensures)
 
 pub returns-clause-does : goal.returns-clause-does
 returns-clause-does g c =
     let set = rw c.of_number.ensures at c.in_ok-set_variable.ensures.does in
-    does_then _ (does_evaluated c.in_ok-number.ensures.does)
-    (does_then _ (does_evaluated c.in_ok-by.ensures.does)
-    (does_then (λ i _. give (Some (endless (units c.in_ok-by.by)))) (does_evaluated set) (does_gives (Some (endless (units c.in_ok-by.by))) (option_map course_view) _ refl)))
+    let course = Some (endless (units c.in_ok-number.by)) in
+    does_then _ c.in_ok-number.ensures.does (does_then (λ i _. give course) (does_evaluated set) (does_gives course (option_map course_view) _ refl))

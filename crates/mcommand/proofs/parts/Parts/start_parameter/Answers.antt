@@ -1,7 +1,7 @@
 -- SPDX-License-Identifier: Apache-2.0
 use Rattle.mcommand.proofs.CommandWords.{Some, option_map, refl, give, last_turn, course_view}
 use Rattle.mcommand.proofs.Calls.{does_then, does_stopped, does_gives, does_evaluated}
-use Rattle.mcommand.proofs.parts.Parts.start.Goals as goal
+use Rattle.mcommand.proofs.parts.Parts.start_parameter.Goals as goal
 
 pub returns-in_err-value-in-Once-clause-does : goal.returns-in_err-value-in-Once-clause-does
 returns-in_err-value-in-Once-clause-does g c = rw c.in-Once.is (does_stopped _ (does_evaluated c.in_err-value-in-Once.ensures.does) c.from_residual.ensures)

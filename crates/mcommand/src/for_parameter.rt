@@ -1,12 +1,12 @@
 // SPDX-License-Identifier: Apache-2.0
-// The parameters of FOR: how the turns of one begin, and what follows a turn.
+// A parameter of FOR: how its turns begin, and whether there is one more.
 ghost use Rattle.std.specs.Prelude.{◌≡◌, ◌≤◌, ℤ, ◌+ℤ◌, option_map};
 ghost use Rattle.mmeaning.specs.Courses as courses;
 ghost use Rattle.mnum.specs.Num.{units};
 ghost use Rattle.mgrammar.specs.Grammar.{onward, until};
 ghost use Rattle.mtree.specs.Tree.{expr_tree, parameter_tree};
 ghost use Rattle.mcommand.specs.Does.{Does, KeepsLoans};
-ghost use Rattle.mcommand.specs.Turns.{course_view, started, advanced, added};
+ghost use Rattle.mcommand.specs.ForParameters.{course_view, start_and_increment, begun_within, started, advanced, added, added_within};
 
 use crate::parts::Parts;
 use mnum::{Name, Num};
@@ -47,6 +47,17 @@ fn starts_past(by: Num, number: Num, limit: Num) -> bool
     is_past(by, number.to_units(), limit)
 }
 
+// How the turns of a start go on, unless it is beyond the limit.
+fn course_within(by: Num, number: Num, limit: Num) -> Option<Course>
+    ensures { option_map course_view result ≡ begun_within (units number) (units by) (units limit) }
+{
+    if starts_past(by, number, limit) {
+        None
+    } else {
+        Some(Course::Limited(by, limit))
+    }
+}
+
 // Whether an index is beyond the limit once the increment is added, before the sum is rounded.
 fn goes_past(by: Num, number: Num, limit: Num) -> bool
     ensures { result ≡ courses.is_past (units by) (units number +ℤ units by) (units limit) }
@@ -55,6 +66,22 @@ fn goes_past(by: Num, number: Num, limit: Num) -> bool
 }
 
 impl<'a, S: NodeStore> Parts<'a, S> {
+    // The numbers of a start and of an increment.
+    fn start_and_increment(
+        &mut self,
+        alloc: Global,
+        e: &Expr,
+        by: &Expr,
+    ) -> Result<(Num, Num), Code>
+        ensures loans { KeepsLoans self.old self.new }
+        ensures fewer { self.new.eval.steps ≤ self.old.eval.steps }
+        ensures does { Does S.NodeStore (λ i. start_and_increment i (expr_tree e.now) (expr_tree by.now)) (λ numbers. (units numbers.0, units numbers.1)) self.old result self.new }
+    {
+        let number = self.eval.number(alloc, e)?;
+        let by = self.eval.number(alloc, by)?;
+        Ok((number, by))
+    }
+
     // The turns of a start and an increment: how they go on.
     fn start_endless(
         &mut self,
@@ -67,8 +94,7 @@ impl<'a, S: NodeStore> Parts<'a, S> {
         ensures fewer { self.new.eval.steps ≤ self.old.eval.steps }
         ensures does { Does S.NodeStore (λ i. started i index.now (onward (expr_tree e.now) (expr_tree by.now))) (option_map course_view) self.old result self.new }
     {
-        let number = self.eval.number(alloc, e)?;
-        let by = self.eval.number(alloc, by)?;
+        let (number, by) = self.start_and_increment(alloc, e, by)?;
         self.eval.set_variable(index, Value::of_number(number))?;
         Ok(Some(Course::Endless(by)))
     }
@@ -86,14 +112,10 @@ impl<'a, S: NodeStore> Parts<'a, S> {
         ensures fewer { self.new.eval.steps ≤ self.old.eval.steps }
         ensures does { Does S.NodeStore (λ i. started i index.now (until (expr_tree e.now) (expr_tree by.now) (expr_tree limit.now))) (option_map course_view) self.old result self.new }
     {
-        let number = self.eval.number(alloc, e)?;
-        let by = self.eval.number(alloc, by)?;
+        let (number, by) = self.start_and_increment(alloc, e, by)?;
         let limit = self.eval.number(alloc, limit)?;
         self.eval.set_variable(index, Value::of_number(number))?;
-        if starts_past(by, number, limit) {
-            return Ok(None);
-        }
-        Ok(Some(Course::Limited(by, limit)))
+        Ok(course_within(by, number, limit))
     }
 
     /// Evaluates a parameter of FOR and gives the index its first value. It answers how its turns go on, or nothing where there is
@@ -102,7 +124,7 @@ impl<'a, S: NodeStore> Parts<'a, S> {
     /// # Errors
     ///
     /// Those of the values; `Zover` where a number is too large; `Zmem` for want of memory.
-    pub fn start(
+    pub fn start_parameter(
         &mut self,
         alloc: Global,
         index: &Name,
@@ -134,12 +156,24 @@ impl<'a, S: NodeStore> Parts<'a, S> {
         Ok(true)
     }
 
+    // The same, unless that is beyond the limit.
+    fn add_within(&mut self, index: &Name, number: Num, by: Num, limit: Num) -> Result<bool, Code>
+        ensures loans { KeepsLoans self.old self.new }
+        ensures fewer { self.new.eval.steps ≤ self.old.eval.steps }
+        ensures does { Does S.NodeStore (λ i. added_within index.now (units number) (units by) (units limit)) (λ goes_on. goes_on) self.old result self.new }
+    {
+        if goes_past(by, number, limit) {
+            return Ok(false);
+        }
+        self.add(index, number, by)
+    }
+
     /// Goes on behind a turn: whether there is one turn more of this course, for which the index is set.
     ///
     /// # Errors
     ///
     /// `M15` where the index is undefined; `Zover` where its number, or the sum, is too large; `Zmem` for want of memory.
-    pub fn advance(&mut self, index: &Name, course: Course) -> Result<bool, Code>
+    pub fn advance_parameter(&mut self, index: &Name, course: Course) -> Result<bool, Code>
         ensures loans { KeepsLoans self.old self.new }
         ensures fewer { self.new.eval.steps ≤ self.old.eval.steps }
         ensures does { Does S.NodeStore (λ i. advanced index.now (course_view course)) (λ goes_on. goes_on) self.old result self.new }
@@ -152,10 +186,7 @@ impl<'a, S: NodeStore> Parts<'a, S> {
             }
             Course::Limited(by, limit) => {
                 let number = self.eval.index(index)?;
-                if goes_past(by, number, limit) {
-                    return Ok(false);
-                }
-                self.add(index, number, by)
+                self.add_within(index, number, by, limit)
             }
             Course::Forever => Ok(true),
         }

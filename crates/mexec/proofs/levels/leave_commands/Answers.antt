@@ -1,0 +1,7 @@
+-- SPDX-License-Identifier: Apache-2.0
+use Rattle.mexec.proofs.ExecWords.{refl}
+use Rattle.mexec.proofs.Calls.{stack_push}
+use Rattle.mexec.proofs.levels.leave_commands.Goals as goal
+
+pub returns-clause-frames : goal.returns-clause-frames
+returns-clause-frames c = rw (c.in_ok-push-2.ensures.items, stack_push, c.in_ok-push.ensures.items, stack_push, c.in_ok-clone.ensures.cases) refl

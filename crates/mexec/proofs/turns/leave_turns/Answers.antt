@@ -1,0 +1,7 @@
+-- SPDX-License-Identifier: Apache-2.0
+use Rattle.mexec.proofs.ExecWords.{refl}
+use Rattle.mexec.proofs.Calls.{stack_push}
+use Rattle.mexec.proofs.turns.leave_turns.Goals as goal
+
+pub returns-clause-frames : goal.returns-clause-frames
+returns-clause-frames c = rw (c.in_ok-push.ensures.items, stack_push) refl

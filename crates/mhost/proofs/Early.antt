@@ -8,38 +8,18 @@ module _ {S I O : Type 0} (g : Ghosts S) (left : I → Option Text) (held : O �
     (same : AreUntouched input input' output output') where
   -- a run over a store in memory
   pub no_settings : (fault : RunFault) → NoSettings document fault → EndsEarly g left held document input input' output output' fault
-  no_settings early.Unread never = absurd never
   no_settings (early.Settings fault) why = (same, why)
-  no_settings early.NoAccount never = absurd never
-  no_settings (early.Store fault) never = absurd never
-  no_settings early.Listen never = absurd never
-  no_settings early.Accept never = absurd never
-  no_settings (early.Wire fault) never = absurd never
+  no_settings other never = absurd never
 
   pub no_store : (settings : Settings) → IsRead document settings → (fault : RunFault) → IsMemoryFault fault → EndsEarly g left held document input input' output output' fault
-  no_store settings reads early.Unread never = absurd never
-  no_store settings reads (early.Settings fault) never = absurd never
-  no_store settings reads early.NoAccount never = absurd never
   no_store settings reads (early.Store fault) why = (same, (settings, reads), why)
-  no_store settings reads early.Listen never = absurd never
-  no_store settings reads early.Accept never = absurd never
-  no_store settings reads (early.Wire fault) never = absurd never
+  no_store settings reads other never = absurd never
 
   -- and one over a store in a file
   pub no_settings_over_file : (fault : RunFault) → NoSettings document fault → EndsEarlyOverFile g left held document input input' output output' fault
-  no_settings_over_file early.Unread never = absurd never
   no_settings_over_file (early.Settings fault) why = (same, why)
-  no_settings_over_file early.NoAccount never = absurd never
-  no_settings_over_file (early.Store fault) never = absurd never
-  no_settings_over_file early.Listen never = absurd never
-  no_settings_over_file early.Accept never = absurd never
-  no_settings_over_file (early.Wire fault) never = absurd never
+  no_settings_over_file other never = absurd never
 
   pub no_file : (settings : Settings) → IsRead document settings → (fault : RunFault) → IsStoreFault fault → EndsEarlyOverFile g left held document input input' output output' fault
-  no_file settings reads early.Unread never = absurd never
-  no_file settings reads (early.Settings fault) never = absurd never
-  no_file settings reads early.NoAccount never = absurd never
   no_file settings reads (early.Store fault) why = (same, (settings, reads))
-  no_file settings reads early.Listen never = absurd never
-  no_file settings reads early.Accept never = absurd never
-  no_file settings reads (early.Wire fault) never = absurd never
+  no_file settings reads other never = absurd never

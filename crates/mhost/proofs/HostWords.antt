@@ -10,6 +10,6 @@ pub use Rattle.mstore.specs.declared.store.NodeStore.{Ghosts}
 pub use Rattle.mwire.specs.declared.fault.WireFault.{WireFault}
 pub use Rattle.mwire.specs.declared.watched.Watched.{Watched}
 pub use Rattle.mworld.specs.View.{settings_of, world_of}
-pub use Rattle.mhost.specs.Only.{BeginsEmpty, BeginsSomehow, FitsMemory, HasAccount, OnlyEndsEarly, OnlyOver, ServesAs, ToldAlone, ToldInForm}
+pub use Rattle.mhost.specs.Only.{BeginsEmpty, BeginsSomehow, FitsMemory, HasAccount, OnlyEndsEarly, OnlyOver, ServesAs, ToldAlone, ToldInForm, ToldReplies}
 pub use Rattle.mhost.specs.Runs.{AreUntouched, DeviceFailed, EndsEarly, EndsEarlyOverFile, Followed, IsMemoryFault, IsStoreFault, NoSettings, RunCutShort, ServedOver, StreamAnswered}
 pub use Rattle.mhost.specs.declared.fault.RunFault.{RunFault}

@@ -1,6 +1,6 @@
 -- SPDX-License-Identifier: Apache-2.0
 -- From what `serve_only` says of a world to what a run says of the account that it names.
-use Rattle.mhost.proofs.HostWords.{◌≡◌, ℕ, ◌<◌, Bool, true, false, List, [], ◌∷◌, Option, Some, None, Result, Ok, Err, length, zero, suc, arith, refl, sym, ap, subst, ◌∙◌, cond, empty, Text, Globals, opening, Ghosts, settings_of, world_of, Watched, WireFault, IsRead, AreUntouched, DeviceFailed, IsMemoryFault, IsStoreFault, NoSettings, HasAccount, ToldAlone, ToldInForm, BeginsEmpty, BeginsSomehow, OnlyEndsEarly, FitsMemory, ServesAs, OnlyOver, RunFault}
+use Rattle.mhost.proofs.HostWords.{◌≡◌, ℕ, ◌<◌, Bool, true, List, [], ◌∷◌, Option, Some, Result, Ok, Err, length, zero, suc, arith, refl, sym, ap, subst, ◌∙◌, empty, Text, Globals, opening, Ghosts, settings_of, world_of, Watched, WireFault, IsRead, AreUntouched, DeviceFailed, IsMemoryFault, IsStoreFault, NoSettings, HasAccount, ToldReplies, ToldAlone, ToldInForm, BeginsEmpty, BeginsSomehow, OnlyEndsEarly, FitsMemory, ServesAs, OnlyOver, RunFault}
 use Rattle.std.specs.Prelude.{slice_get, unwrap_or, option_map}
 use Rattle.std.specs.Cmp.Lexicographic.{bytes_decides}
 use Rattle.std.specs.List.{find}
@@ -17,7 +17,7 @@ use Rattle.mjob.specs.declared.jobs.Store.TheVariants as store
 use Rattle.mworld.specs.declared.world.World.{World}
 use Rattle.mworld.specs.Isolated.{IsToldEach}
 use Rattle.mwire.specs.Wire.{events_of}
-use Rattle.mwire.specs.Only.{told_text, RanOnly, ServesOnly}
+use Rattle.mwire.specs.Only.{RanOnly, ServesOnly}
 use Rattle.mwire.specs.Watched.{inner_of, ReadFailed, WriteFailed}
 use Rattle.mwire.specs.declared.fault.WireFault.TheVariants.{Read, Write, Memory}
 use Rattle.mhost.specs.declared.fault.RunFault.TheVariants as early
@@ -66,62 +66,32 @@ ends_early memory file left held store.Memory name document input input' output 
 ends_early memory file left held (store.File path) name document input input' output output' fault fits m f = f
 
 pub settings_fit : (document : Text) (fault : RunFault) → NoSettings document fault → FitsMemory fault
-settings_fit document early.Unread never = tt
-settings_fit document (early.Settings fault) why = tt
-settings_fit document early.NoAccount never = tt
 settings_fit document (early.Store fault) never = absurd never
-settings_fit document early.Listen never = tt
-settings_fit document early.Accept never = tt
-settings_fit document (early.Wire fault) never = tt
+settings_fit document other why = tt
 
 pub store_fits : (fault : RunFault) → IsMemoryFault fault → FitsMemory fault
-store_fits early.Unread never = tt
-store_fits (early.Settings fault) never = tt
-store_fits early.NoAccount never = tt
 store_fits (early.Store fault) why = why
-store_fits early.Listen never = tt
-store_fits early.Accept never = tt
-store_fits (early.Wire fault) never = tt
+store_fits other never = tt
 
 served_fits : {S I O : Type 0} (g : Ghosts S) (left : I → Option Text) (held : O → Option Text) (old : World S g) (place : ℕ)
     (input input' : Watched I) (output output' : Watched O) (fault : RunFault) (new : World S g) → ServesAs g left held old place input input' output output' (Err fault) new → FitsMemory fault
-served_fits g left held old place input input' output output' early.Unread new never = tt
-served_fits g left held old place input input' output output' (early.Settings fault) new never = tt
-served_fits g left held old place input input' output output' early.NoAccount new never = tt
 served_fits g left held old place input input' output output' (early.Store fault) new never = absurd never
-served_fits g left held old place input input' output output' early.Listen new never = tt
-served_fits g left held old place input input' output output' early.Accept new never = tt
-served_fits g left held old place input input' output output' (early.Wire fault) new s = tt
+served_fits g left held old place input input' output output' other new s = tt
 
 module _ {S I O : Type 0} (g : Ghosts S) (left : I → Option Text) (held : O → Option Text) (document name : Text) (input input' : Watched I) (output output' : Watched O) where
   -- nothing was asked of the devices yet
   module _ (begins : Globals → Type 0) (same : AreUntouched input input' output output') where
     pub only_no_settings : (fault : RunFault) → NoSettings document fault → OnlyEndsEarly g begins left held document name input input' output output' fault
-    only_no_settings early.Unread never = absurd never
     only_no_settings (early.Settings fault) why = (same, why)
-    only_no_settings early.NoAccount never = absurd never
-    only_no_settings (early.Store fault) never = absurd never
-    only_no_settings early.Listen never = absurd never
-    only_no_settings early.Accept never = absurd never
-    only_no_settings (early.Wire fault) never = absurd never
+    only_no_settings other never = absurd never
 
     pub only_no_store : HasAccount document name → (fault : RunFault) → IsMemoryFault fault → OnlyEndsEarly g begins left held document name input input' output output' fault
-    only_no_store has early.Unread never = absurd never
-    only_no_store has (early.Settings fault) never = absurd never
-    only_no_store has early.NoAccount never = absurd never
     only_no_store has (early.Store fault) why = (same, has)
-    only_no_store has early.Listen never = absurd never
-    only_no_store has early.Accept never = absurd never
-    only_no_store has (early.Wire fault) never = absurd never
+    only_no_store has other never = absurd never
 
     pub only_no_file : HasAccount document name → (fault : RunFault) → IsStoreFault fault → OnlyEndsEarly g begins left held document name input input' output output' fault
-    only_no_file has early.Unread never = absurd never
-    only_no_file has (early.Settings fault) never = absurd never
-    only_no_file has early.NoAccount never = absurd never
     only_no_file has (early.Store fault) why = (same, has)
-    only_no_file has early.Listen never = absurd never
-    only_no_file has early.Accept never = absurd never
-    only_no_file has (early.Wire fault) never = absurd never
+    only_no_file has other never = absurd never
 
   -- the same of a run that begins with no globals
   module _ (same : AreUntouched input input' output output') where
@@ -132,7 +102,19 @@ module _ {S I O : Type 0} (g : Ghosts S) (left : I → Option Text) (held : O �
     empty_no_store = only_no_store (BeginsEmpty g) same
 
   module _ (known : HasAccount document name) (old new : World S g) (by : settings_of old ≡ known.settings) (globals : Globals) (opens : world_of g old ≡ opening globals) (place : ℕ) where
-    -- a stream that was answered to its end, over a store that tells its content
+    -- a stream that was answered to its end
+    abbrev told_replies : (whole : Bool) → ServesOnly g old place (left (inner_of input)) (left (inner_of input')) (held (inner_of output)) (held (inner_of output')) (Ok whole) new
+        → ToldReplies document name (left (inner_of input)) (left (inner_of input')) (held (inner_of output)) (held (inner_of output'))
+    told_replies whole s = record {
+      known = known;
+      read = s.read;
+      consumed = s.consumed;
+      at_end = s.outcome.0;
+      replies = s.outcome.1.replies;
+      appended = subst (Appends (held (inner_of output)) (held (inner_of output'))) s.outcome.1.text s.appended;
+    }
+
+    -- over a store that tells its content
     told_alone : g.sound → globals ≡ empty → name_at known.settings place ≡ name → (whole : Bool)
         → ServesOnly g old place (left (inner_of input)) (left (inner_of input')) (held (inner_of output)) (held (inner_of output')) (Ok whole) new
         → ToldAlone document name (left (inner_of input)) (left (inner_of input')) (held (inner_of output)) (held (inner_of output'))
@@ -141,12 +123,7 @@ module _ {S I O : Type 0} (g : Ghosts S) (left : I → Option Text) (held : O �
         let at : ◌≡◌ {A = Text × (Settings × transition.World)} (name_at (settings_of old) place, (settings_of old, world_of g old)) (name, (known.settings, opening empty)) =
         λ i. ((ap (λ (t : Settings). name_at t place) by ∙ is) i, (by i, (opens ∙ ap opening none) i)) in
         record {
-          known = known;
-          read = s.read;
-          consumed = s.consumed;
-          at_end = s.outcome.0;
-          replies = ran.replies;
-          appended = subst (Appends (held (inner_of output)) (held (inner_of output'))) ran.text s.appended;
+          told = told_replies whole s;
           whole = whole;
           after = world_of g new;
           tells = subst (λ (q : Text × (Settings × transition.World)). Tells q.0 q.1.0 q.1.1 (events_of (lines s.read)) ran.replies whole (world_of g new)) at (ran.told sound).run;
@@ -160,27 +137,14 @@ module _ {S I O : Type 0} (g : Ghosts S) (left : I → Option Text) (held : O �
         let ran : RanOnly g old place (events_of (lines s.read)) s.sent whole new = s.outcome.1 in
         let at : ◌≡◌ {A = Text × Settings} (name_at (settings_of old) place, settings_of old) (name, known.settings) =
         λ i. ((ap (λ (t : Settings). name_at t place) by ∙ is) i, by i) in
-        record {
-          known = known;
-          read = s.read;
-          consumed = s.consumed;
-          at_end = s.outcome.0;
-          replies = ran.replies;
-          each = subst (λ (q : Text × Settings). IsToldEach q.0 q.1 (events_of (lines s.read)) ran.replies) at ran.each;
-          appended = subst (Appends (held (inner_of output)) (held (inner_of output'))) ran.text s.appended;
-        }
+        record { told = told_replies whole s; each = subst (λ (q : Text × Settings). IsToldEach q.0 q.1 (events_of (lines s.read)) ran.replies) at ran.each }
 
     -- one that a fault broke off
     broke_off : (begins : Globals → Type 0) → begins globals → name_at known.settings place ≡ name → (fault : RunFault)
         → ServesAs g left held old place input input' output output' (Err fault) new → OnlyEndsEarly g begins left held document name input input' output output' fault
-    broke_off begins of_kind is early.Unread never = absurd never
-    broke_off begins of_kind is (early.Settings fault) never = absurd never
-    broke_off begins of_kind is early.NoAccount never = absurd never
-    broke_off begins of_kind is (early.Store fault) never = absurd never
-    broke_off begins of_kind is early.Listen never = absurd never
-    broke_off begins of_kind is early.Accept never = absurd never
     broke_off begins of_kind is (early.Wire fault) s =
         ((globals, of_kind, record { known = known; old = old; new = new; by = by; opens = opens; place = place; its_name = is; serves = s.0 }), s.1)
+    broke_off begins of_kind is other never = absurd never
 
     pub over_memory : g.sound → globals ≡ empty → name_at known.settings place ≡ name → (result : Result (Unit {0}) RunFault)
         → ServesAs g left held old place input input' output output' result new → OnlyOver g g left held store.Memory name document input input' output output' result

@@ -34,13 +34,9 @@ status_of (Err fault) = status_of_fault fault
 
 -- a fault of a world on a port
 abbrev pub IsServeFault : RunFault → Type 0
-IsServeFault early.Unread = Unit {0}
-IsServeFault (early.Settings fault) = Unit {0}
 IsServeFault early.NoAccount = ⊥
-IsServeFault (early.Store fault) = Unit {0}
-IsServeFault early.Listen = Unit {0}
-IsServeFault early.Accept = Unit {0}
 IsServeFault (early.Wire fault) = ⊥
+IsServeFault other = Unit {0}
 
 -- a run by a document of settings, over a store in memory or in a file
 abbrev pub RunsOver : {M F I O : Type 0} → Ghosts M → Ghosts F → (I → Option Text) → (O → Option Text)

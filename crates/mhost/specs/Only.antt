@@ -38,33 +38,31 @@ pub record HasAccount (document name : Text) : Type 0 where
   pub account : Account
   pub named : account_named settings name ≡ Some account
 
--- **Over a store in memory.** The stream was read to its end, and the bytes written are the replies at the account's terminals of a history of
--- its events, by the document's settings and from no globals at all. Where it is whole they are those of the definitional interpreter, run
--- on the lines of the accounts that reach this one, and the grants between them, alone.
-pub record ToldAlone (document name : Text) (left left' held held' : Option Text) : Type 0 where
+-- The stream was read to its end, and the bytes written are these replies.
+pub record ToldReplies (document name : Text) (left left' held held' : Option Text) : Type 0 where
   pub known : HasAccount document name
   pub read : Text
   pub consumed : Consumes left left' read
   pub at_end : IsAtEnd left'
   pub replies : List Told
   pub appended : Appends held held' (told_text replies)
+
+-- **Over a store in memory.** The replies are those at the account's terminals of a history of the stream's events, by the document's
+-- settings and from no globals at all. Where it is whole they are those of the definitional interpreter, run on the lines of the accounts
+-- that reach this one, and the grants between them, alone.
+pub record ToldAlone (document name : Text) (left left' held held' : Option Text) : Type 0 where
+  pub told : ToldReplies document name left left' held held'
   pub whole : Bool
   pub after : transition.World
-  pub tells : Tells name known.settings (opening empty) (events_of (lines read)) replies whole after
+  pub tells : Tells name told.known.settings (opening empty) (events_of (lines told.read)) told.replies whole after
   pub alone :
       IsTrue whole →
-      replies ≡ told_to name known.settings (alone (reach known.settings name) known.settings (opening empty) (events_of (lines read)))
+      told.replies ≡ told_to name told.known.settings (alone (reach told.known.settings name) told.known.settings (opening empty) (events_of (lines told.read)))
 
--- Over a store in a file, whose content no contract tells: the bytes written are replies to the account's events, one each and in their
--- order.
+-- Over a store in a file, whose content no contract tells: the replies are to the account's events, one each and in their order.
 pub record ToldInForm (document name : Text) (left left' held held' : Option Text) : Type 0 where
-  pub known : HasAccount document name
-  pub read : Text
-  pub consumed : Consumes left left' read
-  pub at_end : IsAtEnd left'
-  pub replies : List Told
-  pub each : IsToldEach name known.settings (events_of (lines read)) replies
-  pub appended : Appends held held' (told_text replies)
+  pub told : ToldReplies document name left left' held held'
+  pub each : IsToldEach name told.known.settings (events_of (lines told.read)) told.replies
 
 -- ---- and one that ended early
 
@@ -91,44 +89,32 @@ BeginsSomehow globals = Unit {0}
 -- After one of the wire the run began with globals of this kind.
 abbrev pub OnlyEndsEarly : {S I O : Type 0} → Ghosts S → (Globals → Type 0) → (I → Option Text) → (O → Option Text) → Text → Text
     → Watched I → Watched I → Watched O → Watched O → RunFault → Type 0
-OnlyEndsEarly g begins left held document name input input' output output' early.Unread = ⊥
 OnlyEndsEarly g begins left held document name input input' output output' (early.Settings fault) =
     AreUntouched input input' output output' × ((fault ≡ settings_fault.Memory) ⊎ IsRefused document fault)
 OnlyEndsEarly g begins left held document name input input' output output' early.NoAccount =
     AreUntouched input input' output output' × ((settings : Settings) × IsRead document settings × (account_named settings name ≡ None))
 OnlyEndsEarly g begins left held document name input input' output output' (early.Store fault) =
     AreUntouched input input' output output' × HasAccount document name
-OnlyEndsEarly g begins left held document name input input' output output' early.Listen = ⊥
-OnlyEndsEarly g begins left held document name input input' output output' early.Accept = ⊥
 OnlyEndsEarly g begins left held document name input input' output output' (early.Wire fault) =
     ((globals : Globals) × begins globals
     × RunOnlyCutShort g document name globals (left (inner_of input)) (left (inner_of input')) (held (inner_of output)) (held (inner_of output')) fault)
     × DeviceFailed input input' output output' fault
+OnlyEndsEarly g begins left held document name input input' output output' other = ⊥
 
 -- a fault of a store in memory is none of rows that another program wrote
 abbrev pub FitsMemory : RunFault → Type 0
-FitsMemory early.Unread = Unit {0}
-FitsMemory (early.Settings fault) = Unit {0}
-FitsMemory early.NoAccount = Unit {0}
 FitsMemory (early.Store fault) = IsMemoryFault (early.Store fault)
-FitsMemory early.Listen = Unit {0}
-FitsMemory early.Accept = Unit {0}
-FitsMemory (early.Wire fault) = Unit {0}
+FitsMemory other = Unit {0}
 
 -- ---- in a world, by a document, by a file
 
 abbrev pub ServesAs : {S I O : Type 0} (g : Ghosts S) → (I → Option Text) → (O → Option Text) → World S g → ℕ → Watched I → Watched I → Watched O → Watched O → Result (Unit {0}) RunFault → World S g → Type 0
 ServesAs g left held old place input input' output output' (Ok done) new =
     (whole : Bool) × ServesOnly g old place (left (inner_of input)) (left (inner_of input')) (held (inner_of output)) (held (inner_of output')) (Ok whole) new
-ServesAs g left held old place input input' output output' (Err early.Unread) new = ⊥
-ServesAs g left held old place input input' output output' (Err (early.Settings fault)) new = ⊥
-ServesAs g left held old place input input' output output' (Err early.NoAccount) new = ⊥
-ServesAs g left held old place input input' output output' (Err (early.Store fault)) new = ⊥
-ServesAs g left held old place input input' output output' (Err early.Listen) new = ⊥
-ServesAs g left held old place input input' output output' (Err early.Accept) new = ⊥
 ServesAs g left held old place input input' output output' (Err (early.Wire fault)) new =
     ServesOnly g old place (left (inner_of input)) (left (inner_of input')) (held (inner_of output)) (held (inner_of output')) (Err fault) new
     × DeviceFailed input input' output output' fault
+ServesAs g left held old place input input' output output' (Err other) new = ⊥
 
 abbrev pub OnlyOver : {M F I O : Type 0} → Ghosts M → Ghosts F → (I → Option Text) → (O → Option Text)
     → Store → Text → Text → Watched I → Watched I → Watched O → Watched O → Result (Unit {0}) RunFault → Type 0

@@ -22,23 +22,8 @@ use Rattle.mwire.specs.declared.fault.WireFault.TheVariants.{Read, Write, Memory
 use Rattle.mhost.specs.declared.fault.RunFault.{RunFault}
 use Rattle.mhost.specs.declared.fault.RunFault.TheVariants as early
 
--- A stream was read to its end, and the bytes written are the replies of a history of its lines' events, by the document's settings
--- and from no globals at all. Behind the last line there are these globals.
-pub record StreamAnswered (document : Text) (left left' held held' : Option Text) (globals : Globals) : Type 0 where
-  pub settings : Settings
-  pub of_document : IsRead document settings
-  pub read : Text
-  pub consumed : Consumes left left' read
-  pub at_end : IsAtEnd left'
-  pub trace : List (Event × Reply)
-  pub events : map (λ e. e.0) trace ≡ events_of (lines read)
-  pub after : World
-  pub history : History settings (opening empty) trace after
-  pub appended : Appends held held' (answer_text (lines read) (map (λ e. e.1) trace))
-  pub last : globals ≡ after.shared.globals
-
--- A stream was read to its end, and the bytes written are a reply in form for each of its lines' events: what is known of a store whose
--- content no contract tells.
+-- A stream was read to its end, and the bytes written are a reply in form for each of its lines' events, by the document's settings: what
+-- is known of a store whose content no contract tells.
 pub record Followed (document : Text) (left left' held held' : Option Text) : Type 0 where
   pub settings : Settings
   pub of_document : IsRead document settings
@@ -48,6 +33,13 @@ pub record Followed (document : Text) (left left' held held' : Option Text) : Ty
   pub trace : List (Event × Reply)
   pub events : map (λ e. e.0) trace ≡ events_of (lines read)
   pub appended : Appends held held' (answer_text (lines read) (map (λ e. e.1) trace))
+
+-- And these replies are those of a history of the events, from no globals at all. Behind the last line there are these globals.
+pub record StreamAnswered (document : Text) (left left' held held' : Option Text) (globals : Globals) : Type 0 where
+  pub form : Followed document left left' held held'
+  pub after : World
+  pub history : History form.settings (opening empty) form.trace after
+  pub last : globals ≡ after.shared.globals
 
 -- A stream was answered up to a fault, by the document's settings and from these globals.
 pub record RunCutShort {S : Type 0} (g : Ghosts S) (document : Text) (globals : Globals) (left left' held held' : Option Text) (fault : WireFault) : Type 0 where
@@ -70,72 +62,47 @@ AreUntouched input input' output output' = (input' ≡ input) × (output' ≡ ou
 abbrev pub NoDocument : RunFault → Type 0
 NoDocument early.Unread = Unit {0}
 NoDocument (early.Settings fault) = fault ≡ settings_fault.Memory
-NoDocument early.NoAccount = ⊥
-NoDocument (early.Store fault) = ⊥
-NoDocument early.Listen = ⊥
-NoDocument early.Accept = ⊥
-NoDocument (early.Wire fault) = ⊥
+NoDocument other = ⊥
 
 -- why a document gives no settings
 abbrev pub NoSettings : Text → RunFault → Type 0
-NoSettings document early.Unread = ⊥
 NoSettings document (early.Settings fault) = (fault ≡ settings_fault.Memory) ⊎ IsRefused document fault
-NoSettings document early.NoAccount = ⊥
-NoSettings document (early.Store fault) = ⊥
-NoSettings document early.Listen = ⊥
-NoSettings document early.Accept = ⊥
-NoSettings document (early.Wire fault) = ⊥
+NoSettings document other = ⊥
 
 -- a fault of a store in a file
 abbrev pub IsStoreFault : RunFault → Type 0
-IsStoreFault early.Unread = ⊥
-IsStoreFault (early.Settings fault) = ⊥
-IsStoreFault early.NoAccount = ⊥
 IsStoreFault (early.Store fault) = Unit {0}
-IsStoreFault early.Listen = ⊥
-IsStoreFault early.Accept = ⊥
-IsStoreFault (early.Wire fault) = ⊥
+IsStoreFault other = ⊥
 
 -- a fault of a store in memory, which has no rows that could be refused
 abbrev pub IsMemoryFault : RunFault → Type 0
-IsMemoryFault early.Unread = ⊥
-IsMemoryFault (early.Settings fault) = ⊥
-IsMemoryFault early.NoAccount = ⊥
 IsMemoryFault (early.Store fault) = (fault ≢ opening_fault.BadKey) × (fault ≢ opening_fault.BadVersion)
-IsMemoryFault early.Listen = ⊥
-IsMemoryFault early.Accept = ⊥
-IsMemoryFault (early.Wire fault) = ⊥
+IsMemoryFault other = ⊥
 
 -- Why a run over a store in memory ended early, and what it had done. A fault of the settings comes first, one of the store next, both
 -- before the devices are asked for anything. After one of the wire the lines that were run are steps, from no globals at all: the store's
 -- type is sound.
 abbrev pub EndsEarly : {S I O : Type 0} → Ghosts S → (I → Option Text) → (O → Option Text) → Text → Watched I → Watched I → Watched O → Watched O → RunFault → Type 0
-EndsEarly g left held document input input' output output' early.Unread = ⊥
 EndsEarly g left held document input input' output output' (early.Settings fault) =
     AreUntouched input input' output output' × ((fault ≡ settings_fault.Memory) ⊎ IsRefused document fault)
-EndsEarly g left held document input input' output output' early.NoAccount = ⊥
 EndsEarly g left held document input input' output output' (early.Store fault) =
     AreUntouched input input' output output' × ((settings : Settings) × IsRead document settings) × IsMemoryFault (early.Store fault)
-EndsEarly g left held document input input' output output' early.Listen = ⊥
-EndsEarly g left held document input input' output output' early.Accept = ⊥
 EndsEarly g left held document input input' output output' (early.Wire fault) =
     g.sound
     × RunCutShort g document empty (left (inner_of input)) (left (inner_of input')) (held (inner_of output)) (held (inner_of output')) fault
     × DeviceFailed input input' output output' fault
+EndsEarly g left held document input input' output output' other = ⊥
 
 -- the same over a store in a file, which begins with some globals
 abbrev pub EndsEarlyOverFile : {S I O : Type 0} → Ghosts S → (I → Option Text) → (O → Option Text) → Text → Watched I → Watched I → Watched O → Watched O → RunFault → Type 0
-EndsEarlyOverFile g left held document input input' output output' early.Unread = ⊥
 EndsEarlyOverFile g left held document input input' output output' (early.Settings fault) =
     AreUntouched input input' output output' × ((fault ≡ settings_fault.Memory) ⊎ IsRefused document fault)
-EndsEarlyOverFile g left held document input input' output output' early.NoAccount = ⊥
 EndsEarlyOverFile g left held document input input' output output' (early.Store fault) =
     AreUntouched input input' output output' × ((settings : Settings) × IsRead document settings)
-EndsEarlyOverFile g left held document input input' output output' early.Listen = ⊥
-EndsEarlyOverFile g left held document input input' output output' early.Accept = ⊥
 EndsEarlyOverFile g left held document input input' output output' (early.Wire fault) =
     ((globals : Globals) × RunCutShort g document globals (left (inner_of input)) (left (inner_of input')) (held (inner_of output)) (held (inner_of output')) fault)
     × DeviceFailed input input' output output' fault
+EndsEarlyOverFile g left held document input input' output output' other = ⊥
 
 abbrev pub without_value : {V : Type 0} → Result V WireFault → Result (Unit {0}) WireFault
 without_value (Ok v) = Ok tt

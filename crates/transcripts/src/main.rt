@@ -60,6 +60,7 @@ fn play(rt: &HostRuntime, block: &Block, out: &mut Vec<u8>) -> anyhow::Result<()
         "database" => store_cases::play_database(alloc, cases, out),
         "files" => store_cases::play_files(rt, cases, out),
         "migration_stops" => store_cases::play_migration_stops(alloc, cases, out),
+        "reached" => store_cases::play_reached(alloc, cases, out),
         "checksums" => timings::checksums(rt, cases, out),
         kind => play_lines(rt, kind, cases, out),
     }

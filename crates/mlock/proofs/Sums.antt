@@ -100,9 +100,6 @@ squares_of t u = by_order (t - u) (u - t) refl refl
         subst (λ v. v * v + t * t ≡ 2 * (t * v) + (suc y * suc y + x * x)) (sym is)
         (subst (λ z. (t + suc y) * (t + suc y) + t * t ≡ 2 * (t * (t + suc y)) + (suc y * suc y + z * z)) (sym none) (let s = spread t (suc y) in omega (arith, s)))
 
-no_square : (x : ℕ) → x * x ≡ 0 → x ≡ 0
-no_square x h = grind arith
-
 not_apart : (t u : ℕ) → apart t u ≡ 0 → u ≡ t
 not_apart t u e = grind arith
 

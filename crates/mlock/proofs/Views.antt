@@ -1,6 +1,6 @@
 -- SPDX-License-Identifier: Apache-2.0
 -- What calls of the map of holdings do to the locks that it holds.
-use Rattle.mlock.proofs.LockWords.{Entry, ◌≡◌, ◌<◌, ◌≤◌, ℕ, Bool, true, false, cond, not, ◌&&◌, List, [], ◌∷◌, Option, Some, None, map, nat_eq, length, refl, sym, ap, ◌∙◌, subst, arith, Ordering, insert, remove, empty, retain_keys, get-insert, get-remove, get-from_entries, get-retain_keys, get-empty, same_map, find, AllByRecursion, IsDistinct, lookup, keys_of, is_eq, nat_cmp, eq_by_cmp, eq_by_cmp_equiv, nat_tests, place_from_lookup, slice_get_within, none-some, IndexMap, IsUnique, Updates, LockName, Held, held, Locks, lock_name_cmp, held_cmp, released, count, max_count, lock_name_cmp_total, held_cmp_total, held_cmp_exact, Holding, lock_of, locks_of, own_count, AreCounts, name_eq}
+use Rattle.mlock.proofs.LockWords.{Entry, ◌≡◌, ◌<◌, ◌≤◌, ℕ, Bool, true, false, cond, not, ◌&&◌, List, [], ◌∷◌, Option, Some, None, map, nat_eq, length, refl, sym, ap, ◌∙◌, subst, arith, Ordering, insert, remove, empty, retain_keys, get-insert, get-remove, get-from_entries, get-retain_keys, get-empty, same_map, find, AllByRecursion, IsDistinct, lookup, keys_of, is_eq, eq_by_cmp, eq_by_cmp_equiv, nat_tests, place_from_lookup, slice_get_within, none-some, IndexMap, IsUnique, Updates, LockName, Held, held, Locks, lock_name_cmp, held_cmp, released, count, max_count, lock_name_cmp_total, held_cmp_total, held_cmp_exact, Holding, lock_of, locks_of, own_count, AreCounts, name_eq}
 use Rattle.std.specs.Prelude.{option_map, slice_get, ⊤}
 use Rattle.std.specs.FinMap.{get}
 use Rattle.std.proofs.lemmas.Map.Keys.{IsDistinct-head, IsDistinct-tail}
@@ -13,9 +13,6 @@ yes t u e = grind (arith, nat_tests)
 
 pub no : (t u : ℕ) → (t ≡ u → ⊥) → nat_eq t u ≡ false
 no t u e = grind (arith, nat_tests)
-
-same_number : (t u : ℕ) → is_eq (nat_cmp t u) ≡ nat_eq u t
-same_number t u = grind (arith, nat_tests)
 
 -- whether two locks are one, by their names and terminals
 tied : (o : Ordering) (q h : Held) → lock_name_cmp q.name h.name ≡ o → eq_by_cmp held_cmp q h ≡ (is_eq o && nat_eq h.terminal q.terminal)

@@ -3,3 +3,4 @@ pub mod Holdings
 pub mod Above
 pub mod Tallies
 pub mod Hashes
+pub mod Words

@@ -5,9 +5,7 @@ ghost use Rattle.std.specs.Hash as fed;
 ghost use Rattle.std.specs.Cmp.{partial_equiv_from_equiv, partial_order_from_total, eq_by_cmp_equiv};
 ghost use Rattle.std.specs.Ordering.{eq_by_cmp};
 ghost use Rattle.mlock.specs.Above.{IsAbove};
-ghost use Rattle.mspec.specs.KeyBytes.{key_bytes, IsStored};
-ghost use Rattle.mspec.specs.LockConflict.{lock_name_cmp};
-ghost use Rattle.mspec.specs.Number.{significant_digits};
+ghost use Rattle.mlock.specs.Words.{IsStored, key_bytes, lock_name_cmp, significant_digits};
 ghost use Rattle.mspec.proofs.LockOrders.{lock_name_cmp_total};
 ghost use Rattle.mlock.specs.Hashes.{alike};
 

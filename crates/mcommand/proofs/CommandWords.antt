@@ -1,7 +1,7 @@
 -- SPDX-License-Identifier: Apache-2.0
 -- The words that most proofs of this crate have, in one place.
-pub use Rattle.std.proofs.Common.{Bool, Err, Global, List, MatchResult, MutBor, None, Ok, Option, Result, Some, Vec, [], ap, append_assoc, arith, cond, drop, false, get_or, length, map, option_map, refl, subst, sym, true, ℕ, ◌++◌, ◌+ℤ◌, ◌+◌, ◌<◌, ◌∙◌, ◌∷◌, ◌≡◌, ◌≤◌}
-pub use Rattle.std.specs.Prelude.{if◌then◌else◌, ◌&&◌}
+pub use Rattle.std.proofs.Common.{Bool, Err, Global, List, MatchResult, MutBor, None, Ok, Option, Result, Some, Vec, [], ap, append_assoc, arith, cond, drop, false, get_or, length, map, option_map, refl, subst, sym, true, ℕ, ℤ, ◌++◌, ◌+ℤ◌, ◌+◌, ◌<◌, ◌∙◌, ◌∷◌, ◌≡◌, ◌≤◌}
+pub use Rattle.std.specs.Prelude.{if◌then◌else◌, ℤ, ◌&&◌}
 pub use Rattle.std.specs.Result.{IsErr, IsErrAnd}
 pub use Rattle.std.specs.Vec.Iter.{into_iter_items, into_iter_steps}
 pub use Rattle.meval.specs.Acts.{lock_name_act, put_act, truth}
@@ -15,6 +15,7 @@ pub use Rattle.mmeaning.specs.Operators.{as_truth, outcome}
 pub use Rattle.mmeaning.specs.Variables.{Evaluated, Place, at_local, kill_at, named_lock, of_local, put_at, read_or}
 pub use Rattle.mmeaning.specs.Yields.{Yields}
 pub use Rattle.mnum.specs.Num.{units}
+pub use Rattle.mnum.specs.declared.num.Num.{Num}
 pub use Rattle.moperator.specs.Codes.{fault_of}
 pub use Rattle.moperator.specs.declared.code.Code.{Code}
 pub use Rattle.moperator.specs.declared.code.Code.TheVariants.{Zmem}
@@ -28,6 +29,6 @@ pub use Rattle.mtree.specs.Tree.{condition_tree, entry_tree, expr_tree, kind_tre
 pub use Rattle.mcommand.specs.Does.{Does, DoesAt, KeepsLoans, here_of}
 pub use Rattle.mcommand.specs.LockNames.{MayTake}
 pub use Rattle.mcommand.specs.Prepared.{prepared_view}
-pub use Rattle.mcommand.specs.ForParameters.{added, course_view}
+pub use Rattle.mcommand.specs.ForParameters.{added, added_within, begun_within, course_view}
 pub use Rattle.mcommand.specs.declared.parts.Parts.{Parts}
 pub use Rattle.mcommand.specs.declared.set.Prepared.{Prepared}

@@ -1,7 +1,6 @@
 -- SPDX-License-Identifier: Apache-2.0
 -- Targets of SET.
-use Rattle.mcommand.proofs.CommandWords.{◌≡◌, List, [], ◌∷◌, Option, Result, Ok, Err, refl, sym, subst, IsErr, IsErrAnd, set_piece_of, Text, Act, ◌>>=◌, ◌>>◌, give, TargetTree, ExprTree, one, several, variable, local, exprs, no_exprs, outcome, Evaluated, Place, at_local, of_local, read_or, put_at, value, values, evaluated, Yields, Answers, Ghosts, fault_of, Code, Zmem, put_act, Parts, Prepared, Does, prepared_view}
-use Rattle.std.specs.Prelude.{ℤ}
+use Rattle.mcommand.proofs.CommandWords.{◌≡◌, List, [], ◌∷◌, Option, Result, Ok, Err, refl, sym, subst, IsErr, IsErrAnd, set_piece_of, Text, Act, ◌>>=◌, ◌>>◌, give, TargetTree, ExprTree, one, several, variable, local, exprs, no_exprs, outcome, Evaluated, Place, at_local, of_local, read_or, put_at, value, values, evaluated, Yields, Answers, Ghosts, fault_of, Code, Zmem, put_act, Parts, Prepared, Does, prepared_view, ℤ}
 use Rattle.mspec.specs.Code as spec
 use Rattle.mmeaning.specs.Functions.{as_whole_or_none}
 use Rattle.mmeaning.specs.LineMeaning as meaning

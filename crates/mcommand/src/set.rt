@@ -78,6 +78,7 @@ impl<'a, S: NodeStore> Parts<'a, S> {
     }
 
     // What targets evaluate, one after another.
+    #[tactic(auto, using(crate::proofs::Calls::keeps_on, crate::proofs::Calls::keeps_evaluated))]
     fn all_prepared<'t>(
         &mut self,
         alloc: Global,
@@ -134,6 +135,7 @@ impl<'a, S: NodeStore> Parts<'a, S> {
     }
 
     // Gives each target a value.
+    #[tactic(auto, using(crate::proofs::Calls::keeps_on, crate::proofs::Calls::keeps_evaluated))]
     fn assign_all(&mut self, alloc: Global, value: &Value, all: Vec<Prepared>) -> Result<(), Code>
         ensures loans { KeepsLoans self.old self.new }
         ensures fewer { self.new.eval.steps ≤ self.old.eval.steps }

@@ -1,8 +1,6 @@
 -- SPDX-License-Identifier: Apache-2.0
-use Rattle.mcommand.proofs.CommandWords.{◌≡◌, Bool, true, Some, None, Result, Ok, Err, MatchResult, refl, sym, give, units}
-use Rattle.std.proofs.Common.{ℤ}
+use Rattle.mcommand.proofs.CommandWords.{◌≡◌, Bool, true, Some, None, Result, Ok, Err, MatchResult, refl, sym, give, units, ℤ, Num}
 use Rattle.mspec.specs.Number.{sum_of}
-use Rattle.mnum.specs.declared.num.Num.{Num}
 use Rattle.mnum.specs.declared.num.Over.{Over}
 use Rattle.moperator.specs.Outcomes.{outcome_units}
 use Rattle.mcommand.proofs.Calls.{does_then, does_stopped, does_gives, does_evaluated, does_yielded}

@@ -1,6 +1,5 @@
 -- SPDX-License-Identifier: Apache-2.0
-use Rattle.mcommand.proofs.CommandWords.{units, added}
-use Rattle.mcommand.specs.ForParameters.{added_within}
+use Rattle.mcommand.proofs.CommandWords.{units, added, added_within}
 use Rattle.mcommand.proofs.Calls.{does_then, does_stopped, does_evaluated}
 use Rattle.mcommand.proofs.parts.Parts.advance_parameter.Goals as goal
 

@@ -12,20 +12,11 @@ loop-target-init g c = record {
   leads = λ r p k. rw c.in_ok-all.ensures.items at k;
 }
 
-pub returns-in_err-prepared-clause-loans : goal.returns-in_err-prepared-clause-loans
-returns-in_err-prepared-clause-loans g c = keeps_on c.loop-target.invariant.loans c.in_err-prepared.ensures.loans
-
-pub returns-in_err-prepared-clause-fewer : goal.returns-in_err-prepared-clause-fewer
-returns-in_err-prepared-clause-fewer g c = omega arith
-
 pub returns-in_err-prepared-clause-does : goal.returns-in_err-prepared-clause-does
 returns-in_err-prepared-clause-does g c =
     c.loop-target.invariant.leads _ _
     (item_stopped meaning.all_prepared meaning.prepared target_tree (λ i ps t ts. refl) (λ (ps : Vec Prepared Global). map prepared_view ps.items) c.args.targets.now c.loop-target.target-index c.target-item.result _ c.loop-target-test.true c.target-item.is
     c.in_err-prepared.ensures.does c.from_residual-in_err-prepared.ensures)
-
-pub returns-in_err-push-clause-loans : goal.returns-in_err-push-clause-loans
-returns-in_err-push-clause-loans g c = keeps_on c.loop-target.invariant.loans c.in_ok-prepared.ensures.loans
 
 pub returns-in_err-push-clause-does : goal.returns-in_err-push-clause-does
 returns-in_err-push-clause-does g c =

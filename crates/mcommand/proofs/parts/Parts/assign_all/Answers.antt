@@ -11,20 +11,11 @@ loop-prepared-init g c = record {
   leads = λ rest e r p k. rw e k;
 }
 
-pub returns-in_err-copy-clause-loans : goal.returns-in_err-copy-clause-loans
-returns-in_err-copy-clause-loans g c = c.loop-prepared.invariant.loans
-
-pub returns-in_err-copy-clause-fewer : goal.returns-in_err-copy-clause-fewer
-returns-in_err-copy-clause-fewer g c = c.loop-prepared.invariant.fewer
-
 pub returns-in_err-copy-clause-does : goal.returns-in_err-copy-clause-does
 returns-in_err-copy-clause-does g c =
     let made : into_iter_items c.into_iter-prepared-iterator.result ≡ c.args.all.items = c.into_iter-prepared-iterator.ensures.into_iter_gives.0 in
     let front = taken_front c.into_iter-prepared-iterator.result c.loop-prepared.yielded c.loop-prepared.prepared-iterator c.loop-prepared.yielded_by in
     c.loop-prepared.invariant.leads (into_iter_items c.loop-prepared.prepared-iterator) (sym made ∙ front) _ _ (does_wanting _ _ _ c.from_residual.ensures refl refl)
-
-pub returns-in_err-assign-clause-loans : goal.returns-in_err-assign-clause-loans
-returns-in_err-assign-clause-loans g c = keeps_on c.loop-prepared.invariant.loans c.in_err-assign.ensures.loans
 
 pub returns-in_err-assign-clause-does : goal.returns-in_err-assign-clause-does
 returns-in_err-assign-clause-does g c =

@@ -1,6 +1,6 @@
 -- SPDX-License-Identifier: Apache-2.0
 use Rattle.mcommand.proofs.CommandWords.{refl, none_left}
-use Rattle.mcommand.proofs.Calls.{does_gives, keeps_itself, keeps_on}
+use Rattle.mcommand.proofs.Calls.{does_gives, keeps_itself}
 use Rattle.mcommand.proofs.Locking.{does_give_back, next_given}
 use Rattle.mcommand.proofs.parts.Parts.give_back_all.Goals as goal
 

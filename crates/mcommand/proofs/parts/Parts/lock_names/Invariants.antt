@@ -1,5 +1,5 @@
 -- SPDX-License-Identifier: Apache-2.0
-use Rattle.mcommand.proofs.CommandWords.{◌≡◌, ◌≤◌, [], map, drop, Result, Vec, Global, reference_tree, Code, standing_of, Parts, Does, KeepsLoans, MayTake}
+use Rattle.mcommand.proofs.CommandWords.{◌≤◌, [], map, drop, Result, Vec, Global, reference_tree, Code, standing_of, Parts, Does, KeepsLoans, MayTake}
 use Rattle.mmeaning.specs.Locking as meaning
 use Rattle.mlock.specs.declared.name.LockName.{LockName}
 use Rattle.mcommand.proofs.parts.Parts.lock_names.Given as goal

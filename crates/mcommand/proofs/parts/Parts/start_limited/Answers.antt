@@ -1,6 +1,5 @@
 -- SPDX-License-Identifier: Apache-2.0
-use Rattle.mcommand.proofs.CommandWords.{option_map, give, units, course_view}
-use Rattle.mcommand.specs.ForParameters.{begun_within}
+use Rattle.mcommand.proofs.CommandWords.{option_map, give, units, course_view, begun_within}
 use Rattle.mcommand.proofs.Calls.{does_then, does_stopped, does_gives, does_evaluated}
 use Rattle.mcommand.proofs.parts.Parts.start_limited.Goals as goal
 

@@ -99,8 +99,7 @@ in_found [] all h is = absurd is
 in_found (e ∷ es) all h is = by_place (in_found es all.1 h) is
   where
     later_too : (b : Bool) (x : Option Text) → IsSome x → IsSome (cond b (Some e.1) x)
-    later_too true x some = refl
-    later_too false x some = some
+    later_too b x h = grind arith
 
     by_place : (In (keys_in es) h → IsOf h es) → (h ≡ key e.0) ⊎ In (keys_in es) h → IsOf h (e ∷ es)
     by_place rest (inl same) =

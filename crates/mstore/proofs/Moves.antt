@@ -1,6 +1,6 @@
 -- SPDX-License-Identifier: Apache-2.0
 -- Rows that go from their keys by fifteen digits to those of this version.
-use Rattle.mstore.proofs.Words.{arith, ◌≡◌, ◌≢◌, ◌⊎◌, ℕ, suc, true, List, [], ◌∷◌, Option, Some, None, sym, ap, subst, ◌∙◌, inl, inr, drop-cons, ◌+◌, ◌<◌, length, drop, get_or, add-one, cases_Bool, slice_cmp, Value, Blob, Row, column, Has, same_bytes, bytes_eq_refl, has_at, State, Node, significant_digits, key_bytes, IsStored, node_of, keys_are_read, IsKeyBy, old_digits, Content, content, MovesKey, MovesRow, IsMoving, ShowContent, true≢false}
+use Rattle.mstore.proofs.Words.{arith, ◌≡◌, ◌≢◌, ◌⊎◌, ℕ, suc, true, List, [], ◌∷◌, Option, Some, None, sym, ap, subst, ◌∙◌, inl, inr, drop-cons, ◌+◌, ◌<◌, length, drop, get_or, add-one, cases_Bool, slice_cmp, Blob, Row, Has, same_bytes, bytes_eq_refl, has_at, State, Node, significant_digits, key_bytes, IsStored, node_of, keys_are_read, IsKeyBy, old_digits, Content, content, MovesKey, MovesRow, IsMoving, ShowContent, true≢false}
 use Rattle.std.proofs.Common.{is_eq, nat_cmp}
 
 -- ---- keys of one node, or of two
@@ -14,12 +14,6 @@ same_or a b = elim (cases_Bool (is_eq (slice_cmp nat_cmp a b))) [
 -- keys by however many digits belong to one node
 pub one_node : (few many : ℕ) (n m : Node) → key_bytes few n ≡ key_bytes many m → n ≡ m
 one_node few many n m e = sym (keys_are_read few n) ∙ ap node_of e ∙ keys_are_read many m
-
-same_text : (a b : List ℕ) → ◌≡◌ {A = Value} (Blob a) (Blob b) → a ≡ b
-same_text a b e = cc
-
-shown_key : (k v l w : List ℕ) → ◌≡◌ {A = Row} (Blob k ∷ Blob v ∷ []) (Blob l ∷ Blob w ∷ []) → k ≡ l
-shown_key k v l w e = same_text k l (ap (λ (r : Row). column r 0) e)
 
 none_some : (b : List ℕ) → ◌≡◌ {A = Option (List ℕ)} None (Some b) → ⊥
 none_some b e = cc

@@ -1,6 +1,6 @@
 -- SPDX-License-Identifier: Apache-2.0
 -- A store of version 1 whose rows were read.
-use Rattle.mstore.proofs.Words.{arith, Result, OnErr, List, ap, subst, sym, Row, column, Database, Held, state, State, IsLive, Has, Ghosts, old_digits, AreRows, IsInFormBy, IsMemory, IsIdle, IsCalm, IsUntouched, IsMigrated, HasVersion, old_version, Stays, ShowsAll, ShowsNodesBy, IsOldCalm, IsOldStore}
+use Rattle.mstore.proofs.Words.{arith, Result, OnErr, List, ap, subst, sym, Row, column, Database, Held, state, State, IsLive, Ghosts, old_digits, AreRows, IsInFormBy, IsMemory, IsIdle, IsCalm, IsUntouched, IsMigrated, HasVersion, old_version, Stays, ShowsAll, ShowsNodesBy, IsOldCalm, IsOldStore}
 use Rattle.mstore.proofs.Adopts.{nodes_from}
 use Rattle.mstore.proofs.States.{stays_calm}
 
@@ -15,10 +15,7 @@ old_store g old mid quiet was stays nodes = record {
 }
 
 pub shown_still : (old mid : State) (rows : List Row) → Stays old mid → ShowsAll old rows → ShowsAll mid rows
-shown_still old mid rows stays all = record {
-  each = λ r has. all.each r (subst (λ (d : Database). Has (d.trees 0) r) stays.same has);
-  only = λ row has. let it = all.only row has in (it.0, subst (λ (d : Database). Has (d.trees 0) it.0) (sym stays.same) it.1, it.2);
-}
+shown_still old mid rows stays all = grind arith
 
 pub migrated_from : (old mid new : State) → Stays old mid → IsMigrated mid new → IsMigrated old new
 migrated_from old mid new stays m = grind arith

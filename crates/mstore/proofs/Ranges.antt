@@ -1,6 +1,6 @@
 -- SPDX-License-Identifier: Apache-2.0
 -- What stands from a key on and before the bytes that come next after it: the key alone.
-use Rattle.mstore.proofs.Words.{◌≡◌, ◌≢◌, ◌⊎◌, ◌<◌, ℕ, true, false, List, [], ◌∷◌, ◌++◌, refl, sym, ap, ap₂, subst, ◌∙◌, inl, inr, arith, Equal, Greater, and_parts, and_from, false_from_ne_true, cases_order, nat_cmp_is, slice_cmp, ordering_then, Content, in_bounds, PutsAt, RemovesWithin, MovesKey, true≢false, is_lt, is_le}
+use Rattle.mstore.proofs.Words.{◌≡◌, ◌≢◌, ◌⊎◌, ◌<◌, ℕ, true, false, List, [], ◌∷◌, ◌++◌, refl, sym, ap, subst, ◌∙◌, inl, inr, arith, Equal, Greater, and_parts, and_from, false_from_ne_true, cases_order, nat_cmp_is, slice_cmp, ordering_then, Content, in_bounds, PutsAt, RemovesWithin, MovesKey, true≢false, is_lt, is_le}
 use Rattle.std.proofs.Common.{nat_cmp}
 use Rattle.mspec.proofs.KeyRanges.{same_bytes}
 
@@ -21,12 +21,7 @@ alone (a ∷ k) [] from below = absurd (cc)
 alone (a ∷ k) (b ∷ q) from below = by_first (alone k q) (cases_order a b)
   where
     by_first : (is_le (slice_cmp nat_cmp k q) ≡ true → is_lt (slice_cmp nat_cmp q (k ++ 0 ∷ [])) ≡ true → q ≡ k) → (a ≡ b) ⊎ ((a < b) ⊎ (b < a)) → b ∷ q ≡ a ∷ k
-    by_first rest (inl same) =
-        let first = subst (λ o. is_le (ordering_then o (slice_cmp nat_cmp k q)) ≡ true) (sym (nat_cmp_is a b Equal same)) from in
-        let second = subst (λ o. is_lt (ordering_then o (slice_cmp nat_cmp q (k ++ 0 ∷ []))) ≡ true) (sym (nat_cmp_is b a Equal (sym same))) below in
-        ap₂ (λ x xs. x ∷ xs) (sym same) (rest first second)
-    by_first rest (inr (inl less)) = absurd (true≢false (sym (subst (λ o. is_lt (ordering_then o (slice_cmp nat_cmp q (k ++ 0 ∷ []))) ≡ true) (sym (nat_cmp_is b a Greater less)) below)))
-    by_first rest (inr (inr more)) = absurd (true≢false (sym (subst (λ o. is_le (ordering_then o (slice_cmp nat_cmp k q)) ≡ true) (sym (nat_cmp_is a b Greater more)) from)))
+    by_first h e = grind arith
 
 pub before_next : (k : List ℕ) → is_lt (slice_cmp nat_cmp k (k ++ 0 ∷ [])) ≡ true
 before_next [] = refl

@@ -1,6 +1,6 @@
 -- SPDX-License-Identifier: Apache-2.0
 -- What a statement leaves, whatever became of it.
-use Rattle.mstore.proofs.Words.{arith, ◌≡◌, ◌≢◌, ℕ, false, List, [], Option, Some, None, Result, Ok, Err, IsTrue, sym, ap, subst, ◌∙◌, inl, inr, cases_Bool, Row, Command, Database, RefusesToRead, Error, QueryReturnedNoRows, State, IsUnchanged, IsRolledBack, FailsToShow, Executes, RunsCommand, ShowsRows, store_error, shows_rows, IsPlain, StoreError, OutOfMemory, Io, Corrupt, Full, Broken, Unstorable, understood, IsNotRun, FailsToQuery, QueriesRow, ExecutesIn, Shown, IsIdle, IsCalm, Stays, IsUntouched, Gives, IfOk, OnErr, OnOk, Statement, is_ok, schema, sql}
+use Rattle.mstore.proofs.Words.{arith, ◌≡◌, ℕ, false, List, [], Option, Some, None, Result, Ok, Err, IsTrue, sym, ap, subst, ◌∙◌, inl, inr, cases_Bool, Row, Command, Database, RefusesToRead, Error, QueryReturnedNoRows, State, IsUnchanged, FailsToShow, Executes, RunsCommand, ShowsRows, shows_rows, IsPlain, understood, IsNotRun, FailsToQuery, QueriesRow, ExecutesIn, Shown, IsIdle, IsCalm, Stays, IsUntouched, Gives, IfOk, OnErr, OnOk, Statement, is_ok, schema, sql}
 use Rattle.mstore.proofs.Texts.{Asks}
 
 pub stays_calm : (old new : State) → IsCalm old → Stays old new → IsCalm new
@@ -15,24 +15,14 @@ untouched old new was k = record { now = k.same; committed = sym k.idle.settled 
 
 module _ (old new : State) (was : IsIdle old) (is_open : IsTrue new.is_open) where
   pub unchanged_stays : IsUnchanged old new → Stays old new
-  unchanged_stays h = record {
-    idle = record { autocommit = h.0.mode ∙ was.autocommit; settled = h.0.now_is ∙ was.settled ∙ sym h.0.committed_is };
-    same = h.0.now_is;
-  }
-
-  pub undone_stays : IsRolledBack old new → Stays old new
-  undone_stays h =
-      let back = h.undone is_open in
-      record { idle = record { autocommit = h.autocommit; settled = back.0 ∙ sym back.1 }; same = back.0 ∙ sym was.settled }
+  unchanged_stays h = grind arith
 
   pub not_run_stays : (sql : List ℕ) (params : Row) (e : Error) → IsNotRun old new sql params e → Stays old new
   unfolding IsNotRun
-  not_run_stays sql params e (inl h) = unchanged_stays h.1
-  not_run_stays sql params e (inr h) = undone_stays h.3
+  not_run_stays sql params e h = grind arith
 
   command_stays : (sql : List ℕ) (c : _) (params : Row) (e : Error) → RunsCommand old new sql c params (Err e) → Stays old new
-  command_stays sql c params e (inl h) = unchanged_stays h.1
-  command_stays sql c params e (inr h) = undone_stays h.3
+  command_stays sql c params e h = grind arith
 
   pub failed_execute_stays : (sql : List ℕ) (params : Row) (e : Error) → Executes sql params old new (Err e) → Stays old new
   unfolding ExecutesIn
@@ -43,8 +33,7 @@ module _ (old new : State) (was : IsIdle old) (is_open : IsTrue new.is_open) whe
   ]
 
   show_stays : (sql : List ℕ) (c : _) (params : Row) (e : Error) (o : _) → FailsToShow old new sql c params e o → Stays old new
-  show_stays sql c params e None h = unchanged_stays h.3
-  show_stays sql c params e (Some what) h = command_stays sql c params e h
+  show_stays sql c params e o h = grind arith
 
   pub failed_query_stays : (sql : List ℕ) (params : Row) (e : Error) → FailsToQuery sql params old new e → Stays old new
   unfolding FailsToQuery
@@ -52,8 +41,7 @@ module _ (old new : State) (was : IsIdle old) (is_open : IsTrue new.is_open) whe
   failed_query_stays sql params e (inr h) = show_stays sql h.0 _ e _ h.2
 
   rows_stay : (sql : List ℕ) (c : _) (params : Row) (rows : List Row) (o : _) → o ≡ None → ShowsRows old new sql c params rows o → Stays old new
-  rows_stay sql c params rows None e h = unchanged_stays h.3
-  rows_stay sql c params rows (Some what) e h = absurd cc
+  rows_stay sql c params rows o h e = grind arith
 
   pub shown_stays : (sql : List ℕ) (params : Row) (rows : List Row) → IsPlain (understood old.now.schema sql) → Shown sql params old new rows → Stays old new
   unfolding Shown
@@ -65,15 +53,6 @@ module _ (old new : State) (was : IsIdle old) (is_open : IsTrue new.is_open) whe
   query_row_stays sql params (Ok row) plain (inr h) = shown_stays sql params h.0 plain h.1
   query_row_stays sql params (Err e) plain (inl h) = failed_query_stays sql params e h
   query_row_stays sql params (Err e) plain (inr h) = shown_stays sql params [] plain h.1
-
--- a failure has a name of its own
-store_error_is : (cause : StoreError) → store_error cause ≢ QueryReturnedNoRows
-store_error_is OutOfMemory e = absurd cc
-store_error_is Io e = absurd cc
-store_error_is Corrupt e = absurd cc
-store_error_is Full e = absurd cc
-store_error_is Broken e = absurd cc
-store_error_is Unstorable e = absurd cc
 
 refusal_is : (limit : Option ℕ) (command : Command) (db : Database) (params : Row) → RefusesToRead limit command db params QueryReturnedNoRows → ⊥
 refusal_is limit command db params h = grind arith

@@ -1,6 +1,6 @@
 -- SPDX-License-Identifier: Apache-2.0
 -- What `prepare` says of a statement that the columns do not take.
-use Rattle.mstore.proofs.Words.{arith, ◌≡◌, ◌≢◌, ℕ, List, [], Result, Ok, Err, IsTrue, IfOk, IfErr, Row, Error, SqlInputError, State, IsUnchanged, store_error, StoreError, OutOfMemory, Io, Corrupt, Full, Broken, Unstorable, understood, IsNotRun, IsIdle, Stays}
+use Rattle.mstore.proofs.Words.{arith, ◌≡◌, ℕ, List, [], Result, Ok, Err, IsTrue, IfOk, IfErr, Row, Error, SqlInputError, State, IsUnchanged, understood, IsNotRun, IsIdle, Stays}
 use Rattle.sqlite_resolve.specs.declared.error.CompileError.{CompileError}
 use Rattle.mstore.proofs.States.{unchanged_stays, not_run_stays}
 
@@ -8,14 +8,6 @@ pub prepare_stays : {A : Type 0} (Is : A → Type 0) (old new : State) (sql : Li
     → IfErr r (λ e. (params : Row) → IsNotRun old new sql params e) → Stays old new
 prepare_stays Is old new sql (Ok s) idle is_open ok err = unchanged_stays old new idle is_open ok.1
 prepare_stays Is old new sql (Err e) idle is_open ok err = not_run_stays old new idle is_open sql [] e (err [])
-
-no_fault_of_store : (cause : StoreError) (fault : CompileError) → store_error cause ≢ SqlInputError fault
-no_fault_of_store OutOfMemory fault e = absurd cc
-no_fault_of_store Io fault e = absurd cc
-no_fault_of_store Corrupt fault e = absurd cc
-no_fault_of_store Full fault e = absurd cc
-no_fault_of_store Broken fault e = absurd cc
-no_fault_of_store Unstorable fault e = absurd cc
 
 pub not_taken : (old new : State) (sql : List ℕ) (fault : CompileError) → IsNotRun old new sql [] (SqlInputError fault) → (it : CompileError) × (understood old.now.schema sql ≡ Err it)
 unfolding IsNotRun

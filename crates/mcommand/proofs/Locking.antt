@@ -1,6 +1,6 @@
 -- SPDX-License-Identifier: Apache-2.0
 -- What LOCK asks of the locks.
-use Rattle.mcommand.proofs.CommandWords.{◌≡◌, ℕ, ◌+◌, ◌<◌, Bool, true, false, List, [], ◌∷◌, ◌++◌, Some, None, MutBor, Result, Ok, length, drop, get_or, refl, sym, ap, ◌∙◌, subst, if◌then◌else◌, ◌&&◌, Op, Answer, Take, Give_back, Release, Act, ◌>>=◌, ask, next_item, ReferenceTree, named_lock, Inside, evaluated, asked, assoc, Ghosts, Code, lock_name_act, standing_of, Parts, Does, here_of, MayTake}
+use Rattle.mcommand.proofs.CommandWords.{◌≡◌, ℕ, ◌+◌, ◌<◌, Bool, true, false, List, [], ◌∷◌, ◌++◌, Some, None, MutBor, Result, Ok, length, drop, get_or, refl, sym, ap, ◌∙◌, subst, if◌then◌else◌, ◌&&◌, Op, Answer, Take, Give_back, Release, Act, ◌>>=◌, ◌>>◌, ask, next_item, ReferenceTree, named_lock, Inside, evaluated, asked, assoc, Ghosts, Code, lock_name_act, standing_of, Parts, Does, here_of, MayTake}
 use Rattle.std.specs.List.{list_all}
 use Rattle.std.proofs.lemmas.List.Folds.{list_all-append}
 use Rattle.mspec.specs.LockConflict.{LockName, Locks, taken, given_back, released}

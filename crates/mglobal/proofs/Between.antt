@@ -42,9 +42,6 @@ module _ (n m : Node) (some_n : NoneEmpty n.subscripts) (some_m : NoneEmpty m.su
 
 -- ---- of the bytes of subscripts
 
-none_first : (x : List ℕ) → is_le (slice_cmp nat_cmp [] x) ≡ true
-none_first x = grind arith
-
 -- a subscript's bytes begin with 1 or 2
 from_one : (s : Text) (o : Option ℤ) (x : List ℕ) → is_le (slice_cmp nat_cmp (1 ∷ []) (subscript_by s o ++ x)) ≡ true
 from_one s o x = grind arith
@@ -82,9 +79,7 @@ behind_between x some_x (c ∷ more) some =
     ∙ by_order (text_cmp significant_digits x c)
   where
     by_order : (o : Ordering) → is_le (ordering_then o Greater) ≡ is_lt o
-    by_order Less = refl
-    by_order Equal = refl
-    by_order Greater = refl
+    by_order o = grind arith
 
 -- those before x
 pub before_between : (x : Text) → 0 < length x → (more : List Text) → NoneEmpty more → is_between (1 ∷ []) (subscript_bytes significant_digits x) (bytes more) ≡ passes (λ c. is_before c x) (slice_get more 0)

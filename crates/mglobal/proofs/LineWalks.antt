@@ -149,10 +149,7 @@ module _ (account name : Text) where
     where
       here : (a b : Bool) → a ≡ b → texts x es ≡ texts c es
           → map (λ e. e.1) (cond a (e ∷ filter (λ e. is_line_behind account name x e.0) es) (filter (λ e. is_line_behind account name x e.0) es)) ≡ map (λ e. e.1) (cond b (e ∷ filter (λ e. is_line_behind account name c e.0) es) (filter (λ e. is_line_behind account name c e.0) es))
-      here true true s h = ap (λ l. e.1 ∷ l) h
-      here false false s h = h
-      here true false s h = absurd (cc)
-      here false true s h = absurd (cc)
+      here a b h e = grind arith
 
   -- ---- one step
 
@@ -176,20 +173,14 @@ module _ (account name : Text) where
   onward x (e ∷ es) c is = by_test (test x e.0) refl is (onward x es c)
     where
       by_test : (b : Bool) → test x e.0 ≡ b → option_and_then child (cond b (Some e.0) (find (test x) (map (λ e. e.0) es))) ≡ Some c → (first x es ≡ Some c → is_before x c ≡ true) → is_before x c ≡ true
-      by_test false t is rest = rest is
-      by_test true t is rest = ap (passes (is_before x)) (sym is) ∙ t
+      by_test b h e f = grind arith
 
   pub none_left : (x : Text) (es : List (Node × Text)) → first x es ≡ None → texts x es ≡ []
   none_left x [] is = refl
   none_left x (e ∷ es) is = by_test (test x e.0) refl is (none_left x es)
     where
-      no_child : (o : Option Text) → o ≡ None → passes (is_before x) o ≡ true → texts x (e ∷ es) ≡ []
-      no_child None e t = absurd (cc)
-      no_child (Some c) e t = absurd (cc)
-
       by_test : (b : Bool) → test x e.0 ≡ b → option_and_then child (cond b (Some e.0) (find (test x) (map (λ e. e.0) es))) ≡ None → (first x es ≡ None → texts x es ≡ []) → texts x (e ∷ es) ≡ []
-      by_test false t is rest = skipped x e es (not_behind x e.0 t) ∙ rest is
-      by_test true t is rest = no_child (child e.0) is t
+      by_test b h e f = grind arith
 
   abbrev one : Text → List (Node × Text) → List Text
   one c es = if is_some (canonical_value significant_digits c) then option_to_list (Entries.find order (at c) es) else []
@@ -211,12 +202,10 @@ module _ (account name : Text) where
         ∙ ap (λ o. (if is_some (canonical_value significant_digits c) then option_to_list o else []) ++ texts c (e ∷ es)) (sym own)
       where
         and_yes : (b : Bool) → (b && true) ≡ b
-        and_yes true = refl
-        and_yes false = refl
+        and_yes b = grind arith
 
         here : (b : Bool) (l : List Text) → cond b (e.1 ∷ l) l ≡ (if b then option_to_list (Some e.1) else []) ++ l
-        here true l = refl
-        here false l = refl
+        here b l = grind arith
 
     nothing : (b : Bool) (o : Option Text) → o ≡ None → (if b then option_to_list o else []) ≡ []
     nothing b o h = grind arith
@@ -292,15 +281,7 @@ module _ (account name : Text) where
     all_lines held = ap (map (λ e. e.1)) (alike (entries g) held)
       where
         each : (m : Node) → All (λ s. 0 < length s) m.subscripts → is_line_behind account name [] m ≡ line m
-        each m some = by_line (line m) refl
-          where
-            by_line : (b : Bool) → line m ≡ b → (line m && passes (is_before []) (child m)) ≡ line m
-            by_line false e = ap (λ b. b && passes (is_before []) (child m)) e ∙ sym e
-            by_line true e =
-                let it = line_parts m e in
-                let long : All (λ s. 0 < length s) (name ∷ it.place ∷ []) = subst (λ n. All (λ s. 0 < length s) n.subscripts) it.is some in
-                let yes = ap (passes (is_before [])) (ap child it.is ∙ child_at it.place) ∙ empty_first it.place (long 1 [] (omega arith)) in
-                (λ i. e i && yes i) ∙ sym e
+        each m some = grind arith
 
         alike : (es : List (Node × Text)) → All IsHeld es → filter (λ e. is_line_behind account name [] e.0) es ≡ filter (λ e. line e.0) es
         alike [] all = refl

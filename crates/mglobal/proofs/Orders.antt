@@ -25,8 +25,7 @@ found_one P p [] all x e = absurd (cc)
 found_one P p (y ∷ ys) all x e = here (p y) refl e (found_one P p ys (All-tail P y ys all) x)
   where
     here : (b : Bool) → p y ≡ b → cond b (Some y) (find p ys) ≡ Some x → (find p ys ≡ Some x → P x × (p x ≡ true)) → P x × (p x ≡ true)
-    here true is e rest = let same : y ≡ x = cc in subst (λ z. P z × (p z ≡ true)) same (All-head P y ys all, is)
-    here false is e rest = rest e
+    here b h e f = grind arith
 
 all_reversed : {A : Type 0} (P : A → Type 0) (xs : List A) → All P xs → All P (reverse xs)
 all_reversed P [] all = All-nil P

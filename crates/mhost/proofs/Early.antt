@@ -1,7 +1,6 @@
 -- SPDX-License-Identifier: Apache-2.0
 -- From why there are no settings, or no store, to how a run ends early.
-use Rattle.mhost.proofs.HostWords.{Option, Text, IsRead, Ghosts, Watched, AreUntouched, EndsEarly, EndsEarlyOverFile, IsMemoryFault, IsStoreFault, NoSettings, RunFault}
-use Rattle.mmeaning.specs.Transition.{Settings}
+use Rattle.mhost.proofs.HostWords.{Option, Text, IsRead, Ghosts, Watched, AreUntouched, EndsEarly, EndsEarlyOverFile, IsMemoryFault, IsStoreFault, NoSettings, RunFault, Settings}
 use Rattle.mhost.specs.declared.fault.RunFault.TheVariants as early
 
 module _ {S I O : Type 0} (g : Ghosts S) (left : I → Option Text) (held : O → Option Text) (document : Text) (input input' : Watched I) (output output' : Watched O)

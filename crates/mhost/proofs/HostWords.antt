@@ -4,6 +4,7 @@ pub use Rattle.std.proofs.Common.{Bool, Err, List, None, Ok, Option, Result, Som
 pub use Rattle.std.specs.FinMap.{empty}
 pub use Rattle.mgrant.specs.Reading.{IsRead}
 pub use Rattle.mmeaning.specs.History.{opening}
+pub use Rattle.mmeaning.specs.Transition.{Settings, World}
 pub use Rattle.mspec.specs.Act.{Text}
 pub use Rattle.mspec.specs.Globals.{Globals}
 pub use Rattle.mstore.specs.declared.store.NodeStore.{Ghosts}

@@ -1,7 +1,6 @@
 -- SPDX-License-Identifier: Apache-2.0
 -- From what `serve` says of a world to what a run says of its store.
-use Rattle.mhost.proofs.HostWords.{◌≡◌, Option, Ok, Err, ap, ◌∙◌, empty, Text, Globals, opening, IsRead, Ghosts, WireFault, StreamAnswered, RunCutShort, Followed, ServedOver}
-use Rattle.mmeaning.specs.Transition.{Settings, World}
+use Rattle.mhost.proofs.HostWords.{◌≡◌, Option, Ok, Err, ap, ◌∙◌, empty, Text, Globals, opening, IsRead, Ghosts, WireFault, StreamAnswered, RunCutShort, Followed, ServedOver, Settings, World}
 
 module _ {S V : Type 0} (g : Ghosts S) {settings settings' : Settings} {world : World} {globals : Globals} {content : V → Globals} {document : Text} {left left' held held' : Option Text}
     (reads : IsRead document settings) (same : settings' ≡ settings) (begins : world ≡ opening globals) where

@@ -4,3 +4,4 @@ pub mod Connections
 pub mod Only
 pub mod Jobs
 pub mod Programs
+pub mod Words

@@ -2,10 +2,7 @@
 // Worlds over the stores that a command line can name.
 ghost use Rattle.std.specs.Prelude.{◌≡◌, ◌<◌, IfOk, IfErr, IfSome};
 ghost use Rattle.std.specs.FinMap.{empty};
-ghost use Rattle.mspec.specs.Globals.{Globals};
-ghost use Rattle.mmeaning.specs.History.{opening};
-ghost use Rattle.mworld.specs.View.{settings_of, world_of};
-ghost use Rattle.mcache.specs.CachedStore.{cached_store};
+ghost use Rattle.mhost.specs.Words.{Globals, cached_store, opening, settings_of, world_of};
 ghost use Rattle.mhost.specs.Runs.{IsMemoryFault, IsStoreFault};
 
 use crate::fault::RunFault;

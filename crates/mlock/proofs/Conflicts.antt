@@ -1,6 +1,6 @@
 -- SPDX-License-Identifier: Apache-2.0
 -- Whether a name conflicts with those that are held, by the holdings.
-use Rattle.mlock.proofs.LockWords.{Entry, ◌≡◌, ◌<◌, ℕ, Bool, true, false, not, nat_eq, ◌||◌, List, [], ◌∷◌, map, length, Option, Some, None, ◌⊎◌, inl, inr, refl, sym, ap, ◌∙◌, append-nil, subst, is_some, slice_get, true≢false, slice_get_within, get_or_from_slice_get, slice_get-get_or, Any-from_list_any, list_any_at, and_parts, and_from, false_from_ne_true, or_right, or_cases, keys, contains_key-keys, get-from_entries, is_some-find, list_any, eq_by_cmp, eq_by_cmp_equiv, both_ways, place_from_lookup, lookup_from_place, IndexMap, IsUnique, LockName, Held, held, held_cmp, is_within, is_conflict, has_conflict, Locks, held_cmp_total, lock_name_cmp_total, name_above, is_other, Holding, lock_of, locks_of, IsFree, name_eq, is_under}
+use Rattle.mlock.proofs.LockWords.{Entry, ◌≡◌, ◌<◌, ℕ, Bool, true, false, not, nat_eq, ◌&&◌, ◌||◌, List, [], ◌∷◌, map, length, Option, Some, None, ◌⊎◌, inl, inr, refl, sym, ap, ◌∙◌, append-nil, subst, is_some, slice_get, true≢false, slice_get_within, get_or_from_slice_get, slice_get-get_or, Any-from_list_any, list_any_at, and_parts, and_from, false_from_ne_true, or_left, or_right, or_cases, keys, contains_key-keys, get-from_entries, is_some-find, list_any, eq_by_cmp, eq_by_cmp_equiv, both_ways, place_from_lookup, lookup_from_place, IndexMap, IsUnique, LockName, Held, held, held_cmp, is_within, is_conflict, has_conflict, Locks, held_cmp_total, lock_name_cmp_total, name_above, is_other, Holding, lock_of, locks_of, IsFree, name_eq, is_under}
 use Rattle.std.specs.FinMap.{get}
 use Rattle.indexmap.specs.IndexMap as index
 use Rattle.std.proofs.Common.{arith}

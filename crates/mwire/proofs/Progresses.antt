@@ -1,8 +1,7 @@
 -- SPDX-License-Identifier: Apache-2.0
 -- How the lines of a stream are answered as its bytes come.
-use Rattle.mwire.proofs.WireWords.{◌≡◌, ◌++◌, ◌+◌, ◌<◌, ◌==◌, List, [], ◌∷◌, ℕ, refl, sym, ◌∙◌, ap, subst, Bool, false, Ok, Err, Result, Option, append_assoc, append-nil, length, take, drop, get_or, is_ok, arith, Appends-nil, Appends-trans, strip_carriage_return, take_more, map-append, Text, Settings, World, Ghosts, classify, finished_lines, LineAnswered, AnswersCutShort, EachAnswered, Stands, TakesOn, LineSent}
+use Rattle.mwire.proofs.WireWords.{◌≡◌, ◌++◌, ◌+◌, ◌<◌, ◌==◌, List, [], ◌∷◌, ℕ, refl, sym, ◌∙◌, ap, subst, Bool, false, Ok, Err, Result, Option, append_assoc, append-nil, length, take, drop, get_or, is_ok, arith, Appends-nil, Appends-trans, strip_carriage_return, take_more, map-append, Text, Settings, World, Ghosts, classify, finished_lines, LineAnswered, AnswersCutShort, EachAnswered, Stands, TakesOn, LineSent, map}
 use Rattle.std.proofs.Common.{take-append-drop}
-use Rattle.std.specs.Prelude.{map}
 use Rattle.mwire.proofs.Cuts.{classify-kept, IsCut-nil, IsCut-byte, IsCut-line, finished_lines-cut_more, length-strip}
 use Rattle.mwire.proofs.LineAnswers.{LineAnswered-same, EachAnswered-more, AnswersCutShort-at}
 use Rattle.mwire.proofs.Sends.{FrontSent-whole}

@@ -1,6 +1,6 @@
 -- SPDX-License-Identifier: Apache-2.0
 -- What a clause on a success says of a result that is known.
-use Rattle.std.proofs.Common.{◌≡◌, true, false, Ok, Err, Result, OnOk, IsErr, is_ok, is_err}
+use Rattle.mwire.proofs.WireWords.{◌≡◌, true, false, Ok, Err, Result, OnOk, IsErr, is_ok, is_err}
 
 pub on_ok_unless : {T E : Type 0} (r : Result T E) (P : Type 0) → OnOk r P → is_err r ≡ false → P
 on_ok_unless (Ok x) P h e = h

@@ -1,7 +1,6 @@
 -- SPDX-License-Identifier: Apache-2.0
 -- Connections after connections.
-use Rattle.mwire.proofs.WireWords.{◌≡◌, ◌++◌, ◌+◌, ℕ, List, [], ◌∷◌, length, refl, sym, ap, subst, ◌∙◌, Option, Some, Result, Err, arith, map-append, All-append, All-cons, All-nil, Text, Settings, World, Ghosts, Serves, Visit, AreServed, AreOfPeers, HasServedEach, ServesEach, WireFault}
-use Rattle.std.specs.Prelude.{map}
+use Rattle.mwire.proofs.WireWords.{◌≡◌, ◌++◌, ◌+◌, ℕ, List, [], ◌∷◌, length, refl, sym, ap, subst, ◌∙◌, Option, Some, Result, Err, arith, map-append, All-append, All-cons, All-nil, Text, Settings, World, Ghosts, Serves, Visit, AreServed, AreOfPeers, HasServedEach, ServesEach, WireFault, map}
 use Rattle.std.proofs.lemmas.List.{append_assoc, append-nil, length-append}
 use Rattle.mwire.specs.declared.fault.AcceptFault.{AcceptFault}
 

@@ -1,6 +1,6 @@
 -- SPDX-License-Identifier: Apache-2.0
 -- The words that most proofs of this crate have, in one place.
-pub use Rattle.std.proofs.Common.{Bool, Err, IfErr, List, Ok, OnOk, Option, Result, Some, [], ap, append-nil, append_assoc, arith, drop, false, get_or, inl, inr, is_ok, length, length-append, length-drop, map, refl, rules, slice_index, subst, suc, sym, take, true, zero, ℕ, ◌++◌, ◌+◌, ◌-◌, ◌<◌, ◌==◌, ◌^◌, ◌∙◌, ◌∷◌, ◌≡◌, ◌≢◌, ◌≤◌}
+pub use Rattle.std.proofs.Common.{Bool, Err, IfErr, IsErr, List, Ok, OnOk, Option, Result, Some, [], ap, append-nil, append_assoc, arith, drop, false, get_or, inl, inr, is_err, is_ok, length, length-append, length-drop, map, refl, rules, slice_index, subst, suc, sym, take, true, zero, ℕ, ◌++◌, ◌+◌, ◌-◌, ◌<◌, ◌==◌, ◌^◌, ◌∙◌, ◌∷◌, ◌≡◌, ◌≢◌, ◌≤◌}
 pub use Rattle.std.proofs.KnownBytes.{Appends-kept, Appends-nil, Appends-trans, Consumes-kept, Consumes-nil, Consumes-trans}
 pub use Rattle.std.proofs.lemmas.Bool.Decides.{nat_tests}
 pub use Rattle.std.proofs.lemmas.List.{get_or-append-add, length-take-le, map-append, take-append-drop, take-append-le, take_all, take_more}
@@ -11,7 +11,7 @@ pub use Rattle.std.specs.Fmt.{decimal}
 unfoldable pub use Rattle.std.specs.Fmt.{digits}
 pub use Rattle.std.specs.Io.KnownBytes.{Appends, Consumes, IsAtEnd, Keeps}
 pub use Rattle.std.specs.List.{All, after_first, before_first, flat_map, list_all, position_or_len, slice_split}
-pub use Rattle.std.specs.Prelude.{None, codes, if◌then◌else◌, nat_lt, replicate, ◌||◌}
+pub use Rattle.std.specs.Prelude.{MatchResult, None, codes, if◌then◌else◌, nat_lt, replicate, ◌||◌}
 pub use Rattle.std.specs.Str.Lines.{lines, lines_of_parts, strip_carriage_return}
 pub use Rattle.mspec.specs.Act.{Text}
 unfoldable pub use Rattle.mspec.specs.Act.{assigned_to, level_begun, no_locals, value_of}

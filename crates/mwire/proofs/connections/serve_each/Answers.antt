@@ -1,5 +1,5 @@
 -- SPDX-License-Identifier: Apache-2.0
-use Rattle.std.proofs.Common.{refl, ◌∙◌, arith}
+use Rattle.mwire.proofs.WireWords.{refl, ◌∙◌, arith}
 use Rattle.mwire.proofs.Visits.{each_start, each_on}
 use Rattle.mwire.proofs.connections.serve_each.Goals as goal
 

@@ -1,5 +1,5 @@
 -- SPDX-License-Identifier: Apache-2.0
-use Rattle.std.proofs.Common.{sym, ap, ◌∙◌, map, Some, [], ◌∷◌, ◌++◌}
+use Rattle.mwire.proofs.WireWords.{sym, ap, ◌∙◌, map, Some, [], ◌∷◌, ◌++◌}
 use Rattle.mwire.proofs.Visits.{none_served, one_served}
 use Rattle.mwire.proofs.connections.serve_next.Goals as goal
 

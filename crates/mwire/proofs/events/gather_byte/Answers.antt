@@ -1,5 +1,5 @@
 -- SPDX-License-Identifier: Apache-2.0
-use Rattle.std.proofs.Common.{rules}
+use Rattle.mwire.proofs.WireWords.{rules}
 use Rattle.mwire.proofs.Gathers.{Gathered-byte, Gathered-line}
 use Rattle.mwire.proofs.events.gather_byte.Goals as goal
 

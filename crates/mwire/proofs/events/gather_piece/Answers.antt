@@ -1,5 +1,5 @@
 -- SPDX-License-Identifier: Apache-2.0
-use Rattle.std.proofs.Common.{◌++◌, take, arith}
+use Rattle.mwire.proofs.WireWords.{◌++◌, take, arith}
 use Rattle.mwire.proofs.Gathers.{Gathered-more, Gathered-all}
 use Rattle.mwire.proofs.events.gather_piece.Goals as goal
 

@@ -1,5 +1,5 @@
 -- SPDX-License-Identifier: Apache-2.0
-use Rattle.std.proofs.Common.{rules}
+use Rattle.mwire.proofs.WireWords.{rules}
 use Rattle.mwire.proofs.Progresses.{TakesOn-byte, TakesOn-line}
 use Rattle.mwire.proofs.serving.take_byte.Goals as goal
 

@@ -1,5 +1,5 @@
 -- SPDX-License-Identifier: Apache-2.0
-use Rattle.std.proofs.Common.{rules, refl}
+use Rattle.mwire.proofs.WireWords.{rules, refl}
 use Rattle.mwire.proofs.Sends.{SentUpTo-start, SentUpTo-more}
 use Rattle.mwire.proofs.serving.write_whole.Goals as goal
 

@@ -1,6 +1,5 @@
 -- SPDX-License-Identifier: Apache-2.0
-use Rattle.mwire.proofs.WireWords.{◌≡◌, ◌^◌, ◌<◌, true, list_all, is_digit, digits_after}
-use Rattle.std.specs.Prelude.{take}
+use Rattle.mwire.proofs.WireWords.{◌≡◌, ◌^◌, ◌<◌, true, list_all, is_digit, digits_after, take}
 
 abbrev pub invariant-loop-c : Rattle.mwire.proofs.wire_line.terminal_of.Given.invariant-loop-c
 invariant-loop-c l = record {

@@ -1,5 +1,5 @@
 -- SPDX-License-Identifier: Apache-2.0
-use Rattle.std.proofs.Common.{arith}
+use Rattle.mwire.proofs.WireWords.{arith}
 use Rattle.mwire.proofs.Fronts.{take-push_room, take-push_full}
 use Rattle.mwire.proofs.line_buffer.LineBuffer.push.Goals as goal
 

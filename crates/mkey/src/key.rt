@@ -62,6 +62,14 @@ fn begun(alloc: Global, account: &[u8], name: &Bytes7, room: usize) -> Result<Ve
     Ok(bytes)
 }
 
+impl From<AllocError> for KeyFault {
+    ghost from_gives = { λ _ fault. fault ≡ KeyFault.Memory };
+
+    fn from(_error: AllocError) -> KeyFault {
+        KeyFault::Memory
+    }
+}
+
 impl NodeKey {
     /// The key of the node of this account, global name and subscripts.
     ///

@@ -1,8 +1,7 @@
 -- SPDX-License-Identifier: Apache-2.0
 -- What a search in the map of a variable finds of its tree.
-use Rattle.mlocal.proofs.LocalWords.{◌≡◌, Bool, false, List, [], ◌++◌, reverse, All, Option, sym, ap, ◌∙◌, option_and_then, is_some, IsOrdered, list_any, find, map_of, Text, subscripts_cmp, significant_digits, Tree, child_of, order_of, is_before, AreSubs, behind_below, with_own, AreSomeSubs, is_behind, is_between, has_child}
+use Rattle.mlocal.proofs.LocalWords.{◌≡◌, Bool, false, List, [], ◌++◌, reverse, All, Option, sym, ap, ◌∙◌, option_and_then, is_some, IsOrdered, list_any, find, map_of, Text, subscripts_cmp, significant_digits, Tree, child_of, order_of, is_before, AreSubs, behind_below, with_own, AreSomeSubs, is_behind, is_between, has_child, BTreeMap}
 use Rattle.std.specs.BTreeMap as tree
-use Rattle.std.specs.BTreeMap.{BTreeMap}
 use Rattle.std.specs.FinMap as map
 use Rattle.mspec.specs.Trees as trees
 use Rattle.mlocal.proofs.Own.{own_keys, subs_each, keys_with_own, not_child, first_of_others, last_of_others, any_of_others}

@@ -1,7 +1,6 @@
 // SPDX-License-Identifier: Apache-2.0
 // Why a text could not be parsed.
 ghost use Rattle.std.specs.Prelude.{◌≡◌};
-ghost use Rattle.mscan.specs.declared.fault.ParseFault.TheVariants.{Memory};
 
 use std::alloc::{AllocError, AllocFailed};
 
@@ -14,18 +13,18 @@ pub enum ParseFault {
     Memory,
 }
 
-impl From<AllocError> for ParseFault {
-    ghost from_gives = { λ _ fault. fault ≡ Memory };
+impl<T: Drop> From<AllocFailed<T>> for ParseFault {
+    ghost from_gives = { λ _ fault. fault ≡ ParseFault.Memory };
 
-    fn from(_error: AllocError) -> ParseFault {
+    fn from(_error: AllocFailed<T>) -> ParseFault {
         ParseFault::Memory
     }
 }
 
-impl<T: Drop> From<AllocFailed<T>> for ParseFault {
-    ghost from_gives = { λ _ fault. fault ≡ Memory };
+impl From<AllocError> for ParseFault {
+    ghost from_gives = { λ _ fault. fault ≡ ParseFault.Memory };
 
-    fn from(_error: AllocFailed<T>) -> ParseFault {
+    fn from(_error: AllocError) -> ParseFault {
         ParseFault::Memory
     }
 }

@@ -1,6 +1,5 @@
 -- SPDX-License-Identifier: Apache-2.0
-use Rattle.mkey.proofs.KeyWords.{length, ap, ◌∙◌}
-use Rattle.std.specs.Prelude.{◌==◌}
+use Rattle.mkey.proofs.KeyWords.{length, ap, ◌∙◌, ◌==◌}
 use Rattle.mkey.proofs.SubsKeys.{none_of_bytes}
 use Rattle.mkey.proofs.subs_key.SubsKey.is_empty.Goals as goal
 

@@ -63,7 +63,10 @@ fn begun(alloc: Global, account: &[u8], name: &Bytes7, room: usize) -> Result<Ve
 }
 
 impl From<AllocError> for KeyFault {
-    ghost from_gives = { λ _ fault. fault ≡ KeyFault.Memory };
+    ghost use Rattle.std.specs.Prelude.{◌≡◌};
+    ghost use Rattle.mkey.specs.declared.fault.KeyFault.TheVariants.{Memory};
+
+    ghost from_gives = { λ _ fault. fault ≡ Memory };
 
     fn from(_error: AllocError) -> KeyFault {
         KeyFault::Memory

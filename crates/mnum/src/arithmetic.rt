@@ -130,6 +130,15 @@ fn signed_digits(n: &Num) -> i64
     if n.negative { -digits } else { digits }
 }
 
+// The number as one of its methods leaves it, which changes it where it stands.
+macro_rules! changed {
+    ($number:expr, $method:ident, $other:expr) => {{
+        let mut number = $number;
+        number.$method(&$other)?;
+        Ok(number)
+    }};
+}
+
 impl Num {
     fn common_places(self, other: Num) -> u32
         ensures first { self.places ≤ result }
@@ -219,9 +228,7 @@ impl Num {
     pub fn add(self, other: Num) -> Result<Num, Over>
         ensures { MatchResult result (λ r. sum_of (units self) (units other) ≡ Some (units r)) (λ _. sum_of (units self) (units other) ≡ None) }
     {
-        let mut number = self;
-        number.add_assign(&other)?;
-        Ok(number)
+        changed!(self, add_assign, other)
     }
 
     /// The difference, rounded once.
@@ -286,9 +293,7 @@ impl Num {
     pub fn quot(self, other: Num) -> Result<Num, ArithFault>
         ensures { IsOutcome (units other) (whole_quotient_of (units self) (units other)) result }
     {
-        let mut number = self;
-        number.quot_assign(&other)?;
-        Ok(number)
+        changed!(self, quot_assign, other)
     }
 
     // `rem` at places that differ; the divisor is not zero.
@@ -341,9 +346,7 @@ impl Num {
         ensures value { IsOutcome (units other) (remainder_of (units self) (units other)) result }
         ensures never_over { IfErr result (λ e. e ≡ ArithFault.Zero) }
     {
-        let mut number = self;
-        number.rem_assign(&other)?;
-        Ok(number)
+        changed!(self, rem_assign, other)
     }
 
     /// The number with its sign turned; zero stays zero.
@@ -397,9 +400,7 @@ impl Num {
     pub fn mul(self, other: Num) -> Result<Num, Over>
         ensures { MatchResult result (λ r. product_of (units self) (units other) ≡ Some (units r)) (λ _. product_of (units self) (units other) ≡ None) }
     {
-        let mut number = self;
-        number.mul_assign(&other)?;
-        Ok(number)
+        changed!(self, mul_assign, other)
     }
 
     // `div` of digits that leave something, with zeros behind them too; the divisor is not zero.
@@ -451,8 +452,6 @@ impl Num {
     pub fn div(self, other: Num) -> Result<Num, ArithFault>
         ensures { IsOutcome (units other) (quotient_of (units self) (units other)) result }
     {
-        let mut number = self;
-        number.div_assign(&other)?;
-        Ok(number)
+        changed!(self, div_assign, other)
     }
 }

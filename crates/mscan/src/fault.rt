@@ -1,6 +1,7 @@
 // SPDX-License-Identifier: Apache-2.0
 // Why a text could not be parsed.
 ghost use Rattle.std.specs.Prelude.{◌≡◌};
+ghost use Rattle.mscan.specs.declared.fault.ParseFault.TheVariants.{Memory};
 
 use std::alloc::{AllocError, AllocFailed};
 
@@ -14,7 +15,7 @@ pub enum ParseFault {
 }
 
 impl<T: Drop> From<AllocFailed<T>> for ParseFault {
-    ghost from_gives = { λ _ fault. fault ≡ ParseFault.Memory };
+    ghost from_gives = { λ _ fault. fault ≡ Memory };
 
     fn from(_error: AllocFailed<T>) -> ParseFault {
         ParseFault::Memory
@@ -22,7 +23,7 @@ impl<T: Drop> From<AllocFailed<T>> for ParseFault {
 }
 
 impl From<AllocError> for ParseFault {
-    ghost from_gives = { λ _ fault. fault ≡ ParseFault.Memory };
+    ghost from_gives = { λ _ fault. fault ≡ Memory };
 
     fn from(_error: AllocError) -> ParseFault {
         ParseFault::Memory

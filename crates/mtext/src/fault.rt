@@ -2,6 +2,7 @@
 // Why a text could not be made.
 ghost use Rattle.std.specs.Prelude.{◌≡◌, ◌<◌, ◌≤◌, MatchResult};
 ghost use Rattle.mspec.specs.TextFunctions.{max_text};
+ghost use Rattle.mtext.specs.declared.fault.TextFault.TheVariants.{Memory};
 
 use mspec::limits::MAX_TEXT;
 use std::alloc::AllocError;
@@ -32,7 +33,7 @@ pub fn check_length(length: usize) -> Result<(), TextFault>
 }
 
 impl From<AllocError> for TextFault {
-    ghost from_gives = { λ _ fault. fault ≡ TextFault.Memory };
+    ghost from_gives = { λ _ fault. fault ≡ Memory };
 
     fn from(_error: AllocError) -> TextFault {
         TextFault::Memory

@@ -41,8 +41,8 @@ impl From<TextFault> for Code {
 
     fn from(fault: TextFault) -> Code {
         match fault {
-            TextFault::Arg => Code::Zarg,
             TextFault::Memory => Code::from(AllocError),
+            TextFault::Arg => Code::Zarg,
             TextFault::TooLong => Code::Zlong,
         }
     }

@@ -55,6 +55,7 @@ fn spread(digits: u64) -> (u64, u32)
 }
 
 // The number of these digits, without zeros behind its point.
+#[tactic(auto, using(crate::proofs::UnitDigits::stripped))]
 fn shortened(digits: u64, places: u32, negative: bool) -> Num
     requires digits_below { digits < 10 ^ 18 }
     requires places_at_most { places ≤ 18 }
@@ -153,6 +154,7 @@ impl Num {
     }
 
     // The digits where so many places are counted.
+    #[tactic(auto, using(crate::proofs::Sums::places_value, crate::proofs::Sums::places_below))]
     fn at_places(self, places: u32) -> u128
         requires near { self.places ≤ places }
         requires at_most { places ≤ 18 }
@@ -175,6 +177,7 @@ impl Num {
 
     /// The order of two numbers by value.
     #[inline]
+    #[tactic(auto, using(crate::proofs::MachineNumbers::cmp_is))]
     pub fn cmp(self, other: Num) -> Ordering
         ensures { result ≡ int_cmp (units self) (units other) }
     {

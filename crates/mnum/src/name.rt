@@ -88,6 +88,7 @@ impl Name {
     /// # Errors
     ///
     /// `AllocError` for want of memory.
+    #[tactic(auto, using(crate::proofs::NameTexts::name_is_ascii))]
     pub fn from_slice(alloc: Global, bytes: &[u8]) -> Result<Name, AllocError>
         requires { IsName bytes.now }
         ensures { IfOk result (λ name. name ≡ bytes.now) }

@@ -57,6 +57,7 @@ impl Variable {
     }
 
     // Its own value.
+    #[tactic(auto, using(crate::proofs::Own::own_there, crate::proofs::Views::shown))]
     pub(crate) fn own(&self) -> Option<&Value>
         ensures { option_map (λ value. value.now) result ≡ get self.now [] }
     {
@@ -74,6 +75,7 @@ impl Variable {
     }
 
     // Whether it has no text.
+    #[tactic(auto, using(crate::proofs::Bare::own_bare))]
     pub(crate) fn is_bare(&self) -> bool
         ensures { result ≡ is_bare self.now }
     {
@@ -81,6 +83,7 @@ impl Variable {
     }
 
     // Gives it a value of its own.
+    #[tactic(auto, using(crate::proofs::Own::own_set))]
     pub(crate) fn set_own(&mut self, value: Value)
         ensures { self.new ≡ insert self.old [] value }
     {
@@ -211,6 +214,7 @@ fn child(
 }
 
 // The first key that stands behind one.
+#[tactic(auto, using(crate::proofs::Walks::first_is, crate::proofs::Walks::none_is, crate::proofs::Walks::found_all))]
 fn first_behind<'a>(values: &'a BTreeMap<SubsKey, Value>, low: &SubsKey) -> Option<&'a SubsKey>
     requires subs { All AreSomeSubs (keys values.now) }
     ensures ordered { IsOrdered (subscripts_cmp significant_digits) values.now }
@@ -227,6 +231,7 @@ fn first_behind<'a>(values: &'a BTreeMap<SubsKey, Value>, low: &SubsKey) -> Opti
 }
 
 // The last key that stands behind one and before another.
+#[tactic(auto, using(crate::proofs::Walks::last_is, crate::proofs::Walks::none_last, crate::proofs::Walks::found_all, crate::proofs::Walks::all_reversed))]
 fn last_between<'a>(
     values: &'a BTreeMap<SubsKey, Value>,
     low: &SubsKey,

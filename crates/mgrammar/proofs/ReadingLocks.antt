@@ -28,14 +28,11 @@ name_again d v rest w s = rw (reference_again d (readers_at d) (inner_again d) (
 
 -- ---- one, or a list in brackets
 
-abbrev listed : List ℕ → Read ReferenceTree
-listed = lock_ref_with (readers_at (max_depth - 1))
-
 locked_takes : Takes spell_locked WellLocked locked_at
 unfolding locked_at
 locked_takes [] x e = absurd cc
 locked_takes (c ∷ cs) x e =
-    listed_or_one spell_reference (WellLockRef (max_depth - 1)) listed lock_several spell_reference (WellLockRef max_depth) (lock_ref_with (readers_at max_depth)) lock_one (IsRead spell_locked WellLocked (c ∷ cs))
+    listed_or_one spell_reference (WellLockRef (max_depth - 1)) (lock_ref_with (readers_at (max_depth - 1))) lock_several spell_reference (WellLockRef max_depth) (lock_ref_with (readers_at max_depth)) lock_one (IsRead spell_locked WellLocked (c ∷ cs))
     (name_takes (max_depth - 1)) (name_takes max_depth) c cs x e (λ ys rest q w. (q, w)) (λ v rest q w. (q, w))
 
 one_step : (cs : List ℕ) (v : ReferenceTree) (rest : List ℕ) → Begins begins_reference cs → lock_ref_with (readers_at max_depth) cs ≡ Some (v, rest) → locked_at cs ≡ Some (lock_one v, rest)
@@ -48,7 +45,7 @@ unfolding locked_at
 locked_again (lock_one v) rest w s =
     one_step (spell_reference v ++ rest) v rest (Begins-append begins_reference (spell_reference v) rest (reference_begins max_depth v w.0)) (name_again max_depth v rest w s)
 locked_again (lock_several rs) rest w s =
-    bracketed_again spell_reference (WellLockRef (max_depth - 1)) listed OperandEnds lock_several locked_at (λ cs. refl) (λ cs. (refl, refl)) (name_again (max_depth - 1)) rs rest w
+    bracketed_again spell_reference (WellLockRef (max_depth - 1)) (lock_ref_with (readers_at (max_depth - 1))) OperandEnds lock_several locked_at (λ cs. refl) (λ cs. (refl, refl)) (name_again (max_depth - 1)) rs rest w
 
 -- ---- a sign in front
 

@@ -427,6 +427,7 @@ impl Num {
     ///
     /// `Zero` exactly for a zero divisor; else `Over` exactly where the quotient reaches 10^18 in size, before or after
     /// rounding.
+    #[tactic(auto, using(crate::proofs::Quotients::quotient_rounded, crate::proofs::Quotients::some_digits, crate::proofs::Quotients::some_units, crate::proofs::Quotients::exact_quotient))]
     pub fn div_assign(&mut self, other: &Num) -> Result<(), ArithFault>
         ensures { Leaves (units other.now) (quotient_of (units self.old) (units other.now)) self.new result }
     {

@@ -188,6 +188,7 @@ fn read_literal(text: &[u8], kept: u32) -> Option<Size>
 }
 
 // How many signs the text begins with, and whether they negate.
+#[tactic(auto, using(crate::proofs::LiteralLaws::signs_is, crate::proofs::LiteralLaws::signs_stop))]
 fn read_signs(text: &[u8]) -> (bool, usize)
     ensures negated { result.0 ≡ is_negated text.now }
     ensures count { result.1 ≡ prefix_len is_sign text.now }

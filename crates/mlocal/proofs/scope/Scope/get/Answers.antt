@@ -1,0 +1,11 @@
+-- SPDX-License-Identifier: Apache-2.0
+use Rattle.mlocal.proofs.LocalWords.{ap, sym, ◌∙◌, get-empty, subscripts_cmp, significant_digits}
+use Rattle.std.specs.FinMap.{get}
+use Rattle.mlocal.proofs.Views.{tree_seen}
+use Rattle.mlocal.proofs.scope.Scope.get.Goals as goal
+
+pub returns-in-None : goal.returns-in-None
+returns-in-None c = sym (get-empty (subscripts_cmp significant_digits) c.args.key.now) ∙ ap (λ t. get t c.args.key.now) (tree_seen _ _ c.self.inside.trees c.args.name.now _ c.in-None.ensures _ c.self.view_is)
+
+pub returns-in-Some : goal.returns-in-Some
+returns-in-Some c = c.get-in-Some.ensures ∙ ap (λ t. get t c.args.key.now) (tree_seen _ _ c.self.inside.trees c.args.name.now _ c.in-Some.ensures _ c.self.view_is)

@@ -18,26 +18,12 @@ ghost use Rattle.mtext.specs.Made.{translation, Answers};
 
 use crate::cutting::skip;
 use crate::delimiter::Delimiter;
-use crate::fault::TextFault;
+use crate::fault::{TextFault, check_length};
 use crate::places::end_at;
 use memchr::memchr;
 use mnum::Bytes7;
 use mspec::limits::{MAX_PLACE, MAX_TEXT};
 use std::alloc::{AllocError, Global};
-
-/// Lets so many characters be a text.
-///
-/// # Errors
-///
-/// `TooLong` exactly where they are more than 4,095.
-fn check_length(length: usize) -> Result<(), TextFault>
-    ensures { MatchResult result (λ _. length ≤ max_text) (λ fault. (fault ≡ TextFault.TooLong) × (max_text < length)) }
-{
-    if length > MAX_TEXT {
-        return Err(TextFault::TooLong);
-    }
-    Ok(())
-}
 
 /// The character that stands for one in a translation, or none where it goes.
 fn translated(character: u8, from: &[u8], to: &[u8]) -> Option<u8>

@@ -1,6 +1,5 @@
 -- SPDX-License-Identifier: Apache-2.0
-use Rattle.mgrant.proofs.GrantWords.{sym, arith, map}
-use Rattle.mgrant.specs.Document.{written_by}
+use Rattle.mgrant.proofs.GrantWords.{sym, arith, map, written_by}
 use Rattle.mgrant.proofs.EachRead.{too_long, all_read}
 use Rattle.mgrant.proofs.document.list.Goals as goal
 

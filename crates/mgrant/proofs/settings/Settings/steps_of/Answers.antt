@@ -1,5 +1,5 @@
 -- SPDX-License-Identifier: Apache-2.0
-use Rattle.std.proofs.Common.{ap, ◌∙◌, slice_get, unwrap_or}
+use Rattle.mgrant.proofs.GrantWords.{ap, ◌∙◌, slice_get, unwrap_or}
 use Rattle.mspec.specs.Access as access
 use Rattle.mgrant.proofs.Seen.{steps_seen}
 

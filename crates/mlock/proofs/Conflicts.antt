@@ -1,8 +1,9 @@
 -- SPDX-License-Identifier: Apache-2.0
 -- Whether a name conflicts with those that are held, by the holdings.
-use Rattle.mlock.proofs.LockWords.{Entry, ◌≡◌, ◌<◌, ℕ, Bool, true, false, not, nat_eq, ◌&&◌, ◌||◌, List, [], ◌∷◌, map, length, Option, Some, None, ◌⊎◌, inl, inr, refl, sym, ap, ◌∙◌, append-nil, subst, is_some, slice_get, true≢false, slice_get_within, get_or_from_slice_get, slice_get-get_or, Any-from_list_any, list_any_at, and_parts, and_from, false_from_ne_true, or_left, or_right, or_cases, keys, contains_key-keys, get-from_entries, is_some-find, list_any, eq_by_cmp, eq_by_cmp_equiv, both_ways, place_from_lookup, lookup_from_place, IndexMap, IsUnique, LockName, Held, held, held_cmp, is_within, is_conflict, has_conflict, Locks, held_cmp_total, lock_name_cmp_total, name_above, is_other, Holding, lock_of, locks_of, IsFree, name_eq, is_under}
+use Rattle.mlock.proofs.LockWords.{Entry, ◌≡◌, ◌<◌, ℕ, Bool, true, false, not, nat_eq, ◌||◌, List, [], ◌∷◌, map, length, Option, Some, None, ◌⊎◌, inl, inr, refl, sym, ap, ◌∙◌, append-nil, subst, is_some, slice_get, true≢false, slice_get_within, get_or_from_slice_get, slice_get-get_or, Any-from_list_any, list_any_at, and_parts, and_from, false_from_ne_true, or_right, or_cases, keys, contains_key-keys, get-from_entries, is_some-find, list_any, eq_by_cmp, eq_by_cmp_equiv, both_ways, place_from_lookup, lookup_from_place, IndexMap, IsUnique, LockName, Held, held, held_cmp, is_within, is_conflict, has_conflict, Locks, held_cmp_total, lock_name_cmp_total, name_above, is_other, Holding, lock_of, locks_of, IsFree, name_eq, is_under}
 use Rattle.std.specs.FinMap.{get}
 use Rattle.indexmap.specs.IndexMap as index
+use Rattle.std.proofs.Common.{arith}
 use Rattle.mlock.proofs.Above.{above_within, above_or_same}
 use Rattle.mlock.proofs.Levels.{absent_from}
 use Rattle.mlock.proofs.Names.{at_test}
@@ -22,8 +23,7 @@ pub within_itself : (n : LockName) → is_within n n ≡ true
 within_itself n = of_inside n n (record { kind = refl; account = refl; name = refl; more = []; subscripts = sym (append-nil n.node.subscripts) })
 
 itself_conflicts : (t u : ℕ) (n : LockName) → (u ≡ t → ⊥) → is_conflict (held t n) (held u n) ≡ true
-itself_conflicts t u n other =
-    ap (λ b. not b && (is_within n n || is_within n n)) (no t u (λ e. other (sym e))) ∙ ap (λ b. b || is_within n n) (within_itself n)
+itself_conflicts t u n other = cc (no t u (λ e. other (sym e)), within_itself n)
 
 -- a name that conflicts with none that is held is held by no other terminal
 pub free_of : (l : Locks) (t : ℕ) (n : LockName) → has_conflict l (held t n) ≡ false → IsFree l t n
@@ -76,13 +76,7 @@ module _ {S : Type 0} (m : IndexMap LockName Holding S) (n : LockName) (t : ℕ)
 
   -- one that is below the name conflicts
   pub by_below : list_any (under_other n t) m.entries ≡ true → has_conflict (locks_of m) (held t n) ≡ true
-  by_below e =
-      let f = at_any (under_other n t) m.entries e in
-      let is = and_parts (is_under n f.1.0) (not (nat_eq t f.1.1.terminal)) f.3 in
-      let inside = and_parts (is_within n f.1.0) (not (is_within f.1.0 n)) is.0 in
-      conflict_is m (held t n)
-      ∙ any_at conflicts_with m.entries f.0 f.1 f.2
-      (and_from (not (nat_eq t f.1.1.terminal)) (is_within n f.1.0 || is_within f.1.0 n) is.1 (or_left (is_within n f.1.0) (is_within f.1.0 n) inside.0))
+  by_below e = grind (arith, at_any, and_parts, conflict_is, any_at)
 
   -- and so does the name itself, or one above it
   pub by_name : (a : LockName) → is_within a n ≡ true → is_other t (index.get name_eq m a) ≡ true → has_conflict (locks_of m) (held t n) ≡ true

@@ -1,21 +1,18 @@
 -- SPDX-License-Identifier: Apache-2.0
 -- Tallies of one name, and of all the names above one.
-use Rattle.mlock.proofs.LockWords.{◌||◌, ◌≡◌, ◌+◌, ◌*◌, ℕ, Bool, true, false, cond, ◌&&◌, nat_eq, Option, Some, None, refl, sym, ap, ◌∙◌, subst, arith, unwrap_or, is_some, IsSome, true≢false, inl, inr, and_parts, false_from_ne_true, cases_Bool, nat_tests, IndexMap, get, Updates, LockName, IsAbove, Tally, name_eq, is_under, no_names, with_one, is_none, tally_at, HasEntry}
+use Rattle.mlock.proofs.LockWords.{◌||◌, ◌≡◌, ℕ, Bool, true, false, cond, Option, Some, None, refl, sym, ap, ◌∙◌, subst, arith, unwrap_or, is_some, IsSome, true≢false, inl, inr, false_from_ne_true, cases_Bool, IndexMap, get, Updates, LockName, IsAbove, Tally, name_eq, is_under, no_names, with_one, is_none, tally_at, HasEntry}
 use Rattle.mlock.proofs.Names.{at_test}
 use Rattle.mlock.proofs.Under.{is_same, above_is, not_itself, others_above, from_above}
 
 -- ---- the entry of one name
 
 pub absent_from : {A : Type 0} (o : Option A) → is_some o ≡ false → o ≡ None
-absent_from None e = refl
-absent_from (Some x) e = absurd (cc)
+absent_from o h = grind arith
 
 module _ {S : Type 0} (m n : IndexMap LockName Tally S) (k : LockName) where
   -- the tallies after an entry is written or taken away
   pub written : (w : Option Tally) → Updates name_eq m n k w → (q : LockName) → tally_at n q ≡ cond (name_eq k q) (unwrap_or w no_names) (tally_at m q)
-  written w u q =
-      ap (λ o. unwrap_or o no_names) (u.0 q)
-      ∙ elim (name_eq k q) as (λ b. unwrap_or (cond b w (get name_eq m q)) no_names ≡ cond b (unwrap_or w no_names) (tally_at m q)) [ true ↦ refl | false ↦ refl ]
+  written w u q = grind arith
 
   pub keeps : (w : Tally) → Updates name_eq m n k (Some w) → (q : LockName) → HasEntry m q → HasEntry n q
   keeps w u q some = subst IsSome (sym (u.0 q)) (elim (name_eq k q) as (λ b. IsSome (cond b (Some w) (get name_eq m q))) [ true ↦ refl | false ↦ some ])
@@ -47,39 +44,20 @@ pub twice_written : {S : Type 0} (m l n : IndexMap LockName Tally S) (k : LockNa
 twice_written m l n k v w first second q = second q ∙ ap (cond (name_eq k q) w) (first q) ∙ elim (name_eq k q) as (λ b. cond b w (cond b v (tally_at m q)) ≡ cond b w (tally_at m q)) [ true ↦ refl | false ↦ refl ]
 
 pub none_is : (a : Tally) → is_none a ≡ true → a ≡ no_names
-none_is a e =
-    let names = and_parts (nat_eq a.names 0) (nat_eq a.terminals 0 && nat_eq a.squares 0) e in
-    let sums = and_parts (nat_eq a.terminals 0) (nat_eq a.squares 0) names.1 in
-    let x : a.names ≡ 0 = zero_from a.names names.0 in
-    let y : a.terminals ≡ 0 = zero_from a.terminals sums.0 in
-    let z : a.squares ≡ 0 = zero_from a.squares sums.1 in
-    λ i. record { names = x i; terminals = y i; squares = z i }
-  where
-    zero_from : (v : ℕ) → nat_eq v 0 ≡ true → v ≡ 0
-    zero_from v e = grind (arith, nat_tests, e)
+none_is a e = grind arith
 
 pub same_rest : (t : ℕ) (x y : Tally) → with_one t x ≡ with_one t y → x ≡ y
-same_rest t x y e =
-    let a : x.names + 1 ≡ y.names + 1 = ap (λ v. v.names) e in
-    let b : x.terminals + t ≡ y.terminals + t = ap (λ v. v.terminals) e in
-    let c : x.squares + t * t ≡ y.squares + t * t = ap (λ v. v.squares) e in
-    let p : x.names ≡ y.names = omega (arith, a) in
-    let q : x.terminals ≡ y.terminals = omega (arith, b) in
-    let r : x.squares ≡ y.squares = omega (arith, c) in
-    λ i. record { names = p i; terminals = q i; squares = r i }
+same_rest t x y e = grind arith
 
 -- the same, where both or neither have it
 pub rest_is : (b : Bool) (t : ℕ) (x y : Tally) → cond b (with_one t x) x ≡ cond b (with_one t y) y → x ≡ y
-rest_is true t x y e = same_rest t x y e
-rest_is false t x y e = e
+rest_is b t x y h = grind arith
 
 -- ---- the names above one
 
 -- one step and another, at most one of which changes anything
 twofold : (f : Tally → Tally) (x y z : Tally) (p q : Bool) → (p ≡ true → q ≡ false) → y ≡ cond p (f x) x → z ≡ cond q (f y) y → z ≡ cond (p || q) (f x) x
-twofold f x y z true q apart e g = g ∙ ap (λ b. cond b (f y) y) (apart refl) ∙ e
-twofold f x y z false true apart e g = g ∙ ap f e
-twofold f x y z false false apart e g = g ∙ e
+twofold f x y z p q h e k = grind arith
 
 module _ (above below : LockName) (next : IsAbove above below) where
   pub next_is : (n : LockName) → name_eq above n ≡ true → (is_under n above ≡ false) × (is_under n below ≡ true)

@@ -1,6 +1,6 @@
 -- SPDX-License-Identifier: Apache-2.0
 -- What the moves of the holdings keep, and what they do to the locks.
-use Rattle.mlock.proofs.LockWords.{Entry, ◌≡◌, ◌<◌, ◌+◌, ◌-◌, ◌^◌, ℕ, true, false, cond, nat_eq, List, [], ◌∷◌, ◌++◌, Some, None, length, get_or, ◌⊎◌, inl, inr, refl, sym, ap, ◌∙◌, subst, arith, slice_get, slice_set, slice_index_or, get_or-take, get_or-set_other, length-take-le, length-set, insert, remove, eq_by_cmp_equiv, swap_remove, IsDistinct, keys_of, cases_eq, lookup_from_place, slice_get_within, slice_get-get_or, get_or_from_slice_get, IndexMap, IsUnique, Updates, with_value_at, keys-with_value_at, updates-with_value_at, LockName, Locks, held, one_more, released, lock_name_cmp_total, Holding, Tally, locks_of, name_eq, is_under, with_one, tally_at, tally_of, too_large, HasRoom, Kept, IsRecounted}
+use Rattle.mlock.proofs.LockWords.{Entry, ◌≡◌, ◌<◌, ◌+◌, ◌-◌, ◌^◌, ℕ, true, false, cond, nat_eq, List, [], ◌∷◌, ◌++◌, Some, None, length, get_or, ◌⊎◌, refl, sym, ap, ◌∙◌, subst, arith, slice_get, slice_set, slice_index_or, get_or-take, get_or-set_other, length-take-le, length-set, insert, remove, eq_by_cmp_equiv, swap_remove, IsDistinct, keys_of, cases_eq, lookup_from_place, slice_get_within, slice_get-get_or, get_or_from_slice_get, IndexMap, IsUnique, Updates, with_value_at, keys-with_value_at, updates-with_value_at, LockName, Locks, held, one_more, released, lock_name_cmp_total, Holding, Tally, locks_of, name_eq, is_under, with_one, tally_at, tally_of, too_large, HasRoom, Kept, IsRecounted}
 use Rattle.indexmap.specs.IndexMap as index
 use Rattle.mlock.proofs.Levels.{rest_is}
 use Rattle.mlock.proofs.Steps.{count_none}
@@ -118,8 +118,7 @@ pub none_more : (t : ℕ) (es : List Entry) (i : ℕ) → ((e : Entry) → slice
 none_more t es i here none j e before at = by_place (cases_eq j i)
   where
     by_place : (j ≡ i) ⊎ (j ≡ i → ⊥) → nat_eq e.1.terminal t ≡ false
-    by_place (inl same) = here e (subst (λ k. slice_get es k ≡ Some e) same at)
-    by_place (inr other) = none j e (grind (arith, before, other)) at
+    by_place h = grind arith
 
 pub one_released : (l m k : Locks) (t : ℕ) (n : LockName) → m ≡ remove l (held t n) → released l t ≡ k → released m t ≡ k
 one_released l m k t n is rest = ap (λ x. released x t) is ∙ released_after l t n ∙ rest

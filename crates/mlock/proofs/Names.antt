@@ -1,6 +1,6 @@
 -- SPDX-License-Identifier: Apache-2.0
 -- Names within other names.
-use Rattle.mlock.proofs.LockWords.{◌≡◌, Bool, true, false, List, [], ◌∷◌, ◌++◌, inl, inr, refl, sym, ap, ◌∙◌, append-nil, beq, Text, Node}
+use Rattle.mlock.proofs.LockWords.{arith, ◌≡◌, Bool, true, false, List, [], ◌∷◌, ◌++◌, inl, inr, refl, sym, ap, ◌∙◌, append-nil, beq, Text, Node}
 use Rattle.mspec.specs.KeyLaws.{IsWithin}
 
 -- the parts of a node within another
@@ -15,14 +15,10 @@ parts n m (inl same) = record { account = ap (λ k. k.account) same; name = ap (
 parts n m (inr above) = record { account = above.account; name = above.name; more = above.longer.0 ∷ above.longer.1; subscripts = above.longer.2 }
 
 pub beq_same : (a b : Bool) → beq a b ≡ true → a ≡ b
-beq_same true true e = refl
-beq_same true false e = absurd (cc)
-beq_same false true e = absurd (cc)
-beq_same false false e = refl
+beq_same a b h = grind arith
 
 pub same_beq : (a b : Bool) → a ≡ b → beq a b ≡ true
-same_beq true b e = sym (ap (λ c. beq true c) e) ∙ refl
-same_beq false b e = sym (ap (λ c. beq false c) e) ∙ refl
+same_beq a b h = grind arith
 
 -- a fact on a test, by what the test says
 pub at_test : (b : Bool) (P : Bool → Type 0) → (b ≡ true → P true) → (b ≡ false → P false) → P b

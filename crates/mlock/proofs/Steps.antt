@@ -32,8 +32,7 @@ pub give_none : (l : Locks) (t : ℕ) (n : LockName) → get l (held t n) ≡ No
 give_none l t n e = sym (given_by l t n None e ∙ restored l (remove l (held t n)) (held t n) None e (λ q. get-remove held_cmp_total l (held t n) q))
 
 cond_twice : (b : Bool) (x y z : Option ℕ) → cond b x (cond b y z) ≡ cond b x z
-cond_twice true x y z = refl
-cond_twice false x y z = refl
+cond_twice b x y z = grind arith
 
 pub tied_itself : (h : Held) → eq_by_cmp held_cmp h h ≡ true
 tied_itself h = (eq_by_cmp_equiv held_cmp_total).refl h
@@ -131,9 +130,7 @@ module _ {S : Type 0} (m : IndexMap LockName Holding S) (unique : IsUnique name_
 
   given_own : (h : Holding) (b : Bool) → Some h ≡ index.get name_eq m name → h.terminal ≡ t → nat_lt 1 h.count ≡ b
       → cond b (insert (locks_of m) (held t name) (h.count - 1)) (remove (locks_of m) (held t name)) ≡ given_back (locks_of m) t name
-  given_own h b e is more =
-      sym (given_by (locks_of m) t name (Some h.count) (get_own h e is)
-      ∙ ap (λ b. cond b (insert (locks_of m) (held t name) (h.count - 1)) (remove (locks_of m) (held t name))) more)
+  given_own h b e is more = grind (arith, given_by (locks_of m) t name (Some h.count) (get_own h e is), more)
 
   pub less_own : (h : Holding) → Some h ≡ index.get name_eq m name → h.terminal ≡ t → 1 < h.count → insert (locks_of m) (held t name) (h.count - 1) ≡ given_back (locks_of m) t name
   less_own h e is more = given_own h true e is (more_than_one h.count more)

@@ -1,8 +1,7 @@
 -- SPDX-License-Identifier: Apache-2.0
 -- What is counted below a name, when the holdings change, and what it tells.
-use Rattle.mlock.proofs.LockWords.{Entry, ◌≡◌, ◌<◌, ◌≤◌, ◌+◌, ◌-◌, ◌*◌, ◌^◌, ℕ, zero, suc, Bool, true, false, cond, not, ◌&&◌, ◌||◌, nat_eq, List, [], ◌∷◌, ◌++◌, length, Some, refl, sym, ap, ◌∙◌, subst, arith, nat_lt, slice_get, unwrap_or, mul-le-mul_left, mul-le-mul_right, and_parts, and_from, or_parts, sum_by, list_any, swap_remove, nat_tests, slice_get_within, get_or_from_slice_get, LockName, Holding, Tally, is_under, with_one, is_only, below_sum, tally_of, too_large, HasRoom}
+use Rattle.mlock.proofs.LockWords.{Entry, ◌≡◌, ◌<◌, ◌≤◌, ◌+◌, ◌-◌, ◌*◌, ◌^◌, ℕ, zero, suc, Bool, true, false, cond, not, ◌&&◌, ◌||◌, nat_eq, List, [], ◌∷◌, ◌++◌, length, Some, refl, sym, ap, ◌∙◌, subst, arith, nat_lt, slice_get, unwrap_or, and_parts, or_parts, sum_by, list_any, swap_remove, nat_tests, slice_get_within, get_or_from_slice_get, LockName, Holding, Tally, is_under, with_one, is_only, below_sum, tally_of, too_large, HasRoom}
 use Rattle.std.proofs.lemmas.List.Sums.{sum_by-cons, sum_by_push, sum_by-swap_remove}
-use Rattle.mlock.proofs.Names.{at_test}
 use Rattle.indexmap.specs.Layout.{set_value_at}
 
 abbrev term : (ℕ → ℕ) → LockName → Entry → ℕ
@@ -15,12 +14,7 @@ large e = cond (nat_lt e.1.terminal (2 ^ 32)) 0 1
 
 more_names : (b : Bool) (t : ℕ) (old : Tally) (x y z : ℕ) → x ≡ old.names + cond b 1 0 → y ≡ old.terminals + cond b t 0 → z ≡ old.squares + cond b (t * t) 0
     → ◌≡◌ {A = Tally} (record { names = x; terminals = y; squares = z }) (cond b (with_one t old) old)
-more_names true t old x y z e f g = λ i. record { names = e i; terminals = f i; squares = g i }
-more_names false t old x y z e f g =
-    let e' : x ≡ old.names = omega (arith, e) in
-    let f' : y ≡ old.terminals = omega (arith, f) in
-    let g' : z ≡ old.squares = omega (arith, g) in
-    λ i. record { names = e' i; terminals = f' i; squares = g' i }
+more_names b t old x y z h e f = grind arith
 
 pub pushed : (es : List Entry) (e : Entry) (n : LockName) → tally_of (es ++ e ∷ []) n ≡ cond (is_under n e.0) (with_one e.1.terminal (tally_of es n)) (tally_of es n)
 pushed es e n =
@@ -36,9 +30,7 @@ pushed_small es e small less =
 
 -- the sum of a list loses the term of what is taken out
 lost : (f : Entry → ℕ) (es : List Entry) (i : ℕ) (e : Entry) → slice_get es i ≡ Some e → sum_by f es ≡ sum_by f (swap_remove es i e) + f e
-lost f es i e at =
-    sym (sum_by-swap_remove f es i e (slice_get_within es i e at))
-    ∙ ap (λ x. sum_by f (swap_remove es i e) + f x) (get_or_from_slice_get es i e e at)
+lost f es i e at = grind (arith, sum_by-swap_remove f es i e (slice_get_within es i e at), get_or_from_slice_get es i e e at)
 
 pub swapped : (es : List Entry) (i : ℕ) (e : Entry) (n : LockName) → slice_get es i ≡ Some e
     → tally_of es n ≡ cond (is_under n e.0) (with_one e.1.terminal (tally_of (swap_remove es i e) n)) (tally_of (swap_remove es i e) n)
@@ -60,11 +52,7 @@ rewritten f (e ∷ es) (suc i) k v w at same =
 
 module _ (es : List Entry) (i : ℕ) (k : LockName) (v w : Holding) (at : slice_get es i ≡ Some (k, v)) (own : w.terminal ≡ v.terminal) where
   pub rewritten_same : (n : LockName) → tally_of (set_value_at es i w) n ≡ tally_of es n
-  rewritten_same n =
-      let e = rewritten (term (λ u. 1) n) es i k v w at refl in
-      let f = rewritten (term (λ u. u) n) es i k v w at (ap (λ u. cond (is_under n k) u 0) own) in
-      let g = rewritten (term (λ u. u * u) n) es i k v w at (ap (λ u. cond (is_under n k) (u * u) 0) own) in
-      λ j. record { names = e j; terminals = f j; squares = g j }
+  rewritten_same n = grind (arith, rewritten)
 
   pub rewritten_small : too_large (set_value_at es i w) ≡ too_large es
   rewritten_small = rewritten large es i k v w at (ap (λ u. cond (nat_lt u (2 ^ 32)) 0 1) own)
@@ -75,12 +63,10 @@ both_zero : (a b : ℕ) → a + b ≡ 0 → (a ≡ 0) × (b ≡ 0)
 both_zero a b e = (omega (arith, e), omega (arith, e))
 
 small_head : (u : ℕ) → ◌≡◌ {A = ℕ} (cond (nat_lt u (2 ^ 32)) 0 1) 0 → u < 2 ^ 32
-small_head u e =
-    at_test (nat_lt u (2 ^ 32)) (λ b. ◌≡◌ {A = ℕ} (cond b 0 1) 0 → u < 2 ^ 32) (λ is e. grind (arith, nat_tests, is)) (λ is e. absurd (omega (arith, e))) e
+small_head u e = grind arith
 
 at_most : (b : Bool) (x m : ℕ) → x ≤ m → cond b x 0 ≤ m
-at_most true x m h = h
-at_most false x m h = omega arith
+at_most b x m h = grind arith
 
 bound : (w : ℕ → ℕ) (m : ℕ) → ((u : ℕ) → u < 2 ^ 32 → w u ≤ m) → (n : LockName) (es : List Entry) → too_large es ≡ 0 → below_sum w n es ≤ length es * m
 bound w m each n [] small = omega arith
@@ -92,10 +78,7 @@ bound w m each n (e ∷ es) small =
     omega (arith, first, rest, sum)
 
 pub square_small : (u : ℕ) → u < 2 ^ 32 → u * u ≤ 18446744065119617025
-square_small u h =
-    let first : u * u ≤ u * 4294967295 = mul-le-mul_left {m = u} {n = 4294967295} u (omega (arith, h)) in
-    let second : u * 4294967295 ≤ 4294967295 * 4294967295 = mul-le-mul_right {m = u} {n = 4294967295} 4294967295 (omega (arith, h)) in
-    omega (arith, first, second)
+square_small u h = grind arith
 
 pub has_room : (es : List Entry) (n : LockName) → too_large es ≡ 0 → length es < 2 ^ 63 → HasRoom (tally_of es n)
 has_room es n small short =
@@ -127,15 +110,10 @@ squares_of t u = by_order (t - u) (u - t) refl refl
         (subst (λ z. (t + suc y) * (t + suc y) + t * t ≡ 2 * (t * (t + suc y)) + (suc y * suc y + z * z)) (sym none) (let s = spread t (suc y) in omega (arith, s)))
 
 no_square : (x : ℕ) → x * x ≡ 0 → x ≡ 0
-no_square zero e = refl
-no_square (suc x) e = absurd (omega (arith, e))
+no_square x h = grind arith
 
 not_apart : (t u : ℕ) → apart t u ≡ 0 → u ≡ t
-not_apart t u e =
-    let parts = both_zero ((u - t) * (u - t)) ((t - u) * (t - u)) e in
-    let first : u - t ≡ 0 = no_square (u - t) parts.0 in
-    let second : t - u ≡ 0 = no_square (t - u) parts.1 in
-    omega (arith, first, second)
+not_apart t u e = grind arith
 
 abbrev pub under_other : LockName → ℕ → Entry → Bool
 under_other n t e = is_under n e.0 && not (nat_eq t e.1.terminal)
@@ -183,10 +161,7 @@ own_sums t n (d ∷ es) e =
     added t a b A B e f = omega (arith, e, f)
 
     by_test : (b : Bool) → (b && not (nat_eq t d.1.terminal)) ≡ false → (cond b d.1.terminal 0 ≡ cond b 1 0 * t) × (cond b (d.1.terminal * d.1.terminal) 0 ≡ cond b d.1.terminal 0 * t)
-    by_test true e =
-        let same : d.1.terminal ≡ t = grind (arith, nat_tests, e) in
-        (omega (arith, same), ap (λ x. d.1.terminal * x) same)
-    by_test false e = (omega arith, omega arith)
+    by_test b h = grind arith
 
 -- the tally tells whether all are the terminal's
 pub only_is : (t : ℕ) (n : LockName) (es : List Entry) → not (is_only t (tally_of es n)) ≡ list_any (under_other n t) es
@@ -202,14 +177,10 @@ only_is t n es = turned (is_only t (tally_of es n)) (list_any (under_other n t) 
     Q = below_sum (λ u. u * u) n es
 
     turned : (a b : Bool) → (a ≡ true → b ≡ false) → (b ≡ false → a ≡ true) → not a ≡ b
-    turned true b f g = sym (f refl)
-    turned false true f g = refl
-    turned false false f g = let no : false ≡ true = g refl in absurd (cc)
+    turned a b h e = grind arith
 
     vanishes : (N S Q D t : ℕ) → N * t ≡ S → S * t ≡ Q → Q + t * t * N ≡ 2 * (t * S) + D → D ≡ 0
-    vanishes N S Q D t e f g =
-        let h : N * t * t ≡ S * t = ap (λ x. x * t) e in
-        omega (arith, e, f, g, h)
+    vanishes N S Q D t e f g = grind arith
 
     forth : is_only t (tally_of es n) ≡ true → list_any (under_other n t) es ≡ false
     forth e =
@@ -219,9 +190,4 @@ only_is t n es = turned (is_only t (tally_of es n)) (list_any (under_other n t) 
         none_other t n es (vanishes N S Q (below_sum (apart t) n es) t first second (all_terms t n es))
 
     back : list_any (under_other n t) es ≡ false → is_only t (tally_of es n) ≡ true
-    back e =
-        let own = own_sums t n es e in
-        and_from (nat_eq (N * t) S) (nat_eq (S * t) Q) (equal (N * t) S (sym own.0)) (equal (S * t) Q (sym own.1))
-      where
-        equal : (x y : ℕ) → x ≡ y → nat_eq x y ≡ true
-        equal x y e = grind (arith, nat_tests, e)
+    back e = grind (arith, own_sums)

@@ -1,7 +1,7 @@
 -- SPDX-License-Identifier: Apache-2.0
 -- What calls of the map of holdings do to the locks that it holds.
-use Rattle.mlock.proofs.LockWords.{Entry, ◌≡◌, ◌<◌, ◌≤◌, ℕ, Bool, true, false, cond, not, ◌&&◌, List, [], ◌∷◌, Option, Some, None, map, nat_eq, length, refl, sym, ap, ◌∙◌, subst, arith, Ordering, Less, Equal, Greater, and_right, insert, remove, empty, retain_keys, get-insert, get-remove, get-from_entries, get-retain_keys, get-empty, same_map, find, AllByRecursion, IsDistinct, lookup, keys_of, is_eq, nat_cmp, ordering_then, eq_by_cmp, eq_by_cmp_equiv, nat_tests, place_from_lookup, slice_get_within, none-some, IndexMap, IsUnique, Updates, LockName, Held, held, Locks, lock_name_cmp, held_cmp, released, count, max_count, lock_name_cmp_total, held_cmp_total, held_cmp_exact, Holding, lock_of, locks_of, own_count, AreCounts, name_eq}
-use Rattle.std.specs.Prelude.{option_map, unwrap_or, slice_get, ⊤}
+use Rattle.mlock.proofs.LockWords.{Entry, ◌≡◌, ◌<◌, ◌≤◌, ℕ, Bool, true, false, cond, not, ◌&&◌, List, [], ◌∷◌, Option, Some, None, map, nat_eq, length, refl, sym, ap, ◌∙◌, subst, arith, Ordering, insert, remove, empty, retain_keys, get-insert, get-remove, get-from_entries, get-retain_keys, get-empty, same_map, find, AllByRecursion, IsDistinct, lookup, keys_of, is_eq, nat_cmp, eq_by_cmp, eq_by_cmp_equiv, nat_tests, place_from_lookup, slice_get_within, none-some, IndexMap, IsUnique, Updates, LockName, Held, held, Locks, lock_name_cmp, held_cmp, released, count, max_count, lock_name_cmp_total, held_cmp_total, held_cmp_exact, Holding, lock_of, locks_of, own_count, AreCounts, name_eq}
+use Rattle.std.specs.Prelude.{option_map, slice_get, ⊤}
 use Rattle.std.specs.FinMap.{get}
 use Rattle.std.proofs.lemmas.Map.Keys.{IsDistinct-head, IsDistinct-tail}
 use Rattle.indexmap.specs.IndexMap as index
@@ -19,9 +19,7 @@ same_number t u = grind (arith, nat_tests)
 
 -- whether two locks are one, by their names and terminals
 tied : (o : Ordering) (q h : Held) → lock_name_cmp q.name h.name ≡ o → eq_by_cmp held_cmp q h ≡ (is_eq o && nat_eq h.terminal q.terminal)
-tied Less q h is = ap (λ o. is_eq (ordering_then o (nat_cmp q.terminal h.terminal))) is
-tied Equal q h is = ap (λ o. is_eq (ordering_then o (nat_cmp q.terminal h.terminal))) is ∙ same_number q.terminal h.terminal
-tied Greater q h is = ap (λ o. is_eq (ordering_then o (nat_cmp q.terminal h.terminal))) is
+tied o q h e = grind arith
 
 tied_names : (q h : Held) → eq_by_cmp held_cmp q h ≡ (name_eq q.name h.name && nat_eq h.terminal q.terminal)
 tied_names q h = tied (lock_name_cmp q.name h.name) q h refl
@@ -31,9 +29,7 @@ tied_names q h = tied (lock_name_cmp q.name h.name) q h refl
 -- a name that is none of the others is not among them
 absent : (n : LockName) (es : List Entry) → AllByRecursion (λ k. name_eq n k ≡ false) (keys_of es) → (t : ℕ) → find held_cmp (held t n) (map lock_of es) ≡ None
 absent n [] all t = refl
-absent n (e ∷ es) all t =
-    ap (λ b. cond b (Some e.1.count) (find held_cmp (held t n) (map lock_of es))) (tied_names (held t n) (lock_of e).0 ∙ ap (λ b. b && nat_eq e.1.terminal t) all.0)
-    ∙ absent n es all.1 t
+absent n (e ∷ es) all t = grind (arith, tied_names (held t n) (lock_of e).0, all.0, absent n es all.1 t)
 
 -- what is found of a lock is its terminal's part of its name's holding
 found : (q : Held) (es : List Entry) → IsDistinct name_eq (keys_of es) → find held_cmp q (map lock_of es) ≡ own_count q.terminal (lookup (name_eq q.name) es)
@@ -69,12 +65,10 @@ count_of o = option_map (λ h. h.count) o
 
 -- what is a terminal's own is the terminal's, and no other's
 own_one : (t u : ℕ) (o : Option Holding) → IsOwn t o → own_count u o ≡ cond (nat_eq t u) (count_of o) None
-own_one t u None own = elim (nat_eq t u) as (λ b. None ≡ cond {A = Option ℕ} b None None) [ true ↦ refl | false ↦ refl ]
-own_one t u (Some h) own = ap (λ v. cond (nat_eq v u) (Some h.count) None) own
+own_one t u o h = grind arith
 
 twice : (b : Bool) (x y : Option ℕ) → cond b x None ≡ cond b x (cond b y None)
-twice true x y = refl
-twice false x y = refl
+twice b x y = grind arith
 
 module _ {S : Type 0} (m n : IndexMap LockName Holding S) (name : LockName) (t : ℕ) (w : Option Holding) (unique : IsUnique name_eq m) (unique' : IsUnique name_eq n) (was : IsOwn t (index.get name_eq m name)) (own : IsOwn t w) (u : Updates name_eq m n name w) where
   at_name : (q : Held) → get (locks_of n) q ≡ cond (name_eq q.name name && nat_eq t q.terminal) (count_of w) (get (locks_of m) q)
@@ -117,9 +111,7 @@ released_after l t n =
     ∙ sym (released_get l t q))
   where
     apart : (q : Held) → nat_eq q.terminal t ≡ false → eq_by_cmp held_cmp q (held t n) ≡ false
-    apart q other =
-        let turned : nat_eq t q.terminal ≡ false = grind (arith, nat_tests, other) in
-        tied_names q (held t n) ∙ and_right (name_eq q.name n) (nat_eq t q.terminal) turned
+    apart q other = grind arith
 
 -- a terminal that holds none has none to give back
 pub released_none : {S : Type 0} (m : IndexMap LockName Holding S) (t : ℕ) → IsUnique name_eq m → ((i : ℕ) (e : Entry) → i < length m.entries → slice_get m.entries i ≡ Some e → nat_eq e.1.terminal t ≡ false)
@@ -142,8 +134,7 @@ released_none m t unique none =
 -- ---- counts from 1 to 1,000,000
 
 chosen : (b : Bool) (x y : Option ℕ) (d : ℕ) → (x ≡ Some d → (0 < d) × (d ≤ max_count)) → (y ≡ Some d → (0 < d) × (d ≤ max_count)) → cond b x y ≡ Some d → (0 < d) × (d ≤ max_count)
-chosen true x y d f g e = f e
-chosen false x y d f g e = g e
+chosen b x y d h e f = grind arith
 
 pub counts_insert : (l : Locks) (h : Held) (c : ℕ) → AreCounts l → 0 < c → c ≤ max_count → AreCounts (insert l h c)
 counts_insert l h c counts some few q d e =
@@ -159,8 +150,4 @@ pub counts_empty : AreCounts empty
 counts_empty q d e = let none : ◌≡◌ {A = Option ℕ} None (Some d) = sym (get-empty held_cmp q) ∙ e in absurd (cc)
 
 pub count_few : (l : Locks) (h : Held) → AreCounts l → count l h ≤ max_count
-count_few l h counts = by_count (get l h) refl
-  where
-    by_count : (o : Option ℕ) → get l h ≡ o → unwrap_or o 0 ≤ max_count
-    by_count None e = omega arith
-    by_count (Some c) e = (counts h c e).1
+count_few l h counts = grind arith

@@ -1,6 +1,6 @@
 -- SPDX-License-Identifier: Apache-2.0
 -- What a query of one table answers: the rows that pass its tests.
-use Rattle.mstore.proofs.Words.{◌≡◌, ℕ, Bool, true, false, cond, List, [], ◌∷◌, map, flat_map, refl, sym, ap, subst, ◌∙◌, inl, inr, IsPermutation, list_all, IsPermutation-sym, Contains-permutation, Null, Row, Key, Query, IsAnswer, output, Output, overlay, Has, has_either, has_left, has_right, has_contained, contains_had}
+use Rattle.mstore.proofs.Words.{arith, ◌≡◌, ℕ, Bool, true, cond, List, [], ◌∷◌, map, flat_map, refl, sym, ap, subst, ◌∙◌, inl, inr, IsPermutation, list_all, IsPermutation-sym, Contains-permutation, Null, Row, Key, Query, IsAnswer, output, Output, overlay, Has, has_either, has_left, has_right, has_contained, contains_had}
 use Rattle.sqlite_trees.specs.Tree.{Trees}
 use Rattle.sqlite_sql.specs.Term.{Term, Env, eval_all, holds}
 use Rattle.sqlite_sql.specs.Query.{matches_as}
@@ -27,12 +27,7 @@ module _ (tests : List Term) (params : Row) where
   one r = cond (passes r) ((params ∷ r ∷ []) ∷ []) []
 
   one_has : (r : Row) (x : Env) → Has (one r) x → (passes r ≡ true) × (x ≡ params ∷ r ∷ [])
-  one_has r x h = go (passes r) refl h
-    where
-      go : (b : Bool) → passes r ≡ b → Has (cond b ((params ∷ r ∷ []) ∷ []) []) x → (passes r ≡ true) × (x ≡ params ∷ r ∷ [])
-      go true e (inl same) = (e, same)
-      go true e (inr none) = absurd none
-      go false e none = absurd none
+  one_has r x h = grind arith
 
   has_one : (r : Row) → passes r ≡ true → Has (one r) (params ∷ r ∷ [])
   has_one r e = subst (λ b. Has (cond b ((params ∷ r ∷ []) ∷ []) []) (params ∷ r ∷ [])) (sym e) (inl refl)

@@ -1,11 +1,10 @@
 -- SPDX-License-Identifier: Apache-2.0
 -- What a column of numbers makes of a value.
-use Rattle.mstore.proofs.Words.{◌≡◌, ℤ, Bool, cond, true, false, refl, Value, Null, Int, Integer, cast}
+use Rattle.mstore.proofs.Words.{arith, ◌≡◌, ℤ, Bool, cond, Value, Null, Int, Integer, cast}
 use Rattle.sqlite.specs.Ops.{unary}
 
 either : (b : Bool) (x : Value) → cond b x x ≡ x
-either true x = refl
-either false x = refl
+either b x = grind arith
 
 pub cast_null : cast Integer Null ≡ Null
 unfolding unary

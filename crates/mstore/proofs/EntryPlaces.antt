@@ -1,12 +1,11 @@
 -- SPDX-License-Identifier: Apache-2.0
 -- Where a search ends among entries in order, and what an edit there does.
-use Rattle.mstore.proofs.Words.{◌≡◌, ℕ, zero, suc, ◌+◌, ◌≤◌, Bool, true, false, cond, List, [], ◌∷◌, length, slice_index_or, slice_set, take, drop, if◌then◌else◌, All, Some, None, Result, Ok, Err, IfOk, IfErr, refl, sym, ap, subst, ◌∙◌, inl, inr, arith, Less, Greater, slice_cmp, nat_list_cmp_total, put, by_order, ordering_reverse, cases_lt, tied_itself, All-append, All-cons, All-drop, All-set, All-take, searchable_from_sorted, IsStored, Node, significant_digits, max_text, node_cmp_exact, Entry, entries_of, held, bytes_of, is_before, AreEntries, IsAt, IsGapFor, IsPlaceOf}
+use Rattle.mstore.proofs.Words.{◌≡◌, ℕ, zero, suc, ◌+◌, ◌≤◌, Bool, true, false, cond, List, [], ◌∷◌, length, slice_index_or, slice_set, take, drop, if◌then◌else◌, All, Some, None, Result, Ok, Err, IfOk, IfErr, refl, sym, ap, subst, ◌∙◌, inl, inr, arith, Less, Greater, slice_cmp, nat_list_cmp_total, put, by_order, ordering_reverse, cases_lt, tied_itself, All-append, All-cons, All-drop, All-set, All-take, searchable_from_sorted, IsStored, Node, significant_digits, max_text, node_cmp_exact, Entry, entries_of, held, bytes_of, is_before, AreEntries, IsAt, IsGapFor, IsPlaceOf, Text}
 use Rattle.std.proofs.Common.{insert}
 use Rattle.std.specs.FinMap as finite
 use Rattle.std.specs.FinMap.Entries.{find}
 use Rattle.std.specs.List.Sorted.{IsSearchInRange, IsBinarySearchResult, IsPartitionedBy, IsSortedBy}
 use Rattle.std.specs.Ordering.{nat_cmp, is_lt, is_eq}
-use Rattle.mspec.specs.Node.{Text}
 use Rattle.mstore.proofs.SortedEntries.{order, total, less, second, InOrder, nodes_rise, keys_rise, greater, order_put, held_put}
 
 -- ---- a binary search by nodes
@@ -48,8 +47,7 @@ apart m n e = ap is_eq (greater m n e)
 
 pub find_at : (es : List Entry) → InOrder (entries_of es) → (n : Node) (i : ℕ) → IsAt es n i → (d : Entry) → find order n (entries_of es) ≡ Some (slice_index_or es i d).text
 find_at [] h n i at d = absurd (omega (arith, at.in_range))
-find_at (e ∷ es) h n zero at d =
-    ap (λ o. cond (is_eq o) (Some e.text) (find order n (entries_of es))) (ap (order n) (at.of_node d) ∙ tied_itself total n)
+find_at (e ∷ es) h n zero at d = grind (arith, at.of_node d, tied_itself total n)
 find_at (e ∷ es) h n (suc i) at d =
     let rises = nodes_rise (e ∷ es) h 0 (suc i) d (omega arith) at.in_range in
     ap (λ b. cond b (Some e.text) (find order n (entries_of es))) (apart e.key n (ap (order e.key) (sym (at.of_node d)) ∙ rises))
@@ -86,9 +84,7 @@ put_at (e ∷ es) h n t (suc i) at x key text =
 pub put_in_gap : (es : List Entry) (n : Node) (t : Text) (i : ℕ) → i ≤ length es → IsGapFor es n i → (x : Entry) → x.key ≡ n → x.text ≡ t → entries_of (insert es i x) ≡ put order n t (entries_of es)
 put_in_gap [] n t zero le gap x key text = λ j. (key j, text j) ∷ []
 put_in_gap [] n t (suc i) le gap x key text = absurd (omega (arith, le))
-put_in_gap (e ∷ es) n t zero le gap x key text =
-    (λ j. (key j, text j) ∷ entries_of (e ∷ es))
-    ∙ sym (ap (λ o. by_order o ((n, t) ∷ entries_of (e ∷ es)) ((e.key, t) ∷ entries_of es) ((e.key, e.text) ∷ put order n t (entries_of es))) (total.antisymm n e.key ∙ ap ordering_reverse (gap.1 0 e (omega arith) (omega arith))))
+put_in_gap (e ∷ es) n t zero le gap x key text = grind (arith, total.antisymm n e.key, gap.1 0 e (omega arith) (omega arith))
 put_in_gap (e ∷ es) n t (suc i) le gap x key text =
     ap (λ l. (e.key, e.text) ∷ l) (put_in_gap es n t i (omega (arith, le)) (λ k d low high. gap.0 (suc k) d (omega arith) (omega arith), λ k d low high. gap.1 (suc k) d (omega arith) (omega arith)) x key text)
     ∙ sym (ap (λ o. by_order o ((n, t) ∷ entries_of (e ∷ es)) ((e.key, t) ∷ entries_of es) ((e.key, e.text) ∷ put order n t (entries_of es))) (greater e.key n (gap.0 0 e (omega arith) (omega arith))))

@@ -1,15 +1,12 @@
 -- SPDX-License-Identifier: Apache-2.0
 -- The entries within bounds of bytes.
-use Rattle.mstore.proofs.Words.{◌≡◌, ℕ, zero, suc, ◌-◌, ◌<◌, Bool, true, false, cond, ◌&&◌, List, [], ◌∷◌, ◌++◌, map, reverse, length, slice_index_or, slice_get, take, drop, Option, Some, None, if◌then◌else◌, refl, sym, ap, ◌∙◌, arith, Ordering, Less, Equal, Greater, false_from_ne_true, slice_cmp, nat_list_cmp_total, option_or, ordering_reverse, length-drop, reverse-append, take_all, find-append, is_between, next_key, previous_key, Entry, held, bytes_of, is_before, key_within, AreEntries, IsPlaceOf}
-use Rattle.std.proofs.Common.{find}
-use Rattle.std.specs.Ordering.{nat_cmp, is_lt, is_le}
+use Rattle.mstore.proofs.Words.{◌≡◌, ℕ, zero, suc, ◌-◌, ◌<◌, Bool, true, false, cond, ◌&&◌, List, [], ◌∷◌, ◌++◌, map, reverse, length, slice_index_or, slice_get, take, drop, Option, Some, None, if◌then◌else◌, refl, sym, ap, ◌∙◌, arith, Ordering, Less, Equal, Greater, false_from_ne_true, slice_cmp, nat_list_cmp_total, option_or, ordering_reverse, length-drop, reverse-append, take_all, find-append, is_between, next_key, previous_key, Entry, held, bytes_of, is_before, key_within, AreEntries, IsPlaceOf, find, nat_cmp, is_lt, is_le}
 use Rattle.mstore.proofs.SortedEntries.{less, first, keys_held, keys_rise}
 
 -- ---- bytes in order
 
 pub and_no : (a b : Bool) → b ≡ false → (a && b) ≡ false
-and_no true b e = e
-and_no false b e = refl
+and_no a b h = grind arith
 
 pub not_both : {P : Type 0} (b : Bool) → b ≡ true → b ≡ false → P
 not_both true e f = absurd (cc)
@@ -32,14 +29,10 @@ module _ (a b c : List ℕ) where
   at_most f g = at_most_by _ refl f g
 
 turned : (o : Ordering) → is_le (ordering_reverse o) ≡ true → is_lt o ≡ false
-turned Less e = absurd (cc)
-turned Equal e = refl
-turned Greater e = refl
+turned o h = grind arith
 
 turned_back : (o : Ordering) → is_lt o ≡ false → is_le (ordering_reverse o) ≡ true
-turned_back Less e = absurd (cc)
-turned_back Equal e = refl
-turned_back Greater e = refl
+turned_back o h = grind arith
 
 -- `a <= b` where not `b < a`
 pub from_on : (a b : List ℕ) → is_lt (slice_cmp nat_cmp b a) ≡ false → is_le (slice_cmp nat_cmp a b) ≡ true
@@ -52,8 +45,7 @@ not_from a b e = false_from_ne_true _ (λ f. not_both _ e (turned _ (ap is_le (s
 
 module _ (low high : List ℕ) (e : Entry) where
   pub within_yes : (bytes : List ℕ) → bytes ≡ bytes_of e → is_le (slice_cmp nat_cmp low (bytes_of e)) ≡ true → is_lt (slice_cmp nat_cmp (bytes_of e) high) ≡ true → Some bytes ≡ key_within low high (Some e)
-  within_yes bytes is from before =
-      ap Some is ∙ sym (ap (λ a. if a && is_lt (slice_cmp nat_cmp (bytes_of e) high) then Some (bytes_of e) else None) from ∙ ap (λ b. if b then Some (bytes_of e) else None) before)
+  within_yes bytes is from before = grind arith
 
   pub without_low : is_le (slice_cmp nat_cmp low (bytes_of e)) ≡ false → None ≡ key_within low high (Some e)
   without_low out = sym (ap (λ a. if a && is_lt (slice_cmp nat_cmp (bytes_of e) high) then Some (bytes_of e) else None) out)
@@ -74,19 +66,15 @@ rest_rise : (e : Entry) (es : List Entry) → Rise (e ∷ es) → Rise es
 rest_rise e es rise i j d lt in_range = rise (suc i) (suc j) d (omega arith) (omega arith)
 
 one_or_none : (b : Bool) (x : List ℕ) (o : Option (List ℕ)) → (b ≡ false → o ≡ None) → cond b (Some x) o ≡ (if b then Some x else None)
-one_or_none true x o h = refl
-one_or_none false x o h = h refl
+one_or_none b x o h = grind arith
 
 module _ (low high : List ℕ) where
   found_none : (es : List Entry) → NoneWithin low high es → find (is_between low high) (map bytes_of es) ≡ None
   found_none [] none = refl
-  found_none (e ∷ es) none =
-      ap (λ b. cond b (Some (bytes_of e)) (find (is_between low high) (map bytes_of es))) (none 0 e (omega arith))
-      ∙ found_none es (λ k d in_range. none (suc k) d (omega arith))
+  found_none (e ∷ es) none = grind (arith, none 0 e (omega arith), found_none es (λ k d in_range. none (suc k) d (omega arith)))
 
   second_no : (a b : Bool) → a ≡ true → (a && b) ≡ false → b ≡ false
-  second_no true b e f = f
-  second_no false b e f = absurd (cc)
+  second_no a b h e = grind arith
 
   none_behind : (e : Entry) (es : List Entry) → Rise (e ∷ es) → is_before low e ≡ false → is_between low high (bytes_of e) ≡ false → NoneWithin low high es
   none_behind e es rise from out k d in_range =
@@ -115,12 +103,10 @@ reverse-cons : (x : List ℕ) (xs : List (List ℕ)) → reverse (x ∷ xs) ≡ 
 reverse-cons x xs = reverse-append (x ∷ []) xs
 
 or_none : (o : Option (List ℕ)) → option_or o None ≡ o
-or_none None = refl
-or_none (Some x) = refl
+or_none o = grind arith
 
 absorbed : (o : Option (List ℕ)) (x : List ℕ) (p : Option (List ℕ)) → option_or (option_or o (Some x)) p ≡ option_or o (Some x)
-absorbed None x p = refl
-absorbed (Some y) x p = refl
+absorbed o x p = grind arith
 
 module _ (low high : List ℕ) where
   one : Entry → Option (List ℕ)
@@ -161,10 +147,7 @@ module _ (low high : List ℕ) where
 
   last_more : (e f : Entry) (es : List Entry) → last_of (e ∷ f ∷ es) ≡ last_of (f ∷ es)
   unfolding last_of
-  last_more e f es =
-      let up : length (e ∷ f ∷ es) - 1 ≡ suc (length es) = omega arith in
-      let down : length es ≡ length (f ∷ es) - 1 = omega arith in
-      ap (slice_get (e ∷ f ∷ es)) up ∙ ap (slice_get (f ∷ es)) down
+  last_more e f es = grind arith
 
   last_found : (es : List Entry) → Rise es → (i : ℕ) → IsPlaceOf es high i → backward es ≡ key_within low high (last_of (take i es))
   unfolding backward one last_of
@@ -183,5 +166,4 @@ module _ (low high : List ℕ) where
 
   pub previous_found : (es : List Entry) → AreEntries es → (i : ℕ) → IsPlaceOf es high i → key_within low high (slice_get (take i es) (length (take i es) - 1)) ≡ previous_key (held es) low high
   unfolding backward last_of
-  previous_found es are i place =
-      sym (ap (λ ks. find (is_between low high) (reverse ks)) (keys_held es are.sorted) ∙ last_found es (keys_rise es are) i place)
+  previous_found es are i place = grind (arith, keys_held es are.sorted, last_found es (keys_rise es are) i place)

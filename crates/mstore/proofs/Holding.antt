@@ -1,10 +1,7 @@
 -- SPDX-License-Identifier: Apache-2.0
 -- What entries and rows hold are nodes of a store, with texts that they may have.
-use Rattle.mstore.proofs.Words.{◌≡◌, List, [], ◌∷◌, length, All, refl, sym, ◌∙◌, subst, inl, inr, arith, Ordering, Less, Equal, Greater, entries, empty, entries-insert, len-entries, len-empty, put, by_order, All-map, All-nil, All-cons, All-head, All-tail, node_of, Node, node_cmp, significant_digits, IsStored, node_cmp_total, Row, Has, Ghosts, Held, state, Entry, Bool, cond, None, ap, get-entries, entries_sorted, retain_keys, same_map, IsTotalOrder, where_key, is_sorted-where_key, find-where_key, stored, entries_of, entry_of, held, AreEntries, IsHeld, AreHeld, globals_by, IsInForm, key_of, value_of}
-use Rattle.std.specs.FinMap.{FinMap, IsAntisymmetric, from_sorted, entries-from_sorted, get-from_sorted}
-use Rattle.mspec.specs.Node.{Text}
+use Rattle.mstore.proofs.Words.{◌≡◌, List, [], ◌∷◌, length, All, refl, sym, ◌∙◌, subst, inl, inr, arith, Ordering, Less, Equal, Greater, entries, empty, entries-insert, len-entries, len-empty, put, by_order, All-map, All-nil, All-cons, All-head, All-tail, node_of, Node, node_cmp, significant_digits, IsStored, node_cmp_total, Row, Has, Ghosts, Held, state, Entry, Bool, cond, None, ap, get-entries, entries_sorted, retain_keys, same_map, IsTotalOrder, where_key, is_sorted-where_key, find-where_key, stored, entries_of, entry_of, held, AreEntries, IsHeld, AreHeld, globals_by, IsInForm, key_of, value_of, FinMap, IsAntisymmetric, from_sorted, entries-from_sorted, get-from_sorted, Text, IsSound}
 use Rattle.mspec.proofs.MapCuts.{get_cut}
-use Rattle.mstore.specs.Database.{IsSound}
 use Rattle.mstore.proofs.KeyedRows.{node_at}
 use Rattle.mstore.proofs.SortedEntries.{entries_from}
 
@@ -28,8 +25,7 @@ put_held n t is (e ∷ es) all = by_place (node_cmp significant_digits n e.0) (p
     by_place Greater rest = All-cons IsHeld e (put (node_cmp significant_digits) n t es) (All-head IsHeld e es all) rest
 
 of_none : (es : List (Node × Text)) → length es ≡ 0 → All IsHeld es
-of_none [] e = All-nil IsHeld
-of_none (x ∷ es) e = absurd (omega arith)
+of_none es h = grind arith
 
 pub rows_held : (rows : List Row) → ((r : Row) → Has rows r → IsInForm (key_of r) (value_of r)) → AreHeld (globals_by key_of value_of rows)
 rows_held [] in_form = of_none (entries empty) (sym (len-entries empty) ∙ len-empty (node_cmp significant_digits) Text)

@@ -1,12 +1,11 @@
 -- SPDX-License-Identifier: Apache-2.0
 -- The first and the last key of rows within bounds, as those of the globals that the rows hold.
-use Rattle.mstore.proofs.Words.{ℕ, ◌≡◌, ◌⊎◌, inl, inr, Bool, true, false, cond, ◌&&◌, Option, Some, None, option_map, is_some, List, [], ◌∷◌, map, length, reverse, refl, sym, ◌∙◌, ap, subst, arith, Ordering, Less, Equal, Greater, and_parts, option_or, AllByRecursion, eq_by_cmp, ordering_reverse, eq_by_cmp_equiv, Equal-is, slice_cmp, nat_list_cmp_total, nat_cmp-IsAntisymmetric, slice_cmp-IsAntisymmetric, len-entries, len-empty, entries, entries_sorted, entries-insert, get-entries, empty, reverse-append, find-append, Node, significant_digits, node_cmp, NoneEmpty, node_of, Globals, keys_of, is_between, node_cmp_total, key_order, IsKey, none_empty, ShowsBytes, is_below, is_nearer, lookup_by, globals_by, AreKeyed, step_key}
+use Rattle.mstore.proofs.Words.{ℕ, ◌≡◌, ◌⊎◌, inl, inr, Bool, true, false, cond, ◌&&◌, Option, Some, None, option_map, is_some, List, [], ◌∷◌, map, length, reverse, refl, sym, ◌∙◌, ap, subst, arith, Ordering, Less, Equal, Greater, and_parts, option_or, AllByRecursion, eq_by_cmp, ordering_reverse, eq_by_cmp_equiv, Equal-is, slice_cmp, nat_list_cmp_total, nat_cmp-IsAntisymmetric, slice_cmp-IsAntisymmetric, len-entries, len-empty, entries, entries_sorted, entries-insert, get-entries, empty, reverse-append, find-append, Node, significant_digits, node_cmp, NoneEmpty, node_of, Globals, keys_of, is_between, node_cmp_total, key_order, IsKey, none_empty, ShowsBytes, is_below, is_nearer, lookup_by, globals_by, AreKeyed, step_key, Text}
 use Rattle.mstore.proofs.SortedEntries.{from_T}
 use Rattle.std.specs.Prelude.{⊤, T, IsSome}
 use Rattle.std.specs.List.{find}
 use Rattle.std.specs.Ordering.{nat_cmp, is_eq, is_lt}
 use Rattle.std.specs.FinMap.Entries as Entries
-use Rattle.mspec.specs.Node.{Text}
 use Rattle.mstore.proofs.KeyedRows.{key, node_at, same_of, gets}
 
 -- ---- keys in a list
@@ -29,9 +28,7 @@ below_itself : (k : List ℕ) → is_below k k ≡ false
 below_itself k = subst (λ r. is_lt r ≡ false) (sym ((Equal-is (slice_cmp nat_cmp k k)).0 ((eq_by_cmp_equiv nat_list_cmp_total).refl k))) refl
 
 not_back : (r s : Ordering) → r ≡ ordering_reverse s → is_lt s ≡ true → is_lt r ≡ false
-not_back r Less e t = ap is_lt e
-not_back r Equal e t = absurd (cc)
-not_back r Greater e t = absurd (cc)
+not_back r s h e = grind arith
 
 below_back : (k q : List ℕ) → is_below k q ≡ true → is_below q k ≡ false
 below_back k q e = not_back (slice_cmp nat_cmp q k) (slice_cmp nat_cmp k q) (nat_list_cmp_total.antisymm q k) e
@@ -125,12 +122,7 @@ found_in (e ∷ es) n some = here (eq_by_cmp (node_cmp significant_digits) n e.0
 put_some : (n : Node) (v : Text) → NoneEmpty n.subscripts → (es : List (Node × Text)) → AllSome es → AllSome (Entries.put (node_cmp significant_digits) n v es)
 unfolding AllSome
 put_some n v some [] all = (some, tt)
-put_some n v some (e ∷ es) all = by_order (node_cmp significant_digits n e.0) (put_some n v some es all.1)
-  where
-    by_order : (r : Ordering) → AllSome (Entries.put (node_cmp significant_digits) n v es) → AllSome (Entries.by_order r ((n, v) ∷ e ∷ es) ((e.0, v) ∷ es) (e ∷ Entries.put (node_cmp significant_digits) n v es))
-    by_order Less rest = (some, all)
-    by_order Equal rest = all
-    by_order Greater rest = (all.0, rest)
+put_some n v some (e ∷ es) all = grind (arith, put_some n v some es all.1)
 
 of_none : (es : List (Node × Text)) → length es ≡ 0 → AllSome es
 unfolding AllSome

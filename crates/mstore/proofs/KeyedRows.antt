@@ -1,13 +1,10 @@
 -- SPDX-License-Identifier: Apache-2.0
 -- What calls do to rows by their keys, they do to the globals that the rows hold.
-use Rattle.mstore.proofs.Words.{ℕ, ◌≡◌, ◌≢◌, ◌<◌, ◌⊎◌, inl, inr, Bool, true, false, cond, not, Some, None, option_map, List, [], ◌∷◌, map, length, refl, sym, ◌∙◌, ap, subst, arith, and_parts, and_from, eq_by_cmp, IsTotalOrder, eq_by_cmp_equiv, Equal-is, both_ways, slice_cmp, get, get-from_entries, get-insert, get-retain_keys, same_map, All-head, All-tail, All-cons, All-nil, Node, significant_digits, node_cmp, key_bytes, subtree_end, NoneEmpty, node_of, Globals, is_node_within, without_subtree, node_cmp_total, node_cmp_exact, key_order, keys_are_injective, subtrees_are_ranges, keys_are_read, IsKey, none_empty, PutsAt, RemovesWithin, in_bounds, lookup_by, globals_by, AreKeyed}
-use Rattle.std.proofs.Common.{find}
+use Rattle.mstore.proofs.Words.{ℕ, ◌≡◌, ◌≢◌, ◌<◌, ◌⊎◌, inl, inr, Bool, true, false, cond, not, Some, None, List, [], ◌∷◌, map, length, refl, sym, ◌∙◌, ap, subst, arith, and_parts, and_from, eq_by_cmp, IsTotalOrder, eq_by_cmp_equiv, Equal-is, both_ways, slice_cmp, get, get-from_entries, get-insert, get-retain_keys, same_map, All-head, All-tail, All-cons, All-nil, Node, significant_digits, node_cmp, key_bytes, subtree_end, NoneEmpty, node_of, Globals, is_node_within, without_subtree, node_cmp_total, node_cmp_exact, key_order, keys_are_injective, subtrees_are_ranges, keys_are_read, IsKey, none_empty, PutsAt, RemovesWithin, in_bounds, lookup_by, globals_by, AreKeyed, insert, Text}
 use Rattle.mstore.proofs.SortedEntries.{less}
 use Rattle.mstore.proofs.Subtrees.{told_within, within_told}
 use Rattle.std.specs.Ordering.{nat_cmp, is_eq, is_lt, is_le}
-use Rattle.std.specs.FinMap.{insert}
 use Rattle.std.specs.FinMap.Entries as Entries
-use Rattle.mspec.specs.Node.{Text}
 
 abbrev pub key : Node → List ℕ
 key = key_bytes significant_digits
@@ -63,14 +60,7 @@ module _ {A : Type 0} (key_of value_of : A → List ℕ) where
 
   found : (rows : List A) → AreKeyed key_of rows → (n : Node) → NoneEmpty n.subscripts → Entries.find (node_cmp significant_digits) n (map entry rows) ≡ lookup_by key_of value_of rows (key n)
   found [] keyed n some = refl
-  found (r ∷ rows) keyed n some = here (eq_by_cmp (node_cmp significant_digits) n (node_of (key_of r))) (is_eq (slice_cmp nat_cmp (key_of r) (key n))) (same_keys (key_of r) keyed.0 n some) (found rows keyed.1 n some)
-    where
-      here : (a b : Bool) → a ≡ b → Entries.find (node_cmp significant_digits) n (map entry rows) ≡ lookup_by key_of value_of rows (key n)
-          → cond a (Some (value_of r)) (Entries.find (node_cmp significant_digits) n (map entry rows)) ≡ option_map value_of (cond b (Some r) (find (λ x. is_eq (slice_cmp nat_cmp (key_of x) (key n))) rows))
-      here true true e rest = refl
-      here false false e rest = rest
-      here true false e rest = absurd (cc)
-      here false true e rest = absurd (cc)
+  found (r ∷ rows) keyed n some = grind (arith, found rows keyed.1 n some, eq_by_cmp, is_eq, same_keys)
 
   -- a node with an empty subscript has none
   missed : (rows : List A) → AreKeyed key_of rows → (n : Node) → (NoneEmpty n.subscripts → ⊥) → Entries.find (node_cmp significant_digits) n (map entry rows) ≡ None

@@ -1,7 +1,6 @@
 -- SPDX-License-Identifier: Apache-2.0
 -- A store of version 1 whose rows have all been moved.
-use Rattle.mstore.proofs.Words.{◌≡◌, ℕ, true, false, List, [], ◌∷◌, Option, Some, None, refl, sym, ap, ap₂, subst, ◌∙◌, inl, inr, OnErr, Result, Ok, Err, IsTrue, Value, Blob, Row, column, Has, all_from, Ghosts, Database, Held, state, Error, State, Shows, IsRolledBack, FailsToCommit, Node, significant_digits, key_bytes, IsStored, IsKey, old_digits, none_empty, globals_by, AreKeyed, HoldBy, AreRows, AreNodes, IsNode, IsInForm, IsInFormBy, IsValue, key_of, value_of, lookup, shown_of, version_name, old_version, IsStore, IsUntouched, IsMigrated, HasVersion, this_version, ShowsAll, content, IsAny, IsWorking, IsMoving, IsOldStore, ShowContent}
-use Rattle.std.proofs.Common.{true≢false}
+use Rattle.mstore.proofs.Words.{arith, ◌≡◌, ℕ, true, false, List, [], ◌∷◌, Option, Some, refl, sym, ap, ap₂, subst, ◌∙◌, inl, inr, OnErr, Result, IsTrue, Value, Blob, Row, column, Has, all_from, Ghosts, Database, Held, state, Error, State, Shows, IsRolledBack, FailsToCommit, Node, significant_digits, key_bytes, IsStored, IsKey, old_digits, none_empty, globals_by, AreKeyed, HoldBy, AreRows, AreNodes, IsNode, IsInForm, IsInFormBy, IsValue, key_of, value_of, lookup, shown_of, version_name, old_version, IsStore, IsUntouched, IsMigrated, HasVersion, this_version, ShowsAll, content, IsAny, IsWorking, IsMoving, IsOldStore, ShowContent}
 use Rattle.mstore.proofs.Holding.{rows_held}
 use Rattle.mstore.proofs.KeyedRows as keyed_rows
 use Rattle.mstore.proofs.Maps.{lookup_some, lookup_has}
@@ -35,9 +34,7 @@ shows_content s rows was shown = record {
 }
 
 same_option : (a b : Option (List ℕ)) → ((v : List ℕ) → a ≡ Some v → b ≡ Some v) → ((v : List ℕ) → b ≡ Some v → a ≡ Some v) → a ≡ b
-same_option (Some v) b there back = sym (there v refl)
-same_option None (Some w) there back = back w refl
-same_option None None there back = refl
+same_option a b h e = grind arith
 
 module _ (first last : List Row) (was : AreRows (IsInFormBy old_digits) first) (are : AreRows IsAny last) (moved : IsMoving (lookup first) (lookup last) []) where
   -- each row that there is now
@@ -117,15 +114,10 @@ module _ {S : Type 0} (g : Ghosts S) (old start : Held S) (begun : start ≡ rec
 
   -- a transaction that is given up leaves the database as it was
   pub given_up : (mid end : Held S) → (state g mid).committed ≡ (state g start).committed → IsTrue (state g end).is_open → IsRolledBack (state g mid) (state g end) → IsUntouched (state g old) (state g end)
-  given_up mid end kept is_open undone =
-      let back = undone.undone is_open in
-      let before : (state g mid).committed ≡ (state g old).committed = kept ∙ ap (λ h. (state g h).committed) begun in
-      record { now = back.0 ∙ before ∙ sym was.calm.idle.settled; committed = back.1 ∙ before; mode = undone.autocommit ∙ sym was.calm.idle.autocommit }
+  given_up mid end kept is_open undone = grind arith
 
   pub not_committed : (last end : Held S) (e : Error) → IsWorking (state g last) → (state g last).committed ≡ (state g start).committed → IsTrue (state g end).is_open → FailsToCommit (state g last) (state g end) e → IsUntouched (state g old) (state g end)
-  not_committed last end e working kept is_open (inl failed) = given_up last end kept is_open failed.3
-  not_committed last end e working kept is_open (inr ended) = absurd (true≢false (sym working.inside ∙ ended.1))
+  not_committed last end e h f k u = grind arith
 
 pub on_err : {A E : Type 0} (P : Type 0) (r : Result A E) → P → OnErr r P
-on_err P (Ok a) p = tt
-on_err P (Err e) p = p
+on_err P r h = grind arith

@@ -1,8 +1,7 @@
 -- SPDX-License-Identifier: Apache-2.0
 -- Rows that go from their keys by fifteen digits to those of this version.
-use Rattle.mstore.proofs.Words.{◌≡◌, ◌≢◌, ◌⊎◌, ℕ, suc, true, List, [], ◌∷◌, Option, Some, None, sym, ap, subst, ◌∙◌, inl, inr, drop-cons, ◌+◌, ◌<◌, length, drop, get_or, add-one, cases_Bool, slice_cmp, Value, Blob, Row, column, Has, same_bytes, bytes_eq_refl, has_at, State, Node, significant_digits, key_bytes, IsStored, node_of, keys_are_read, IsKeyBy, old_digits, Content, content, MovesKey, MovesRow, IsMoving, ShowContent}
+use Rattle.mstore.proofs.Words.{arith, ◌≡◌, ◌≢◌, ◌⊎◌, ℕ, suc, true, List, [], ◌∷◌, Option, Some, None, sym, ap, subst, ◌∙◌, inl, inr, drop-cons, ◌+◌, ◌<◌, length, drop, get_or, add-one, cases_Bool, slice_cmp, Value, Blob, Row, column, Has, same_bytes, bytes_eq_refl, has_at, State, Node, significant_digits, key_bytes, IsStored, node_of, keys_are_read, IsKeyBy, old_digits, Content, content, MovesKey, MovesRow, IsMoving, ShowContent, true≢false}
 use Rattle.std.proofs.Common.{is_eq, nat_cmp}
-use Rattle.std.proofs.lemmas.Bool.{true≢false}
 
 -- ---- keys of one node, or of two
 
@@ -50,8 +49,7 @@ module _ (first old new : Content) (m : Node) (k v : List ℕ) (left : List Row)
   apart_next few n other e = other (ap (key_bytes old_digits) (one_node few significant_digits n m e) ∙ is.1)
 
   still_left : (l w : List ℕ) → l ≢ k → Has ((Blob k ∷ Blob v ∷ []) ∷ left) (Blob l ∷ Blob w ∷ []) → Has left (Blob l ∷ Blob w ∷ [])
-  still_left l w other (inl same) = absurd (other (shown_key l w k v same))
-  still_left l w other (inr later) = later
+  still_left l w h e = grind arith
 
   forth : (n : Node) (w : List ℕ) → IsStored n → first (key_bytes old_digits n) ≡ Some w
       → (new (key_bytes significant_digits n) ≡ Some w) ⊎ ((new (key_bytes old_digits n) ≡ Some w) × Has left (Blob (key_bytes old_digits n) ∷ Blob w ∷ []))

@@ -1,8 +1,8 @@
 -- SPDX-License-Identifier: Apache-2.0
 -- A store of version 1 whose rows were read.
-use Rattle.mstore.proofs.Words.{Result, Ok, Err, OnErr, List, ap, subst, sym, ◌∙◌, Row, column, Database, IsDatabase, Held, state, State, IsLive, Has, Ghosts, old_digits, HoldBy, AreRows, IsInFormBy, IsMemory, IsIdle, IsCalm, IsUntouched, IsMigrated, HasVersion, old_version, Stays, ShowsAll, ShowsNodesBy, globals_in, IsOldCalm, IsOldStore}
+use Rattle.mstore.proofs.Words.{arith, Result, OnErr, List, ap, subst, sym, Row, column, Database, Held, state, State, IsLive, Has, Ghosts, old_digits, AreRows, IsInFormBy, IsMemory, IsIdle, IsCalm, IsUntouched, IsMigrated, HasVersion, old_version, Stays, ShowsAll, ShowsNodesBy, IsOldCalm, IsOldStore}
 use Rattle.mstore.proofs.Adopts.{nodes_from}
-use Rattle.mstore.proofs.States.{stays_calm, untouched}
+use Rattle.mstore.proofs.States.{stays_calm}
 
 pub old_store : {S : Type 0} (g : Ghosts S) (old mid : Held S) → IsMemory g → IsOldCalm (state g old) → Stays (state g old) (state g mid) → ShowsNodesBy old_digits (state g old).now → IsOldStore (state g mid)
 old_store g old mid quiet was stays nodes = record {
@@ -21,28 +21,13 @@ shown_still old mid rows stays all = record {
 }
 
 pub migrated_from : (old mid new : State) → Stays old mid → IsMigrated mid new → IsMigrated old new
-migrated_from old mid new stays m = record {
-  schema_is = ap (λ (d : Database). d.schema) (sym stays.same) ∙ m.schema_is;
-  was = subst (λ (d : Database). HasVersion d old_version) stays.same m.was;
-  is = m.is;
-  same = subst (λ (d : Database). HoldBy old_digits (d.trees 0) (globals_in new)) stays.same m.same;
-}
+migrated_from old mid new stays m = grind arith
 
 pub untouched_from : (old mid new : State) → IsIdle old → Stays old mid → IsUntouched mid new → IsUntouched old new
-untouched_from old mid new idle stays n =
-    let u = untouched old mid idle stays in
-    record { now = n.now ∙ u.now; committed = n.committed ∙ u.committed; mode = n.mode ∙ u.mode }
+untouched_from old mid new idle stays n = grind arith
 
 pub old_calm : {S : Type 0} (g : Ghosts S) (old mid : Held S) → IsMemory g → IsLive (state g old) → IsCalm (state g old) → Stays (state g old) (state g mid) → HasVersion (state g old).now old_version → IsOldCalm (state g mid)
-old_calm g old mid quiet live calm stays has =
-    let both = live (quiet.is_open old.store) in
-    let committed = (untouched (state g old) (state g mid) calm.idle stays).committed in
-    record {
-      calm = stays_calm (state g old) (state g mid) calm stays;
-      live = λ _. (subst IsDatabase (sym stays.same) both.0, subst IsDatabase (sym committed) both.1);
-      version = subst (λ (d : Database). HasVersion d old_version) (sym stays.same) has;
-    }
+old_calm g old mid quiet live calm stays has = grind arith
 
 pub on_err_as : {A E : Type 0} (P Q : Type 0) (r : Result A E) → (P → Q) → OnErr r P → OnErr r Q
-on_err_as P Q (Ok a) f p = p
-on_err_as P Q (Err e) f p = f p
+on_err_as P Q r h e = grind arith

@@ -1,11 +1,8 @@
 -- SPDX-License-Identifier: Apache-2.0
 -- What `put` writes.
-use Rattle.mstore.proofs.Words.{◌≡◌, ◌≢◌, ◌⊎◌, ℕ, ℤ, Bool, true, false, ◌&&◌, ◌||◌, List, [], ◌∷◌, map, drop, Option, Some, None, Ok, refl, sym, ap, ap₂, arith, int_eq, subst, ◌∙◌, inl, inr, false_from_ne_true, and_parts, not-true, Value, Null, Int, Blob, Row, column, Binary, col, is_true, Compare, Eq, Written, Puts, Updates, Upserts, Tries, TriesEach, Clears, Meets, Judged, count_of, nothing, first_key-plain, Key, given, Database, IsAnswer, overlay, Integer, cast, cast_row, Enforced, Abort, Given, Chosen, rowid, Has, id_in, without_all, are_fresh, is_taken, with_rowid, ids_of, put_all_has, put_all_keeps, put_all_adds, at_ints, at_blobs, last_term, same_bytes, State, Executes, runs_as, one_step, binary, ints, node, schema, IsIdle, PutsAt, AreRows, IsNode, key_of, value_of, lookup, is_at, Put, sql}
-use Rattle.std.proofs.lemmas.Bool.{true≢false}
+use Rattle.mstore.proofs.Words.{◌≡◌, ◌≢◌, ◌⊎◌, ℕ, ℤ, Bool, true, false, ◌&&◌, ◌||◌, List, [], ◌∷◌, map, drop, Option, Some, None, Ok, refl, sym, ap, ap₂, arith, int_eq, subst, ◌∙◌, inl, inr, false_from_ne_true, and_parts, not-true, Value, Null, Int, Blob, Row, column, Binary, col, is_true, Compare, Eq, Written, Puts, Updates, Upserts, Tries, TriesEach, Clears, Meets, Judged, count_of, nothing, first_key-plain, Key, given, Database, IsAnswer, overlay, Integer, cast, cast_row, Enforced, Abort, Given, Chosen, rowid, Has, id_in, without_all, are_fresh, is_taken, with_rowid, ids_of, put_all_has, put_all_keeps, put_all_adds, at_ints, at_blobs, last_term, same_bytes, State, Executes, runs_as, one_step, binary, ints, node, schema, IsIdle, PutsAt, AreRows, IsNode, key_of, value_of, lookup, is_at, Put, sql, true≢false, Trees, next_rowid, put_all, edit_of}
 use Rattle.sqlite_rules.specs.declared.error.Refusal.{Refusal}
-use Rattle.sqlite.specs.Tree.{Trees}
 use Rattle.sqlite_rules.specs.Keys.{conflicts, AreConflicts}
-use Rattle.sqlite_rules.specs.Edit.{next_rowid, put_all, edit_of}
 use Rattle.mstore.proofs.Texts.{put_is, put_command, put_query, put_clauses, put_source, program, at_rowid}
 use Rattle.mstore.proofs.Casts.{cast_null, cast_int}
 use Rattle.mstore.proofs.Answer.{rows_from, rows_to, has_mapped, mapped_has, passes}
@@ -48,8 +45,7 @@ put_map rows next k v right nodes put = record {
 }
 
 or_false : (b : Bool) → (b || false) ≡ b
-or_false true = refl
-or_false false = refl
+or_false b = grind arith
 
 not_at : (k : List ℕ) (r : Row) → key_of r ≢ k → is_at k r ≡ false
 not_at k r other = false_from_ne_true (is_at k r) (λ h. other (same_bytes (key_of r) k h))

@@ -1,9 +1,7 @@
 -- SPDX-License-Identifier: Apache-2.0
 -- What stands from a key on and before the bytes that come next after it: the key alone.
-use Rattle.mstore.proofs.Words.{◌≡◌, ◌≢◌, ◌⊎◌, ◌<◌, ℕ, true, false, List, [], ◌∷◌, ◌++◌, refl, sym, ap, ap₂, subst, ◌∙◌, inl, inr, arith, Equal, Greater, and_parts, and_from, false_from_ne_true, cases_order, nat_cmp_is, slice_cmp, ordering_then, Content, in_bounds, PutsAt, RemovesWithin, MovesKey}
+use Rattle.mstore.proofs.Words.{◌≡◌, ◌≢◌, ◌⊎◌, ◌<◌, ℕ, true, false, List, [], ◌∷◌, ◌++◌, refl, sym, ap, ap₂, subst, ◌∙◌, inl, inr, arith, Equal, Greater, and_parts, and_from, false_from_ne_true, cases_order, nat_cmp_is, slice_cmp, ordering_then, Content, in_bounds, PutsAt, RemovesWithin, MovesKey, true≢false, is_lt, is_le}
 use Rattle.std.proofs.Common.{nat_cmp}
-use Rattle.std.proofs.lemmas.Bool.{true≢false}
-use Rattle.std.specs.Ordering.{is_lt, is_le}
 use Rattle.mspec.proofs.KeyRanges.{same_bytes}
 
 -- a list from k on, and before k with a 0 behind it

@@ -1,6 +1,6 @@
 -- SPDX-License-Identifier: Apache-2.0
 -- What the tests of the statements say of a row.
-use Rattle.mstore.proofs.Words.{◌≡◌, ℕ, Bool, false, ◌&&◌, List, [], ◌∷◌, ap, ap₂, ◌∙◌, Blob, Row, column, Binary, Compare, Eq, Ge, Lt, is_true, at_blobs, last_term, binary, in_bounds, IsNode, key_of, value_of, is_at}
+use Rattle.mstore.proofs.Words.{arith, ◌≡◌, ℕ, Bool, false, List, [], ◌∷◌, ap, ◌∙◌, Blob, Row, column, Binary, Compare, Eq, is_true, at_blobs, last_term, binary, in_bounds, IsNode, key_of, value_of, is_at}
 use Rattle.mstore.proofs.Texts.{at_key, in_range}
 use Rattle.mstore.proofs.Answer.{passes}
 
@@ -18,6 +18,4 @@ pub at_key_is : (k : List ℕ) (r : Row) → IsNode r → passes at_key (Blob k 
 at_key_is k r node = last_term (ap (λ v. is_true (binary (Compare Eq Binary) v (Blob k))) (key_column r node) ∙ at_blobs false Eq (key_of r) k)
 
 pub in_range_is : (low high : List ℕ) (r : Row) → IsNode r → passes in_range (Blob low ∷ Blob high ∷ []) r ≡ is_within low high r
-in_range_is low high r node = ap₂ ◌&&◌
-    (ap (λ v. is_true (binary (Compare Ge Binary) v (Blob low))) (key_column r node) ∙ at_blobs false Ge (key_of r) low)
-    (last_term (ap (λ v. is_true (binary (Compare Lt Binary) v (Blob high))) (key_column r node) ∙ at_blobs false Lt (key_of r) high))
+in_range_is low high r node = grind (arith, key_column, at_blobs, last_term)

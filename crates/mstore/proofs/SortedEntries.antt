@@ -1,11 +1,7 @@
 -- SPDX-License-Identifier: Apache-2.0
 -- What entries in order hold, and how their nodes and the bytes of their keys rise.
-use Rattle.mstore.proofs.Words.{◌≡◌, ℕ, zero, suc, ◌<◌, Bool, true, false, cond, ◌&&◌, None, List, [], ◌∷◌, map, length, slice_index_or, Option, Some, refl, sym, ap, subst, ◌∙◌, arith, Ordering, Less, Equal, Greater, and_parts, IsTotalOrder, slice_cmp, slice_partial_cmp, empty, entries, get, from_entries, retain_keys, entries-insert, get-from_entries, get-retain_keys, len-entries, len-empty, same_entries_map, same_map, put, where_key, is_sorted, below_all, by_order, is_sorted-put, is_sorted-where_key, find-where_key, is_some_and, ordering_reverse, ordering_then, partial_ordering_then, Globals, keys_of, key_bytes, IsStored, Node, node_cmp, significant_digits, key_order, node_cmp_total, node_cmp_exact, none_empty, Entry, entries_of, held, bytes_of, AreEntries}
-use Rattle.std.proofs.Common.{T}
-use Rattle.std.specs.FinMap.{insert}
+use Rattle.mstore.proofs.Words.{◌≡◌, ℕ, zero, suc, ◌<◌, Bool, true, cond, ◌&&◌, None, List, [], ◌∷◌, map, length, slice_index_or, Option, Some, refl, sym, ap, subst, ◌∙◌, arith, Ordering, Less, Equal, Greater, and_parts, IsTotalOrder, slice_cmp, slice_partial_cmp, empty, entries, get, from_entries, retain_keys, entries-insert, get-from_entries, get-retain_keys, len-entries, len-empty, same_entries_map, same_map, put, where_key, is_sorted, below_all, by_order, is_sorted-put, is_sorted-where_key, find-where_key, is_some_and, ordering_reverse, ordering_then, partial_ordering_then, Globals, keys_of, key_bytes, IsStored, Node, node_cmp, significant_digits, key_order, node_cmp_total, node_cmp_exact, none_empty, Entry, entries_of, held, bytes_of, AreEntries, T, insert, nat_cmp, is_lt, Text}
 use Rattle.std.specs.FinMap.Entries.{find}
-use Rattle.std.specs.Ordering.{nat_cmp, is_lt}
-use Rattle.mspec.specs.Node.{Text}
 
 abbrev pub order : Node → Node → Ordering
 order = node_cmp significant_digits
@@ -22,16 +18,13 @@ pub second : (a b : Bool) → (a && b) ≡ true → b ≡ true
 second a b e = (and_parts a b e).1
 
 pub less : (o : Ordering) → is_lt o ≡ true → o ≡ Less
-less Less e = refl
-less Equal e = absurd (cc)
-less Greater e = absurd (cc)
+less o h = grind arith
 
 to_T : (b : Bool) → b ≡ true → T b
 to_T b e = subst T (sym e) tt
 
 pub from_T : (b : Bool) → T b → b ≡ true
-from_T true h = refl
-from_T false h = absurd h
+from_T b h = grind arith
 
 -- ---- what a list in order holds
 
@@ -97,14 +90,11 @@ pub keys_order : (m n : Node) → IsStored m → IsStored n → slice_cmp nat_cm
 keys_order m n stored_m stored_n = key_order significant_digits m n (none_empty m stored_m) (none_empty n stored_n)
 
 pub keys_rise : (es : List Entry) → AreEntries es → (i j : ℕ) (d : Entry) → i < j → j < length es → slice_cmp nat_cmp (bytes_of (slice_index_or es i d)) (bytes_of (slice_index_or es j d)) ≡ Less
-keys_rise es are i j d lt in_range =
-    keys_order _ _ (are.stored i d (omega arith)) (are.stored j d in_range) ∙ nodes_rise es are.sorted i j d lt in_range
+keys_rise es are i j d lt in_range = grind (arith, keys_order, nodes_rise)
 
 -- what `<` and `<=` of bytes compare
 then_some : (o r : Ordering) (q : Option Ordering) → q ≡ Some r → partial_ordering_then (Some o) q ≡ Some (ordering_then o r)
-then_some Less r q e = refl
-then_some Equal r q e = e
-then_some Greater r q e = refl
+then_some o r q h = grind arith
 
 pub bytes_compared : (xs ys : List ℕ) → slice_partial_cmp (λ x y. Some (nat_cmp x y)) xs ys ≡ Some (slice_cmp nat_cmp xs ys)
 bytes_compared [] [] = refl

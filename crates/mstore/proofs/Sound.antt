@@ -1,8 +1,7 @@
 -- SPDX-License-Identifier: Apache-2.0
 -- From what a call says to what it leaves of a sound store.
-use Rattle.mstore.proofs.Words.{◌≡◌, ℕ, List, [], ◌∷◌, Result, Ok, Err, sym, ap, subst, schema, Ghosts, Row, Error, Database, Held, state, HasCleanDisk, Executes, IsPlain, Blob, QueriesRow, understood, IsIdle, Stays, stored, PutsAt, RemovesWithin, IsInForm, AreNodes, key_of, value_of, globals_by, Put, Kill, sql, OnErr, OnOk, is_ok}
-use Rattle.mstore.specs.Database.{IsSound, holds}
-use Rattle.mstore.proofs.States.{stays_calm, query_row_stays, failed_execute_stays, came}
+use Rattle.mstore.proofs.Words.{arith, ◌≡◌, ℕ, List, [], ◌∷◌, Result, Ok, Err, sym, subst, schema, Ghosts, Row, Error, Held, state, HasCleanDisk, Executes, IsPlain, Blob, QueriesRow, understood, IsIdle, Stays, stored, PutsAt, RemovesWithin, IsInForm, Put, Kill, sql, OnErr, OnOk, is_ok, IsSound, holds}
+use Rattle.mstore.proofs.States.{query_row_stays, failed_execute_stays, came}
 use Rattle.mstore.proofs.Puts.{puts, put_nodes, put_map}
 use Rattle.mstore.proofs.Kills.{kills, kill_map}
 use Rattle.mstore.proofs.Edits.{left_nodes}
@@ -16,10 +15,7 @@ module _ {S : Type 0} (g : Ghosts S) (old new : Held S) (sound : IsSound g old) 
   idle = sound.1.calm.idle
 
   kept_sound : Stays (state g old) (state g new) → IsSound g new × (stored g new ≡ stored g old)
-  kept_sound k = (
-    (sound.0, record { calm = stays_calm _ _ sound.1.calm k; nodes = subst (λ (d : Database). AreNodes (d.trees 0)) (sym k.same) sound.1.nodes }),
-    ap (λ (d : Database). globals_by key_of value_of (d.trees 0)) k.same,
-  )
+  kept_sound k = grind arith
 
   pub query_keeps : (sql : List ℕ) (params : Row) (r : Result Row Error) → IsPlain (understood schema sql) → QueriesRow sql params (state g old) (state g new) r → IsSound g new × (stored g new ≡ stored g old)
   query_keeps sql params r plain h =

@@ -1,6 +1,6 @@
 -- SPDX-License-Identifier: Apache-2.0
 -- What a statement leaves, whatever became of it.
-use Rattle.mstore.proofs.Words.{◌≡◌, ◌≢◌, ℕ, false, List, [], Option, Some, None, Result, Ok, Err, IsTrue, sym, ap, subst, ◌∙◌, inl, inr, cases_Bool, Row, Command, Select, Rows, Database, RefusesToRead, Error, QueryReturnedNoRows, State, IsUnchanged, IsRolledBack, FailsToShow, Executes, RunsCommand, ShowsRows, store_error, shows_rows, IsPlain, StoreError, OutOfMemory, Io, Corrupt, Full, Broken, Unstorable, understood, IsNotRun, FailsToQuery, QueriesRow, ExecutesIn, Shown, IsIdle, IsCalm, Stays, IsUntouched, Gives, IfOk, OnErr, OnOk, Statement, is_ok, schema, sql}
+use Rattle.mstore.proofs.Words.{arith, ◌≡◌, ◌≢◌, ℕ, false, List, [], Option, Some, None, Result, Ok, Err, IsTrue, sym, ap, subst, ◌∙◌, inl, inr, cases_Bool, Row, Command, Database, RefusesToRead, Error, QueryReturnedNoRows, State, IsUnchanged, IsRolledBack, FailsToShow, Executes, RunsCommand, ShowsRows, store_error, shows_rows, IsPlain, StoreError, OutOfMemory, Io, Corrupt, Full, Broken, Unstorable, understood, IsNotRun, FailsToQuery, QueriesRow, ExecutesIn, Shown, IsIdle, IsCalm, Stays, IsUntouched, Gives, IfOk, OnErr, OnOk, Statement, is_ok, schema, sql}
 use Rattle.mstore.proofs.Texts.{Asks}
 
 pub stays_calm : (old new : State) → IsCalm old → Stays old new → IsCalm new
@@ -76,20 +76,11 @@ store_error_is Broken e = absurd cc
 store_error_is Unstorable e = absurd cc
 
 refusal_is : (limit : Option ℕ) (command : Command) (db : Database) (params : Row) → RefusesToRead limit command db params QueryReturnedNoRows → ⊥
-refusal_is limit (Select q names) db params (inl h) = let e = h.0 in absurd cc
-refusal_is limit (Select q names) db params (inr (inl h)) = let e = h.0 in absurd cc
-refusal_is limit (Select q names) db params (inr (inr h)) = let e = h.0 in absurd cc
-refusal_is limit (Rows values width names) db params h = let e = h.0 in absurd cc
-refusal_is limit _ db params h = absurd cc
+refusal_is limit command db params h = grind arith
 
 not_run_is : (old new : State) (sql : List ℕ) (params : Row) → IsNotRun old new sql params QueryReturnedNoRows → ⊥
 unfolding IsNotRun
-not_run_is old new sql params (inl (inl h, same)) = let e = h.2 in absurd cc
-not_run_is old new sql params (inl (inr h, same)) = elim h.2 [
-  | inl many ↦ let e = many.1 in absurd cc
-  | inr rest ↦ elim rest [ inl count ↦ (let e = count.1 in absurd cc) | inr clock ↦ (let e = clock.1 in absurd cc) ]
-]
-not_run_is old new sql params (inr h) = store_error_is h.0 (sym h.1)
+not_run_is old new sql params h = grind arith
 
 -- no row is told only where the answer has none
 pub no_row_is : (sql : List ℕ) (params : Row) (old new : State) → IsPlain (understood old.now.schema sql) → QueriesRow sql params old new (Err QueryReturnedNoRows) → Shown sql params old new []
@@ -108,9 +99,7 @@ asks_plain s command is old has = subst (λ c. IsPlain (understood c (sql s))) (
 -- what holds of each answer holds of the row that it gives
 pub shows_found : {F : Type 0} (P : Option Row → Type 0) (Q : Result Row Error → Type 0) → (Q (Err QueryReturnedNoRows) → P None) → ((row : Row) → Q (Ok row) → P (Some row))
     → (answer : Result Row Error) → Q answer → (r : Result (Option Row) F) → IfOk r (Gives answer) → IfOk r P
-shows_found P Q none some answer q (Ok None) e = none (subst Q e q)
-shows_found P Q none some answer q (Ok (Some row)) e = some row (subst Q e q)
-shows_found P Q none some answer q (Err f) e = e
+shows_found P Q h e answer f r k = grind arith
 
 -- what holds after each count, and after each error
 pub came : {U F : Type 0} (A B C : Type 0) (Q : Result ℕ Error → Type 0) → ((n : ℕ) → Q (Ok n) → A × B) → ((e : Error) → Q (Err e) → A × C)

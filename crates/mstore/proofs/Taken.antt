@@ -1,6 +1,6 @@
 -- SPDX-License-Identifier: Apache-2.0
 -- What `prepare` says of a statement that the columns do not take.
-use Rattle.mstore.proofs.Words.{◌≡◌, ◌≢◌, ℕ, List, [], Result, Ok, Err, IsTrue, IfOk, IfErr, sym, inl, inr, Row, Error, SqlInputError, State, IsUnchanged, store_error, StoreError, OutOfMemory, Io, Corrupt, Full, Broken, Unstorable, understood, IsNotRun, IsIdle, Stays}
+use Rattle.mstore.proofs.Words.{arith, ◌≡◌, ◌≢◌, ℕ, List, [], Result, Ok, Err, IsTrue, IfOk, IfErr, Row, Error, SqlInputError, State, IsUnchanged, store_error, StoreError, OutOfMemory, Io, Corrupt, Full, Broken, Unstorable, understood, IsNotRun, IsIdle, Stays}
 use Rattle.sqlite_resolve.specs.declared.error.CompileError.{CompileError}
 use Rattle.mstore.proofs.States.{unchanged_stays, not_run_stays}
 
@@ -19,9 +19,4 @@ no_fault_of_store Unstorable fault e = absurd cc
 
 pub not_taken : (old new : State) (sql : List ℕ) (fault : CompileError) → IsNotRun old new sql [] (SqlInputError fault) → (it : CompileError) × (understood old.now.schema sql ≡ Err it)
 unfolding IsNotRun
-not_taken old new sql fault (inl (inl h, same)) = (h.0, h.1)
-not_taken old new sql fault (inl (inr h, same)) = elim h.2 [
-  | inl many ↦ absurd (let e = many.1 in cc)
-  | inr rest ↦ elim rest [ inl count ↦ absurd (let e = count.1 in cc) | inr clock ↦ absurd (let e = clock.1 in cc) ]
-]
-not_taken old new sql fault (inr h) = absurd (no_fault_of_store h.0 fault (sym h.1))
+not_taken old new sql fault h = grind arith

@@ -1,7 +1,6 @@
 -- SPDX-License-Identifier: Apache-2.0
 -- What the statements are compiled to.
-use Rattle.mstore.proofs.Words.{◌≡◌, ℕ, Bool, List, [], ◌∷◌, codes, Ok, refl, pos, negsuc, true, false, Some, None, Query, inner, end, lit, col, op2, Source, Command, Key, Binary, Null, Int, Compare, Eq, Ge, Lt, Abort, Select, InsertOr, Delete, IsPlain, command_of, Upsert, Program, Values, everything, understood, reads_listing, version_name, node, meta, schema, NodeTable, MetaTable, Get, Put, Kill, Which, Each, sql, Statement, Step}
-use Rattle.sqlite.specs.Term.{Term}
+use Rattle.mstore.proofs.Words.{◌≡◌, ℕ, Bool, List, [], ◌∷◌, codes, Ok, refl, pos, negsuc, true, false, Some, None, Query, inner, end, lit, col, op2, Source, Command, Key, Binary, Null, Int, Compare, Eq, Ge, Lt, Abort, Select, InsertOr, Delete, IsPlain, command_of, Upsert, Program, Values, everything, understood, reads_listing, version_name, node, meta, schema, NodeTable, MetaTable, Get, Put, Kill, Which, Each, sql, Statement, Step, Term}
 use Rattle.sqlite.specs.Compile.{table_defined_by}
 
 pub node_is : table_defined_by (sql NodeTable) ≡ Ok node

@@ -1,8 +1,6 @@
 -- SPDX-License-Identifier: Apache-2.0
 -- What the statements do, of the globals that the rows are.
-use Rattle.mstore.proofs.Words.{◌≡◌, ℕ, Bool, List, [], ◌∷◌, Some, None, Result, Ok, Err, OnOk, sym, ap, subst, ◌∙◌, get, Value, Blob, Row, column, Ghosts, all_from, Held, state, Node, significant_digits, key_bytes, subtree_end, IsStored, without_subtree, IsKey, none_empty, AreKeyed, PutsAt, RemovesWithin, IsNearest, ShowsValue, ShowsKey, key_of, value_of, stored, step_key}
-use Rattle.std.specs.FinMap.{insert}
-use Rattle.mstore.specs.Database.{IsSound, holds}
+use Rattle.mstore.proofs.Words.{arith, ◌≡◌, ℕ, Bool, List, [], ◌∷◌, Some, None, Result, OnOk, sym, ap, subst, ◌∙◌, get, Value, Blob, Row, column, Ghosts, all_from, Held, state, Node, significant_digits, key_bytes, subtree_end, IsStored, without_subtree, IsKey, none_empty, AreKeyed, PutsAt, RemovesWithin, IsNearest, ShowsValue, ShowsKey, key_of, value_of, stored, step_key, insert, IsSound, holds}
 use Rattle.mstore.proofs.KeyedRows as keyed_rows
 use Rattle.mstore.proofs.KeyedOrder as keyed_order
 
@@ -50,5 +48,4 @@ module _ {S : Type 0} (g : Ghosts S) (old new : Held S) (was : IsSound g old) (i
   kill_is n stored_n gone = keyed_rows.kills key_of value_of (rows g old) (rows g new) (are_keyed g old was) (are_keyed g new is) n (none_empty n stored_n) gone
 
 pub on_ok : {A E P Q : Type 0} (r : Result A E) → (P → Q) → OnOk r P → OnOk r Q
-on_ok (Ok a) f p = f p
-on_ok (Err e) f p = p
+on_ok r h e = grind arith

@@ -1,7 +1,7 @@
 -- SPDX-License-Identifier: Apache-2.0
 -- The words that most proofs of this crate have, in one place.
-pub use Rattle.std.proofs.Common.{All, Bool, Equal, Err, Greater, IfErr, IfOk, IsPermutation, IsSorted, IsTrue, Less, List, None, Ok, OnErr, OnOk, Option, Ordering, Result, Some, [], add-one, ap, append-nil, ap₂, arith, codes, cond, drop, drop-cons, false, flat_map, get_or, if◌then◌else◌, inl, inr, int_cmp, int_eq, is_ok, is_some, length, map, negsuc, not, option_copied, option_map, pos, refl, reverse, rules, slice_get, slice_index_or, slice_set, subst, suc, sym, take, true, zero, ℕ, ℤ, ◌&&◌, ◌++◌, ◌+◌, ◌-◌, ◌<◌, ◌||◌, ◌∙◌, ◌∷◌, ◌≡◌, ◌≢◌, ◌≤◌, ◌⊎◌}
-pub use Rattle.std.proofs.lemmas.Bool.{and_from, and_parts, cases_Bool, cases_lt, cases_order, false_from_ne_true, not-true}
+pub use Rattle.std.proofs.Common.{All, Bool, Equal, Err, Greater, IfErr, IfOk, IsPermutation, IsSorted, IsTrue, Less, List, None, Ok, OnErr, OnOk, Option, Ordering, Result, Some, T, [], add-one, ap, append-nil, ap₂, arith, codes, cond, drop, drop-cons, false, find, flat_map, get_or, if◌then◌else◌, inl, inr, int_cmp, int_eq, is_eq, is_ok, is_some, length, map, negsuc, not, option_copied, option_map, pos, refl, reverse, rules, slice_get, slice_index_or, slice_set, subst, suc, sym, take, true, zero, ℕ, ℤ, ◌&&◌, ◌++◌, ◌+◌, ◌-◌, ◌<◌, ◌||◌, ◌∙◌, ◌∷◌, ◌≡◌, ◌≢◌, ◌≤◌, ◌⊎◌}
+pub use Rattle.std.proofs.lemmas.Bool.{and_from, and_parts, cases_Bool, cases_lt, cases_order, false_from_ne_true, not-true, true≢false}
 pub use Rattle.std.proofs.lemmas.Cmp.{tied_itself}
 pub use Rattle.std.proofs.lemmas.Int.{ints}
 pub use Rattle.std.proofs.lemmas.List.{length-drop, reverse-append, take_all}
@@ -10,11 +10,11 @@ pub use Rattle.std.proofs.lemmas.List.Folds.{find-append}
 pub use Rattle.std.proofs.lemmas.List.Sorted.{Contains-permutation, IsPartitionPoint-from_clause, IsPermutation-sym, ranks_by, searchable_from_sorted, sorted_far}
 pub use Rattle.std.specs.Cmp.{Equal-is, IsTotalOrder, both_ways, eq_by_cmp_equiv, nat_cmp_is}
 pub use Rattle.std.specs.Cmp.Lexicographic.{bytes_decides, nat_list_cmp_total, slice_cmp, slice_partial_cmp}
-pub use Rattle.std.specs.FinMap.{empty, entries, entries-insert, entries_sorted, from_entries, get, get-entries, get-from_entries, get-insert, get-retain_keys, len-empty, len-entries, nat_cmp-IsAntisymmetric, retain_keys, same_entries_map, same_map, slice_cmp-IsAntisymmetric}
+pub use Rattle.std.specs.FinMap.{FinMap, IsAntisymmetric, empty, entries, entries-from_sorted, entries-insert, entries_sorted, from_entries, from_sorted, get, get-entries, get-from_entries, get-from_sorted, get-insert, get-retain_keys, insert, len-empty, len-entries, nat_cmp-IsAntisymmetric, retain_keys, same_entries_map, same_map, slice_cmp-IsAntisymmetric}
 pub use Rattle.std.specs.FinMap.Entries.{below_all, by_order, find-where_key, is_sorted, is_sorted-put, is_sorted-where_key, put, where_key}
 pub use Rattle.std.specs.List.{AllByRecursion, list_all, list_any}
 pub use Rattle.std.specs.Option.{option_or}
-pub use Rattle.std.specs.Ordering.{eq_by_cmp, is_some_and, ordering_reverse, ordering_then, partial_ordering_then}
+pub use Rattle.std.specs.Ordering.{eq_by_cmp, is_le, is_lt, is_some_and, nat_cmp, ordering_reverse, ordering_then, partial_ordering_then}
 pub use Rattle.mkey.specs.Key.{BoundsKeysOf, IsKey, IsKeyBy, none_empty, old_digits}
 pub use Rattle.mspec.proofs.KeyOrders.{key_order}
 pub use Rattle.mspec.proofs.KeyRanges.{keys_are_injective, subtrees_are_ranges}
@@ -24,7 +24,7 @@ pub use Rattle.mspec.specs.Globals.{Globals, is_between, is_node_within, keys_of
 pub use Rattle.mspec.specs.KeyBytes.{IsStored, key_bytes, subtree_end}
 pub use Rattle.mspec.specs.KeyLaws.{IsBetween, IsWithin, NoneEmpty}
 pub use Rattle.mspec.specs.KeyReading.{node_of}
-pub use Rattle.mspec.specs.Node.{Node}
+pub use Rattle.mspec.specs.Node.{Node, Text}
 pub use Rattle.mspec.specs.NodeOrder.{node_cmp}
 pub use Rattle.mspec.specs.Number.{significant_digits}
 pub use Rattle.mspec.specs.TextFunctions.{max_text}
@@ -48,16 +48,17 @@ pub use Rattle.sqlite.specs.Source.TheVariants.{Values}
 pub use Rattle.sqlite.specs.State.{Executes, ExecutesInside, FailsToShow, HasCleanDisk, IsLive, IsRolledBack, IsUnchanged, Opens, RunsCommand, Shows, ShowsRows, State, Writes, mode_of, shows_rows, store_error}
 unfoldable pub use Rattle.sqlite.specs.State.{ExecutesIn, FailsToQuery, IsNotRun, QueriesRow, Shown}
 pub use Rattle.sqlite.specs.Steps.{FailsToCommit}
-pub use Rattle.sqlite.specs.Term.{col, lit, op2}
+pub use Rattle.sqlite.specs.Term.{Term, col, lit, op2}
 pub use Rattle.sqlite.specs.declared.error.Error.{Error}
 pub use Rattle.sqlite.specs.declared.error.Error.TheVariants.{QueryReturnedNoRows, SqlInputError}
 pub use Rattle.sqlite.specs.declared.types.Value.{Value}
 pub use Rattle.sqlite.specs.declared.types.Value.TheVariants.{Blob, Int, Null, Real}
+pub use Rattle.sqlite.specs.Tree.{Trees}
 pub use Rattle.sqlite_rules.proofs.ListLemmas.{all_from, all_has, contains_had, has_at, has_contained, has_either, has_filtered, has_found, has_kept, has_left, has_right, some_from}
 pub use Rattle.sqlite_rules.proofs.PlaceLemmas.{given, tied_same}
 pub use Rattle.sqlite_rules.proofs.TableLemmas.{int_is, put_all_adds, put_all_has, put_all_keeps}
 pub use Rattle.sqlite_rules.specs.Calls.{ids_of}
-pub use Rattle.sqlite_rules.specs.Edit.{are_fresh, id_in, is_taken, with_rowid, without_all}
+pub use Rattle.sqlite_rules.specs.Edit.{are_fresh, edit_of, id_in, is_taken, next_rowid, put_all, with_rowid, without_all}
 pub use Rattle.sqlite_rules.specs.Lists.{Has}
 pub use Rattle.sqlite_rules.specs.declared.error.Rowids.TheVariants.{Chosen, Given}
 pub use Rattle.sqlite_schema.specs.declared.command.Conflict.TheVariants.{Abort}
@@ -81,7 +82,7 @@ pub use Rattle.sqlite_value.specs.Keys.{by_key, plain}
 pub use Rattle.sqlite_value.specs.Order.{bytes}
 unfoldable pub use Rattle.sqlite_value.specs.Order.{value_cmp}
 pub use Rattle.sqlite_value.specs.declared.keys.Key.{Key}
-pub use Rattle.mstore.specs.Database.{HasVersion, IsBare, IsBlank, IsCalm, IsIdle, IsMemory, IsMigrated, IsStore, IsUntouched, ShowsAll, ShowsNodes, ShowsNodesBy, ShowsVersion, Stays, content, globals_in, old_version, stored, this_version, version_name}
+pub use Rattle.mstore.specs.Database.{HasVersion, IsBare, IsBlank, IsCalm, IsIdle, IsMemory, IsMigrated, IsSound, IsStore, IsUntouched, ShowsAll, ShowsNodes, ShowsNodesBy, ShowsVersion, Stays, content, globals_in, holds, old_version, stored, this_version, version_name}
 pub use Rattle.mstore.specs.Entries.{AreEntries, IsAt, IsGapFor, IsPlaceOf, bytes_of, entries_of, entry_of, held, is_before, key_within}
 pub use Rattle.mstore.specs.Held.{AreHeld, IsHeld}
 pub use Rattle.mstore.specs.InMemory.{over_memory}

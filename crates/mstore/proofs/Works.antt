@@ -1,9 +1,7 @@
 -- SPDX-License-Identifier: Apache-2.0
 -- What the statements do inside the transaction of a migration.
-use Rattle.mstore.proofs.Words.{◌≡◌, ℕ, pos, true, List, [], ◌∷◌, codes, drop, map, None, Ok, refl, sym, ap, subst, ◌∙◌, Value, Null, Row, column, col, lit, Query, IsAnswer, Command, Update, overlay, cast, cast_row, Written, Task, Updates, Tally, Does, Database, State, mode_of, ExecutesInside, runs_as, one_step, statement_of, Enforced, Given, Has, without_all, are_fresh, ids_of, put_all_adds, given, rowid, last_term, understood, everything, schema, PutsAt, RemovesWithin, Kill, Put, Set, content, this_version, HasVersion, AreRows, IsAny, IsWorking, sql, MovesKey, RanInside, ◌++◌, ◌≢◌}
+use Rattle.mstore.proofs.Words.{arith, ◌≡◌, ℕ, pos, true, List, [], ◌∷◌, codes, drop, map, None, Ok, refl, sym, ap, subst, ◌∙◌, Value, Null, Row, column, col, lit, Query, IsAnswer, Command, Update, overlay, cast, cast_row, Written, Task, Updates, Tally, Does, Database, State, mode_of, ExecutesInside, runs_as, one_step, statement_of, Enforced, Given, Has, without_all, are_fresh, ids_of, put_all_adds, given, rowid, last_term, understood, everything, schema, PutsAt, RemovesWithin, Kill, Put, Set, content, this_version, HasVersion, IsAny, IsWorking, sql, MovesKey, RanInside, ◌++◌, ◌≢◌, Trees, edit_of, put_all}
 use Rattle.sqlite.specs.Kind.TheVariants.{Text as KindText}
-use Rattle.sqlite.specs.Tree.{Trees}
-use Rattle.sqlite_rules.specs.Edit.{edit_of, put_all}
 use Rattle.mstore.proofs.Answer.{rows_to, mapped_has}
 use Rattle.mstore.proofs.Edits.{left_nodes}
 use Rattle.mstore.proofs.Kills.{kills, kill_map}
@@ -93,10 +91,7 @@ module _ (old new : State) (was : IsWorking old) (count : ℕ) (h : ExecutesInsi
       )
 
   pub sets_inside : IsWorking new × (new.now.trees 0 ≡ old.now.trees 0)
-  sets_inside =
-      let same = asked.2 in
-      let is : new.now.schema ≡ schema = ap (λ (d : Database). d.schema) updated.2 in
-      (record { inside = h.1.mode; schema_is = is; rows = subst (AreRows IsAny) (sym same) was.rows }, same)
+  sets_inside = grind (arith, asked.2, updated.2)
 
   abbrev full : Row → Row
   full r = rowid r ∷ rowid r ∷ column r 1 ∷ this_version ∷ []

@@ -1,6 +1,6 @@
 -- SPDX-License-Identifier: Apache-2.0
 -- What a statement that writes the table leaves.
-use Rattle.mstore.proofs.Words.{◌≡◌, ◌⊎◌, ℕ, cond, List, None, Ok, Err, Result, sym, ap, subst, ◌∙◌, inl, inr, Row, Command, InsertOr, Delete, Enforced, Abort, Source, Tally, Does, Written, Task, InsertsOr, Deletes, Database, State, mode_of, Writes, Upsert, Program, node, schema, IsIdle}
+use Rattle.mstore.proofs.Words.{arith, ◌≡◌, ◌⊎◌, ℕ, List, None, Ok, Err, Result, ap, subst, inl, inr, Row, Command, InsertOr, Delete, Enforced, Abort, Source, Tally, Does, Written, Task, InsertsOr, Deletes, Database, State, mode_of, Writes, Upsert, Program, node, schema, IsIdle}
 
 -- a part that gave a value did not stop on the way
 pub went : {B E R : Type 0} {b : B} {Stops : E → Type 0} → ((stop : E) × Stops stop × (Ok b ≡ Err stop)) ⊎ R → R
@@ -30,7 +30,4 @@ module _ (old new : State) (has : old.now.schema ≡ schema) (params : Row) (tex
 
 -- outside a transaction the change is committed
 pub idle_after : (old new : State) (command : Command) (text : List ℕ) (params : Row) (count : ℕ) → Writes old new None command text params count → IsIdle old → IsIdle new
-idle_after old new command text params count w idle = record {
-  autocommit = w.shown.mode ∙ idle.autocommit;
-  settled = sym (w.shown.committed_is ∙ ap (λ b. cond b old.committed new.now) idle.autocommit);
-}
+idle_after old new command text params count w idle = grind arith

@@ -97,29 +97,16 @@ fn is_table(table: &Table, name: &[u8], tree: u32) -> bool
 fn is_node(table: &Table) -> bool
     ensures { IsTrue result ↔ (table.now ≡ table_of (codes "node") 0 (column_of (codes "k") Kind.Any true ∷ column_of (codes "v") Kind.Any true ∷ [])) }
 {
-    is_table(table, b"node", 0)
-        && has_columns(
-            table.columns.as_slice(),
-            b"k",
-            Kind::Any,
-            b"v",
-            Kind::Any,
-            true,
-        )
+    let columns = table.columns.as_slice();
+    is_table(table, b"node", 0) && has_columns(columns, b"k", Kind::Any, b"v", Kind::Any, true)
 }
 
 fn is_meta(table: &Table) -> bool
     ensures { IsTrue result ↔ (table.now ≡ table_of (codes "meta") 2 (column_of (codes "name") Kind.Text false ∷ column_of (codes "n") Kind.Integer false ∷ [])) }
 {
+    let columns = table.columns.as_slice();
     is_table(table, b"meta", 2)
-        && has_columns(
-            table.columns.as_slice(),
-            b"name",
-            Kind::Text,
-            b"n",
-            Kind::Integer,
-            false,
-        )
+        && has_columns(columns, b"name", Kind::Text, b"n", Kind::Integer, false)
 }
 
 fn has_tables(tables: &[Table]) -> bool

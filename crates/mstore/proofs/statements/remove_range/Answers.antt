@@ -1,6 +1,5 @@
 -- SPDX-License-Identifier: Apache-2.0
-use Rattle.mstore.proofs.Words.{◌≡◌, OnOk, OnErr, RemovesWithin, stored}
-use Rattle.mstore.specs.Database.{IsSound, holds}
+use Rattle.mstore.proofs.Words.{◌≡◌, OnOk, OnErr, RemovesWithin, stored, IsSound, holds}
 use Rattle.mstore.proofs.Sound.{clean_after, kill_after}
 use Rattle.mstore.proofs.statements.remove_range.Goals as goal
 

@@ -1,6 +1,5 @@
 -- SPDX-License-Identifier: Apache-2.0
-use Rattle.mstore.proofs.Words.{◌≡◌, OnOk, OnErr, PutsAt, stored}
-use Rattle.mstore.specs.Database.{IsSound, holds}
+use Rattle.mstore.proofs.Words.{◌≡◌, OnOk, OnErr, PutsAt, stored, IsSound, holds}
 use Rattle.mstore.proofs.Sound.{clean_after, put_after}
 use Rattle.mstore.proofs.statements.store_value.Goals as goal
 

@@ -1,6 +1,5 @@
 -- SPDX-License-Identifier: Apache-2.0
-use Rattle.mstore.proofs.Words.{◌≡◌, None, Some, subst, get, stored}
-use Rattle.mstore.specs.Database.{IsSound}
+use Rattle.mstore.proofs.Words.{◌≡◌, None, Some, subst, get, stored, IsSound}
 use Rattle.mstore.proofs.Tied.{gets_none, gets_text}
 use Rattle.mstore.proofs.Holding.{seen_held}
 use Rattle.mstore.proofs.table.TableNodeStore.get.Goals as goal

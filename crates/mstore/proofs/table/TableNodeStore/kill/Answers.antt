@@ -1,6 +1,5 @@
 -- SPDX-License-Identifier: Apache-2.0
-use Rattle.mstore.proofs.Words.{◌≡◌, OnOk, subst, without_subtree, stored}
-use Rattle.mstore.specs.Database.{IsSound}
+use Rattle.mstore.proofs.Words.{◌≡◌, OnOk, subst, without_subtree, stored, IsSound}
 use Rattle.mstore.proofs.Tied.{kill_is, on_ok}
 use Rattle.mstore.proofs.table.TableNodeStore.kill.Goals as goal
 

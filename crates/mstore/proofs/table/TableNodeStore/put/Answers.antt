@@ -1,7 +1,5 @@
 -- SPDX-License-Identifier: Apache-2.0
-use Rattle.mstore.proofs.Words.{◌≡◌, OnOk, subst, stored}
-use Rattle.std.specs.FinMap.{insert}
-use Rattle.mstore.specs.Database.{IsSound}
+use Rattle.mstore.proofs.Words.{◌≡◌, OnOk, subst, stored, insert, IsSound}
 use Rattle.mstore.proofs.Tied.{put_is, on_ok}
 use Rattle.mstore.proofs.Holding.{seen_held}
 use Rattle.mstore.proofs.table.TableNodeStore.put.Goals as goal

@@ -13,11 +13,13 @@ pub(crate) type TreeCache<T> = LruCache<Vec<u8>, Rc<T>>;
 fn latest<T: Drop>(tree_cache: &TreeCache<T>, text: &[u8]) -> Option<Rc<T>>
     ensures { IfSome result (λ tree. IsKept tree_cache.now.entries text.now tree.value) }
 {
-    let (key, tree) = tree_cache.peek_mru()?;
-    if key.as_slice() == text {
-        tree.clone().ok()
-    } else {
-        None
+    match tree_cache.peek_mru() {
+        None => None,
+        Some((key, tree)) => if key.as_slice() == text {
+            tree.clone().ok()
+        } else {
+            None
+        },
     }
 }
 

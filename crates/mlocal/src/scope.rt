@@ -236,7 +236,6 @@ impl Scope {
 }
 
 // The names that are among the old ones too.
-#[tactic(auto, using(std::proofs::lemmas::Fn::filter_same))]
 fn common(mut names: Vec<Name>, old: &[Name]) -> Vec<Name>
     ensures { result.items ≡ filter (is_among old.now) names.items }
 {

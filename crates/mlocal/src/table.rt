@@ -220,7 +220,6 @@ fn hint_of(index: usize) -> u16 {
 
 // Where in the map a name stands: at the hint, or else where the map finds it.
 #[inline(always)]
-#[tactic(auto, using(std::proofs::lemmas::Option::slice_get_within, crate::proofs::Tables::same_name, crate::proofs::Tables::hinted_key, crate::proofs::Tables::hinted_value))]
 fn index_of(variables: &IndexMap<Name, Variable>, hint: u16, name: &Name) -> Option<usize>
     ensures index { MatchOption result (find (pointwise nat_eq) variables.now name.now ≡ None) (StandsAt variables.now name.now) }
     ensures unique { IsUnique (pointwise nat_eq) variables.now }

@@ -75,7 +75,6 @@ impl Variable {
     }
 
     // Whether it has no text.
-    #[tactic(auto, using(crate::proofs::Bare::own_bare))]
     pub(crate) fn is_bare(&self) -> bool
         ensures { result ≡ is_bare self.now }
     {
@@ -214,7 +213,7 @@ fn child(
 }
 
 // The first key that stands behind one.
-#[tactic(auto, using(crate::proofs::Walks::first_is, crate::proofs::Walks::none_is, crate::proofs::Walks::found_all))]
+#[tactic(auto, using(crate::proofs::Walks::none_is))]
 fn first_behind<'a>(values: &'a BTreeMap<SubsKey, Value>, low: &SubsKey) -> Option<&'a SubsKey>
     requires subs { All AreSomeSubs (keys values.now) }
     ensures ordered { IsOrdered (subscripts_cmp significant_digits) values.now }
@@ -231,7 +230,7 @@ fn first_behind<'a>(values: &'a BTreeMap<SubsKey, Value>, low: &SubsKey) -> Opti
 }
 
 // The last key that stands behind one and before another.
-#[tactic(auto, using(crate::proofs::Walks::last_is, crate::proofs::Walks::none_last, crate::proofs::Walks::found_all, crate::proofs::Walks::all_reversed))]
+#[tactic(auto, using(crate::proofs::Walks::none_last))]
 fn last_between<'a>(
     values: &'a BTreeMap<SubsKey, Value>,
     low: &SubsKey,

@@ -148,7 +148,7 @@ in_do x = level_begun (level_begun (record bottom { trees = insert empty (codes 
 
 do_have : HaveNumber in_do
 unfolding value_of assigned_to level_begun
-do_have = record { reads = λ x. simp variables; sets = λ x y. simp variables; }
+do_have = record { reads = λ x. simp variables; sets = λ x y. simp variables }
 
 do_turns : (f : Completion → Act Completion) (w : Shared) → shut_at 1 in_do do_have 1999 1995 (codes "1") f w ≡ in_store 1 in_do do_have (f Go_on (at_number 1 in_do do_have 1950 (codes "64") (codes "64"))) w
 do_turns f w = all_turns 1 in_do do_have 1992 1950 f w
@@ -187,7 +187,7 @@ in_line x = level_begun (with_index x)
 
 line_have : HaveNumber in_line
 unfolding value_of assigned_to level_begun
-line_have = record { reads = λ x. simp variables; sets = λ x y. simp variables; }
+line_have = record { reads = λ x. simp variables; sets = λ x y. simp variables }
 
 -- nothing follows the level of the line
 line_turns : (w : Shared) → perform (act alice 1 (codes "ALICE")) ((shut (codes "ALICE") 1999).enter (second 0 in_line line_have) looping (at_number 0 in_line line_have 1990 (codes "1") [])) w ≡ (Gives Go_on (at_number 0 in_line line_have 1945 (codes "64") (codes "64")), w)

@@ -19,5 +19,5 @@ pub use Rattle.mscan.specs.declared.fault.ParseFault.TheVariants.{Syntax}
 pub use Rattle.mspec.specs.Node.{Node, Text}
 pub use Rattle.mstore.specs.Held.{AreHeld, IsHeld}
 pub use Rattle.mtree.specs.Tree.{line_tree, routine_line_tree}
-pub use Rattle.mcache.specs.Kept.{AreTrees, IsKept, IsOf, IsWithin, IsWithinOr}
+pub use Rattle.mcache.specs.Kept.{AreTrees, Entry, IsKept, IsOf, IsWithin, IsWithinOr}
 pub use Rattle.mcache.specs.NodeTexts.{AreKeysOf, AreOf, IsAmong, IsAt, IsIn, IsInOr, IsKeptAt}

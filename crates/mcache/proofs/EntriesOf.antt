@@ -1,10 +1,8 @@
 -- SPDX-License-Identifier: Apache-2.0
 -- Texts that are kept, behind calls of the store.
-use Rattle.mcache.proofs.CacheWords.{◌≡◌, ◌≢◌, ◌≤◌, ℕ, Bool, true, false, cond, not, List, length, All, Some, None, Contains, nat_eq, refl, sym, ap, ◌∙◌, subst, inl, inr, Ordering, false_from_ne_true, All-filter, FinMap, get, insert, entries, retain_keys, entries-insert, entries_sorted, from_sorted, entries-from_sorted, get-entries, get-from_sorted, get-insert, same_map, IsAntisymmetric, starts_with, Text, Node, IsHeld, AreHeld, IsKeptAt, IsIn, IsInOr, AreOf}
-use Rattle.mstore.proofs.Holding.{put_held}
+use Rattle.mcache.proofs.CacheWords.{◌≡◌, ◌≢◌, ◌≤◌, ℕ, Bool, true, false, cond, not, List, length, All, Some, None, Contains, nat_eq, refl, sym, ap, ◌∙◌, subst, inl, inr, Ordering, false_from_ne_true, All-filter, get, insert, entries, entries-insert, get-insert, starts_with, Text, Node, IsHeld, AreHeld, IsKeptAt, IsIn, IsInOr, AreOf}
+use Rattle.mstore.proofs.Holding.{entries_cut, put_held}
 use Rattle.std.proofs.lemmas.Cmp.{eq_by_cmp_equiv}
-use Rattle.std.specs.Cmp.{IsTotalOrder}
-use Rattle.std.specs.FinMap.Entries.{where_key, is_sorted-where_key, find-where_key}
 use Rattle.std.specs.Ordering.{eq_by_cmp}
 use Rattle.mspec.specs.Globals.{Globals, is_node_within, without_subtree}
 use Rattle.mspec.specs.KeyBytes.{key_bytes, IsStored}
@@ -24,15 +22,6 @@ order = node_cmp significant_digits
 
 held_put : (g : Globals) (n : Node) (t : Text) → IsStored n → length t ≤ max_text → AreHeld g → AreHeld (insert g n t)
 held_put g n t stored short held = subst (All IsHeld) (sym (entries-insert (node_cmp_total significant_digits) g n t)) (put_held n t (record { node = stored; text = short }) (entries g) held)
-
-module _ {K X : Type 0} {R : K → K → Ordering} (total : IsTotalOrder R) (exact : IsAntisymmetric R) where
-  entries_cut : (m : FinMap R X) (p : K → Bool) → entries (retain_keys m p) ≡ where_key R p (entries m)
-  entries_cut m p =
-      let s = is_sorted-where_key R p (entries m) (entries_sorted m) in
-      ap entries (same_map total exact (retain_keys m p) (from_sorted (where_key R p (entries m))) (λ q.
-      get_cut total exact m p q ∙ ap (λ g. cond (p q) g None) (get-entries m q) ∙ sym (find-where_key R p q (λ x e. ap p (sym (exact q x e))) (entries m))
-      ∙ sym (get-from_sorted R (where_key R p (entries m)) q s)))
-      ∙ entries-from_sorted R (where_key R p (entries m)) s
 
 held_killed : (g : Globals) (n : Node) → AreHeld g → AreHeld (without_subtree g n)
 held_killed g n held =

@@ -1,6 +1,6 @@
 -- SPDX-License-Identifier: Apache-2.0
 -- What the calls of a map leave of the texts that are kept.
-use Rattle.mcache.proofs.CacheWords.{◌≡◌, ◌≢◌, ◌⊎◌, ℕ, ◌+◌, ◌<◌, length, slice_index_or, Bool, true, false, List, [], ◌∷◌, ◌++◌, Option, Some, Vec, Contains, Result, Ok, Err, IfOk, IfSome, nat_eq, refl, sym, ap, ◌∙◌, subst, inl, inr, Global, false_from_ne_true, Contains-push, Contains-append_left, pointwise, same_text, bytes_decides, IsDistinct, AllByRecursion, starts_with, keys_of, lookup, remove_entry, result_ok, LruCache, promoted, put_entries, Contains-lookup, Contains-promoted, Contains-put_entries, Contains-remove_entry, Text, IsAt, IsKeptAt, IsIn, IsInOr, IsAmong, AreKeysOf}
+use Rattle.mcache.proofs.CacheWords.{arith, ◌≡◌, ◌≢◌, ◌⊎◌, ℕ, ◌+◌, ◌<◌, length, slice_index_or, Bool, true, false, List, [], ◌∷◌, ◌++◌, Option, Some, Vec, Contains, Result, IfOk, IfSome, nat_eq, refl, sym, ap, ◌∙◌, subst, inl, inr, Global, false_from_ne_true, Contains-push, Contains-append_left, pointwise, same_text, bytes_decides, IsDistinct, AllByRecursion, starts_with, keys_of, lookup, remove_entry, result_ok, LruCache, promoted, put_entries, Contains-lookup, Contains-promoted, Contains-put_entries, Contains-remove_entry, Text, IsAt, IsKeptAt, IsIn, IsInOr, IsAmong, AreKeysOf}
 use borrow.Author.Count.{below_more}
 use Rattle.lru.proofs.Splits.{Contains-cons, Contains-nil}
 use Rattle.mcache.specs.NodeTexts.{Entry}
@@ -20,8 +20,7 @@ kept_at es bytes text h =
     ((at.0, text), at.1, (sym (same_text bytes at.0.items (sym at.2)), refl))
 
 copied : {E : Type 0} (P : Text → Type 0) (text : Text) (r : Result Text E) (o : Option Text) → IfOk r (λ copy. copy ≡ text) → o ≡ result_ok r → P text → IfSome o P
-copied P text (Err e) o same is h = rw is tt
-copied P text (Ok copy) o same is h = rw is (subst P (sym same) h)
+copied P text r o h e f = grind arith
 
 pub found : {E : Type 0} (es : List Entry) (bytes : List ℕ) (text : Text) (r : Result Text E) (o : Option Text) → Some text ≡ lookup (is_at bytes) es → IfOk r (λ copy. copy ≡ text) → o ≡ result_ok r → IfSome o (IsKeptAt es bytes)
 found es bytes text r o at same is = copied (IsKeptAt es bytes) text r o same is (kept_at es bytes text (sym at))
@@ -87,10 +86,7 @@ module _ (es : List Entry) (front : List ℕ) (keys : List (Vec ℕ Global)) whe
   noted_none ahead is e c begins = inr (subst (λ l. Contains l e) (sym is) c)
 
   pub noted_all : (ahead : List Entry) → ahead ≡ [] → Noted es front keys ahead → AreKeysOf es front keys
-  noted_all ahead is noted e c begins = elim (noted e c begins) [
-    | inl among ↦ among
-    | inr on ↦ absurd (Contains-nil e (subst (λ l. Contains l e) is on))
-  ]
+  noted_all ahead is noted e c begins = grind arith
 
   module _ (ahead rest : List Entry) (f : Entry) (is : ahead ≡ f ∷ rest) (noted : Noted es front keys ahead) where
     pub noted_more : (key : Vec ℕ Global) (more : List (Vec ℕ Global)) → key.items ≡ f.0.items → more ≡ keys ++ key ∷ [] → Noted es front more rest

@@ -1,9 +1,8 @@
 -- SPDX-License-Identifier: Apache-2.0
 -- A tree that is kept beside the others.
-use Rattle.mcache.proofs.CacheWords.{◌≡◌, ◌<◌, ◌≤◌, ◌+◌, ◌∙◌, ℕ, List, length, Some, ap, sym, inl, inr, arith, line_at, routine_line_at, Text, line_tree, routine_line_tree, IsWithin, IsWithinOr, AreTrees}
+use Rattle.mcache.proofs.CacheWords.{◌≡◌, ◌<◌, ◌≤◌, ◌+◌, ◌∙◌, ℕ, List, length, Some, ap, sym, inl, inr, arith, line_at, routine_line_at, Text, line_tree, routine_line_tree, IsWithin, IsWithinOr, AreTrees, Entry}
 use Rattle.mtree.specs.declared.tree.Line.{Line}
 use Rattle.mtree.specs.declared.tree.RoutineLine.{RoutineLine}
-use Rattle.mcache.specs.Kept.{Entry}
 
 module _ {n : ℕ} {lines : List (Entry Line)} {routine_lines : List (Entry RoutineLine)} (were : AreTrees n lines routine_lines) (text : Text) where
   -- behind a look-up, the making of room, and the keeping

@@ -1,14 +1,13 @@
 -- SPDX-License-Identifier: Apache-2.0
 -- A text by what the parser says of its tree.
-use Rattle.mcache.proofs.CacheWords.{◌≡◌, ◌∙◌, List, ℕ, Option, Some, None, Result, Err, refl, sym, ap, line_at, RoutineLineTree, spell_routine_line, well_routine_line, routine_line_at}
+use Rattle.mcache.proofs.CacheWords.{arith, ◌≡◌, List, ℕ, Option, Some, None, Result, Err, line_at, RoutineLineTree, spell_routine_line, well_routine_line, routine_line_at}
 use Rattle.mgrammar.specs.Grammar.{LineTree, spell}
 use Rattle.mgrammar.specs.WellFormed.{well}
 use Rattle.mgrammar.proofs.ReadingLines as lines
 use Rattle.mgrammar.proofs.ReadingRoutines as routines
 
 none_from : {T : Type 0} (o : Option T) → ((x : T) → o ≡ Some x → ⊥) → o ≡ None
-none_from None h = refl
-none_from (Some x) h = absurd (h x refl)
+none_from o h = grind arith
 
 -- a text that a tree spells
 pub line_is : (text : List ℕ) (l : LineTree) → well l × (spell l ≡ text) → line_at text ≡ Some l
@@ -27,7 +26,4 @@ no_routine_line text h = none_from (routine_line_at text) (λ l e. let read = (r
 
 -- a fault that is handed on
 pub handed_on : {A B E : Type 0} (r : Result A E) (y fault other : E) → r ≡ Err y → y ≡ fault → r ≡ Err other → ◌≡◌ {A = Result B E} (Err fault) (Err other)
-handed_on r y fault other is same h =
-    let e : Err y ≡ Err other = sym is ∙ h in
-    let one : y ≡ other = cc in
-    ap Err (sym same ∙ one)
+handed_on r y fault other is same h = grind arith

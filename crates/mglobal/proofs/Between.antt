@@ -1,6 +1,6 @@
 -- SPDX-License-Identifier: Apache-2.0
 -- Which keys stand between bounds that begin with a node's key.
-use Rattle.mglobal.proofs.GlobalWords.{ℕ, ◌≡◌, ◌<◌, ◌⊎◌, inl, inr, Bool, true, false, nat_eq, ◌&&◌, Option, Some, None, List, [], ◌∷◌, ◌++◌, length, drop, refl, sym, ◌∙◌, ap, arith, append-nil, ℤ, slice_get, nat_cmp_is, slice_cmp, starts_with, nat_cmp, is_le, is_lt, ordering_then, Ordering, Less, Equal, Greater, cases_order, nat_tests, All-head, All-drop, is_between, is_node_within, number_bytes, subscript_by, subscript_bytes, subscripts_bytes, key_bytes, NoneEmpty, Text, Node, canonical_value, text_cmp, significant_digits, is_before, subscript_order, passes, child_under, starts_node, key_behind, within_parts, child_within, child_without, child_is}
+use Rattle.mglobal.proofs.GlobalWords.{ℕ, ◌≡◌, ◌<◌, Bool, true, false, nat_eq, ◌&&◌, Option, List, [], ◌∷◌, ◌++◌, length, drop, refl, sym, ◌∙◌, ap, arith, append-nil, ℤ, slice_get, slice_cmp, starts_with, nat_cmp, is_le, is_lt, ordering_then, Ordering, Less, Equal, Greater, All-head, All-drop, is_between, is_node_within, subscript_by, subscript_bytes, subscripts_bytes, key_bytes, NoneEmpty, Text, Node, canonical_value, text_cmp, significant_digits, is_before, subscript_order, passes, child_under, starts_node, key_behind, within_parts, child_within, child_without, child_is}
 
 abbrev pub key : Node → List ℕ
 key = key_bytes significant_digits
@@ -11,24 +11,7 @@ bytes = subscripts_bytes significant_digits
 -- ---- what two bounds begin with alike
 
 step : (c d : ℕ) (a b : Ordering) (w i : Bool) → (is_le a && is_lt b) ≡ (w && i) → (is_le (ordering_then (nat_cmp c d) a) && is_lt (ordering_then (nat_cmp d c) b)) ≡ ((nat_eq c d && w) && i)
-step c d a b w i h = by_order (cases_order c d)
-  where
-    by : (o r : Ordering) (t : Bool) → o ≡ nat_cmp c d → r ≡ nat_cmp d c → nat_eq c d ≡ t → (is_le (ordering_then o a) && is_lt (ordering_then r b)) ≡ ((t && w) && i) → (is_le (ordering_then (nat_cmp c d) a) && is_lt (ordering_then (nat_cmp d c) b)) ≡ ((nat_eq c d && w) && i)
-    by o r t first back same e = (λ j. is_le (ordering_then (sym first j) a) && is_lt (ordering_then (sym back j) b)) ∙ e ∙ ap (λ q. (q && w) && i) (sym same)
-
-    equal : c ≡ d → nat_eq c d ≡ true
-    equal e = grind (arith, nat_tests)
-
-    less : c < d → nat_eq c d ≡ false
-    less e = grind (arith, nat_tests)
-
-    more : d < c → nat_eq c d ≡ false
-    more e = grind (arith, nat_tests)
-
-    by_order : (c ≡ d) ⊎ ((c < d) ⊎ (d < c)) → (is_le (ordering_then (nat_cmp c d) a) && is_lt (ordering_then (nat_cmp d c) b)) ≡ ((nat_eq c d && w) && i)
-    by_order (inl same) = by Equal Equal true (nat_cmp_is c d Equal same) (nat_cmp_is d c Equal (sym same)) (equal same) h
-    by_order (inr (inl lt)) = by Less Greater false (nat_cmp_is c d Less lt) (nat_cmp_is d c Greater lt) (less lt) refl
-    by_order (inr (inr gt)) = by Greater Less false (nat_cmp_is c d Greater gt) (nat_cmp_is d c Less gt) (more gt) refl
+step c d a b w i h = grind arith
 
 pub between_front : (k low high y : List ℕ) → is_between (k ++ low) (k ++ high) y ≡ (starts_with nat_eq y k && is_between low high (drop (length k) y))
 between_front [] low high y = refl
@@ -55,44 +38,32 @@ module _ (n m : Node) (some_n : NoneEmpty n.subscripts) (some_m : NoneEmpty m.su
   by_within false e = ap (passes p) (sym (child_without n m e))
 
   pub keys_between : is_between (key n ++ low) (key n ++ high) (key m) ≡ passes p (child_under n m)
-  keys_between =
-      between_front (key n) low high (key m) ∙ ap (λ b. b && is_between low high (drop (length (key n)) (key m))) starts
-      ∙ by_within (is_node_within n m) refl
+  keys_between = grind (arith, between_front, starts, by_within)
 
 -- ---- of the bytes of subscripts
 
 none_first : (x : List ℕ) → is_le (slice_cmp nat_cmp [] x) ≡ true
-none_first [] = refl
-none_first (c ∷ x) = refl
+none_first x = grind arith
 
 -- a subscript's bytes begin with 1 or 2
 from_one : (s : Text) (o : Option ℤ) (x : List ℕ) → is_le (slice_cmp nat_cmp (1 ∷ []) (subscript_by s o ++ x)) ≡ true
-from_one s (Some u) x = none_first (number_bytes u ++ x)
-from_one s None x = refl
+from_one s o x = grind arith
 
 before_three : (s : Text) (o : Option ℤ) (x : List ℕ) → is_lt (slice_cmp nat_cmp (subscript_by s o ++ x) (3 ∷ [])) ≡ true
-before_three s (Some u) x = refl
-before_three s None x = refl
+before_three s o x = grind arith
 
 three_last : (more : List Text) → slice_cmp nat_cmp (3 ∷ []) (bytes more) ≡ Greater
 three_last [] = refl
-three_last (c ∷ more) = by_value (canonical_value significant_digits c)
-  where
-    by_value : (o : Option ℤ) → slice_cmp nat_cmp (3 ∷ []) (subscript_by c o ++ bytes more) ≡ Greater
-    by_value (Some u) = refl
-    by_value None = refl
+three_last (c ∷ more) = grind arith
 
 both : (a b : Bool) → a ≡ true → b ≡ true → (a && b) ≡ true
-both true b e f = f
-both false b e f = e
+both a b h e = grind arith
 
 one_side : (a b : Bool) → a ≡ true → (a && b) ≡ b
-one_side true b e = refl
-one_side false b e = absurd (cc)
+one_side a b h = grind arith
 
 other_side : (a b : Bool) → b ≡ true → (a && b) ≡ a
-other_side true b e = e
-other_side false b e = refl
+other_side a b h = grind arith
 
 -- all of them
 pub all_between : (p : Text → Bool) → ((s : Text) → 0 < length s → p s ≡ true) → (more : List Text) → NoneEmpty more → is_between (1 ∷ []) (3 ∷ []) (bytes more) ≡ passes p (slice_get more 0)
@@ -103,11 +74,7 @@ all_between p every (c ∷ more) some =
 
 -- those behind x, and all that stands below x
 pub behind_between : (x : Text) → 0 < length x → (more : List Text) → NoneEmpty more → is_between (subscript_bytes significant_digits x ++ 3 ∷ []) (3 ∷ []) (bytes more) ≡ passes (is_before x) (slice_get more 0)
-behind_between x some_x [] some = by_value (canonical_value significant_digits x)
-  where
-    by_value : (o : Option ℤ) → is_between (subscript_by x o ++ 3 ∷ []) (3 ∷ []) [] ≡ false
-    by_value (Some u) = refl
-    by_value None = refl
+behind_between x some_x [] some = grind (arith, canonical_value significant_digits x)
 behind_between x some_x (c ∷ more) some =
     other_side _ _ (before_three c (canonical_value significant_digits c) (bytes more))
     ∙ ap is_le (subscript_order significant_digits x c (3 ∷ []) (bytes more) some_x (All-head (λ s. 0 < length s) c more some))

@@ -1,6 +1,6 @@
 -- SPDX-License-Identifier: Apache-2.0
 -- Copies of routines, behind writes to the store.
-use Rattle.mglobal.proofs.GlobalWords.{◌≡◌, Bool, true, false, ◌||◌, List, All, slice_index_or, Result, Ok, Err, OnOk, OnErr, sym, subst, ◌∙◌, insert, Globals, is_node_within, without_subtree, Text, Node, AreCopiesIn, IsApart, routine_at}
+use Rattle.mglobal.proofs.GlobalWords.{arith, ◌≡◌, Bool, true, false, ◌||◌, List, All, slice_index_or, Result, OnOk, OnErr, sym, subst, ◌∙◌, insert, Globals, is_node_within, without_subtree, Text, Node, AreCopiesIn, IsApart, routine_at}
 use Rattle.mglobal.specs.declared.copies.RoutineCopy.{RoutineCopy}
 use Rattle.mglobal.proofs.LinesKept.{lines_put, lines_killed}
 
@@ -21,16 +21,13 @@ copies_killed g k copies apart are i d inside =
 
 -- where a store that was written to has what it was to have, or failed and has what it had
 pub copies_after : {A E : Type 0} (r : Result A E) (old written new : Globals) (copies : List RoutineCopy) → OnOk r (new ≡ written) → OnErr r (new ≡ old) → AreCopiesIn old copies → AreCopiesIn written copies → AreCopiesIn new copies
-copies_after (Ok x) old written new copies ok err before after = subst (λ g. AreCopiesIn g copies) (sym ok) after
-copies_after (Err e) old written new copies ok err before after = subst (λ g. AreCopiesIn g copies) (sym err) before
+copies_after r old written new copies h e f k = grind arith
 
 -- ---- whether a key begins with another
 
 -- one of two tests, asked one after the other
 pub either_first : (r a b : Bool) → r ≡ a → r ≡ true → r ≡ (a || b)
-either_first r true b e t = e
-either_first r false b e t = absurd (cc)
+either_first r a b h e = grind arith
 
 pub either_second : (r s a b : Bool) → r ≡ a → r ≡ false → s ≡ b → s ≡ (a || b)
-either_second r s true b e f t = absurd (cc)
-either_second r s false b e f t = t
+either_second r s a b h e f = grind arith

@@ -13,9 +13,7 @@ abbrev order : Node → Node → Ordering
 order = node_cmp significant_digits
 
 pub less : (o : Ordering) → is_lt o ≡ true → o ≡ Less
-less Less e = refl
-less Equal e = absurd (cc)
-less Greater e = absurd (cc)
+less o h = grind arith
 
 not_before : (x : Text) → is_before x x ≡ false
 not_before x = ap is_lt (tied_itself (text_cmp_total significant_digits) x)
@@ -24,8 +22,7 @@ before_on : (x y z : Text) → is_before x y ≡ true → is_before y z ≡ true
 before_on x y z e f = ap is_lt ((text_cmp_total significant_digits).trans x y z (less (C x y) e) (less (C y z) f))
 
 truth : (b : Bool) → T b → b ≡ true
-truth true t = refl
-truth false t = absurd t
+truth b h = grind arith
 
 module _ (account name : Text) where
   abbrev at : Text → Node
@@ -78,9 +75,7 @@ module _ (account name : Text) where
     is : m ≡ at place
 
   line_parts : (m : Node) → line m ≡ true → IsLine m
-  line_parts m e =
-      let at = line_at_place account name m e in
-      record { place = at.place; is = λ i. record { account = sym at.account_is i; name = sym at.name_is i; subscripts = at.subscripts_is i } }
+  line_parts m e = grind (arith, line_at_place account name m e)
 
   three_true : (a b c d : Bool) → a ≡ true → b ≡ true → c ≡ true → ((a && b) && (c && d)) ≡ d
   three_true a b c d e f g = λ i. (e i && f i) && (g i && d)
@@ -91,8 +86,7 @@ module _ (account name : Text) where
       ((bytes_decides account account).1 refl) ((bytes_decides (codes "ROUTINE") (codes "ROUTINE")).1 refl) ((bytes_decides name name).1 refl)
 
   and_no : (b : Bool) → (b && false) ≡ false
-  and_no true = refl
-  and_no false = refl
+  and_no b = grind arith
 
   -- ---- their order
 
@@ -106,9 +100,7 @@ module _ (account name : Text) where
   tied x = tied_itself (text_cmp_total significant_digits) x
 
   then_equal : (o : Ordering) → ordering_then o Equal ≡ o
-  then_equal Less = refl
-  then_equal Equal = refl
-  then_equal Greater = refl
+  then_equal o = grind arith
 
   order_lines : (c p : Text) → order (at c) (at p) ≡ C c p
   order_lines c p = order_same (name ∷ c ∷ []) (name ∷ p ∷ []) ∙ ap (λ o. ordering_then o (ordering_then (C c p) Equal)) (tied name) ∙ then_equal (C c p)
@@ -130,9 +122,7 @@ module _ (account name : Text) where
 
   none_at : (c : Text) (es : List (Node × Text)) → Above c es → Entries.find order (at c) es ≡ None
   none_at c [] all = refl
-  none_at c (e ∷ es) all =
-      ap (λ o. cond (is_eq o) (Some e.1) (Entries.find order (at c) es)) (All-head (λ e. order (at c) e.0 ≡ Less) e es all)
-      ∙ none_at c es (All-tail (λ e. order (at c) e.0 ≡ Less) e es all)
+  none_at c (e ∷ es) all = grind (arith, All-head (λ e. order (at c) e.0 ≡ Less) e es all, none_at c es (All-tail (λ e. order (at c) e.0 ≡ Less) e es all))
 
   -- ---- those behind a place
 
@@ -170,11 +160,7 @@ module _ (account name : Text) where
   skipped x e es out = ap (λ b. map (λ e. e.1) (cond b (e ∷ filter (λ e. is_line_behind account name x e.0) es) (filter (λ e. is_line_behind account name x e.0) es))) out
 
   kept : (x : Text) (e : Node × Text) (es : List (Node × Text)) (b : Bool) → is_line_behind account name x e.0 ≡ b → texts x (e ∷ es) ≡ cond b (e.1 ∷ texts x es) (texts x es)
-  kept x e es b is = ap (λ b. map (λ e. e.1) (cond b (e ∷ filter (λ e. is_line_behind account name x e.0) es) (filter (λ e. is_line_behind account name x e.0) es))) is ∙ here b
-    where
-      here : (b : Bool) → map (λ e. e.1) (cond b (e ∷ filter (λ e. is_line_behind account name x e.0) es) (filter (λ e. is_line_behind account name x e.0) es)) ≡ cond b (e.1 ∷ texts x es) (texts x es)
-      here true = refl
-      here false = refl
+  kept x e es b is = grind arith
 
   not_behind : (x : Text) (m : Node) → passes (is_before x) (child m) ≡ false → is_line_behind account name x m ≡ false
   not_behind x m e = ap (λ b. line m && b) e ∙ and_no (line m)
@@ -233,8 +219,7 @@ module _ (account name : Text) where
         here false l = refl
 
     nothing : (b : Bool) (o : Option Text) → o ≡ None → (if b then option_to_list o else []) ≡ []
-    nothing true o e = ap option_to_list e
-    nothing false o e = refl
+    nothing b o h = grind arith
 
     below_first : (d : Text) (more : List Text) → e.0 ≡ node (name ∷ c ∷ d ∷ more) → texts x (e ∷ es) ≡ one c (e ∷ es) ++ texts c (e ∷ es)
     below_first d more same =

@@ -1,16 +1,14 @@
 -- SPDX-License-Identifier: Apache-2.0
 -- The lines of a routine stay where neither its node, nor one above it or below it is written.
 use Rattle.mstore.proofs.Holding.{entries_cut}
-use Rattle.mglobal.proofs.GlobalWords.{◌≡◌, Bool, true, false, cond, not, ◌||◌, List, [], ◌∷◌, ◌++◌, map, Option, None, refl, sym, ap, ◌∙◌, drop, length, codes, IsTotalOrder, bytes_decides, FinMap, get, insert, retain_keys, entries, same_map, IsAntisymmetric, Ordering, Globals, is_beside, is_line_of, is_node_within, routines_of, lines_of, without_subtree, Text, Node, significant_digits, text_eq, node_cmp_total, node_cmp_exact, both_true, IsSplit, split_node, joined_node, routine_at, is_line}
+use Rattle.mglobal.proofs.GlobalWords.{arith, ◌≡◌, Bool, true, false, cond, not, ◌||◌, List, [], ◌∷◌, ◌++◌, map, Option, None, refl, sym, ap, ◌∙◌, drop, length, codes, IsTotalOrder, bytes_decides, FinMap, get, insert, retain_keys, entries, same_map, IsAntisymmetric, Ordering, Globals, is_beside, is_line_of, is_node_within, routines_of, lines_of, without_subtree, Text, Node, significant_digits, text_eq, node_cmp_total, node_cmp_exact, both_true, IsSplit, split_node, joined_node, routine_at, is_line}
 use Rattle.mspec.proofs.MapCuts.{get_cut, cut_drops}
 
 -- ---- maps
 
 module _ {K X : Type 0} {R : K → K → Ordering} (total : IsTotalOrder R) (exact : IsAntisymmetric R) where
   absorbed : (a b : Bool) (v : Option X) → (b ≡ true → a ≡ true) → cond b (cond a v None) None ≡ cond b v None
-  absorbed true b v h = refl
-  absorbed false true v h = let e : false ≡ true = h refl in cc
-  absorbed false false v h = refl
+  absorbed a b v h = grind arith
 
   cut_absorbs : (m : FinMap R X) (p q : K → Bool) → ((k : K) → q k ≡ true → p k ≡ true) → retain_keys (retain_keys m p) q ≡ retain_keys m q
   cut_absorbs m p q h = same_map total exact _ _ (λ k.
@@ -24,8 +22,7 @@ by_test true f g = f refl
 by_test false f g = g refl
 
 none_true : (a b : Bool) → (a || b) ≡ false → (a ≡ false) × (b ≡ false)
-none_true true b e = absurd (cc)
-none_true false b e = (refl, e)
+none_true a b h = grind arith
 
 clash : (b : Bool) → b ≡ true → b ≡ false → ⊥
 clash b t f = cc

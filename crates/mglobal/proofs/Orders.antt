@@ -1,6 +1,6 @@
 -- SPDX-License-Identifier: Apache-2.0
 -- What is found among the keys of globals, as what $DATA and $ORDER answer.
-use Rattle.mglobal.proofs.GlobalWords.{ℕ, ◌≡◌, Bool, true, false, cond, ◌&&◌, ◌||◌, Option, Some, None, option_map, is_some, List, [], ◌∷◌, ◌++◌, map, reverse, All, refl, sym, ◌∙◌, ap, subst, option_and_then, if◌then◌else◌, IsSome, entries, keys, list_any, find, filter, option_to_list, All-map, All-head, All-tail, All-nil, All-push, Globals, is_between, is_beside, next_key, status, order_at, key_bytes, IsStored, Text, Node, significant_digits, Direction, Forward, Backward, is_before, is_empty, is_below, child_of, children_in, front, last, IsKeyOf, passes, child_under, children_by, find_child, find_last_child, AreHeld, is_onward, BoundsOnward, nearest_key}
+use Rattle.mglobal.proofs.GlobalWords.{arith, ℕ, ◌≡◌, Bool, true, false, cond, ◌&&◌, Option, Some, None, option_map, is_some, List, [], ◌∷◌, ◌++◌, map, reverse, All, refl, sym, ◌∙◌, ap, subst, option_and_then, IsSome, entries, keys, list_any, find, filter, All-map, All-head, All-tail, All-nil, All-push, Globals, is_between, is_beside, next_key, status, order_at, key_bytes, IsStored, Text, Node, significant_digits, Direction, Forward, Backward, is_below, children_in, front, last, IsKeyOf, passes, child_under, children_by, find_child, find_last_child, AreHeld, is_onward, BoundsOnward, nearest_key}
 use Rattle.std.proofs.lemmas.List.{reverse-append, map-append}
 
 abbrev key : Node → List ℕ
@@ -10,24 +10,15 @@ key = key_bytes significant_digits
 
 found_map : {A B : Type 0} (f : A → B) (p : B → Bool) (xs : List A) → find p (map f xs) ≡ option_map f (find (λ x. p (f x)) xs)
 found_map f p [] = refl
-found_map f p (x ∷ xs) = here (p (f x)) (found_map f p xs)
-  where
-    here : (b : Bool) → find p (map f xs) ≡ option_map f (find (λ x. p (f x)) xs) → cond b (Some (f x)) (find p (map f xs)) ≡ option_map f (cond b (Some x) (find (λ x. p (f x)) xs))
-    here true e = refl
-    here false e = e
+found_map f p (x ∷ xs) = grind (arith, found_map f p xs)
 
 found_alike : {A : Type 0} (P : A → Type 0) (p q : A → Bool) → ((x : A) → P x → p x ≡ q x) → (xs : List A) → All P xs → find p xs ≡ find q xs
 found_alike P p q alike [] all = refl
-found_alike P p q alike (x ∷ xs) all =
-    ap (λ b. cond b (Some x) (find p xs)) (alike x (All-head P x xs all)) ∙ ap (cond (q x) (Some x)) (found_alike P p q alike xs (All-tail P x xs all))
+found_alike P p q alike (x ∷ xs) all = grind (arith, alike x (All-head P x xs all), found_alike P p q alike xs (All-tail P x xs all))
 
 found_any : {A : Type 0} (p : A → Bool) (xs : List A) → is_some (find p xs) ≡ list_any p xs
 found_any p [] = refl
-found_any p (x ∷ xs) = here (p x) (found_any p xs)
-  where
-    here : (b : Bool) → is_some (find p xs) ≡ list_any p xs → is_some (cond b (Some x) (find p xs)) ≡ (b || list_any p xs)
-    here true e = refl
-    here false e = e
+found_any p (x ∷ xs) = grind (arith, found_any p xs)
 
 found_one : {A : Type 0} (P : A → Type 0) (p : A → Bool) (xs : List A) → All P xs → (x : A) → find p xs ≡ Some x → P x × (p x ≡ true)
 found_one P p [] all x e = absurd (cc)
@@ -48,8 +39,7 @@ map_reversed f (x ∷ xs) =
     ∙ ap (map f) (sym (reverse-append (x ∷ []) xs))
 
 pub some_map : {A B : Type 0} (f : A → B) (o : Option A) → is_some o ≡ is_some (option_map f o)
-some_map f None = refl
-some_map f (Some x) = refl
+some_map f o = grind arith
 
 -- ---- the nodes of globals
 
@@ -73,12 +63,7 @@ stored_in_turn Backward ks all = all_reversed IsStored ks all
 
 pub any_below : (n : Node) (ks : List Node) → list_any (is_below n.subscripts) (map (λ m. m.subscripts) (filter (is_beside n) ks)) ≡ list_any (λ m. is_beside n m && is_below n.subscripts m.subscripts) ks
 any_below n [] = refl
-any_below n (k ∷ ks) = here (is_beside n k) (any_below n ks)
-  where
-    here : (b : Bool) → list_any (is_below n.subscripts) (map (λ m. m.subscripts) (filter (is_beside n) ks)) ≡ list_any (λ m. is_beside n m && is_below n.subscripts m.subscripts) ks
-        → list_any (is_below n.subscripts) (map (λ m. m.subscripts) (cond b (k ∷ filter (is_beside n) ks) (filter (is_beside n) ks))) ≡ ((b && is_below n.subscripts k.subscripts) || list_any (λ m. is_beside n m && is_below n.subscripts m.subscripts) ks)
-    here true e = ap (λ r. is_below n.subscripts k.subscripts || r) e
-    here false e = e
+any_below n (k ∷ ks) = grind (arith, any_below n ks)
 
 pub below_found : (g : Globals) → AreHeld g → (n : Node) (low high : List ℕ) → ((m : Node) → IsStored m → is_between low high (key m) ≡ (is_beside n m && is_below n.subscripts m.subscripts))
     → is_some (next_key g low high) ≡ (status g n).1
@@ -95,19 +80,11 @@ module _ (n : Node) where
 
   children_are : (ks : List Node) → children_in (map (λ m. m.subscripts) (filter (is_beside n) ks)) (front n.subscripts) ≡ children_by (child_under above) ks
   children_are [] = refl
-  children_are (k ∷ ks) = here (is_beside n k) (children_are ks)
-    where
-      here : (b : Bool) → children_in (map (λ m. m.subscripts) (filter (is_beside n) ks)) (front n.subscripts) ≡ children_by (child_under above) ks
-          → children_in (map (λ m. m.subscripts) (cond b (k ∷ filter (is_beside n) ks) (filter (is_beside n) ks))) (front n.subscripts) ≡ option_to_list (if b then child_of (front n.subscripts) k.subscripts else None) ++ children_by (child_under above) ks
-      here true e = ap (λ l. option_to_list (child_of (front n.subscripts) k.subscripts) ++ l) e
-      here false e = e
+  children_are (k ∷ ks) = grind (arith, children_are ks)
 
   pub order_is : (d : Direction) (g : Globals) → order_at g d n ≡ option_and_then (child_under above) (find (λ m. passes (is_onward d (last n.subscripts)) (child_under above m)) (in_turn d (keys g)))
-  order_is Forward g =
-      ap (find (is_before (last n.subscripts))) (children_are (keys g)) ∙ find_child (child_under above) (is_before (last n.subscripts)) (keys g)
-  order_is Backward g =
-      ap (λ cs. find (λ c. is_empty (last n.subscripts) || is_before c (last n.subscripts)) (reverse cs)) (children_are (keys g))
-      ∙ find_last_child (child_under above) (λ c. is_empty (last n.subscripts) || is_before c (last n.subscripts)) (keys g)
+  order_is Forward g = grind (arith, children_are, find_child)
+  order_is Backward g = grind (arith, children_are, find_last_child)
 
   -- the key is that of a node whose subscript there is the answer
   pub record IsOfNext (d : Direction) (g : Globals) (bytes : List ℕ) : Type 0 where
@@ -132,15 +109,10 @@ module _ (n : Node) where
     ordered = order_is d g
 
     pub none_next : None ≡ nearest_key d g low high → None ≡ order_at g d n
-    none_next e = here (find test (in_turn d (keys g))) (e ∙ found) ∙ sym ordered
-      where
-        here : (o : Option Node) → None ≡ option_map key o → None ≡ option_and_then (child_under above) o
-        here None e = refl
-        here (Some m) e = absurd (cc)
+    none_next e = grind (arith, find, e, found, ordered)
 
     some_passed : (p : Text → Bool) (o : Option Text) → passes p o ≡ true → IsSome o
-    some_passed p None e = absurd (cc)
-    some_passed p (Some c) e = refl
+    some_passed p o h = grind arith
 
     pub one_next : (bytes : List ℕ) → Some bytes ≡ nearest_key d g low high → IsOfNext d g bytes
     unfolding test

@@ -1,9 +1,8 @@
 -- SPDX-License-Identifier: Apache-2.0
 -- How many places are behind a place among the subscripts, at most: fewer behind each that is further on. So a walk to places further on
 -- ends, whatever a store holds.
-use Rattle.mglobal.proofs.GlobalWords.{ℕ, zero, suc, ◌≡◌, ◌+◌, ◌*◌, ◌-◌, ◌^◌, ◌<◌, ◌≤◌, true, Option, Some, None, [], ◌∷◌, length, refl, ◌∙◌, ap, arith, ◌⊎◌, inl, inr, ℤ, unsigned_abs, slice_cmp, nat_cmp_is, Less, Equal, Greater, nat_cmp, ordering_then, cases_order, nat_tests, All-head, All-tail, raised, IsAscii, Text, canonical_value, Place, Empty, Numeric, Other, place_by, place, place_cmp, text_cmp, significant_digits, is_before, value_in_range, raised_below, raised_order, canonical_of_value}
+use Rattle.mglobal.proofs.GlobalWords.{ℕ, zero, suc, ◌≡◌, ◌+◌, ◌*◌, ◌-◌, ◌^◌, ◌<◌, ◌≤◌, true, Option, Some, None, [], ◌∷◌, length, refl, ◌∙◌, ap, arith, ◌⊎◌, inl, inr, ℤ, unsigned_abs, slice_cmp, nat_cmp_is, Less, Equal, Greater, nat_cmp, ordering_then, cases_order, nat_tests, All-head, All-tail, raised, IsAscii, Text, canonical_value, Place, Empty, Numeric, Other, place_by, place, place_cmp, significant_digits, is_before, value_in_range, raised_below, raised_order, canonical_of_value}
 use Rattle.std.proofs.Math.Nat.{mul-le-mul_right}
-use Rattle.mglobal.proofs.LineWalks.{less}
 
 -- ---- texts of so many characters at most, by character codes
 
@@ -35,17 +34,9 @@ rank_below (suc n) (c ∷ s) ascii =
 -- by its first character, and else by what is behind it
 by_first : (n c d : ℕ) (s t : Text) → IsAscii s → ordering_then (nat_cmp c d) (slice_cmp nat_cmp s t) ≡ Less → (slice_cmp nat_cmp s t ≡ Less → rank n s < rank n t)
     → ((c ≡ d) ⊎ ((c < d) ⊎ (d < c))) → suc c * texts_of n + rank n s < suc d * texts_of n + rank n t
-by_first n c d s t ascii e behind (inr (inl before)) =
-    let row : suc c * texts_of n ≤ d * texts_of n = mul-le-mul_right (texts_of n) before in
-    let rest : rank n s < texts_of n = rank_below n s ascii in
-    omega arith
-by_first n c d s t ascii e behind (inl same) =
-    let row : suc c * texts_of n ≡ suc d * texts_of n = ap (λ q. suc q * texts_of n) same in
-    let rest : rank n s < rank n t = behind (ap (λ o. ordering_then o (slice_cmp nat_cmp s t)) (nat_cmp_is c d Equal same) ∙ e) in
-    omega arith
-by_first n c d s t ascii e behind (inr (inr after)) =
-    let greater : Greater ≡ Less = ap (λ o. ordering_then o (slice_cmp nat_cmp s t)) (nat_cmp_is c d Greater after) ∙ e in
-    absurd (cc)
+by_first n c d s t ascii e behind (inr (inl before)) = grind (arith, mul-le-mul_right (texts_of n) before, rank_below n s ascii)
+by_first n c d s t ascii e behind (inl same) = grind (arith, same, behind (ap (λ o. ordering_then o (slice_cmp nat_cmp s t)) (nat_cmp_is c d Equal same) ∙ e))
+by_first n c d s t ascii e behind (inr (inr after)) = grind (arith, nat_cmp_is c d Greater after, e)
 
 rank_order : (n : ℕ) (s t : Text) → IsAscii s → IsAscii t → length s ≤ n → length t ≤ n → slice_cmp nat_cmp s t ≡ Less → rank n s < rank n t
 unfolding rank
@@ -115,9 +106,4 @@ places_left s = all_places - place_rank (place significant_digits s)
 
 pub fewer_left : (s t : Text) → IsAscii s → length s ≤ 255 → IsAscii t → length t ≤ 255 → is_before s t ≡ true → places_left t < places_left s
 unfolding places_left
-fewer_left s t all_s few_s all_t few_t before =
-    let fits_s = fits s all_s few_s in
-    let fits_t = fits t all_t few_t in
-    let further = place_order (place significant_digits s) (place significant_digits t) fits_s fits_t (less (text_cmp significant_digits s t) before) in
-    let below = place_below (place significant_digits t) fits_t in
-    omega arith
+fewer_left s t all_s few_s all_t few_t before = grind (arith, fits, place_order, place_below)

@@ -1,6 +1,6 @@
 -- SPDX-License-Identifier: Apache-2.0
 -- The bounds of the keys among which the next node of a walk is found.
-use Rattle.mglobal.proofs.GlobalWords.{ℕ, ◌≡◌, ◌<◌, Bool, true, false, ◌&&◌, ◌||◌, None, List, [], ◌∷◌, ◌++◌, length, refl, sym, ◌∙◌, ap, append_assoc, append-nil, if◌then◌else◌, is_between, is_beside, text_bytes, subscript_bytes, local_bytes, children_start, subtree_end, AreSubscripts, IsStored, NoneEmpty, Text, Node, significant_digits, Direction, Forward, Backward, is_before, is_empty, is_below, child_of, front, last, none_empty, passes, child_under, below_is, empty_first, not_empty, split_last, is_onward, BoundsOnward}
+use Rattle.mglobal.proofs.GlobalWords.{arith, ℕ, ◌≡◌, ◌<◌, Bool, true, false, ◌&&◌, ◌||◌, None, List, [], ◌∷◌, ◌++◌, length, refl, sym, ◌∙◌, ap, append_assoc, append-nil, if◌then◌else◌, is_between, is_beside, subscript_bytes, children_start, subtree_end, AreSubscripts, IsStored, NoneEmpty, Text, Node, significant_digits, Direction, Forward, Backward, is_before, is_below, child_of, front, last, none_empty, passes, child_under, below_is, not_empty, split_last, is_onward, BoundsOnward}
 use Rattle.std.proofs.lemmas.List.Concat.{flat_map-append}
 use Rattle.mglobal.proofs.Between.{key, bytes, keys_between, all_between, behind_between, before_between}
 
@@ -12,12 +12,7 @@ pub some_each : (xs : List Text) → AreSubscripts xs → NoneEmpty xs
 some_each xs subs = λ k d inside. (subs.each k d inside).some
 
 key_child : (n : Node) (x : Text) → key (child_at n x) ≡ key n ++ subscript_bytes significant_digits x
-key_child n x =
-    let own : List ℕ = bytes n.subscripts in
-    let more : List ℕ = subscript_bytes significant_digits x in
-    ap (λ b. text_bytes n.account ++ (text_bytes n.name ++ b)) (flat_map-append (subscript_bytes significant_digits) n.subscripts (x ∷ []) ∙ ap (λ b. own ++ b) (append-nil more))
-    ∙ ap (λ b. text_bytes n.account ++ b) (sym (append_assoc (text_bytes n.name) own more))
-    ∙ sym (append_assoc (text_bytes n.account) (local_bytes significant_digits n.name n.subscripts) more)
+key_child n x = grind (arith, bytes, subscript_bytes, flat_map-append, append-nil, append_assoc)
 
 -- ---- all that is below
 
@@ -37,8 +32,7 @@ bounds_below n stored low high from to m is =
 
 module _ (n : Node) (some_n : NoneEmpty n.subscripts) (x : Text) (low high : List ℕ) where
   every : (d : Direction) (x : Text) → x ≡ [] → (s : Text) → 0 < length s → is_onward d x s ≡ true
-  every Forward x e s some = ap (λ y. is_before y s) e ∙ empty_first s some
-  every Backward x e s some = ap (λ y. is_empty y || is_before s y) e
+  every d x h s e = grind arith
 
   pub bounds_all : (d : Direction) → x ≡ [] → low ≡ children_start (key n) → high ≡ subtree_end (key n) → BoundsOnward d n x low high
   bounds_all d none from to m is =

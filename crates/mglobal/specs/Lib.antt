@@ -2,3 +2,4 @@
 pub mod Next
 pub mod Lines
 pub mod Copies
+pub mod Words

@@ -2,13 +2,7 @@
 //! What $DATA and $ORDER ask of a node.
 ghost use Rattle.std.specs.Prelude.{◌≡◌, ◌≢◌, IfOk, IfSome, OnOk, Err, option_map};
 ghost use Rattle.mglobal.specs.Next.{nearest_key};
-ghost use Rattle.mkey.specs.Front.{IsSub};
-ghost use Rattle.mkey.specs.Way.{way};
-ghost use Rattle.mspec.specs.Globals.{status, order_at};
-ghost use Rattle.mspec.specs.KeyBytes.{IsAccountName};
-ghost use Rattle.mspec.specs.Names.{IsName};
-ghost use Rattle.mspec.specs.Trees.{AreOrderSubscripts};
-ghost use Rattle.mstore.specs.Held.{AreHeld};
+ghost use Rattle.mglobal.specs.Words.{AreHeld, AreOrderSubscripts, IsAccountName, IsName, IsSub, order_at, status, way};
 
 use crate::bounds::{bounds, key_of};
 use mkey::{Data, Direction, NodeKey, front};

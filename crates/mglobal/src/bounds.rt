@@ -2,10 +2,7 @@
 // The bounds of the keys among which the next node of a walk is found.
 ghost use Rattle.std.specs.Prelude.{◌≡◌, ◌≢◌, IfOk, Err};
 ghost use Rattle.mglobal.specs.Next.{BoundsOnward};
-ghost use Rattle.mkey.specs.Way.{way};
-ghost use Rattle.mspec.specs.KeyBytes.{IsAccountName, AreSubscripts};
-ghost use Rattle.mspec.specs.Names.{IsName};
-ghost use Rattle.mspec.specs.Trees.{front, last, AreOrderSubscripts};
+ghost use Rattle.mglobal.specs.Words.{AreOrderSubscripts, AreSubscripts, IsAccountName, IsName, front, last, way};
 
 use mkey::{Direction, KeyFault, NodeKey, last};
 use mnum::Bytes7;

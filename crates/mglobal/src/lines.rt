@@ -3,12 +3,7 @@
 ghost use Rattle.std.specs.Prelude.{◌≡◌, ◌≢◌, ◌≤◌, length, true, IfOk, IfSome, OnOk, Err, [], ◌∷◌, ◌++◌, codes};
 ghost use Rattle.std.specs.Option.{option_to_list};
 ghost use Rattle.mglobal.specs.Lines.{line_at, line_in};
-ghost use Rattle.mkey.specs.Front.{IsSub};
-ghost use Rattle.mspec.specs.Globals.{lines_of, order_at};
-ghost use Rattle.mspec.specs.KeyBytes.{IsAccountName, IsSubscript};
-ghost use Rattle.mspec.specs.Names.{IsName};
-ghost use Rattle.mspec.specs.Trees.{Forward, is_before};
-ghost use Rattle.mstore.specs.Held.{AreHeld};
+ghost use Rattle.mglobal.specs.Words.{AreHeld, Forward, IsAccountName, IsName, IsSub, IsSubscript, is_before, lines_of, order_at};
 
 use crate::ask::neighbour;
 use crate::bounds::key_of;

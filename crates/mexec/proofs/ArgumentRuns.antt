@@ -1,14 +1,11 @@
 -- SPDX-License-Identifier: Apache-2.0
 -- Arguments, one after another: what the code does up to where lines or a text are entered, and then that, is what each does.
-use Rattle.mexec.proofs.ExecWords.{◌≡◌, ℕ, ◌+◌, ◌<◌, Bool, true, false, cond, List, Option, Result, Ok, Err, length, get_or, map, drop, refl, sym, ◌∙◌, subst, IsErr, IsErrAnd, Text, Act, ◌>>=◌, give, next_item, ExprTree, ArgTree, do_one, executed, indirect_args, inside, Context, Go_on, argument, context, holds, inside_of, assoc, ended, arg_tree, Arg, Ghosts, Code, Parts, DoesAt, completion_of, args_started, begun_of, Entrance, into_lines, into_text, entered, finished, start_of, entrance_of, where_applies, behind, over, stops, ends, progress_of, Progress}
+use Rattle.mexec.proofs.ExecWords.{◌≡◌, ℕ, ◌+◌, ◌<◌, Bool, true, false, cond, List, Option, Result, Ok, Err, length, get_or, map, drop, refl, sym, ◌∙◌, subst, IsErr, IsErrAnd, Text, Act, ◌>>=◌, give, next_item, ExprTree, ArgTree, do_one, executed, indirect_args, inside, Context, Go_on, argument, context, holds, inside_of, assoc, ended, arg_tree, Arg, Ghosts, Code, Parts, DoesAt, completion_of, args_started, begun_of, Entrance, into_lines, into_text, entered, finished, start_of, entrance_of, where_applies, behind, over, stops, ends, progress_of, Progress, Position, Completion, started}
 use Rattle.mmeaning.specs.LineMeaning as meaning
-use Rattle.mmeaning.specs.LineMeaning.{Position}
 use Rattle.mexec.specs.declared.arguments.Entrance as entrances
 use Rattle.mexec.specs.declared.completion.Progress as the_progress
 use Rattle.mexec.specs.declared.completion.Progress.TheVariants as progress
-use Rattle.mexec.specs.declared.completion.Completion.{Completion}
 use Rattle.mexec.specs.declared.completion.Completion.TheVariants as completion
-use Rattle.mexec.specs.Arguments.{started}
 use Rattle.mexec.proofs.Calls.{at_then, at_failed, at_stopped, at_gives}
 
 -- ---- acts

@@ -1,12 +1,11 @@
 -- SPDX-License-Identifier: Apache-2.0
 -- How the calls of this crate are put together.
-use Rattle.mexec.proofs.ExecWords.{◌≡◌, ℕ, zero, suc, ◌≤◌, ◌<◌, ◌+◌, ◌++◌, List, [], ◌∷◌, Result, Ok, Err, length, drop, get_or, refl, sym, ◌∙◌, subst, arith, drop_more, IsErr, IsErrAnd, Text, Act, ◌>>=◌, ◌>>◌, give, set_test, ExprTree, ArgTree, CommandTree, as_truth, Inside, inside, value, Go_on, after, Standing, Here, Did, View, Rests, Lists, left, frame, Enough, MovedOn, residual_is, did_then, did_failed, did_gives, then_follows, then_failed, assoc, ended, Ghosts, fault_of, Code, Zmem, standing_of, depth_of, Parts, Does, DoesAt, KeepsLoans, here_of, Runs, view, stack, stacked, resting, completion_of, went, listing, at_done}
+use Rattle.mexec.proofs.ExecWords.{◌≡◌, ℕ, zero, suc, ◌≤◌, ◌<◌, ◌+◌, ◌++◌, List, [], ◌∷◌, Result, Ok, Err, length, drop, get_or, refl, sym, ◌∙◌, subst, arith, drop_more, IsErr, IsErrAnd, Text, Act, ◌>>=◌, ◌>>◌, give, set_test, ExprTree, ArgTree, CommandTree, as_truth, Inside, inside, value, Go_on, after, Standing, Here, Did, View, Rests, Lists, left, frame, Enough, MovedOn, residual_is, did_then, did_failed, did_gives, then_follows, then_failed, assoc, ended, Ghosts, fault_of, Code, Zmem, standing_of, depth_of, Parts, Does, DoesAt, KeepsLoans, here_of, Runs, view, stack, stacked, resting, completion_of, went, listing, at_done, Completion}
 use Rattle.mmeaning.specs.LineMeaning as meaning
 use Rattle.mmeaning.proofs.Moves.{on_then, on_failed, on_lost, on_completion, on_frame, on_top, enough}
 use Rattle.meval.specs.declared.depth.Depth.{Depth}
 use Rattle.mcommand.specs.Conditions.{tested}
 use Rattle.mexec.specs.declared.frames.Frame.{Frame}
-use Rattle.mexec.specs.declared.completion.Completion.{Completion}
 use Rattle.mexec.specs.declared.completion.Completion.TheVariants as completion
 
 -- ---- acts

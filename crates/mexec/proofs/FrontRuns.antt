@@ -1,21 +1,15 @@
 -- SPDX-License-Identifier: Apache-2.0
 -- Arguments, commands and lines up to where they stop, and then what is left of them, is what they do.
-use Rattle.mexec.proofs.ExecWords.{◌≡◌, ℕ, ◌+◌, ◌-◌, ◌≤◌, ◌<◌, Bool, true, false, cond, List, [], ◌∷◌, None, Some, Result, Ok, Err, length, get_or, map, drop, refl, sym, ap, ◌∙◌, subst, arith, IsErr, IsErrAnd, IfOk, Text, Act, ◌>>=◌, ◌>>◌, give, charge, next_item, KeywordTree, for_word, do_word, ArgTree, loop, CommandTree, Context, Turning, Go_on, after, arguments, bare, commands, conditional, context, effect, holds, inside_of, View, assoc, ended, arg_tree, command_tree, spaced_tree, Arg, Line, Ghosts, Code, Parts, DoesAt, advanced, course_view, ForLoop, turning, position_of, rest_tree, finished, start_of, Runs, commands_from, completion_of, args_started, args_left, args_outcome, word_started, effect_started, command_started, finishes, front, line_left, begun_of, outcome_of, front_of, StopsIn, at_begun, stops_at, turn_ends, turn_left, Entrance, Progress, IfStops, behind, over, stops}
+use Rattle.mexec.proofs.ExecWords.{◌≡◌, ℕ, ◌+◌, ◌-◌, ◌≤◌, ◌<◌, Bool, true, false, cond, List, [], ◌∷◌, None, Some, Result, Ok, Err, length, get_or, map, drop, refl, sym, ap, ◌∙◌, subst, arith, IsErr, IsErrAnd, IfOk, Text, Act, ◌>>=◌, ◌>>◌, give, charge, next_item, KeywordTree, for_word, do_word, ArgTree, loop, CommandTree, Context, Turning, Go_on, after, arguments, bare, commands, conditional, context, effect, holds, inside_of, View, assoc, ended, arg_tree, command_tree, spaced_tree, Arg, Line, Ghosts, Code, Parts, DoesAt, advanced, course_view, ForLoop, turning, position_of, rest_tree, finished, start_of, Runs, commands_from, completion_of, args_started, args_left, args_outcome, word_started, effect_started, command_started, finishes, front, line_left, begun_of, outcome_of, front_of, StopsIn, at_begun, stops_at, turn_ends, turn_left, Entrance, Progress, IfStops, behind, over, stops, Position, Turns, Completion, started, Stop, args_before}
 use Rattle.std.proofs.lemmas.Option.{slice_get_read}
 use Rattle.mmeaning.specs.LineMeaning as meaning
-use Rattle.mmeaning.specs.LineMeaning.{Position}
-use Rattle.mmeaning.specs.Frames.{Turns}
 use Rattle.mtree.specs.declared.tree.Arg.TheVariants as arg
 use Rattle.mtree.specs.declared.tree.Spaced.{Spaced}
-use Rattle.mexec.specs.declared.completion.Completion.{Completion}
 use Rattle.mexec.specs.declared.completion.Completion.TheVariants as completion
 use Rattle.mexec.specs.declared.arguments.Entrance as entrances
 use Rattle.mexec.specs.declared.front.Stop as the_stop
 use Rattle.mexec.specs.declared.completion.Progress as the_progress
 use Rattle.mexec.specs.declared.completion.Progress.TheVariants as progress
-use Rattle.mexec.specs.Arguments.{started}
-use Rattle.mexec.specs.Fronts.{Stop}
-use Rattle.mexec.specs.Loops.{args_before}
 use Rattle.mexec.proofs.ArgumentRuns.{argument_is}
 use Rattle.mexec.proofs.Loops.{course_runs, turn_begins, turn_done}
 use Rattle.mexec.proofs.Calls.{at_then, at_failed, at_stopped, at_gives, at_as, runs_then, runs_stopped, runs_as, some_item}

@@ -1,11 +1,10 @@
 -- SPDX-License-Identifier: Apache-2.0
 -- Where the FOR before a place of a line has an index.
-use Rattle.mexec.proofs.ExecWords.{◌≡◌, ℕ, Bool, true, false, List, [], ◌∷◌, Option, Some, None, is_some, refl, sym, ◌∙◌, Arg, Line, is_loop, has_index, has_course}
+use Rattle.mexec.proofs.ExecWords.{◌≡◌, ℕ, Bool, true, false, List, [], ◌∷◌, Option, Some, None, is_some, refl, sym, ◌∙◌, Arg, Line, is_loop, has_index, has_course, loop_in}
 use Rattle.std.proofs.lemmas.Bool.{false≢true}
 use Rattle.mtree.specs.declared.tree.Arg.TheVariants as arg
 use Rattle.mcommand.specs.declared.for_parameter.Course.{Course}
 use Rattle.mcommand.specs.declared.for_parameter.Course.TheVariants as course
-use Rattle.mexec.specs.Loops.{loop_in}
 
 -- where there is none, no parameter is left
 pub no_parameters : (args : List Arg) → is_loop args ≡ false → loop_in args ≡ ([], [])

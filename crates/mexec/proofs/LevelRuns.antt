@@ -1,11 +1,8 @@
 -- SPDX-License-Identifier: Apache-2.0
 -- Lines and texts that are entered, frame by frame.
-use Rattle.mexec.proofs.ExecWords.{◌≡◌, ℕ, zero, suc, ◌<◌, ◌≤◌, ◌+◌, Bool, true, false, cond, List, [], ◌∷◌, Option, Some, None, Result, Ok, Err, length, drop, get_or, slice_get, refl, sym, ap, ◌∙◌, subst, eqb-true, le-ltb, lt-ltb, arith, drop-drop, get_or-drop, IsErr, IsErrAnd, Text, Act, ◌>>=◌, ◌>>◌, give, give_some, charge, ArgTree, CommandTree, BodyTree, short, spaced_out, RoutineLineTree, dots_of, routine_line_at, indirected, Level, Closing, leaves, deeper, within_indirection, has_dots, commands_of, commands_in, Context, Go_on, texts, context, commands, lines_reached, lines_from, lines_next, line_entered, after_level, closed, View, Rests, Lists, Levels, frame, assoc, Ghosts, fault_of, Code, Zmem, Evaluates, Parts, Does, DoesAt, here_of, Runs, reached, next_reached, entering, so_deep, at_next, text_position, on_body, next_item}
+use Rattle.mexec.proofs.ExecWords.{◌≡◌, ℕ, zero, suc, ◌<◌, ◌≤◌, ◌+◌, Bool, true, false, cond, List, [], ◌∷◌, Option, Some, None, Result, Ok, Err, length, drop, get_or, slice_get, refl, sym, ap, ◌∙◌, subst, eqb-true, le-ltb, lt-ltb, arith, drop-drop, get_or-drop, IsErr, IsErrAnd, Text, Act, ◌>>=◌, ◌>>◌, give, give_some, charge, ArgTree, CommandTree, BodyTree, short, spaced_out, RoutineLineTree, dots_of, routine_line_at, indirected, Level, Closing, leaves, deeper, within_indirection, has_dots, commands_of, commands_in, Context, Go_on, texts, context, commands, lines_reached, lines_from, lines_next, line_entered, after_level, closed, View, Rests, Lists, Levels, frame, assoc, Ghosts, fault_of, Code, Zmem, Evaluates, Parts, Does, DoesAt, here_of, Runs, reached, next_reached, entering, so_deep, at_next, text_position, on_body, next_item, Zsyntax, Depth, Yields}
 use Rattle.std.specs.Prelude.{nat_lt, ◌==◌}
-use Rattle.mspec.specs.Code.{Zsyntax}
-use Rattle.mmeaning.specs.Expression.{Depth}
 use Rattle.mmeaning.specs.LineMeaning.{Position, Completion}
-use Rattle.mmeaning.specs.Yields.{Yields}
 use Rattle.mmeaning.proofs.Yieldings.{yielded}
 use Rattle.meval.specs.declared.eval.Eval.{Eval}
 use Rattle.mexec.specs.declared.completion.Completion as completions

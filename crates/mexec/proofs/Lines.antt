@@ -1,9 +1,8 @@
 -- SPDX-License-Identifier: Apache-2.0
 -- Lines, frame by frame.
-use Rattle.mexec.proofs.ExecWords.{◌≡◌, ℕ, ◌≤◌, List, [], ◌∷◌, Result, Ok, Err, refl, sym, ◌∙◌, subst, arith, IsErr, IsErrAnd, Text, Act, ArgTree, CommandTree, stays, top_level, run_within, context, commands, arguments, after, Standing, Here, Follows, FailedBy, View, Rests, Lists, Levels, left, frame, Enough, MovedAs, MovedOn, residual_is, follows_itself, follows_on, failed_after, Ghosts, fault_of, Code, standing_of, Parts, DoesAt, here_of, Runs, Leads, completion_of}
+use Rattle.mexec.proofs.ExecWords.{◌≡◌, ℕ, ◌≤◌, List, [], ◌∷◌, Result, Ok, Err, refl, sym, ◌∙◌, subst, arith, IsErr, IsErrAnd, Text, Act, ArgTree, CommandTree, stays, top_level, run_within, context, commands, arguments, Standing, Here, Follows, FailedBy, View, Rests, Lists, Levels, left, frame, Enough, MovedAs, MovedOn, residual_is, follows_itself, follows_on, failed_after, Ghosts, fault_of, Code, standing_of, Parts, DoesAt, here_of, Runs, Leads, completion_of, Completion}
 use Rattle.mmeaning.specs.LineMeaning as meaning
 use Rattle.mmeaning.proofs.LevelMoves.{line_begins}
-use Rattle.mexec.specs.declared.completion.Completion.{Completion}
 use Rattle.mexec.specs.declared.completion.Completion.TheVariants as completion
 use Rattle.mexec.proofs.Calls.{passes, runs_as, runs_completion}
 

@@ -1,16 +1,14 @@
 -- SPDX-License-Identifier: Apache-2.0
 -- The turns of a FOR: what the code does one after another is what the meaning has inside of one act.
-use Rattle.mexec.proofs.ExecWords.{◌≡◌, ℤ, ◌+ℤ◌, ℕ, ◌<◌, Bool, true, false, cond, List, [], ◌∷◌, Option, Some, None, Result, Ok, Err, length, get_or, map, drop, refl, sym, ap, ◌∙◌, subst, arith, ◌≤◌, ◌+◌, ◌*◌, Text, Act, ◌>>=◌, ◌>>◌, give, charge, IsErr, IsErrAnd, IfOk, next_item, none_left, ExprTree, ParameterTree, once, onward, until, CommandTree, Inside, as_text, value, inside, Context, Turning, Skips, context, inside_of, index_number, number_of, next_parameter, after_course, begin_turn, View, assoc, parameter_tree, Ghosts, Code, Parts, DoesAt, course_view, added, advanced, ForLoop, Runs, commands_from, loop_before, turning, completion_of, position_of}
+use Rattle.mexec.proofs.ExecWords.{◌≡◌, ℤ, ◌+ℤ◌, ℕ, ◌<◌, Bool, true, false, cond, List, [], ◌∷◌, Option, Some, None, Result, Ok, Err, length, get_or, map, drop, refl, sym, ap, ◌∙◌, subst, arith, ◌≤◌, ◌+◌, Text, Act, ◌>>=◌, ◌>>◌, give, charge, IsErr, IsErrAnd, IfOk, next_item, none_left, ExprTree, ParameterTree, once, onward, until, CommandTree, Inside, as_text, value, inside, Context, Turning, context, inside_of, index_number, number_of, next_parameter, after_course, begin_turn, View, assoc, parameter_tree, Ghosts, Code, Parts, DoesAt, course_view, added, advanced, ForLoop, Runs, commands_from, loop_before, turning, completion_of, position_of, Position, Completion}
 use Rattle.mspec.specs.Number.{sum_of}
 use Rattle.mspec.specs.NumberText.{number_text}
 use Rattle.mmeaning.specs.Courses.{Course, last_turn, endless, limited, forever, is_past}
 use Rattle.mmeaning.specs.Variables.{at_local, put_at}
 use Rattle.mmeaning.specs.LineMeaning as meaning
-use Rattle.mmeaning.specs.LineMeaning.{Position}
 use Rattle.mmeaning.specs.Frames as frames
 use Rattle.mtree.specs.declared.tree.Parameter.{Parameter}
 use Rattle.mcommand.specs.ForParameters.{start_and_increment, begun_within, started}
-use Rattle.mexec.specs.declared.completion.Completion.{Completion}
 use Rattle.mexec.specs.declared.completion.Completion.TheVariants as completion
 use Rattle.mexec.proofs.Calls.{runs_then, runs_stopped, runs_as, runs_spent, runs_frame, runs_completion}
 

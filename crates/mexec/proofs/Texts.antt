@@ -1,11 +1,10 @@
 -- SPDX-License-Identifier: Apache-2.0
 -- A text by its tree.
-use Rattle.mexec.proofs.ExecWords.{◌≡◌, ◌≢◌, ◌≤◌, Option, Some, None, Ok, Err, refl, sym, subst, arith, Act, LineTree, commands_of, run, run_within, Standing, Here, Gave, Ghosts, Code, Zstore, standing_of, Parts, DoesAt, here_of, completion_of}
+use Rattle.mexec.proofs.ExecWords.{◌≡◌, ◌≢◌, ◌≤◌, Option, Some, None, Ok, Err, refl, sym, subst, arith, Act, LineTree, commands_of, run, run_within, Standing, Here, Gave, Ghosts, Code, Zstore, standing_of, Parts, DoesAt, here_of, completion_of, Completion}
 use Rattle.mmeaning.specs.LineMeaning as meaning
 use Rattle.mmeaning.specs.Transition as transition
 use Rattle.mmeaning.specs.Transition.{Ending, Faulted}
 use Rattle.moperator.specs.declared.code.Code.TheVariants.{Zsyntax}
-use Rattle.mexec.specs.declared.completion.Completion.{Completion}
 use Rattle.mexec.specs.declared.completion.Completion.TheVariants as completion
 use Rattle.mexec.specs.declared.text.Ended.{Ended}
 use Rattle.mexec.specs.declared.text.Ended.TheVariants.{Fault}

@@ -7,3 +7,4 @@ pub mod Progress
 pub mod Arguments
 pub mod Runs
 pub mod Fronts
+pub mod Words

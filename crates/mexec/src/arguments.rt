@@ -2,11 +2,7 @@
 // The arguments of a command, one after another.
 ghost use Rattle.std.specs.Prelude.{◌≡◌, ◌≤◌, map, drop, IfOk};
 ghost use Rattle.mmeaning.specs.LineMeaning as meaning;
-ghost use Rattle.mmeaning.specs.LineMeaning.{context};
-ghost use Rattle.mtree.specs.Tree.{arg_tree, condition_tree, entry_tree, expr_tree};
-ghost use Rattle.mmeaning.specs.Expression.{inside};
-ghost use Rattle.meval.specs.Evaluates.{depth_of};
-ghost use Rattle.mcommand.specs.Does.{DoesAt, KeepsLoans};
+ghost use Rattle.mexec.specs.Words.{DoesAt, KeepsLoans, arg_tree, condition_tree, context, depth_of, entry_tree, expr_tree, inside};
 ghost use Rattle.mexec.specs.Falls.{Falls};
 ghost use Rattle.mexec.specs.Frames.{Runs, completion_of, went, source_args, source_position, position_of, stack};
 ghost use Rattle.mexec.specs.Progress.{ends};

@@ -2,9 +2,7 @@
 // The commands of a line, one after another, as far as they need no frame.
 ghost use Rattle.std.specs.Prelude.{◌≡◌, ◌≤◌, ◌<◌, [], map, IfOk};
 ghost use Rattle.mmeaning.specs.LineMeaning as meaning;
-ghost use Rattle.mmeaning.specs.LineMeaning.{context};
-ghost use Rattle.mtree.specs.Tree.{arg_tree, command_tree, keyword_tree};
-ghost use Rattle.mcommand.specs.Does.{DoesAt, KeepsLoans};
+ghost use Rattle.mexec.specs.Words.{DoesAt, KeepsLoans, arg_tree, command_tree, context, keyword_tree};
 ghost use Rattle.mexec.specs.Frames.{commands_from, position_of};
 ghost use Rattle.mexec.specs.Loops.{args_before};
 ghost use Rattle.mexec.specs.Fronts as fronts;

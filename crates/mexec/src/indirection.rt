@@ -1,16 +1,8 @@
 // SPDX-License-Identifier: Apache-2.0
 // Argument indirection: arguments that the text of an operand's value gives.
 ghost use Rattle.std.specs.Prelude.{◌≡◌, ◌≤◌, ◌+◌, ◌∷◌, map, length, IfOk, OnOk};
-ghost use Rattle.mgrammar.specs.Commands.{form_of};
-ghost use Rattle.mmeaning.specs.Expression.{an_indirection_free, indirected};
+ghost use Rattle.mexec.specs.Words.{KeepsLoans, Lists, Yields, an_indirection_free, arg_tree, context, depth_of, fault_of, form_of, indirected, keyword_tree, primary_tree};
 ghost use Rattle.mmeaning.specs.LineMeaning as meaning;
-ghost use Rattle.mmeaning.specs.LineMeaning.{context};
-ghost use Rattle.mmeaning.specs.Frames.{Lists};
-ghost use Rattle.mmeaning.specs.Yields.{Yields};
-ghost use Rattle.mtree.specs.Tree.{arg_tree, keyword_tree, primary_tree};
-ghost use Rattle.moperator.specs.Codes.{fault_of};
-ghost use Rattle.meval.specs.Evaluates.{depth_of};
-ghost use Rattle.mcommand.specs.Does.{KeepsLoans};
 ghost use Rattle.mexec.specs.Falls.{FallsFurther};
 ghost use Rattle.mexec.specs.Frames.{Runs, position_of, stack};
 ghost use Rattle.mexec.specs.Entering.{so_deep};

@@ -1,11 +1,8 @@
 // SPDX-License-Identifier: Apache-2.0
 // A line, from its first command to its end.
 ghost use Rattle.std.specs.Prelude.{◌≡◌, ◌≤◌, [], ◌∷◌, IfOk, OnOk};
-ghost use Rattle.mmeaning.specs.Levels.{stays, commands_of};
+ghost use Rattle.mexec.specs.Words.{DoesAt, KeepsLoans, Levels, commands_of, frame, line_tree, stays};
 ghost use Rattle.mmeaning.specs.LineMeaning as meaning;
-ghost use Rattle.mmeaning.specs.Frames.{frame, Levels};
-ghost use Rattle.mtree.specs.Tree.{line_tree};
-ghost use Rattle.mcommand.specs.Does.{DoesAt, KeepsLoans};
 ghost use Rattle.mexec.specs.Falls.{Falls};
 ghost use Rattle.mexec.specs.Frames.{Runs, view, stack, completion_of, position_of};
 

@@ -1,15 +1,7 @@
 // SPDX-License-Identifier: Apache-2.0
 // Texts by their trees.
 ghost use Rattle.std.specs.Prelude.{map};
-ghost use Rattle.mspec.specs.Code.{Zsyntax};
-ghost use Rattle.mspec.specs.Act.{give_some};
-ghost use Rattle.mgrammar.specs.Commands.{form_of};
-ghost use Rattle.mgrammar.specs.IndirectTexts.{args_of};
-ghost use Rattle.mgrammar.specs.Reading.{line_at};
-ghost use Rattle.mgrammar.specs.RoutineLine.{routine_line_at};
-ghost use Rattle.mmeaning.specs.Yields.{Yields};
-ghost use Rattle.mtree.specs.Tree.{arg_tree, keyword_tree, line_tree, routine_line_tree};
-ghost use Rattle.moperator.specs.Codes.{fault_of};
+ghost use Rattle.mexec.specs.Words.{Yields, Zsyntax, arg_tree, args_of, fault_of, form_of, give_some, keyword_tree, line_at, line_tree, routine_line_at, routine_line_tree};
 
 use mcache::Trees;
 use moperator::Code;

@@ -15,6 +15,7 @@ pub use Rattle.std.specs.List.{AllByRecursion, list_any, sum_by, swap_remove}
 unfoldable pub use Rattle.std.specs.List.{IsDistinct}
 pub use Rattle.std.specs.Map.{keys_of, lookup, lookup_key}
 pub use Rattle.std.specs.Ordering.{eq_by_cmp, is_eq, nat_cmp, ordering_then}
+pub use Rattle.std.proofs.lemmas.Grind.{common_steps}
 pub use mathlib.Core.Bool.{beq}
 pub use Rattle.mspec.proofs.KeyRanges.{within}
 pub use Rattle.mspec.proofs.NodesWithin.{of_within, within_of}

@@ -1,6 +1,6 @@
 -- SPDX-License-Identifier: Apache-2.0
 -- What the moves of the holdings keep, and what they do to the locks.
-use Rattle.mlock.proofs.LockWords.{Entry, ◌≡◌, ◌<◌, ◌+◌, ◌-◌, ◌^◌, ℕ, true, false, cond, nat_eq, List, [], ◌∷◌, ◌++◌, Some, None, length, get_or, ◌⊎◌, refl, sym, ap, ◌∙◌, subst, arith, slice_get, slice_set, slice_index_or, get_or-take, get_or-set_other, length-take-le, length-set, insert, remove, eq_by_cmp_equiv, swap_remove, IsDistinct, keys_of, cases_eq, lookup_from_place, slice_get_within, slice_get-get_or, get_or_from_slice_get, IndexMap, IsUnique, Updates, with_value_at, keys-with_value_at, updates-with_value_at, LockName, Locks, held, one_more, released, lock_name_cmp_total, Holding, Tally, locks_of, name_eq, is_under, with_one, tally_at, tally_of, too_large, HasRoom, Kept, IsRecounted}
+use Rattle.mlock.proofs.LockWords.{Entry, ◌≡◌, ◌<◌, ◌+◌, ◌-◌, ◌^◌, ℕ, true, false, cond, nat_eq, List, [], ◌∷◌, ◌++◌, Some, None, length, get_or, ◌⊎◌, refl, sym, ap, ◌∙◌, subst, arith, slice_get, get_or-take, get_or-set_other, insert, remove, eq_by_cmp_equiv, swap_remove, IsDistinct, keys_of, cases_eq, lookup_from_place, slice_get_within, slice_get-get_or, get_or_from_slice_get, IndexMap, IsUnique, Updates, with_value_at, keys-with_value_at, updates-with_value_at, LockName, Locks, held, one_more, released, lock_name_cmp_total, Holding, Tally, locks_of, name_eq, is_under, with_one, tally_at, tally_of, too_large, HasRoom, Kept, IsRecounted, common_steps}
 use Rattle.indexmap.specs.IndexMap as index
 use Rattle.mlock.proofs.Levels.{rest_is}
 use Rattle.mlock.proofs.Steps.{count_none}
@@ -98,9 +98,7 @@ place [] i inside = absurd (omega (arith, inside))
 place (d ∷ es) i inside = (get_or (d ∷ es) i d, slice_get-get_or (d ∷ es) i d inside)
 
 pub swap_length : (es fs : List Entry) (i : ℕ) (d : Entry) → i < length es → fs ≡ swap_remove es i d → length fs + 1 ≡ length es
-swap_length es fs i d inside is =
-    let long : length fs ≡ length es - 1 = ap length is ∙ length-take-le (length es - 1) _ (let same : length (slice_set es i (slice_index_or es (length es - 1) d)) ≡ length es = length-set es i _ in omega (arith, same)) in
-    omega (arith, long, inside)
+swap_length es fs i d inside is = grind (arith, common_steps)
 
 -- what stands before the place that is taken out stays there
 swap_before : (es : List Entry) (i j : ℕ) (d e : Entry) → j < i → i < length es → slice_get (swap_remove es i d) j ≡ Some e → slice_get es j ≡ Some e

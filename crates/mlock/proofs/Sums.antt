@@ -1,7 +1,7 @@
 -- SPDX-License-Identifier: Apache-2.0
 -- What is counted below a name, when the holdings change, and what it tells.
-use Rattle.mlock.proofs.LockWords.{Entry, ◌≡◌, ◌<◌, ◌≤◌, ◌+◌, ◌-◌, ◌*◌, ◌^◌, ℕ, zero, suc, Bool, true, false, cond, not, ◌&&◌, ◌||◌, nat_eq, List, [], ◌∷◌, ◌++◌, length, Some, refl, sym, ap, ◌∙◌, subst, arith, nat_lt, slice_get, unwrap_or, and_parts, or_parts, sum_by, list_any, swap_remove, nat_tests, slice_get_within, get_or_from_slice_get, LockName, Holding, Tally, is_under, with_one, is_only, below_sum, tally_of, too_large, HasRoom}
-use Rattle.std.proofs.lemmas.List.Sums.{sum_by-cons, sum_by_push, sum_by-swap_remove}
+use Rattle.mlock.proofs.LockWords.{Entry, ◌≡◌, ◌<◌, ◌≤◌, ◌+◌, ◌-◌, ◌*◌, ◌^◌, ℕ, zero, suc, Bool, true, false, cond, not, ◌&&◌, ◌||◌, nat_eq, List, [], ◌∷◌, ◌++◌, length, Some, refl, sym, ap, ◌∙◌, subst, arith, nat_lt, slice_get, and_parts, or_parts, sum_by, list_any, swap_remove, nat_tests, slice_get_within, get_or_from_slice_get, LockName, Holding, Tally, is_under, with_one, is_only, below_sum, tally_of, too_large, HasRoom, common_steps}
+use Rattle.std.proofs.lemmas.List.Sums.{sum_by-cons, sum_by-swap_remove}
 use Rattle.indexmap.specs.Layout.{set_value_at}
 
 abbrev term : (ℕ → ℕ) → LockName → Entry → ℕ
@@ -17,16 +17,10 @@ more_names : (b : Bool) (t : ℕ) (old : Tally) (x y z : ℕ) → x ≡ old.name
 more_names b t old x y z h e f = grind arith
 
 pub pushed : (es : List Entry) (e : Entry) (n : LockName) → tally_of (es ++ e ∷ []) n ≡ cond (is_under n e.0) (with_one e.1.terminal (tally_of es n)) (tally_of es n)
-pushed es e n =
-    more_names (is_under n e.0) e.1.terminal (tally_of es n) (below_sum (λ u. 1) n (es ++ e ∷ [])) (below_sum (λ u. u) n (es ++ e ∷ [])) (below_sum (λ u. u * u) n (es ++ e ∷ []))
-    (sum_by_push (term (λ u. 1) n) es e) (sum_by_push (term (λ u. u) n) es e) (sum_by_push (term (λ u. u * u) n) es e)
+pushed es e n = grind (arith, common_steps)
 
 pub pushed_small : (es : List Entry) (e : Entry) → too_large es ≡ 0 → e.1.terminal < 2 ^ 32 → too_large (es ++ e ∷ []) ≡ 0
-pushed_small es e small less =
-    let fits : nat_lt e.1.terminal (2 ^ 32) ≡ true = grind (arith, nat_tests, less) in
-    let none : large e ≡ 0 = ap (λ b. cond b 0 1) fits in
-    let sum : too_large (es ++ e ∷ []) ≡ too_large es + large e = sum_by_push large es e in
-    omega (arith, sum, small, none)
+pushed_small es e small less = grind (arith, common_steps)
 
 -- the sum of a list loses the term of what is taken out
 lost : (f : Entry → ℕ) (es : List Entry) (i : ℕ) (e : Entry) → slice_get es i ≡ Some e → sum_by f es ≡ sum_by f (swap_remove es i e) + f e
@@ -44,11 +38,8 @@ swapped_small es i e at small = let sum : too_large es ≡ too_large (swap_remov
 -- a value is written that counts for as much
 rewritten : (f : Entry → ℕ) (es : List Entry) (i : ℕ) (k : LockName) (v w : Holding) → slice_get es i ≡ Some (k, v) → f (k, w) ≡ f (k, v) → sum_by f (set_value_at es i w) ≡ sum_by f es
 rewritten f [] i k v w at same = refl
-rewritten f (e ∷ es) zero k v w at same =
-    let is : e ≡ (k, v) = ap (λ o. unwrap_or o e) at in
-    sum_by-cons f (e.0, w) es ∙ ap (λ x. x + sum_by f es) (ap (λ d. f (d.0, w)) is ∙ same ∙ sym (ap f is)) ∙ sym (sum_by-cons f e es)
-rewritten f (e ∷ es) (suc i) k v w at same =
-    sum_by-cons f e (set_value_at es i w) ∙ ap (λ x. f e + x) (rewritten f es i k v w at same) ∙ sym (sum_by-cons f e es)
+rewritten f (e ∷ es) zero k v w at same = grind (arith, common_steps)
+rewritten f (e ∷ es) (suc i) k v w at same = grind (arith, common_steps, rewritten f es i k v w at same)
 
 module _ (es : List Entry) (i : ℕ) (k : LockName) (v w : Holding) (at : slice_get es i ≡ Some (k, v)) (own : w.terminal ≡ v.terminal) where
   pub rewritten_same : (n : LockName) → tally_of (set_value_at es i w) n ≡ tally_of es n

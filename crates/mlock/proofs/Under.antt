@@ -1,6 +1,6 @@
 -- SPDX-License-Identifier: Apache-2.0
 -- Names below other names, and the name next above one.
-use Rattle.mlock.proofs.LockWords.{◌≡◌, ◌<◌, ◌≤◌, ◌+◌, ◌-◌, ℕ, true, false, not, List, [], ◌∷◌, ◌++◌, length, take, inl, inr, sym, ap, ◌∙◌, subst, arith, append-nil, append_assoc, length-append, true≢false, Equal-is, eq_by_cmp_equiv, both_ways, take-append_seam, take-append-add, cases_lt, and_parts, and_from, false_from_ne_true, beq, is_node_within, LockName, lock_name_cmp, is_within, Text, of_within, within_of, within, lock_name_cmp_total, lock_name_cmp_exact, IsAbove, name_eq, is_under}
+use Rattle.mlock.proofs.LockWords.{◌≡◌, ◌<◌, ◌≤◌, ◌+◌, ◌-◌, ℕ, true, false, not, List, [], ◌∷◌, ◌++◌, length, take, inl, inr, sym, ap, ◌∙◌, subst, arith, length-append, true≢false, Equal-is, eq_by_cmp_equiv, both_ways, take-append_seam, take-append-add, cases_lt, and_parts, and_from, false_from_ne_true, beq, is_node_within, LockName, lock_name_cmp, is_within, Text, of_within, within_of, within, lock_name_cmp_total, lock_name_cmp_exact, IsAbove, name_eq, is_under, common_steps}
 use Rattle.mlock.proofs.Names.{parts, beq_same, same_beq}
 
 -- the second name is the first with more subscripts
@@ -36,11 +36,7 @@ same_is a b e = subst (λ n. name_eq a n ≡ true) e ((eq_by_cmp_equiv lock_name
 
 -- as many subscripts, and no more: the same name
 whole : (a b : LockName) → (i : Inside a b) → length b.node.subscripts ≤ length a.node.subscripts → a ≡ b
-whole a b i short = by_more i.more i.subscripts
-  where
-    by_more : (more : List Text) → b.node.subscripts ≡ a.node.subscripts ++ more → a ≡ b
-    by_more [] subs = same_name a b i.kind i.account i.name (sym (subs ∙ append-nil a.node.subscripts))
-    by_more (s ∷ more) subs = let long : length b.node.subscripts ≡ length a.node.subscripts + length (s ∷ more) = ap length subs ∙ length-append a.node.subscripts (s ∷ more) in absurd (omega (arith, long, short))
+whole a b i short = grind (arith, common_steps)
 
 -- two names within each other are one
 pub both_within : (a b : LockName) → is_within a b ≡ true → is_within b a ≡ true → a ≡ b
@@ -97,13 +93,7 @@ module _ (above below : LockName) (next : IsAbove above below) where
       ]
 
   pub from_above : (n : LockName) → is_under n above ≡ true → is_under n below ≡ true
-  from_above n e =
-      let u = under n above e in
-      let subs : below.node.subscripts ≡ n.node.subscripts ++ (u.0.more ++ next.node.longer.0 ∷ []) =
-      next.node.longer.1 ∙ ap (λ s. s ++ next.node.longer.0 ∷ []) u.0.subscripts ∙ append_assoc n.node.subscripts u.0.more (next.node.longer.0 ∷ []) in
-      of_under n below
-      (record { kind = u.0.kind ∙ next.kind; account = u.0.account ∙ next.node.account; name = u.0.name ∙ next.node.name; more = u.0.more ++ next.node.longer.0 ∷ []; subscripts = subs })
-      (omega (arith, u.1, one_more))
+  from_above n e = grind (arith, common_steps)
 
   -- the names above a name are the next one and those above that
   pub others_above : (n : LockName) → name_eq above n ≡ false → is_under n below ≡ is_under n above

@@ -1,5 +1,5 @@
 -- SPDX-License-Identifier: Apache-2.0
-use Rattle.mexec.proofs.ExecWords.{refl, give, context, at_done, completion_of}
+use Rattle.mexec.proofs.ExecWords.{refl, give, at_done, completion_of}
 use Rattle.mmeaning.specs.LineMeaning as meaning
 use Rattle.mexec.proofs.LevelRuns.{at_any}
 use Rattle.mexec.specs.declared.completion.Completion.TheVariants as completion

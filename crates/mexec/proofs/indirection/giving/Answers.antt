@@ -1,11 +1,7 @@
 -- SPDX-License-Identifier: Apache-2.0
-use Rattle.mexec.proofs.ExecWords.{◌<◌, suc, List, Result, Ok, arith, Text, Act, ◌>>=◌, give_some, ArgTree, FormTree, form_of, keyword_tree, primary_tree, within_indirection, Context, context, inside, given_by, View, Ghosts, Code, fault_of, Parts, DoesAt, Runs, depth_of, at_evaluated, position_of}
-use Rattle.mspec.specs.Code.{Zsyntax}
-use Rattle.mgrammar.specs.Grammar.{PrimaryTree}
+use Rattle.mexec.proofs.ExecWords.{◌<◌, suc, List, Result, Ok, arith, Text, Act, ◌>>=◌, give_some, ArgTree, FormTree, form_of, keyword_tree, primary_tree, within_indirection, Context, context, inside, given_by, View, Ghosts, Code, fault_of, Parts, DoesAt, Runs, depth_of, at_evaluated, position_of, Zsyntax, PrimaryTree, an_indirection_free, primary_value, Yields}
 use Rattle.mgrammar.specs.IndirectTexts.{args_of}
-use Rattle.mmeaning.specs.Expression.{an_indirection_free, primary_value}
 use Rattle.mmeaning.specs.LineMeaning.{Completion, Position, given}
-use Rattle.mmeaning.specs.Yields.{Yields}
 use Rattle.mexec.specs.declared.completion.Completion as completions
 use Rattle.mexec.proofs.Calls.{runs_then, runs_spent, runs_stopped, runs_wanting}
 use Rattle.mexec.proofs.LevelRuns.{at_yielded, list_opened}

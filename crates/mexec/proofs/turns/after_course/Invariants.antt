@@ -1,7 +1,6 @@
 -- SPDX-License-Identifier: Apache-2.0
-use Rattle.mexec.proofs.ExecWords.{◌≡◌, ◌≤◌, List, Result, context, View, Code, Parts, KeepsLoans, course_view, Runs, stack, position_of, turning}
+use Rattle.mexec.proofs.ExecWords.{◌≡◌, ◌≤◌, List, Result, context, View, Code, Parts, KeepsLoans, course_view, Runs, stack, position_of, turning, Completion}
 use Rattle.mmeaning.specs.LineMeaning as meaning
-use Rattle.mexec.specs.declared.completion.Completion.{Completion}
 use Rattle.mexec.proofs.turns.after_course.Given as goal
 
 abbrev pub invariant-turns : goal.invariant-turns

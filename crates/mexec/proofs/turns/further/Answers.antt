@@ -1,5 +1,5 @@
 -- SPDX-License-Identifier: Apache-2.0
-use Rattle.mexec.specs.Loops.{args_before}
+use Rattle.mexec.proofs.ExecWords.{args_before}
 use Rattle.mexec.proofs.Calls.{runs_wanting}
 use Rattle.mexec.proofs.Indexes.{no_parameters, not_found}
 use Rattle.mexec.proofs.Loops.{further_runs, no_parameters_run}

@@ -1,7 +1,6 @@
 -- SPDX-License-Identifier: Apache-2.0
-use Rattle.mexec.proofs.ExecWords.{◌≡◌, ◌≤◌, ◌-◌, length, List, map, drop, Result, context, View, parameter_tree, Code, Parts, KeepsLoans, Runs, commands_from, stack, position_of}
+use Rattle.mexec.proofs.ExecWords.{◌≡◌, ◌≤◌, ◌-◌, length, List, map, drop, Result, context, View, parameter_tree, Code, Parts, KeepsLoans, Runs, commands_from, stack, position_of, Completion}
 use Rattle.mmeaning.specs.LineMeaning as meaning
-use Rattle.mexec.specs.declared.completion.Completion.{Completion}
 use Rattle.mexec.proofs.turns.next_parameter.Given as goal
 
 abbrev pub invariant-loop-next : goal.invariant-loop-next

@@ -1,9 +1,8 @@
 -- SPDX-License-Identifier: Apache-2.0
 -- How the calls of this crate are put together.
-use Rattle.meval.proofs.EvalWords.{◌≡◌, ◌≢◌, ℕ, [], Result, Ok, Err, refl, sym, ap, ◌∙◌, subst, arith, IsErr, IsErrAnd, Lost, Own, Act, Gives, Fails, ◌>>=◌, Locals, value_of, of_locals, give, fail, give_some, Place, at_local, at_node, read_at, found_at, Inside, inside, Standing, Here, Did, Ends, FailedBy, Yields, did_then, did_failed, did_gives, did_lost, residual_is, yielded, Ghosts, fault_of, Code, Zmem, Zstore, Depth, Eval, undefined_at, Evaluates, KeepsEval, standing_of, eval_here, depth_of}
+use Rattle.meval.proofs.EvalWords.{◌≡◌, ◌≢◌, ℕ, [], Result, Ok, Err, refl, sym, ap, ◌∙◌, subst, arith, IsErr, IsErrAnd, Own, Act, Gives, Fails, ◌>>=◌, Locals, value_of, of_locals, give, fail, give_some, Place, at_local, at_node, read_at, found_at, Inside, inside, Standing, Here, Did, Ends, FailedBy, Yields, did_then, did_failed, did_gives, did_lost, residual_is, yielded, Ghosts, fault_of, Code, Zmem, Zstore, Depth, Eval, undefined_at, Evaluates, KeepsEval, standing_of, eval_here, depth_of, Text}
 use Rattle.std.specs.FinMap.{empty}
 use Rattle.mspec.specs.Code as spec
-use Rattle.mspec.specs.Act.{Text}
 
 -- a call that began where another ended, told by where that one began
 pub moved : {A X : Type 0} {b b1 : Standing} {steady : Type 0} {d d1 : Depth} (p : Inside → Act A) {f : X → A} {h h1 : Here} {r : Result X Code} → b1 ≡ b → d1 ≡ d

@@ -1,9 +1,7 @@
 -- SPDX-License-Identifier: Apache-2.0
 -- Calls of an indirection: subscripts behind those that a reference has already, and what a text names, evaluated an indirection deeper.
-use Rattle.meval.proofs.EvalWords.{◌≡◌, suc, ◌<◌, Bool, [], ◌∷◌, ◌++◌, Some, None, Result, Ok, Err, subst, refl, sym, ap, ◌∙◌, ◌↔◌, IsTrue, IsSome, false≢true, false_from_ne_true, IsErr, IsErrAnd, append_assoc, append-nil, Act, ◌>>=◌, ◌>>◌, give, give_some, PrimaryTree, ReferenceTree, indirect, ExprsTree, no_exprs, exprs, Evaluated, subscripts_of, with_subscripts, Inside, inside, is_indirection_free, an_indirection_free, indirected, named_by, value, values, primary_value, evaluated, through, finds, Did, Yields, assoc, did_then, did_spent, yielded, Ghosts, fault_of, Code, Depth, Eval, Evaluates, standing_of, eval_here, depth_of}
-use Rattle.std.proofs.Common.{true, false, List, Option}
+use Rattle.meval.proofs.EvalWords.{◌≡◌, suc, ◌<◌, Bool, [], ◌∷◌, ◌++◌, Some, None, Result, Ok, Err, subst, refl, sym, ap, ◌∙◌, ◌↔◌, IsTrue, IsSome, false≢true, false_from_ne_true, IsErr, IsErrAnd, append_assoc, append-nil, Act, ◌>>=◌, ◌>>◌, give, give_some, PrimaryTree, ReferenceTree, indirect, ExprsTree, no_exprs, exprs, Evaluated, subscripts_of, with_subscripts, Inside, inside, is_indirection_free, an_indirection_free, indirected, named_by, value, values, primary_value, evaluated, through, finds, Did, Yields, assoc, did_then, did_spent, yielded, Ghosts, fault_of, Code, Depth, Eval, Evaluates, standing_of, eval_here, depth_of, true, false, List, Option, Text}
 use Rattle.mspec.specs.Code as spec
-use Rattle.mspec.specs.Act.{Text}
 use Rattle.mgrammar.specs.IndirectTexts.{ref_at}
 use Rattle.mmeaning.specs.Expression as meaning
 use Rattle.mmeaning.proofs.Indirections.{did_fail}

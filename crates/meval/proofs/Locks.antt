@@ -1,8 +1,6 @@
 -- SPDX-License-Identifier: Apache-2.0
 -- The names of locks, with and without a `^`.
-use Rattle.std.specs.Prelude.{true, false, List}
-use Rattle.mspec.specs.Act.{Text}
-use Rattle.meval.proofs.EvalWords.{LockName, Node}
+use Rattle.meval.proofs.EvalWords.{LockName, Node, true, false, List, Text}
 
 abbrev pub global_name : Node → LockName
 global_name n = record { global = true; node = n }

@@ -1,8 +1,6 @@
 -- SPDX-License-Identifier: Apache-2.0
 -- Nodes that references name, and what the checks let through as a walk.
-use Rattle.meval.proofs.EvalWords.{◌≡◌, ℕ, zero, suc, ◌<◌, [], ◌∷◌, length, Result, Ok, Err, subst, refl, sym, arith, ◌==◌, false≢true, ◌>>=◌, ◌>>◌, Act, give, unless, ExprsTree, Inside, values, Evaluated, Node, AreOrderSubscripts, are_order_subscripts, order_subscripts_test, of_global, checked, ordering, some_subscript, Yields, did_gives, Ghosts, fault_of, Code, Zsub, Eval, Evaluates, standing_of, pending_view}
-use Rattle.std.proofs.Common.{false, List}
-use Rattle.mspec.specs.Act.{Text}
+use Rattle.meval.proofs.EvalWords.{◌≡◌, ℕ, zero, suc, ◌<◌, [], ◌∷◌, length, Ok, Err, subst, refl, sym, arith, ◌==◌, false≢true, ◌>>=◌, ◌>>◌, Act, give, unless, ExprsTree, Inside, values, Evaluated, Node, AreOrderSubscripts, are_order_subscripts, order_subscripts_test, of_global, checked, ordering, some_subscript, Yields, did_gives, Ghosts, fault_of, Code, Zsub, Eval, Evaluates, standing_of, pending_view, false, List, Text}
 use Rattle.mspec.specs.Code as spec
 use Rattle.meval.specs.declared.place.Pending.{Pending}
 

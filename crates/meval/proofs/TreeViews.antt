@@ -1,7 +1,6 @@
 -- SPDX-License-Identifier: Apache-2.0
 -- The views of trees, a level at a time.
-use Rattle.meval.proofs.EvalWords.{◌≡◌, ℕ, Vec, Box, Global, map, sym, ap, ◌∙◌, tails_of, exprs_of, choices_of, PrimaryTree, ReferenceTree, TailTree, ExprTree, OperandTree, ChoiceTree, expr_tree, tail_tree, operand_tree, primary_tree, reference_tree, referring_tree, choice_tree, sign_tree, binary_tree, atom_tree, primary_layer, reference_layer, tail_layer, choice_layer, expr_layer, operand_layer, referring_layer, Expr, Choice}
-use Rattle.std.proofs.Common.{List}
+use Rattle.meval.proofs.EvalWords.{◌≡◌, ℕ, Vec, Box, Global, map, sym, ap, ◌∙◌, tails_of, exprs_of, choices_of, PrimaryTree, ReferenceTree, TailTree, ExprTree, OperandTree, ChoiceTree, expr_tree, tail_tree, operand_tree, primary_tree, reference_tree, referring_tree, choice_tree, sign_tree, binary_tree, atom_tree, primary_layer, reference_layer, tail_layer, choice_layer, expr_layer, operand_layer, referring_layer, Expr, Choice, List}
 use Rattle.mgrammar.specs.Grammar as grammar
 use Rattle.mtree.specs.declared.tree.Binary.{Binary}
 use Rattle.mtree.specs.declared.tree.Atom.{Atom}

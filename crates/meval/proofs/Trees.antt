@@ -1,12 +1,8 @@
 -- SPDX-License-Identifier: Apache-2.0
 -- The parts of a tree, from a place on.
-use Rattle.meval.proofs.EvalWords.{◌≡◌, ℕ, ◌+◌, ◌<◌, ◌≤◌, [], ◌∷◌, ◌++◌, Bool, length, drop, get_or, map, Result, Ok, Err, subst, refl, sym, arith, cond, significant_digits, numeric_value, Act, ◌>>=◌, charge, give, PrimaryTree, ExprTree, tail, tails_of, exprs_of, choices_of, number, text, special, reference, bracket, call, select, refer, special_of, as_text, as_truth, Inside, value, tails_value, primary_value, evaluated, values, chosen, reading, resolve, read_at, referring, special_value, expr_tree, tail_tree, choice_tree, Expr, Tail, Choice, Ghosts, Code, M4, Eval, Evaluates}
-use Rattle.std.proofs.Common.{List, true, false}
+use Rattle.meval.proofs.EvalWords.{◌≡◌, ℕ, ◌+◌, ◌<◌, ◌≤◌, [], ◌∷◌, ◌++◌, Bool, length, drop, get_or, map, Result, Ok, Err, subst, refl, sym, arith, cond, significant_digits, numeric_value, Act, ◌>>=◌, charge, give, PrimaryTree, ExprTree, tail, tails_of, exprs_of, choices_of, number, text, special, reference, bracket, call, select, refer, special_of, as_text, as_truth, Inside, value, tails_value, primary_value, evaluated, values, chosen, reading, resolve, read_at, referring, special_value, expr_tree, tail_tree, choice_tree, Expr, Tail, Choice, Ghosts, Code, M4, Eval, Evaluates, List, true, false, Text, function_of, call_value}
 use Rattle.std.proofs.Math.ListN.{drop_of_length-le}
-use Rattle.mspec.specs.Act.{Text}
 use Rattle.mspec.proofs.ListPlaces.{next_item}
-use Rattle.mgrammar.specs.Functions.{function_of}
-use Rattle.mmeaning.specs.Functions.{call_value}
 use Rattle.meval.proofs.Calls.{evaluates_then, evaluates_failed, evaluates_gives}
 use Rattle.meval.proofs.TreeViews.{choice_is}
 

@@ -13,33 +13,23 @@ use Rattle.mmeaning.specs.Expression.{Inside, value, values, operand_value, prim
 
 -- whether an expression is true
 abbrev pub truth : Inside → ExprTree → Act Bool
-truth i e = do
-  x ← value i e
-  as_truth x
+truth i e = value i e >>= as_truth
 
 -- the number of an operand
 abbrev pub operand_number : Inside → OperandTree → Act ℤ
-operand_number i o = do
-  x ← operand_value i o
-  as_number x
+operand_number i o = operand_value i o >>= as_number
 
 -- the number of a primary
 abbrev pub primary_number : Inside → PrimaryTree → Act ℤ
-primary_number i p = do
-  x ← primary_value i p
-  as_number x
+primary_number i p = primary_value i p >>= as_number
 
 -- the lock that a reference names
 abbrev pub lock_name_act : Inside → ReferenceTree → Act LockName
-lock_name_act i r = do
-  v ← evaluated i r
-  named_lock i.account v
+lock_name_act i r = evaluated i r >>= named_lock i.account
 
 -- what a read, a SET and $DATA do with what is evaluated
 abbrev pub read_act : Evaluated → Act Text
-read_act v = do
-  p ← resolve reading v
-  read_at p
+read_act v = resolve reading v >>= read_at
 
 abbrev pub put_act : Evaluated → Text → Act (Unit {0})
 put_act v x = do
@@ -73,15 +63,11 @@ order_from more i p = do
   next_at d p
 
 abbrev pub order_behind : ExprsTree → Inside → Evaluated → Act Text
-order_behind more i v = do
-  p ← resolve ordering v
-  order_from more i p
+order_behind more i v = resolve ordering v >>= order_from more i
 
 -- $DATA, $GET and $ORDER of a variable
 abbrev pub data_of : Inside → ReferenceTree → Act Text
-data_of i r = do
-  v ← evaluated i r
-  data_act v
+data_of i r = evaluated i r >>= data_act
 
 abbrev pub get_of : Inside → ReferenceTree → ExprsTree → Act Text
 get_of i r more = variable_function_value get_function (evaluated i r) (values i [] more)
@@ -91,12 +77,8 @@ order_of i r more = variable_function_value order_function (evaluated i r) (valu
 
 -- the value of a variable
 abbrev pub variable_value : Inside → ReferenceTree → Act Text
-variable_value i r = do
-  v ← evaluated i r
-  read_act v
+variable_value i r = evaluated i r >>= read_act
 
 -- the value of a function of values
 abbrev pub call_act : Inside → Text → ExprsTree → Act Text
-call_act i word args = do
-  xs ← values i [] args
-  call_value word xs
+call_act i word args = values i [] args >>= call_value word

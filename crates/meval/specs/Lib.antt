@@ -6,3 +6,4 @@ pub mod Places
 pub mod Acts
 pub mod Evaluates
 pub mod AtHand
+pub mod Words

@@ -1,14 +1,7 @@
 // SPDX-License-Identifier: Apache-2.0
 // Nodes of globals, as references give them.
 ghost use Rattle.std.specs.Prelude.{◌≡◌, ◌↔◌, ◌++◌, Some, IfOk, IsTrue};
-ghost use Rattle.mspec.specs.Act.{unless};
-ghost use Rattle.mspec.specs.Code.{Zsub};
-ghost use Rattle.mspec.specs.KeyBytes.{IsAccountName};
-ghost use Rattle.mspec.specs.Names.{IsName};
-ghost use Rattle.mspec.specs.Subscripts.{are_subscripts};
-ghost use Rattle.mmeaning.specs.Variables.{replaced};
-ghost use Rattle.mmeaning.specs.Yields.{Yields};
-ghost use Rattle.moperator.specs.Codes.{fault_of};
+ghost use Rattle.meval.specs.Words.{IsAccountName, IsName, Yields, Zsub, are_subscripts, fault_of, replaced, unless};
 ghost use Rattle.meval.specs.Held.{owner_text};
 
 use crate::owner::Owner;

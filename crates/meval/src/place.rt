@@ -2,16 +2,8 @@
 // References of which all is evaluated, and places that the checks let through.
 ghost use Rattle.std.specs.Prelude.{◌≡◌, ◌↔◌, ◌++◌, IsTrue, IsSome, IfSome, IfOk, []};
 ghost use Rattle.mgrammar.specs.Grammar as grammar;
-ghost use Rattle.mgrammar.specs.Grammar.{bracket};
-ghost use Rattle.mtree.specs.Tree.{expr_tree, operand_tree};
-ghost use Rattle.mmeaning.specs.Variables.{checked, ordering};
+ghost use Rattle.meval.specs.Words.{AreOrderSubscripts, AreSubscripts, Own, Yields, are_subscripts, bracket, checked, expr_tree, fault_of, operand_tree, ordering};
 ghost use Rattle.mmeaning.specs.Variables as variables;
-ghost use Rattle.mmeaning.specs.Yields.{Yields};
-ghost use Rattle.mspec.specs.Code.{Own};
-ghost use Rattle.mspec.specs.KeyBytes.{AreSubscripts};
-ghost use Rattle.mspec.specs.Subscripts.{are_subscripts};
-ghost use Rattle.mspec.specs.Trees.{AreOrderSubscripts};
-ghost use Rattle.moperator.specs.Codes.{fault_of};
 ghost use Rattle.meval.specs.Places.{name_view, pending_view, place_view, undefined_at};
 
 use crate::global_node::GlobalNode;

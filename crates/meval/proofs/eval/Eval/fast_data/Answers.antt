@@ -1,11 +1,5 @@
 -- SPDX-License-Identifier: Apache-2.0
-use Rattle.meval.proofs.EvalWords.{[], ◌∷◌, sym, decides_subscripts, give, ◌>>=◌}
-use Rattle.std.proofs.Common.{ap₂}
-use Rattle.std.specs.Prelude.{pos}
-use Rattle.mspec.specs.Scopes.{is_value, is_above}
-use Rattle.mmeaning.specs.Functions.{whole_text}
-use Rattle.mmeaning.specs.Variables.{data_number, status_at}
-use Rattle.meval.specs.Places.{status_view}
+use Rattle.meval.proofs.EvalWords.{[], ◌∷◌, sym, decides_subscripts, give, ◌>>=◌, ap₂, pos, is_value, is_above, whole_text, data_number, status_at, status_view}
 use Rattle.meval.proofs.Calls.{evaluates_then, evaluates_gives, asks_locals}
 use Rattle.meval.proofs.LocalVariables.{let_through}
 use Rattle.meval.proofs.eval.Eval.fast_data.Goals as goal

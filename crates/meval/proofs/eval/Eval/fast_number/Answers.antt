@@ -1,6 +1,5 @@
 -- SPDX-License-Identifier: Apache-2.0
-use Rattle.meval.proofs.EvalWords.{refl, residual_is, as_number}
-use Rattle.meval.specs.AtHand.{at_hand_tree}
+use Rattle.meval.proofs.EvalWords.{refl, residual_is, as_number, at_hand_tree}
 use Rattle.meval.proofs.Calls.{evaluates_then, evaluates_failed, evaluates_seen, evaluates_refused, evaluates_yielded}
 use Rattle.meval.proofs.Chains.{number_read}
 use Rattle.meval.proofs.LocalVariables.{variable_primary, number_told, number_refused}

@@ -1,5 +1,5 @@
 -- SPDX-License-Identifier: Apache-2.0
-use Rattle.meval.proofs.EvalWords.{refl, value_of, give, slice_get, unwrap_or, []}
+use Rattle.meval.proofs.EvalWords.{value_of, give, slice_get, unwrap_or, []}
 use Rattle.meval.proofs.Calls.{evaluates_then, evaluates_gives, asks_locals}
 use Rattle.meval.proofs.eval.Eval.fast_read_or.Goals as goal
 

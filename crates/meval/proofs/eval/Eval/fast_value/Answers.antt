@@ -1,7 +1,6 @@
 -- SPDX-License-Identifier: Apache-2.0
-use Rattle.meval.proofs.EvalWords.{sym, refl, residual_is}
+use Rattle.meval.proofs.EvalWords.{sym, refl, residual_is, at_hand_tree}
 use Rattle.moperator.proofs.Numbers.{computed_outcome}
-use Rattle.meval.specs.AtHand.{at_hand_tree}
 use Rattle.meval.proofs.Calls.{evaluates_then, evaluates_seen, evaluates_refused, evaluates_wanting, evaluates_yielded}
 use Rattle.meval.proofs.LocalVariables.{variable_primary}
 use Rattle.meval.proofs.Trees.{charge_failed}

@@ -12,7 +12,10 @@ do the same work beside it if they are installed.
         --workloads FILE            reads others
         --twins                     times the workloads that have a twin, and the twins (benchmarks/twins.txt), over a
                                     store in memory and GT.M alone, and prints GT.M's time beside the program's of both;
-                                    and what ten times as much takes
+                                    what ten times as much takes; and how much of the time the store's calls take
+
+What the store's calls take alone is told by the program `transcripts`, which the gate leaves in its crate's `out`, or
+which the variable TRANSCRIPTS names: it makes them in the order in which four workloads make them.
 
 The loop is the reference since it is there wherever the script runs, asks for no memory, and is bound
 as the program is: by the clock of the processor and the branches of an interpreter. Python's version
@@ -38,7 +41,7 @@ from collections.abc import Iterable, Iterator
 from dataclasses import dataclass, field
 from typing import IO
 
-from running import PROGRAM, TOP, require_program, run_words
+from running import PROGRAM, TOP, program_of, require_program, run_words
 
 WORKLOADS = os.path.join(TOP, "benchmarks", "workloads.txt")
 TWINS = os.path.join(TOP, "benchmarks", "twins.txt")
@@ -49,6 +52,14 @@ TURNS = 2_000_000
 GROWTH = 10
 # Ten times as much is timed less often.
 PASSES_OF_GROWTH = 2
+# Of each workload with a floor: the call of the page `floors` of `timings`, and how many operations one such call is.
+FLOORS = {
+    "new nodes": ("nodes set", 1),
+    "nodes read": ("read", 1),
+    "nodes walked and read": ("walked", 1),
+    "naked references and $DATA": ("naked turn", 5),
+}
+NODES_OF_FLOORS = 20_000
 ONE_ACCOUNT, MANY_ACCOUNTS = "equal lines", "lines of 1000 accounts"
 READY, DONE = "READY", "DONE"
 # So many bytes at most are read at once, and a pipe holds.
@@ -280,17 +291,37 @@ def speeds(found: dict[str, Measured]) -> str:
     return f"{min(gtm) / min(ours):.2f} ({statistics.median(gtm) / statistics.median(ours):.2f})"
 
 
+def floors() -> dict[str, float]:
+    """What the store's calls of each workload that has a floor take alone, in microseconds an operation."""
+    program = program_of("transcripts", "TRANSCRIPTS")
+    words = [program, "time", str(NODES_OF_FLOORS), "floors"]
+    told = subprocess.run(words, capture_output=True, check=False, text=True).stdout if os.path.exists(program) else ""
+    calls = {name: float(taken) for name, taken in re.findall(r"^ *(\S.*\S) +([\d.]+) ns$", told, re.MULTILINE)}
+    if not calls:
+        print("bench: there is no program `transcripts` that times the store's calls alone, so they are left out", file=sys.stderr)
+        return {}
+    return {name: calls[call] / operations / 1000 for name, (call, operations) in FLOORS.items()}
+
+
 def grown(own: Measured, larger: Measured) -> str:
     """By what an operation takes longer where there is ten times as much, and the memory of both."""
     longer = min(larger.passes) / GROWTH / min(own.passes)
     return f"{longer:.2f}, {own.memory:.0f} and {larger.memory:.0f} MB"
 
 
+def above(floor: float | None, work: Workload, own: Measured) -> str:
+    """What the store's calls take of an operation, in microseconds, and what the language adds to that."""
+    if floor is None:
+        return ""
+    whole = min(own.passes) / work.operations * 1e6
+    return f"{floor:.2f} of {whole:.2f} µs: {100 * (whole / floor - 1):+.0f} %"
+
+
 def twin_rows(subjects: Subjects, asked: argparse.Namespace) -> Iterator[tuple[str, list[str]]]:
     """A row of the table of twins for each workload that has one, and what is wrong with the replies; and one for the
     lines of many accounts."""
     subjects.beside_reference = False
-    of_one = None
+    alone, of_one = floors(), None
     twins = {twin.name: twin for twin in workloads(TWINS)}
     for work in workloads(asked.workloads):
         twin = twins.get(work.name)
@@ -301,7 +332,7 @@ def twin_rows(subjects: Subjects, asked: argparse.Namespace) -> Iterator[tuple[s
             found = measured(subjects, work, asked.passes, 1)
             many = found["memory"]
             longer = min(many.passes) / min(of_one.passes)
-            yield f"| {work.name} |  |  | {longer:.2f}, {of_one.memory:.0f} and {many.memory:.0f} MB |", [*faults(work, found, 1)]
+            yield f"| {work.name} |  |  | {longer:.2f}, {of_one.memory:.0f} and {many.memory:.0f} MB |  |", [*faults(work, found, 1)]
         if twin is None:
             continue
         subjects.names = ["memory", GTM]
@@ -309,7 +340,7 @@ def twin_rows(subjects: Subjects, asked: argparse.Namespace) -> Iterator[tuple[s
         subjects.names = ["memory"]
         larger = measured(subjects, work, PASSES_OF_GROWTH, GROWTH)
         of_one = own["memory"] if work.name == ONE_ACCOUNT else of_one
-        cells = [work.name, speeds(own), speeds(other), grown(own["memory"], larger["memory"])]
+        cells = [work.name, speeds(own), speeds(other), grown(own["memory"], larger["memory"]), above(alone.get(work.name), work, own["memory"])]
         yield f"| {' | '.join(cells)} |", [*faults(work, own, 1), *faults(twin, other, 1)]
 
 
@@ -361,7 +392,7 @@ def main() -> int:
         subjects = Subjects(folder)
         if asked.twins and not subjects.dist:
             sys.exit("bench: twins are compared with GT.M, which is not installed")
-        names = ["GT.M's time / the program's", "of its twin", "ten times as much"] if asked.twins else subjects.names
+        names = ["GT.M's time / the program's", "of its twin", "ten times as much", "the store's calls"] if asked.twins else subjects.names
         first = "Workload" if asked.twins else "Workload, an operation"
         table = [f"| {first} | {' | '.join(names)} |", "|---" * (len(names) + 1) + "|"]
         for row, told in (twin_rows if asked.twins else rows)(subjects, asked):

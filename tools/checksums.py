@@ -129,6 +129,17 @@ def cached():
             print(f"  {front + 'kill':<12} {PASSES * 100}")
 
 
+def floors():
+    count, text = 100, "hello world"
+    print(f"table with kept texts, {count} nodes")
+    steps = [len(key(b"ALICE", b"DATA", [str(i).encode()])) for i in range(1, count)]
+    print(f"  {'nodes set':<12} {PASSES * count}")
+    print(f"  {'walked':<12} {PASSES * (sum(steps) + count * len(text))}")
+    print(f"  {'read':<12} {PASSES * count * len(text)}")
+    # two nodes set, and two texts read: ^(3) has none, and nothing stands below ^(2) and ^(3)
+    print(f"  {'naked turn':<12} {PASSES * count * (2 + 2 * len(text))}")
+
+
 def grants():
     accounts, terminals, globals_, apart, stride = 1000, 9999, 10, 7, 7_919
     document = ""
@@ -166,7 +177,7 @@ def locks():
 
 PAGES = {
     "numbers": numbers, "texts": texts, "keys": keys, "locals": local_variables,
-    "stores": stores, "cached": cached, "grants": grants, "locks": locks,
+    "stores": stores, "cached": cached, "floors": floors, "grants": grants, "locks": locks,
 }
 
 

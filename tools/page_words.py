@@ -4,6 +4,7 @@
 Without a word it compares, and has status 1 if the file is another; `--write` writes it. It needs no program."""
 import json
 import os
+import re
 import sys
 
 TOP = os.path.realpath(os.path.join(os.path.dirname(os.path.abspath(__file__)), ".."))
@@ -36,9 +37,14 @@ def exported() -> dict[str, tuple[str, object]]:
     }
 
 
+def written(value: object) -> str:
+    """A value as JavaScript has it: a key that is a name stands without quotes."""
+    return re.sub(r'^( *)"([A-Za-z_$][A-Za-z0-9_$]*)":', r"\1\2:", json.dumps(value, indent=2), flags=re.MULTILINE)
+
+
 def module() -> str:
     """The text of the module."""
-    parts = [f"/** {about} */\nexport const {name} = {json.dumps(value, indent=2)};\n" for name, (about, value) in exported().items()]
+    parts = [f"/** {about} */\nexport const {name} = {written(value)};\n" for name, (about, value) in exported().items()]
     return "\n".join([HEAD, *parts])
 
 

@@ -16,14 +16,14 @@ class BadSettings(Exception):
 class Limits:
     """Times in seconds, sizes in bytes, and counts."""
 
-    idle: float = 1800
-    absent: float = 120
-    longest: float = 43_200
+    idle: float = 30 * 60
+    absent: float = 2 * 60
+    longest: float = 12 * 3600
     token_idle: float = 60
     sign_on: float = 20
     slow: float = 30
     heartbeat: float = 20
-    body: int = 65_536
+    body: int = 64 * 1024
     reply: int = 1_000_000
     connections: int = 4000
     connections_of_address: int = 500

@@ -34,6 +34,11 @@ AT_ONCE = 5000
 SLOW = " F I=1:1:20000 S K=I"
 
 
+def leading(start, journal: Path, **more: object) -> Front:
+    """A front over a store of its own that keeps a journal there."""
+    return start(store="store.db", journal={"folder": str(journal)} | more)
+
+
 def standby(start, journal: Path, **more: object) -> Front:
     """A standby over a store of its own."""
     return start(words=["--follow"], awaited="standing by", journal={"folder": str(journal)}, **{"store": "store.db"} | more)
@@ -67,7 +72,7 @@ async def caught_up(front: Front, journal: Path) -> int:
 
 @in_loop(200)
 async def test_a_standby_follows_and_is_promoted(start, tmp_path: Path) -> None:
-    leader = start(store="store.db", journal={"folder": str(tmp_path / "journal")})
+    leader = leading(start, tmp_path / "journal")
     second = standby(start, tmp_path / "journal")
     with socket.socket() as peer:
         assert peer.connect_ex(("127.0.0.1", second.port)) != 0
@@ -107,7 +112,7 @@ async def test_a_standby_follows_and_is_promoted(start, tmp_path: Path) -> None:
 @in_loop(200)
 async def test_a_standby_has_its_ports(start, tmp_path: Path) -> None:
     """Nobody can take them meanwhile. One that is taken when it starts is told, and taken at the promotion if that can be."""
-    leader = start(store="store.db", journal={"folder": str(tmp_path / "journal")})
+    leader = leading(start, tmp_path / "journal")
     second = standby(start, tmp_path / "journal")
     for port in (second.port, second.lines_port):
         with socket.socket() as other, pytest.raises(OSError, match="in use"):
@@ -126,7 +131,7 @@ async def test_a_standby_has_its_ports(start, tmp_path: Path) -> None:
 @in_loop(200)
 async def test_a_node_that_is_changed_on_a_standby_stops_it(start, tmp_path: Path) -> None:
     """The next line that reads it does, and its number is told; the store is not taken again."""
-    leader = start(store="store.db", journal={"folder": str(tmp_path / "journal")})
+    leader = leading(start, tmp_path / "journal")
     second = standby(start, tmp_path / "journal")
     async with leader.person("ada") as ada:
         for number in range(5):
@@ -149,7 +154,7 @@ async def test_a_node_that_is_changed_on_a_standby_stops_it(start, tmp_path: Pat
 
 @in_loop(200)
 async def test_a_standby_that_is_killed_begins_with_a_snapshot(start, tmp_path: Path) -> None:
-    leader = start(store="store.db", journal={"folder": str(tmp_path / "journal")})
+    leader = leading(start, tmp_path / "journal")
     async with leader.person("ada") as ada:
         await ada.line("S ^X=1")
         snapshot = await asyncio.to_thread(backup, leader, "--end-sessions")
@@ -177,7 +182,7 @@ async def test_a_standby_that_is_killed_begins_with_a_snapshot(start, tmp_path: 
 @in_loop(200)
 async def test_a_standby_that_cannot_go_on(start, tmp_path: Path) -> None:
     """Other settings, or a journal that begins later than its store, are told."""
-    leader = start(store="store.db", journal={"folder": str(tmp_path / "journal")})
+    leader = leading(start, tmp_path / "journal")
     other = tmp_path / "other.toml"
     other.write_text('[[account]]\nname = "CLINIC"\nterminals = [1]\nsteps = 5\n')
     second = standby(start, tmp_path / "journal", settings=other, users={"ada": "CLINIC"})
@@ -194,7 +199,7 @@ async def test_a_standby_that_cannot_go_on(start, tmp_path: Path) -> None:
 @in_loop(200)
 async def test_a_journal_that_has_lost_its_end_is_refused(start, tmp_path: Path) -> None:
     """What is noted beside the store stays as it was, so that it is refused the next time too."""
-    leader = start(store="store.db", journal={"folder": str(tmp_path / "journal")})
+    leader = leading(start, tmp_path / "journal")
     second = standby(start, tmp_path / "journal")
     async with leader.person("ada") as ada:
         await ada.line("S ^X=1")
@@ -232,7 +237,7 @@ def stands_by(front: Front) -> int:
 @in_loop(200)
 async def test_a_leader_that_was_stopped_stands_by(start, tmp_path: Path) -> None:
     """Without a snapshot: its store stands where the journal was then. It runs what the other one serves meanwhile and later, and takes over again."""
-    leader = start(store="store.db", journal={"folder": str(tmp_path / "journal")})
+    leader = leading(start, tmp_path / "journal")
     second = standby(start, tmp_path / "journal")
     async with leader.person("ada") as ada, leader.person("ben") as ben:
         await asyncio.gather(works(ada, 3, 40), works(ben, 4, 40))
@@ -261,7 +266,7 @@ async def goes_on(leader: Front, second: Front, left: int, journal: Path) -> Non
 @in_loop(200)
 async def test_a_leader_that_was_killed_stands_by(start, tmp_path: Path, alone: bool) -> None:
     """If all its lines were answered, its store stands after the last of them: whether nobody has served since (`alone`) or another one has."""
-    leader = start(store="store.db", journal={"folder": str(tmp_path / "journal"), "roll": 4096})
+    leader = leading(start, tmp_path / "journal", roll=4096)
     second = standby(start, tmp_path / "journal")
     async with leader.person("ada") as ada:
         await works(ada, 5, 60)
@@ -282,7 +287,7 @@ async def test_a_leader_that_was_killed_stands_by(start, tmp_path: Path, alone: 
 async def test_a_leader_that_was_killed_at_work_does_not_stand_by(start, tmp_path: Path) -> None:
     """Lines were on their way, and may have been run: it is told which, and what can be done. The note beside the store stays."""
     load, journal = Load(SLOW), tmp_path / "journal"
-    leader = start(store="store.db", journal={"folder": str(journal)})
+    leader = leading(start, journal)
     second = standby(start, journal)
     await load.until_killed(leader, 1)
     end = end_of(JournalSettings(journal))
@@ -364,7 +369,7 @@ class Load:
 async def test_leaders_that_are_killed(start, tmp_path: Path, count: int) -> None:
     """Each time the standby is promoted: what was answered is there, nothing runs twice, and the next standby runs the journal from its beginning."""
     rng, load, journal, without = random.Random(11), Load(), tmp_path / "journal", []
-    leader = start(store="store.db", journal={"folder": str(journal)})
+    leader = leading(start, journal)
     for number in range(KILLED * count):
         second = standby(start, journal)
         killed = await load.until_killed(leader, rng.uniform(0.02, 0.3))
@@ -392,7 +397,7 @@ async def test_a_stop_during_a_promotion(start, tmp_path: Path) -> None:
     """The promotion is given up, and the standby ends as at any stop: another one takes over, and then this one in its turn."""
     load, journal = Load(SLOW), tmp_path / "journal"
     # A standby looks for a stop and a promotion between two files: there are many small ones.
-    leader = start(store="store.db", journal={"folder": str(journal), "roll": 4096})
+    leader = leading(start, journal, roll=4096)
     second = standby(start, journal)
     # It is held up while users work, so that there is much to run at its promotion.
     second.process.send_signal(signal.SIGSTOP)
@@ -424,7 +429,7 @@ async def test_a_stop_during_a_promotion(start, tmp_path: Path) -> None:
 async def test_a_stop_between_a_promotion_and_the_service(start, tmp_path: Path) -> None:
     """One that the standby hears of when it is promoted already ends the service before it serves."""
     load, journal = Load(), tmp_path / "journal"
-    leader = start(store="store.db", journal={"folder": str(journal)})
+    leader = leading(start, journal)
     second = standby(start, journal)
     second.stop()
     await load.until_killed(leader, 0.2)

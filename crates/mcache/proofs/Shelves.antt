@@ -1,6 +1,6 @@
 -- SPDX-License-Identifier: Apache-2.0
 -- What the calls of a map leave of its entries.
-use Rattle.mcache.proofs.CacheWords.{◌≡◌, ◌≤◌, ◌+◌, ◌-◌, ◌⊎◌, ℕ, suc, Bool, true, false, List, [], ◌∷◌, length, take, Option, Some, None, Vec, Contains, Result, Ok, Err, MatchResult, OnOk, OnErr, IfSome, nat_eq, refl, sym, ap, ◌∙◌, subst, inl, inr, arith, length-take, Global, pointwise, same_text, lookup, lookup_entry, remove_entry, result_ok, LruCache, promoted, put_entries, Contains-lookup, Contains-promoted, Contains-put_entries, Text, IsOf, IsKept, IsWithin, IsWithinOr}
+use Rattle.mcache.proofs.CacheWords.{◌≡◌, ◌≤◌, ◌+◌, ◌-◌, ◌⊎◌, ℕ, suc, Bool, true, false, List, [], ◌∷◌, length, take, Option, Some, None, Vec, Contains, Result, Ok, Err, MatchResult, OnOk, OnErr, IfSome, nat_eq, refl, sym, ap, ◌∙◌, subst, inl, inr, arith, length-take, slice_get, slice_get_within, get_or_from_slice_get, Contains-get_or, Global, pointwise, same_text, lookup, lookup_entry, remove_entry, result_ok, LruCache, promoted, put_entries, Contains-lookup, Contains-promoted, Contains-put_entries, Text, IsOf, IsKept, IsWithin, IsWithinOr, Entry}
 use Rattle.std.specs.Option.{option_map_or}
 use Rattle.std.specs.declared.rc.Rc.{Rc}
 use Rattle.mcache.specs.Kept.{Entry}
@@ -48,6 +48,13 @@ module _ {T : Type 0} where
 
   pub found : {E : Type 0} (es : List (Entry T)) (text : Text) (tree : Rc T Global) (r : Result (Rc T Global) E) (o : Option (Rc T Global)) → Some tree ≡ lookup (λ k. pointwise nat_eq text k.items) es → MatchResult r (λ copy. copy.value ≡ tree.value) (λ _. ⊥ → ⊥) → o ≡ result_ok r → IfSome o (λ t. IsKept es text t.value)
   found es text tree r o at same is = held_again es text tree r o same is (kept_at es text tree (sym at))
+
+  -- so is what stands first under that text
+  first_at : (es : List (Entry T)) (e : Entry T) → slice_get es 0 ≡ Some e → Contains es e
+  first_at es e at = subst (Contains es) (get_or_from_slice_get es 0 e e at) (Contains-get_or es 0 e (slice_get_within es 0 e at))
+
+  pub found_first : {E : Type 0} (es : List (Entry T)) (text : Text) (key : Vec ℕ Global) (tree : Rc T Global) (r : Result (Rc T Global) E) (o : Option (Rc T Global)) → slice_get es 0 ≡ Some (key, tree) → key.items ≡ text → MatchResult r (λ copy. copy.value ≡ tree.value) (λ _. ⊥ → ⊥) → o ≡ result_ok r → IfSome o (λ t. IsKept es text t.value)
+  found_first es text key tree r o at is same ok = held_again es text tree r o same ok ((key, tree), first_at es (key, tree) at, (is, refl))
 
   -- a look-up changes the order alone
   pub looked_within : (es : List (Entry T)) (test : Vec ℕ Global → Bool) (after : List (Entry T)) → after ≡ promoted test es → IsWithin after es

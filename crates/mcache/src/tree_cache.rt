@@ -9,12 +9,29 @@ use std::rc::Rc;
 
 pub(crate) type TreeCache<T> = LruCache<Vec<u8>, Rc<T>>;
 
-// The tree of a text that is kept, held once more.
+// The tree of the text that was used last, held once more, where it is this text.
+fn latest<T: Drop>(tree_cache: &TreeCache<T>, text: &[u8]) -> Option<Rc<T>>
+    ensures { IfSome result (λ tree. IsKept tree_cache.now.entries text.now tree.value) }
+{
+    match tree_cache.peek_mru() {
+        None => None,
+        Some((key, tree)) => if key.as_slice() == text {
+            tree.clone().ok()
+        } else {
+            None
+        },
+    }
+}
+
+// The tree of a text that is kept, held once more. The text that was used last is not hashed: loops run it again and again.
 pub(crate) fn find<T: Drop>(tree_cache: &mut TreeCache<T>, text: &[u8]) -> Option<Rc<T>>
     ensures found { IfSome result (λ tree. IsKept tree_cache.old.entries text.now tree.value) }
     ensures within { IsWithin tree_cache.new.entries tree_cache.old.entries }
     ensures count { length tree_cache.new.entries ≤ length tree_cache.old.entries }
 {
+    if let Some(tree) = latest(tree_cache, text) {
+        return Some(tree);
+    }
     match tree_cache.get(text) {
         Some(tree) => tree.clone().ok(),
         None => None,

@@ -1,5 +1,6 @@
 -- SPDX-License-Identifier: Apache-2.0
 -- What LOCK asks of the locks.
+use Rattle.std.proofs.Common.{Option}
 use Rattle.mcommand.proofs.CommandWords.{◌≡◌, ℕ, ◌+◌, ◌<◌, Bool, true, false, List, [], ◌∷◌, ◌++◌, Some, None, MutBor, Result, Ok, length, drop, get_or, refl, sym, ap, ◌∙◌, subst, if◌then◌else◌, ◌&&◌, Op, Answer, Take, Give_back, Release, Act, ◌>>=◌, ◌>>◌, ask, next_item, ReferenceTree, named_lock, Inside, evaluated, asked, assoc, Ghosts, Code, lock_name_act, standing_of, Parts, Does, here_of, MayTake}
 use Rattle.std.specs.List.{list_all}
 use Rattle.std.proofs.lemmas.List.Folds.{list_all-append}
@@ -8,6 +9,9 @@ use Rattle.mmeaning.specs.Shared.{may_lock, took}
 use Rattle.mmeaning.specs.Locking as meaning
 use Rattle.mmeaning.specs.Calls.{Standing, ops_of}
 use Rattle.mmeaning.proofs.LockMoves.{take_open}
+use Rattle.mspec.specs.Act.{give}
+use Rattle.mgrammar.specs.Grammar.{ExprTree, LockKindTree, lock_one}
+use Rattle.mcommand.specs.LockNames.{locking_names}
 use Rattle.mcommand.proofs.Calls.{does_then}
 
 -- ---- names that may be taken
@@ -24,6 +28,10 @@ one_more_taken b names n all this = list_all-append (may_lock b.settings b.accou
 pub name_is : (i : Inside) (names : List LockName) (r : ReferenceTree) (rs : List ReferenceTree)
     → ◌≡◌ {A = Act (List LockName)} (meaning.lock_names i names (r ∷ rs)) (lock_name_act i r >>= (λ n. meaning.lock_names i (names ++ n ∷ []) rs))
 name_is i names r rs = sym (assoc (evaluated i r) (named_lock i.account) (λ n. meaning.lock_names i (names ++ n ∷ []) rs))
+
+-- an argument with one name
+pub one_is : (i : Inside) (k : LockKindTree) (r : ReferenceTree) (t : Option ExprTree) → ◌≡◌ {A = Act (Unit {0})} (meaning.locking i k (lock_one r) t) (lock_name_act i r >>= (λ n. locking_names i k t (n ∷ [])))
+one_is i k r t = ap (λ (p : Act (List LockName)). p >>= locking_names i k t) (name_is i [] r []) ∙ assoc (lock_name_act i r) (λ n. give (n ∷ [])) (locking_names i k t)
 
 module _ {S : Type 0} {g : Ghosts S} where
   -- ---- operations

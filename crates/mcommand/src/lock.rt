@@ -4,11 +4,12 @@ ghost use Rattle.std.specs.Prelude.{◌≡◌, ◌≤◌, [], map, Ok, IfOk};
 ghost use Rattle.mspec.specs.Act.{ask};
 ghost use Rattle.mspec.specs.Plan.{Release, Take};
 ghost use Rattle.mmeaning.specs.Expression.{optional_value};
+ghost use Rattle.mgrammar.specs.Grammar.{lock_one};
 ghost use Rattle.mmeaning.specs.Locking as meaning;
 ghost use Rattle.mtree.specs.Tree.{reference_tree, condition_tree, kind_tree, locked_tree};
 ghost use Rattle.meval.specs.Evaluates.{standing_of};
 ghost use Rattle.mcommand.specs.Does.{Does, KeepsLoans};
-ghost use Rattle.mcommand.specs.LockNames.{MayTake};
+ghost use Rattle.mcommand.specs.LockNames.{MayTake, locking_names};
 
 use crate::parts::Parts;
 use mlock::LockName;
@@ -17,16 +18,7 @@ use mstore::NodeStore;
 use mtree::{Expr, LockKind, Locked, Reference};
 use mvalue::Value;
 use std::alloc::Global;
-
-// What an argument names.
-fn references(names: &Locked) -> &[Reference]
-    ensures { map reference_tree result.now ≡ meaning.names_of (locked_tree names.now) }
-{
-    match names {
-        Locked::One(reference) => std::slice::from_ref(reference),
-        Locked::Several(references) => references,
-    }
-}
+use std::slice::from_ref;
 
 impl<'a, S: NodeStore> Parts<'a, S> {
     // The locks that references name: each is evaluated and checked before the next.
@@ -150,9 +142,46 @@ impl<'a, S: NodeStore> Parts<'a, S> {
         ensures fewer { self.new.eval.steps ≤ self.old.eval.steps }
         ensures does { Does S.NodeStore (λ i. meaning.locking i (kind_tree kind) (locked_tree names.now) (condition_tree timeout.now)) (λ u. u) self.old result self.new }
     {
-        let names = self.lock_names(alloc, references(names))?;
+        match names {
+            Locked::One(reference) => self.locking_one(alloc, kind, reference, timeout),
+            Locked::Several(references) => {
+                let names = self.lock_names(alloc, references)?;
+                self.locking_names(alloc, kind, &names, timeout)
+            }
+        }
+    }
+
+    // The same of one name, of which no list is made.
+    fn locking_one(
+        &mut self,
+        alloc: Global,
+        kind: LockKind,
+        reference: &Reference,
+        timeout: &Option<Box<Expr>>,
+    ) -> Result<(), Code>
+        ensures loans { KeepsLoans self.old self.new }
+        ensures fewer { self.new.eval.steps ≤ self.old.eval.steps }
+        ensures does { Does S.NodeStore (λ i. meaning.locking i (kind_tree kind) (lock_one (reference_tree reference.now)) (condition_tree timeout.now)) (λ u. u) self.old result self.new }
+    {
+        let name = self.eval.lock_name(alloc, reference)?;
+        self.locking_names(alloc, kind, from_ref(&name), timeout)
+    }
+
+    // The same of names that are evaluated and checked: the timeout, and then what is done with them.
+    fn locking_names(
+        &mut self,
+        alloc: Global,
+        kind: LockKind,
+        names: &[LockName],
+        timeout: &Option<Box<Expr>>,
+    ) -> Result<(), Code>
+        requires { MayTake (standing_of self.old.eval) names.now }
+        ensures loans { KeepsLoans self.old self.new }
+        ensures fewer { self.new.eval.steps ≤ self.old.eval.steps }
+        ensures does { Does S.NodeStore (λ i. locking_names i (kind_tree kind) (condition_tree timeout.now) names.now) (λ u. u) self.old result self.new }
+    {
         let timeout = self.timeout_value(alloc, timeout)?;
-        let carried = self.carry(kind, &names)?;
+        let carried = self.carry(kind, names)?;
         self.tell(&timeout, carried)
     }
 }

@@ -1,6 +1,6 @@
 -- SPDX-License-Identifier: Apache-2.0
 -- Operators of arithmetic one after another, on a number to the left.
-use Rattle.meval.proofs.EvalWords.{◌≡◌, ℕ, ◌+◌, ◌<◌, ◌≤◌, [], length, drop, get_or, map, Some, None, Result, Ok, Err, refl, sym, ap, ◌∙◌, subst, ℤ, Zover, significant_digits, numeric_value, number_text, Act, ◌>>=◌, charge, give, give_some, ExprTree, expr, OperandTree, operand, bracket, PrimaryTree, TailTree, apply, tail, no_tails, tails_of, as_number, both_numbers, binary, Inside, value, primary_value, operand_value, tail_value, tails_value, tail_tree, Tail, Yields, yields_gives, units, Num, Ghosts, fault_of, Code, Eval, Evaluates, Leads, operand_number, primary_number}
+use Rattle.meval.proofs.EvalWords.{◌≡◌, ℕ, ◌+◌, ◌<◌, [], length, drop, get_or, map, Some, None, Result, Ok, Err, refl, sym, ap, ◌∙◌, subst, ℤ, Zover, significant_digits, numeric_value, number_text, Act, ◌>>=◌, charge, give, give_some, ExprTree, expr, OperandTree, operand, bracket, PrimaryTree, TailTree, apply, tail, no_tails, tails_of, as_number, both_numbers, binary, Inside, value, primary_value, operand_value, tail_value, tails_value, tail_tree, Tail, Yields, yields_gives, units, Num, Ghosts, fault_of, Code, Eval, Evaluates, Leads, operand_number, primary_number}
 use Rattle.std.proofs.Common.{List, Option}
 use Rattle.mspec.specs.Act.{Text}
 use Rattle.mmeaning.specs.LineMeaning.{number_of}
@@ -38,6 +38,9 @@ left_known o left y =
 -- the number of a number's text
 read_again : (n : Num) → Yields {E = Code} fault_of (as_number (number_text (units n))) (λ (u : Unit {0}). units n) (Ok tt)
 read_again n = subst (λ (x : Option ℤ). Yields {E = Code} fault_of (give_some Zover x) (λ (u : Unit {0}). units n) (Ok tt)) (sym (number_again n)) (yields_gives (units n) (λ (u : Unit {0}). units n) tt refl)
+
+pub number_kept : (n : Num) → Yields {E = Code} fault_of (as_number (number_text (units n))) units (Ok n)
+number_kept n = subst (λ (x : Option ℤ). Yields {E = Code} fault_of (give_some Zover x) units (Ok n)) (sym (number_again n)) (yields_gives (units n) units n refl)
 
 module _ {S : Type 0} {g : Ghosts S} where
   -- an operator of arithmetic behind a number evaluates its operand as a number

@@ -19,12 +19,12 @@ use crate::owner::Owner;
 use crate::place::{LocalName, Pending, bracketed};
 use crate::reading_reference::read_reference;
 use crate::session::Session;
-use crate::shortcuts::at_hand;
+use crate::shortcuts::{at_hand, fast_number_of};
 use crate::value_list::Values;
 use mgrant::{AccountId, Mode, Settings};
 use mnum::{Name, Num};
 use moperator::{
-    Code, arithmetic_of, binary, calculate, call, computed, matching, number_of, truth_of, unaries,
+    Code, arithmetic_of, binary, calculate, call, computed, matching, truth_of, unaries,
 };
 use mstore::NodeStore;
 use mtree::{Choice, Expr, Operand, Primary, Reference, Tail, ValueWord};
@@ -238,11 +238,29 @@ impl<'a, S: NodeStore> Eval<'a, S> {
             return Err(Code::Zdepth);
         };
         let text = value.into_text(alloc)?;
-        let reference = read_reference(alloc, text.as_bytes())?;
+        let reference = read_reference(alloc, text)?;
         self.depth = deeper;
-        let result = self.through(alloc, &reference, subscripts);
+        let result = self.through_given(alloc, reference, subscripts);
         self.depth = depth;
         result
+    }
+
+    // What a reference that a text gave has to evaluate, and then the subscripts behind it.
+    #[cycle(eval)]
+    fn through_given<'u>(
+        &mut self,
+        alloc: Global,
+        reference: Reference,
+        subscripts: &[Expr],
+    ) -> Result<Pending<'u>, Code>
+        ensures loans { KeepsEval self.old self.new }
+        ensures fewer { self.new.steps ≤ self.old.steps }
+        ensures does { Evaluates S.NodeStore (λ i. meaning.through i (reference_tree reference) (exprs_of (map expr_tree subscripts.now))) pending_view self.old result self.new }
+    {
+        match reference {
+            Reference::Variable(name) => self.fast_through(alloc, name, subscripts),
+            reference => self.through(alloc, &reference, subscripts),
+        }
     }
 
     // What a reference has to evaluate, and then the subscripts behind it.
@@ -411,7 +429,7 @@ impl<'a, S: NodeStore> Eval<'a, S> {
             return self.expression_number(alloc, inner, place);
         }
         let value = self.operand(alloc, operand)?;
-        *place = number_of(&value)?;
+        *place = fast_number_of(&value)?;
         Ok(())
     }
 
@@ -507,7 +525,7 @@ impl<'a, S: NodeStore> Eval<'a, S> {
         }
         let mut value = Value::of_whole(0);
         self.eval_into(alloc, e, &mut value)?;
-        *place = number_of(&value)?;
+        *place = fast_number_of(&value)?;
         Ok(())
     }
 

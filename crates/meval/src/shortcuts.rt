@@ -2,11 +2,15 @@
 // The short ways. Each function here does what the one that is named beside it does, but faster: delete any of them, and nothing changes but
 // time. They are for what most lines refer to: a literal, a local variable without subscripts, and one by one subscript, whose shape the tree
 // has already. A value is lent where it stands, or put in a place of the caller's.
-ghost use Rattle.std.specs.Prelude.{◌≡◌, ◌≤◌, ◌<◌, [], ◌∷◌, map, slice_get, unwrap_or, IfOk, IfSome};
+ghost use Rattle.std.specs.Prelude.{◌≡◌, ◌≤◌, ◌<◌, [], ◌∷◌, map, slice_get, unwrap_or, IfErr, IfOk, IfSome};
 ghost use Rattle.mgrammar.specs.Grammar as grammar;
 ghost use Rattle.mgrammar.specs.Grammar.{local, no_exprs, exprs, exprs_of};
 ghost use Rattle.mmeaning.specs.Expression as meaning;
+ghost use Rattle.mmeaning.specs.Operators.{as_number};
 ghost use Rattle.mmeaning.specs.Variables as variables;
+ghost use Rattle.mmeaning.specs.Yields.{Yields};
+ghost use Rattle.moperator.specs.Codes.{fault_of};
+ghost use Rattle.moperator.specs.declared.code.Code.TheVariants.{Zover};
 ghost use Rattle.mnum.specs.Num.{units};
 ghost use Rattle.mspec.specs.Act.{get_local};
 ghost use Rattle.mspec.specs.KeyBytes.{AreSubscripts};
@@ -17,9 +21,10 @@ ghost use Rattle.mtree.specs.Functions.{variable_function_tree};
 ghost use Rattle.meval.specs.Evaluates.{Evaluates, KeepsEval};
 ghost use Rattle.meval.specs.Acts as acts;
 ghost use Rattle.meval.specs.AtHand.{at_hand_tree};
+ghost use Rattle.meval.specs.Places.{pending_view};
 
 use crate::eval::Eval;
-use crate::place::check_walk;
+use crate::place::{LocalName, Pending, check_walk};
 use crate::value_list::Values;
 use crate::walk::{data_value, first_or_empty, next_value};
 use mkey::{Direction, values_ok};
@@ -27,7 +32,7 @@ use mnum::{Name, Num};
 use moperator::{Code, computed, number_of};
 use mstore::NodeStore;
 use mtree::{Expr, Literal, Operand, Primary, Reference, VariableFunction};
-use mvalue::Value;
+use mvalue::{Kind, Value};
 use std::alloc::Global;
 use std::slice::from_ref;
 
@@ -52,6 +57,27 @@ pub(crate) fn at_hand(operand: &Operand) -> Option<AtHand<'_>>
         Primary::Reference(Reference::Variable(name)) => Some(AtHand::Variable(name)),
         _ => None,
     }
+}
+
+// `number_of`, of a value that may be a number already, which is then lent where it stands.
+#[inline(always)]
+pub(crate) fn fast_number_of(value: &Value) -> Result<Num, Code>
+    ensures number { Yields fault_of (as_number value.now) units result }
+    ensures over { IfErr result (λ code. code ≡ Zover) }
+{
+    match value.kind() {
+        Kind::Number(number) => Ok(*number),
+        Kind::Text(_) => text_number(value),
+    }
+}
+
+// `number_of`. It stands apart, since most values are numbers already.
+#[inline(never)]
+fn text_number(value: &Value) -> Result<Num, Code>
+    ensures number { Yields fault_of (as_number value.now) units result }
+    ensures over { IfErr result (λ code. code ≡ Zover) }
+{
+    number_of(value)
 }
 
 impl<'a, S: NodeStore> Eval<'a, S> {
@@ -104,10 +130,26 @@ impl<'a, S: NodeStore> Eval<'a, S> {
             },
             AtHand::Variable(name) => {
                 let value = self.fast_lent(name)?;
-                *place = number_of(value)?;
+                *place = fast_number_of(value)?;
                 Ok(())
             }
         }
+    }
+
+    // `through`, of a local variable without subscripts, whose name is kept and not copied.
+    #[cycle(eval)]
+    pub(crate) fn fast_through<'u>(
+        &mut self,
+        alloc: Global,
+        name: Name,
+        subscripts: &[Expr],
+    ) -> Result<Pending<'u>, Code>
+        ensures loans { KeepsEval self.old self.new }
+        ensures fewer { self.new.steps ≤ self.old.steps }
+        ensures does { Evaluates S.NodeStore (λ i. meaning.through i (local name no_exprs) (exprs_of (map expr_tree subscripts.now))) pending_view self.old result self.new }
+    {
+        let values = self.values(alloc, subscripts)?;
+        Ok(Pending::Local(LocalName::Own(name), values))
     }
 
     // `place_value`, of a local variable by one subscript.

@@ -14,8 +14,9 @@ ghost use Rattle.meval.specs.Places.{place_view, IsOpen};
 
 use crate::eval::Eval;
 use crate::place::Place;
+use crate::shortcuts::fast_number_of;
 use mnum::{Bytes7, Name, Num};
-use moperator::{Code, number_of};
+use moperator::Code;
 use mstore::NodeStore;
 use mtree::{SpecialVariable, special_of};
 use mvalue::Value;
@@ -138,13 +139,14 @@ impl<'a, S: NodeStore> Eval<'a, S> {
     /// # Errors
     ///
     /// `M15` where the index is undefined, `Zover` where its number is too large.
+    #[inline(always)]
     pub fn index(&mut self, name: &Name) -> Result<Num, Code>
         ensures loans { KeepsEval self.old self.new }
         ensures fewer { self.new.steps ≤ self.old.steps }
         ensures does { Evaluates S.NodeStore (λ i. line.index_number name.now) units self.old result self.new }
     {
         match self.session.locals.own(name) {
-            Some(value) => number_of(value),
+            Some(value) => fast_number_of(value),
             None => Err(Code::M15),
         }
     }

@@ -1,7 +1,6 @@
 -- SPDX-License-Identifier: Apache-2.0
 -- One name for all that reads: an example that is computed unfolds it.
-use Rattle.std.specs.Prelude.{Bool, true}
-use Rattle.mgrammar.proofs.GrammarWords.{special_of, keyword_of, function_of, args_at, set_argument_at, command_at, comment_at, if_argument_at, destination_at, do_argument_at, entry_at, xecute_argument_at, new_argument_at, goto_argument_at, line_at, lock_ref_with, locked_at, lock_argument_at, names_at, write_argument_at, parameter_at, piece_with, place_with, postcondition_at, kill_argument_at, for_argument_at, spaced_at, target_with, atom_at, count_at, exponent_at, list_at, many, name_at, number_at, operator_at, pattern_at, point_at, repeated_at, truth_at, attached_with, bracket_with, call_with, choice_with, dollar_with, expr_with, extended_with, indirect_with, operand_with, primary_with, readers_at, refer_with, reference_with, select_with, tail_by, tail_with, subscripts_with, args_of, ref_at, body_at, dot_at, dots_at, label_at, routine_line_at}
+use Rattle.mgrammar.proofs.GrammarWords.{special_of, keyword_of, function_of, args_at, set_argument_at, command_at, comment_at, if_argument_at, destination_at, do_argument_at, entry_at, xecute_argument_at, new_argument_at, goto_argument_at, line_at, lock_ref_with, locked_at, lock_argument_at, names_at, write_argument_at, parameter_at, piece_with, place_with, postcondition_at, kill_argument_at, for_argument_at, spaced_at, target_with, atom_at, count_at, exponent_at, list_at, many, name_at, number_at, operator_at, pattern_at, point_at, repeated_at, truth_at, attached_with, bracket_with, call_with, choice_with, dollar_with, expr_with, extended_with, indirect_with, operand_with, primary_with, readers_at, refer_with, reference_with, select_with, tail_by, tail_with, subscripts_with, args_of, ref_at, body_at, dot_at, dots_at, label_at, routine_line_at, Bool, true}
 
 -- its own line names them
 unfoldable pub reads : Bool

@@ -1,7 +1,6 @@
 -- SPDX-License-Identifier: Apache-2.0
 -- Indirection on examples, as proved equations: texts with their trees, and texts that have none.
-use Rattle.mgrammar.proofs.GrammarWords.{◌≡◌, ℕ, zero, suc, ◌≢◌, List, [], ◌∷◌, ◌++◌, Some, None, refl, rules, codes, plus, add, apply, expr, no_tails, tail, operand, PrimaryTree, number, text, reference, bracket, ReferenceTree, local, naked, indirect, no_exprs, exprs, variable, one, several, at_label_in, set_argument, kill_argument, new_argument, if_argument, write_argument, do_argument, goto_argument, xecute_argument, assign, breaks, shown, kill_one, do_one, executed, indirect_args, set_word, kill_word, new_word, if_word, write_word, do_word, goto_word, execute_word, line_at, ref_at, args_of}
-use Rattle.std.specs.Prelude.{replicate}
+use Rattle.mgrammar.proofs.GrammarWords.{◌≡◌, ℕ, zero, suc, ◌≢◌, List, [], ◌∷◌, ◌++◌, Some, None, refl, rules, codes, plus, add, apply, expr, no_tails, tail, operand, PrimaryTree, number, text, reference, bracket, ReferenceTree, local, naked, indirect, no_exprs, exprs, variable, one, several, at_label_in, set_argument, kill_argument, new_argument, if_argument, write_argument, do_argument, goto_argument, xecute_argument, assign, breaks, shown, kill_one, do_one, executed, indirect_args, set_word, kill_word, new_word, if_word, write_word, do_word, goto_word, execute_word, line_at, ref_at, args_of, replicate}
 use Rattle.mgrammar.proofs.Computing.{reads}
 use Rattle.mgrammar.proofs.ShortTrees.{IsRead, HaveNone, only, named, of_one}
 

@@ -1,9 +1,8 @@
 -- SPDX-License-Identifier: Apache-2.0
 -- The test of pattern match is the definition.
-use Rattle.mgrammar.proofs.GrammarWords.{◌≡◌, ℕ, zero, suc, ◌+◌, ◌≤◌, Bool, true, false, List, [], ◌∷◌, length, take, drop, Option, Some, None, refl, sym, ap, ◌∙◌, arith, ◌&&◌, ◌||◌, nat_le, nat_eq, Decides, list_all, and_parts, eqb-true, leb-true, leb-false, le-leb, Decides-eqb, take-append-drop, AllAre}
+use Rattle.mgrammar.proofs.GrammarWords.{◌≡◌, ℕ, zero, suc, ◌+◌, ◌≤◌, Bool, true, false, List, [], ◌∷◌, length, take, drop, Option, Some, None, refl, sym, ap, ◌∙◌, arith, ◌&&◌, ◌||◌, nat_le, nat_eq, Decides, list_all, and_parts, eqb-true, leb-true, leb-false, le-leb, Decides-eqb, take-append-drop, AllAre, length-append}
 use Rattle.std.specs.Cmp.Lexicographic.{pointwise}
 use Rattle.std.specs.Cmp.Derive.{both_true}
-use Rattle.std.proofs.lemmas.List.{length-append}
 use Rattle.std.proofs.lemmas.Slice.Eq.{slice_eq-Decides}
 use Rattle.std.proofs.Math.Bool.{or-true}
 use Rattle.std.proofs.Math.Seq.{take-append_seam, drop-append_seam}

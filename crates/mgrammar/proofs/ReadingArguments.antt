@@ -1,16 +1,12 @@
 -- SPDX-License-Identifier: Apache-2.0
 -- What is read of an argument of each form is spelled so, and what is spelled so is read. Those of SET stand in ReadingTargets.
 use Rattle.mgrammar.proofs.GrammarWords.{FormTree, Read, cond, ◌≡◌, ℕ, zero, suc, ◌<◌, Bool, true, false, eqb, List, [], ◌∷◌, ◌++◌, length, Option, Some, None, refl, sym, ap, subst, ◌∙◌, append_assoc, arith, replicate, eqb-true, nat_tests, length-replicate, is_name_rest, AllAre, IsName, ExprTree, ReferenceTree, ParameterTree, once, onward, until, ArgTree, breaks, shown, kill_one, kill_others, new_one, new_others, tested, loop, kill_argument, new_argument, if_argument, for_argument, write_argument, spell_expr, spell_reference, spell_list, spell_names, spell_parameter, spell_arg, max_depth, WellExpr, WellReference, WellList, WellParameter, WellPlain, ◌>>=◌, run_of, after_run, name_at, past, list_at, expr_at, readers_at, reference_with, is_bang, write_argument_by, write_argument_at, names_at, kill_argument_at, new_argument_at, if_argument_at, limit_by, increment_by, parameter_at, for_argument_at}
-use Rattle.mgrammar.proofs.ReadingBasics.{Takes, Again, Stops, Begins, Begins-stops, Begins-append, Begins-weaker, bind_some, some_is, run_parts, run_again, past_takes, not_past, name_takes, name_again}
+use Rattle.mgrammar.proofs.ReadingBasics.{IsRead, Takes, Again, Stops, Begins, Begins-stops, Begins-append, Begins-weaker, bind_some, some_is, run_parts, run_again, past_takes, not_past, name_takes, name_again}
 use Rattle.mgrammar.proofs.ReadingLists.{joined_by, listed_or_one, bracketed_again, is_comma, list_takes, list_again}
 use Rattle.mgrammar.proofs.ReadingReferences.{OperandEnds, Ends, begins_reference, name_begins_reference, reference_takes, reference_again, reference_begins}
 use Rattle.mgrammar.proofs.ReadingPrimaries.{reference_tests}
 use Rattle.mgrammar.proofs.ReadingExprs.{begins_operand, expr_begins, inner_takes, within_takes, below_takes, inner_again, within_again, below_again, expr_takes, expr_again}
 use Rattle.mgrammar.proofs.ReadingTargets.{variable_begins, is_equals}
-
--- what was read of an argument of a form
-abbrev pub ArgIs : FormTree → List ℕ → ArgTree × List ℕ → Type 0
-ArgIs f cs x = (cs ≡ spell_arg x.0 ++ x.1) × WellPlain f x.0
 
 -- ---- short forms
 
@@ -58,13 +54,13 @@ write_argument_takes_by : (r cs : List ℕ) (x : ArgTree × List ℕ) → run_of
 write_argument_takes_by [] cs x h e =
     let b = bind_some (expr_at max_depth cs) (λ y. Some (shown y.0, y.1)) x e in
     let t = whole_takes cs b.0 b.1 in
-    subst (ArgIs write_argument cs) (some_is (shown b.0.0, b.0.1) x b.2) t
+    subst (IsRead spell_arg (WellPlain write_argument) cs) (some_is (shown b.0.0, b.0.1) x b.2) t
 write_argument_takes_by (b ∷ bs) cs x h e =
     let r = run_parts is_bang cs in
     let copies : b ∷ bs ≡ replicate (length (b ∷ bs)) 33 = all_copies 33 (b ∷ bs) (subst (AllAre is_bang) h r.1) in
     let parts : cs ≡ replicate (length (b ∷ bs)) 33 ++ after_run is_bang cs = r.0 ∙ ap (λ (y : List ℕ). y ++ after_run is_bang cs) (h ∙ copies) in
     let long : 0 < length (b ∷ bs) = omega arith in
-    subst (ArgIs write_argument cs) (some_is (breaks (length (b ∷ bs)), after_run is_bang cs) x e) (parts, long)
+    subst (IsRead spell_arg (WellPlain write_argument) cs) (some_is (breaks (length (b ∷ bs)), after_run is_bang cs) x e) (parts, long)
 
 pub write_argument_takes : Takes spell_arg (WellPlain write_argument) write_argument_at
 unfolding write_argument_at
@@ -102,11 +98,11 @@ names_made made (Some y) = made_closed (past 41 y.1)
 module _ {A : Type 0} (form : FormTree) (spell : A → List ℕ) (W : A → Type 0) (single : List ℕ → Read A) (others : List (List ℕ) → ArgTree) (one : A → ArgTree) where
   names_or_one : Takes spell W single → (c : ℕ) (cs : List ℕ) (x : ArgTree × List ℕ)
       → cond (eqb c 40) (names_at cs >>= made_of others) (single (c ∷ cs) >>= λ v. Some (one v.0, v.1)) ≡ Some x
-      → ((names : List (List ℕ)) (rest : List ℕ) → c ∷ cs ≡ spell_names names ++ rest → WellList IsName names → ArgIs form (c ∷ cs) (others names, rest))
-      → ((v : A) (rest : List ℕ) → c ∷ cs ≡ spell v ++ rest → W v → ArgIs form (c ∷ cs) (one v, rest)) → ArgIs form (c ∷ cs) x
+      → ((names : List (List ℕ)) (rest : List ℕ) → c ∷ cs ≡ spell_names names ++ rest → WellList IsName names → IsRead spell_arg (WellPlain form) (c ∷ cs) (others names, rest))
+      → ((v : A) (rest : List ℕ) → c ∷ cs ≡ spell v ++ rest → W v → IsRead spell_arg (WellPlain form) (c ∷ cs) (one v, rest)) → IsRead spell_arg (WellPlain form) (c ∷ cs) x
   unfolding names_at
   names_or_one takes c cs x e =
-      listed_or_one (λ n. n) IsName name_at others spell W single one (ArgIs form (c ∷ cs)) name_takes takes c cs x
+      listed_or_one (λ n. n) IsName name_at others spell W single one (IsRead spell_arg (WellPlain form) (c ∷ cs)) name_takes takes c cs x
       (ap (λ o. cond (eqb c 40) o (single (c ∷ cs) >>= λ v. Some (one v.0, v.1))) (sym (names_made others (list_at name_at cs))) ∙ e)
 
 names_again : (others : List (List ℕ) → ArgTree) (read : List ℕ → Read ArgTree) → ((cs : List ℕ) → read (40 ∷ cs) ≡ (names_at cs >>= made_of others))
@@ -158,7 +154,7 @@ pub if_argument_takes : Takes spell_arg (WellPlain if_argument) if_argument_at
 unfolding if_argument_at
 if_argument_takes cs x e =
     let b = bind_some (expr_at max_depth cs) (λ y. Some (tested y.0, y.1)) x e in
-    subst (ArgIs if_argument cs) (some_is (tested b.0.0, b.0.1) x b.2) (whole_takes cs b.0 b.1)
+    subst (IsRead spell_arg (WellPlain if_argument) cs) (some_is (tested b.0.0, b.0.1) x b.2) (whole_takes cs b.0 b.1)
 
 pub if_argument_again : Again spell_arg (WellPlain if_argument) Ends if_argument_at
 unfolding if_argument_at
@@ -171,9 +167,6 @@ if_argument_again a rest w s = absurd w
 abbrev pub ParameterEnds : List ℕ → Type 0
 ParameterEnds rest = Ends rest × Stops is_colon rest
 
-abbrev ParameterIs : List ℕ → ParameterTree × List ℕ → Type 0
-ParameterIs cs x = (cs ≡ spell_parameter x.0 ++ x.1) × WellParameter x.0
-
 three_parts : (cs a t u b v w c rest : List ℕ) → cs ≡ a ++ t → t ≡ 58 ∷ u → u ≡ b ++ v → v ≡ 58 ∷ w → w ≡ c ++ rest → cs ≡ (a ++ 58 ∷ (b ++ 58 ∷ c)) ++ rest
 three_parts cs a t u b v w c rest p q s y z =
     let whole : cs ≡ a ++ 58 ∷ (b ++ 58 ∷ (c ++ rest)) = rw (p, q, s, y, z) refl in
@@ -181,16 +174,16 @@ three_parts cs a t u b v w c rest p q s y z =
     whole ∙ sym same
 
 limit_takes : (cs t u v : List ℕ) (e by : ExprTree) (o : Option (List ℕ)) (x : ParameterTree × List ℕ) → cs ≡ spell_expr e ++ t → t ≡ 58 ∷ u → u ≡ spell_expr by ++ v → WellExpr max_depth e → WellExpr max_depth by
-    → past 58 v ≡ o → limit_by e by v o ≡ Some x → ParameterIs cs x
-limit_takes cs t u v e by None x p q s w z h k = subst (ParameterIs cs) {x = (onward e by, v)} (some_is (onward e by, v) x k) (joined_by 58 cs (spell_expr e) t u (spell_expr by) v p q s, (w, z))
+    → past 58 v ≡ o → limit_by e by v o ≡ Some x → IsRead spell_parameter WellParameter cs x
+limit_takes cs t u v e by None x p q s w z h k = subst (IsRead spell_parameter WellParameter cs) {x = (onward e by, v)} (some_is (onward e by, v) x k) (joined_by 58 cs (spell_expr e) t u (spell_expr by) v p q s, (w, z))
 limit_takes cs t u v e by (Some rest) x p q s w z h k =
     let b = bind_some (expr_at max_depth rest) (λ to. Some (until e by to.0, to.1)) x k in
     let to = whole_takes rest b.0 b.1 in
-    subst (ParameterIs cs) {x = (until e by b.0.0, b.0.1)} (some_is (until e by b.0.0, b.0.1) x b.2)
+    subst (IsRead spell_parameter WellParameter cs) {x = (until e by b.0.0, b.0.1)} (some_is (until e by b.0.0, b.0.1) x b.2)
     (three_parts cs (spell_expr e) t u (spell_expr by) v rest (spell_expr b.0.0) b.0.1 p q s (past_takes 58 v rest h) to.0, (w, z, to.1))
 
-increment_takes : (cs t : List ℕ) (e : ExprTree) (o : Option (List ℕ)) (x : ParameterTree × List ℕ) → cs ≡ spell_expr e ++ t → WellExpr max_depth e → past 58 t ≡ o → increment_by e t o ≡ Some x → ParameterIs cs x
-increment_takes cs t e None x p w h k = subst (ParameterIs cs) {x = (once e, t)} (some_is (once e, t) x k) (p, w)
+increment_takes : (cs t : List ℕ) (e : ExprTree) (o : Option (List ℕ)) (x : ParameterTree × List ℕ) → cs ≡ spell_expr e ++ t → WellExpr max_depth e → past 58 t ≡ o → increment_by e t o ≡ Some x → IsRead spell_parameter WellParameter cs x
+increment_takes cs t e None x p w h k = subst (IsRead spell_parameter WellParameter cs) {x = (once e, t)} (some_is (once e, t) x k) (p, w)
 increment_takes cs t e (Some rest) x p w h k =
     let b = bind_some (expr_at max_depth rest) (λ by. limit_by e by.0 by.1 (past 58 by.1)) x k in
     let by = whole_takes rest b.0 b.1 in
@@ -236,7 +229,7 @@ for_argument_takes cs x e =
     let equals = past_takes 61 n.0.1 k.0 k.1 in
     let all = list_takes spell_parameter WellParameter parameter_at parameter_takes k.0 b.0 b.1 in
     let made : ArgTree × List ℕ = (loop n.0.0 b.0.0, b.0.1) in
-    subst (ArgIs for_argument cs) {x = made} (some_is made x b.2)
+    subst (IsRead spell_arg (WellPlain for_argument) cs) {x = made} (some_is made x b.2)
     (joined_by 61 cs n.0.0 n.0.1 k.0 (spell_list spell_parameter b.0.0) b.0.1 name.0 equals all.0, (name.1, all.1))
 
 loop_step : (cs n t u : List ℕ) (ps : List ParameterTree) (rest : List ℕ) → name_at cs ≡ Some (n, t) → past 61 t ≡ Some u → list_at parameter_at u ≡ Some (ps, rest) → for_argument_at cs ≡ Some (loop n ps, rest)

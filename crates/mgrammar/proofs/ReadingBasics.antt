@@ -5,8 +5,11 @@ use Rattle.mgrammar.proofs.GrammarWords.{◌≡◌, ℕ, ◌<◌, ◌≤◌, Boo
 -- ---- the two laws of a reader
 
 -- what is read is spelled by the text that was taken, and is as P says
+abbrev pub IsRead : {A : Type 0} → (A → List ℕ) → (A → Type 0) → List ℕ → A × List ℕ → Type 0
+IsRead spell P cs x = (cs ≡ spell x.0 ++ x.1) × P x.0
+
 abbrev pub Takes : {A : Type 0} → (A → List ℕ) → (A → Type 0) → (List ℕ → Read A) → Type 0
-Takes {A} spell P read = (cs : List ℕ) (x : A × List ℕ) → read cs ≡ Some x → (cs ≡ spell x.0 ++ x.1) × P x.0
+Takes {A} spell P read = (cs : List ℕ) (x : A × List ℕ) → read cs ≡ Some x → IsRead spell P cs x
 
 -- what is as P says is read from its text, before a rest that F allows
 abbrev pub Again : {A : Type 0} → (A → List ℕ) → (A → Type 0) → (List ℕ → Type 0) → (List ℕ → Read A) → Type 0

@@ -2,11 +2,11 @@
 -- What is read of an argument of DO, GOTO or XECUTE is spelled so, and what is spelled so is read.
 use Rattle.mgrammar.proofs.GrammarWords.{◌≡◌, ℕ, List, ◌∷◌, ◌++◌, Option, Some, None, refl, ap, subst, ◌∙◌, append_assoc, is_name_start, is_name_rest, IsName, ExprTree, EntryTree, at_label, at_label_in, at_routine, ArgTree, do_one, go_to, executed, do_argument, goto_argument, xecute_argument, spell_expr, spell_condition, spell_entry, spell_arg, max_depth, WellExpr, WellOptional, WellEntry, WellPlain, Read, ◌>>=◌, name_at, past, expr_at, postcondition_by, entry_by, entry_at, conditioned, do_argument_at, goto_argument_at, xecute_argument_at}
 use Rattle.mgrammar.specs.Reading.{label_by}
-use Rattle.mgrammar.proofs.ReadingBasics.{Takes, Again, Stops, Stops-weaker, Begins, Begins-append, goes_on, bind_some, some_is, past_takes, not_past, name_takes, name_again}
+use Rattle.mgrammar.proofs.ReadingBasics.{IsRead, Takes, Again, Stops, Stops-weaker, Begins, Begins-append, goes_on, bind_some, some_is, past_takes, not_past, name_takes, name_again}
 use Rattle.mgrammar.proofs.ReadingLists.{joined, joined_by}
 use Rattle.mgrammar.proofs.ReadingReferences.{Ends, operand_ends, name_or_open, named, name_in_front}
 use Rattle.mgrammar.proofs.ReadingExprs.{begins_operand, expr_begins}
-use Rattle.mgrammar.proofs.ReadingArguments.{ArgIs, whole_takes, whole_again, is_colon, is_caret, Follows, names_begin}
+use Rattle.mgrammar.proofs.ReadingArguments.{whole_takes, whole_again, is_colon, is_caret, Follows, names_begin}
 
 -- ---- postconditionals
 
@@ -46,17 +46,14 @@ module _ {A : Type 0} (spell : A → List ℕ) (P : A → Type 0) (read : List �
 abbrev EntryEnds : List ℕ → Type 0
 EntryEnds rest = Stops is_name_rest rest × Stops is_caret rest
 
-abbrev EntryIs : List ℕ → EntryTree × List ℕ → Type 0
-EntryIs cs x = (cs ≡ spell_entry x.0 ++ x.1) × WellEntry x.0
-
-label_takes : (cs label t : List ℕ) (o : Option (List ℕ)) (x : EntryTree × List ℕ) → cs ≡ label ++ t → IsName label → past 94 t ≡ o → label_by label t o ≡ Some x → EntryIs cs x
-label_takes cs label t None x p w h e = subst (EntryIs cs) {x = (at_label label, t)} (some_is (at_label label, t) x e) (p, w)
+label_takes : (cs label t : List ℕ) (o : Option (List ℕ)) (x : EntryTree × List ℕ) → cs ≡ label ++ t → IsName label → past 94 t ≡ o → label_by label t o ≡ Some x → IsRead spell_entry WellEntry cs x
+label_takes cs label t None x p w h e = subst (IsRead spell_entry WellEntry cs) {x = (at_label label, t)} (some_is (at_label label, t) x e) (p, w)
 label_takes cs label t (Some rest) x p w h e =
     let n = bind_some (name_at rest) (λ n. Some (at_label_in label n.0, n.1)) x e in
     let name = name_takes rest n.0 n.1 in
-    subst (EntryIs cs) {x = (at_label_in label n.0.0, n.0.1)} (some_is (at_label_in label n.0.0, n.0.1) x n.2) (joined_by 94 cs label t rest n.0.0 n.0.1 p (past_takes 94 t rest h) name.0, (w, name.1))
+    subst (IsRead spell_entry WellEntry cs) {x = (at_label_in label n.0.0, n.0.1)} (some_is (at_label_in label n.0.0, n.0.1) x n.2) (joined_by 94 cs label t rest n.0.0 n.0.1 p (past_takes 94 t rest h) name.0, (w, name.1))
 
-entry_takes_by : (cs : List ℕ) (o : Option (List ℕ)) (x : EntryTree × List ℕ) → past 94 cs ≡ o → entry_by cs o ≡ Some x → EntryIs cs x
+entry_takes_by : (cs : List ℕ) (o : Option (List ℕ)) (x : EntryTree × List ℕ) → past 94 cs ≡ o → entry_by cs o ≡ Some x → IsRead spell_entry WellEntry cs x
 entry_takes_by cs None x h e =
     let n = bind_some (name_at cs) (λ n. label_by n.0 n.1 (past 94 n.1)) x e in
     let name = name_takes cs n.0 n.1 in
@@ -64,7 +61,7 @@ entry_takes_by cs None x h e =
 entry_takes_by cs (Some rest) x h e =
     let n = bind_some (name_at rest) (λ n. Some (at_routine n.0, n.1)) x e in
     let name = name_takes rest n.0 n.1 in
-    subst (EntryIs cs) {x = (at_routine n.0.0, n.0.1)} (some_is (at_routine n.0.0, n.0.1) x n.2) (past_takes 94 cs rest h ∙ ap (λ (y : List ℕ). 94 ∷ y) name.0, name.1)
+    subst (IsRead spell_entry WellEntry cs) {x = (at_routine n.0.0, n.0.1)} (some_is (at_routine n.0.0, n.0.1) x n.2) (past_takes 94 cs rest h ∙ ap (λ (y : List ℕ). 94 ∷ y) name.0, name.1)
 
 entry_takes : Takes spell_entry WellEntry entry_at
 unfolding entry_at
@@ -98,7 +95,7 @@ expr_stops (Some e) rest s = (refl, refl)
 pub do_argument_takes : Takes spell_arg (WellPlain do_argument) do_argument_at
 unfolding do_argument_at
 do_argument_takes cs x e =
-    conditioned_takes spell_entry WellEntry entry_at do_one (ArgIs do_argument cs) cs x entry_takes e (λ a c rest p w v. (p, (w, v)))
+    conditioned_takes spell_entry WellEntry entry_at do_one (IsRead spell_arg (WellPlain do_argument) cs) cs x entry_takes e (λ a c rest p w v. (p, (w, v)))
 
 pub do_argument_again : Again spell_arg (WellPlain do_argument) Follows do_argument_at
 unfolding do_argument_at
@@ -108,7 +105,7 @@ do_argument_again a rest w s = absurd w
 pub goto_argument_takes : Takes spell_arg (WellPlain goto_argument) goto_argument_at
 unfolding goto_argument_at
 goto_argument_takes cs x e =
-    conditioned_takes spell_entry WellEntry entry_at go_to (ArgIs goto_argument cs) cs x entry_takes e (λ a c rest p w v. (p, (w, v)))
+    conditioned_takes spell_entry WellEntry entry_at go_to (IsRead spell_arg (WellPlain goto_argument) cs) cs x entry_takes e (λ a c rest p w v. (p, (w, v)))
 
 pub goto_argument_again : Again spell_arg (WellPlain goto_argument) Follows goto_argument_at
 unfolding goto_argument_at
@@ -118,7 +115,7 @@ goto_argument_again a rest w s = absurd w
 pub xecute_argument_takes : Takes spell_arg (WellPlain xecute_argument) xecute_argument_at
 unfolding xecute_argument_at
 xecute_argument_takes cs x e =
-    conditioned_takes spell_expr (WellExpr max_depth) (expr_at max_depth) executed (ArgIs xecute_argument cs) cs x whole_takes e (λ a c rest p w v. (p, (w, v)))
+    conditioned_takes spell_expr (WellExpr max_depth) (expr_at max_depth) executed (IsRead spell_arg (WellPlain xecute_argument) cs) cs x whole_takes e (λ a c rest p w v. (p, (w, v)))
 
 pub xecute_argument_again : Again spell_arg (WellPlain xecute_argument) Follows xecute_argument_at
 unfolding xecute_argument_at

@@ -1,7 +1,7 @@
 -- SPDX-License-Identifier: Apache-2.0
 -- What is read as an expression is spelled so, and what is spelled so is read.
 use Rattle.mgrammar.proofs.GrammarWords.{◌≡◌, ℕ, zero, suc, ◌<◌, ◌-◌, Bool, true, false, List, [], ◌∷◌, ◌++◌, length, Option, Some, None, refl, sym, ap, subst, ◌∙◌, append_assoc, arith, ◌||◌, nat_tests, append-nil, plus, BinaryTree, AtomTree, ExprTree, expr, TailTree, apply, matches, matches_not, TailsTree, no_tails, tail, tails_of, OperandTree, operand, spell_signs, spell_binary, spell_atoms, spell_expr, spell_tails, spell_tail, spell_operand, spell_primary, spell_reference, bare_primary, WellExpr, WellTails, WellTail, WellOperand, WellPrimary, WellReference, WellBelow, ◌>>=◌, many, pattern_at, signs_of, after_signs, OperatorTree, between, matching, matching_not, operator_at, Readers, primary_with, operand_with, tail_by, tail_behind, tail_with, expr_with, readers_at, inner_at}
-use Rattle.mgrammar.proofs.ReadingBasics.{Takes, Again, Begins, Begins-stops, Begins-append, Begins-weaker, Begins-long, goes_further, bind_some, some_is}
+use Rattle.mgrammar.proofs.ReadingBasics.{IsRead, Takes, Again, Begins, Begins-stops, Begins-append, Begins-weaker, Begins-long, goes_further, bind_some, some_is}
 use Rattle.mgrammar.proofs.ReadingLists.{each, ItemTakes, many_takes, many_again, count_le, joined}
 use Rattle.mgrammar.proofs.ReadingPatterns.{pattern_takes, pattern_again}
 use Rattle.mgrammar.proofs.ReadingOperators.{is_sign, signs_parts, signs_again, is_follows, spell_operator, operator_takes, operator_again, is_operator, operator_begins, no_operator}
@@ -25,33 +25,29 @@ module _ (d : ℕ) (r : Readers) (inner_takes : Takes spell_expr (WellInner d) (
       subst (λ (y : OperandTree × List ℕ). (cs ≡ spell_operand y.0 ++ y.1) × WellOperand d y.0) (some_is (operand (signs_of cs) b.0.0, b.0.1) x b.2)
       (s ∙ ap (λ (y : List ℕ). spell_signs (signs_of cs) ++ y) p.0 ∙ sym (append_assoc (spell_signs (signs_of cs)) (spell_primary b.0.0) b.0.1), p.1)
 
-  -- this step was read of this operator and the text behind it
-  abbrev StepIs : List ℕ → TailTree × List ℕ → Type 0
-  StepIs cs x = (cs ≡ spell_tail x.0 ++ x.1) × WellTail d x.0
-
-  tail_takes_by : (o : OperatorTree) (cs : List ℕ) (x : TailTree × List ℕ) → tail_by r o cs ≡ Some x → StepIs (spell_operator o ++ cs) x
+  tail_takes_by : (o : OperatorTree) (cs : List ℕ) (x : TailTree × List ℕ) → tail_by r o cs ≡ Some x → IsRead spell_tail (WellTail d) (spell_operator o ++ cs) x
   unfolding tail_by
   tail_takes_by (between b) cs x e =
       let k = bind_some (operand_with r cs) (λ o. Some (apply b o.0, o.1)) x e in
       let o = operand_takes cs k.0 k.1 in
-      subst (StepIs (spell_binary b ++ cs)) (some_is (apply b k.0.0, k.0.1) x k.2) (behind_parts (spell_binary b) cs (spell_operand k.0.0) k.0.1 o.0, o.1)
+      subst (IsRead spell_tail (WellTail d) (spell_binary b ++ cs)) (some_is (apply b k.0.0, k.0.1) x k.2) (behind_parts (spell_binary b) cs (spell_operand k.0.0) k.0.1 o.0, o.1)
   tail_takes_by matching cs x e =
       let k = bind_some (pattern_at cs) (λ p. Some (matches p.0, p.1)) x e in
       let p = pattern_takes cs k.0 k.1 in
-      subst (StepIs (63 ∷ cs)) (some_is (matches k.0.0, k.0.1) x k.2) (behind_parts (63 ∷ []) cs (spell_atoms k.0.0) k.0.1 p.0, p.1)
+      subst (IsRead spell_tail (WellTail d) (63 ∷ cs)) (some_is (matches k.0.0, k.0.1) x k.2) (behind_parts (63 ∷ []) cs (spell_atoms k.0.0) k.0.1 p.0, p.1)
   tail_takes_by matching_not cs x e =
       let k = bind_some (pattern_at cs) (λ p. Some (matches_not p.0, p.1)) x e in
       let p = pattern_takes cs k.0 k.1 in
-      subst (StepIs (39 ∷ 63 ∷ cs)) (some_is (matches_not k.0.0, k.0.1) x k.2) (behind_parts (39 ∷ 63 ∷ []) cs (spell_atoms k.0.0) k.0.1 p.0, p.1)
+      subst (IsRead spell_tail (WellTail d) (39 ∷ 63 ∷ cs)) (some_is (matches_not k.0.0, k.0.1) x k.2) (behind_parts (39 ∷ 63 ∷ []) cs (spell_atoms k.0.0) k.0.1 p.0, p.1)
 
   -- as step_takes, where this operator is in front
-  tail_takes_behind : (cs : List ℕ) (o : Option (OperatorTree × List ℕ)) (x : TailTree × List ℕ) → operator_at cs ≡ o → tail_behind r o ≡ Some (Some x) → StepIs cs x
+  tail_takes_behind : (cs : List ℕ) (o : Option (OperatorTree × List ℕ)) (x : TailTree × List ℕ) → operator_at cs ≡ o → tail_behind r o ≡ Some (Some x) → IsRead spell_tail (WellTail d) cs x
   tail_takes_behind cs None x h e = absurd cc
   tail_takes_behind cs (Some o) x h e =
       let k = bind_some (tail_by r o.0 o.1) (λ s. Some (Some s)) (Some x) e in
       let s = tail_takes_by o.0 o.1 k.0 k.1 in
       let parts : cs ≡ spell_operator o.0 ++ o.1 = operator_takes cs o h in
-      subst (StepIs cs) (some_is k.0 x (some_is (Some k.0) (Some x) k.2)) (parts ∙ s.0, s.1)
+      subst (IsRead spell_tail (WellTail d) cs) (some_is k.0 x (some_is (Some k.0) (Some x) k.2)) (parts ∙ s.0, s.1)
 
   tail_takes : ItemTakes spell_tail (WellTail d) (tail_with r)
   unfolding tail_with

@@ -1,7 +1,7 @@
 -- SPDX-License-Identifier: Apache-2.0
 -- What is read as a line is spelled so, and what is spelled so is read.
 use Rattle.mgrammar.proofs.GrammarWords.{◌≡◌, ◌↔◌, ℕ, zero, suc, ◌≤◌, Bool, true, false, eqb, List, [], ◌∷◌, ◌++◌, length, Option, Some, None, inl, inr, refl, sym, ap, subst, ◌∙◌, append_assoc, arith, replicate, length-append, nat_le, ◌||◌, eqb-true, nat_tests, append-nil, length-replicate, is_letter, is_character, AllAre, ArgTree, CommandTree, SpacedTree, LineTree, spell_command, spell_commands, spell_comment, spell, least_gap, WellCommand, WellCommands, WellComment, well, ◌>>=◌, run_of, after_run, many, more_by, has_args, command_at, is_space, at_end, spaced, spaced_at, comment_by, comment_at, line_at}
-use Rattle.mgrammar.proofs.ReadingBasics.{Stops, Begins, Begins-append, Begins-long, bind_some, chosen, some_is, run_parts, run_again, unique, told}
+use Rattle.mgrammar.proofs.ReadingBasics.{IsRead, Stops, Begins, Begins-append, Begins-long, bind_some, chosen, some_is, run_parts, run_again, unique, told}
 use Rattle.mgrammar.proofs.ReadingArguments.{all_copies, copies_are}
 use Rattle.mgrammar.proofs.ReadingCommands.{Closes, After, command_takes, command_again, command_letter}
 
@@ -48,27 +48,23 @@ well_more : (c : SpacedTree) (ds : List SpacedTree) (rest : List ℕ) → WellCo
 well_more c [] rest w g f h = w
 well_more c (d ∷ ds) rest w g f h = (w, gap_before (least_gap c.0.args) c.1 d ds (at_end rest) g f, h)
 
--- these commands were read of a text
-abbrev CommandsAre : List ℕ → List SpacedTree × List ℕ → Type 0
-CommandsAre cs x = (cs ≡ spell_commands x.0 ++ x.1) × WellCommands x.0
-
 -- one turn
 commands_by : (n : ℕ) (cs : List ℕ) (o : Option (SpacedTree × List ℕ)) (x : List SpacedTree × List ℕ) → spaced_at cs ≡ Some o
-    → ((ds : List ℕ) (y : List SpacedTree × List ℕ) → many spaced_at n ds ≡ Some y → CommandsAre ds y) → more_by spaced_at (many spaced_at n) cs o ≡ Some x → CommandsAre cs x
-commands_by n cs None x h i e = subst (CommandsAre cs) (some_is ([], cs) x e) (refl, tt)
+    → ((ds : List ℕ) (y : List SpacedTree × List ℕ) → many spaced_at n ds ≡ Some y → IsRead spell_commands WellCommands ds y) → more_by spaced_at (many spaced_at n) cs o ≡ Some x → IsRead spell_commands WellCommands cs x
+commands_by n cs None x h i e = subst (IsRead spell_commands WellCommands cs) (some_is ([], cs) x e) (refl, tt)
 commands_by n cs (Some y) x h i e =
     let b = bind_some (many spaced_at n y.1) (λ z. Some ((y.0 ∷ []) ++ z.0, z.1)) x e in
     let first = spaced_takes cs y h in
     let others = i y.1 b.0 b.1 in
     let parts : cs ≡ (spell_command y.0.0 ++ (replicate y.0.1 32 ++ spell_commands b.0.0)) ++ b.0.1 = three cs (spell_command y.0.0) (replicate y.0.1 32) y.1 (spell_commands b.0.0) b.0.1 first.0 others.0 in
-    subst (CommandsAre cs) (some_is ((y.0 ∷ []) ++ b.0.0, b.0.1) x b.2) (parts, well_more y.0 b.0.0 y.1 first.1 first.2 (λ z. none_at_end n y.1 b.0 z b.1) others.1)
+    subst (IsRead spell_commands WellCommands cs) (some_is ((y.0 ∷ []) ++ b.0.0, b.0.1) x b.2) (parts, well_more y.0 b.0.0 y.1 first.1 first.2 (λ z. none_at_end n y.1 b.0 z b.1) others.1)
   where
     three : (cs a s r b c : List ℕ) → cs ≡ a ++ (s ++ r) → r ≡ b ++ c → cs ≡ (a ++ (s ++ b)) ++ c
     three cs a s r b c p q = rw (p, q) (simp append_assoc)
 
-commands_takes : (n : ℕ) (cs : List ℕ) (x : List SpacedTree × List ℕ) → many spaced_at n cs ≡ Some x → CommandsAre cs x
+commands_takes : (n : ℕ) (cs : List ℕ) (x : List SpacedTree × List ℕ) → many spaced_at n cs ≡ Some x → IsRead spell_commands WellCommands cs x
 unfolding many
-commands_takes zero cs x e = subst (CommandsAre cs) (some_is ([], cs) x e) (refl, tt)
+commands_takes zero cs x e = subst (IsRead spell_commands WellCommands cs) (some_is ([], cs) x e) (refl, tt)
 commands_takes (suc n) cs x e =
     let b = bind_some (spaced_at cs) (more_by spaced_at (many spaced_at n) cs) x e in
     commands_by n cs b.0 x b.1 (commands_takes n) b.2

@@ -1,20 +1,16 @@
 -- SPDX-License-Identifier: Apache-2.0
 -- What is read of an argument of LOCK is spelled so, and what is spelled so is read.
 use Rattle.mgrammar.proofs.GrammarWords.{◌≡◌, ℕ, ◌-◌, Bool, true, false, cond, eqb, List, [], ◌∷◌, ◌++◌, Option, Some, None, inl, inr, refl, sym, ap, subst, ◌∙◌, append_assoc, arith, ◌||◌, eqb-true, nat_tests, ExprTree, ReferenceTree, LockKindTree, anew, adding, giving_back, LockedTree, lock_one, lock_several, ArgTree, locked, lock_argument, spell_reference, spell_kind, spell_locked, spell_condition, spell_arg, max_depth, is_named, WellLockRef, WellLocked, WellPlain, Read, ◌>>=◌, after_sign, readers_at, reference_with, conditioned, lock_ref_with, locked_at, kind_of, lock_argument_at}
-use Rattle.mgrammar.proofs.ReadingBasics.{Takes, Again, Begins, Begins-append, Begins-weaker, bind_some, chosen, some_is}
+use Rattle.mgrammar.proofs.ReadingBasics.{IsRead, Takes, Again, Begins, Begins-append, Begins-weaker, bind_some, chosen, some_is}
 use Rattle.mgrammar.proofs.ReadingLists.{listed_or_one, bracketed_again}
 use Rattle.mgrammar.proofs.ReadingReferences.{OperandEnds, begins_reference, reference_takes, reference_again, reference_begins}
 use Rattle.mgrammar.proofs.ReadingPrimaries.{reference_tests}
 use Rattle.mgrammar.proofs.ReadingExprs.{begins_operand, inner_takes, below_takes, inner_again, below_again}
 use Rattle.mgrammar.proofs.ReadingTargets.{variable_begins}
-use Rattle.mgrammar.proofs.ReadingArguments.{ArgIs, Follows}
+use Rattle.mgrammar.proofs.ReadingArguments.{Follows}
 use Rattle.mgrammar.proofs.ReadingEntries.{conditioned_takes, conditioned_again}
 
 -- ---- names
-
--- what was read of a name of LOCK
-abbrev NameIs : ℕ → List ℕ → ReferenceTree × List ℕ → Type 0
-NameIs d cs x = (cs ≡ spell_reference x.0 ++ x.1) × WellLockRef d x.0
 
 name_takes : (d : ℕ) → Takes spell_reference (WellLockRef d) (lock_ref_with (readers_at d))
 unfolding lock_ref_with
@@ -22,7 +18,7 @@ name_takes d cs x e =
     let b = bind_some (reference_with (readers_at d) cs) (λ v. cond (is_named v.0) (Some v) None) x e in
     let t = reference_takes d (readers_at d) (inner_takes d) (below_takes d) cs b.0 b.1 in
     elim (chosen (is_named b.0.0) (Some b.0) None (Some x) b.2) [
-      | inl p ↦ subst (NameIs d cs) {x = b.0} (some_is b.0 x p.1) (t.0, (t.1, p.0))
+      | inl p ↦ subst (IsRead spell_reference (WellLockRef d) cs) {x = b.0} (some_is b.0 x p.1) (t.0, (t.1, p.0))
       | inr p ↦ absurd cc
     ]
 
@@ -32,17 +28,11 @@ name_again d v rest w s = rw (reference_again d (readers_at d) (inner_again d) (
 
 -- ---- one, or a list in brackets
 
-abbrev LockedIs : List ℕ → LockedTree × List ℕ → Type 0
-LockedIs cs x = (cs ≡ spell_locked x.0 ++ x.1) × WellLocked x.0
-
-abbrev listed : List ℕ → Read ReferenceTree
-listed = lock_ref_with (readers_at (max_depth - 1))
-
 locked_takes : Takes spell_locked WellLocked locked_at
 unfolding locked_at
 locked_takes [] x e = absurd cc
 locked_takes (c ∷ cs) x e =
-    listed_or_one spell_reference (WellLockRef (max_depth - 1)) listed lock_several spell_reference (WellLockRef max_depth) (lock_ref_with (readers_at max_depth)) lock_one (LockedIs (c ∷ cs))
+    listed_or_one spell_reference (WellLockRef (max_depth - 1)) (lock_ref_with (readers_at (max_depth - 1))) lock_several spell_reference (WellLockRef max_depth) (lock_ref_with (readers_at max_depth)) lock_one (IsRead spell_locked WellLocked (c ∷ cs))
     (name_takes (max_depth - 1)) (name_takes max_depth) c cs x e (λ ys rest q w. (q, w)) (λ v rest q w. (q, w))
 
 one_step : (cs : List ℕ) (v : ReferenceTree) (rest : List ℕ) → Begins begins_reference cs → lock_ref_with (readers_at max_depth) cs ≡ Some (v, rest) → locked_at cs ≡ Some (lock_one v, rest)
@@ -55,7 +45,7 @@ unfolding locked_at
 locked_again (lock_one v) rest w s =
     one_step (spell_reference v ++ rest) v rest (Begins-append begins_reference (spell_reference v) rest (reference_begins max_depth v w.0)) (name_again max_depth v rest w s)
 locked_again (lock_several rs) rest w s =
-    bracketed_again spell_reference (WellLockRef (max_depth - 1)) listed OperandEnds lock_several locked_at (λ cs. refl) (λ cs. (refl, refl)) (name_again (max_depth - 1)) rs rest w
+    bracketed_again spell_reference (WellLockRef (max_depth - 1)) (lock_ref_with (readers_at (max_depth - 1))) OperandEnds lock_several locked_at (λ cs. refl) (λ cs. (refl, refl)) (name_again (max_depth - 1)) rs rest w
 
 -- ---- a sign in front
 
@@ -86,7 +76,7 @@ kind_again k names rest w = (refl, refl)
 pub lock_argument_takes : Takes spell_arg (WellPlain lock_argument) lock_argument_at
 unfolding lock_argument_at
 lock_argument_takes cs x e =
-    conditioned_takes spell_locked WellLocked locked_at (locked (kind_of cs)) (ArgIs lock_argument cs) (after_sign cs) x locked_takes e
+    conditioned_takes spell_locked WellLocked locked_at (locked (kind_of cs)) (IsRead spell_arg (WellPlain lock_argument) cs) (after_sign cs) x locked_takes e
     (λ a c rest p w v. (kind_parts cs ∙ ap (λ (y : List ℕ). spell_kind (kind_of cs) ++ y) p ∙ regroup (spell_kind (kind_of cs)) (spell_locked a) (spell_condition c) rest, (w, v)))
   where
     regroup : (k a c rest : List ℕ) → k ++ ((a ++ c) ++ rest) ≡ ((k ++ a) ++ c) ++ rest

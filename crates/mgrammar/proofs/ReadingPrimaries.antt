@@ -1,7 +1,6 @@
 -- SPDX-License-Identifier: Apache-2.0
 -- What is read of a primary is spelled so, and what is spelled so is read.
-use Rattle.mgrammar.proofs.GrammarWords.{◌≡◌, ℕ, ◌<◌, Bool, true, false, cond, eqb, List, [], ◌∷◌, ◌++◌, length, Option, Some, None, inl, inr, refl, sym, ap, subst, ◌∙◌, append_assoc, arith, ◌||◌, eqb-true, nat_tests, is_letter, is_character, AllAre, ExprTree, PrimaryTree, number, text, special, reference, bracket, call, select, refer, ReferenceTree, ExprsTree, exprs_of, ChoicesTree, choices_of, quoted, spell_expr, spell_primary, spell_reference, spell_exprs, spell_more_exprs, spell_more, spell_choices, spell_list, SpecialTree, special_of, ValueFunctionTree, VariableFunctionTree, FunctionTree, of_values, of_variable, of_choices, function_of, takes, IsReferring, exprs_count, IsCall, bare_primary, WellPrimary, WellBelow, WellAll, WellList, ◌>>=◌, run_of, after_run, number_at, is_digit_or_point, text_from, past, many, after_comma, list_at, Readers, reference_with, bracket_with, choice_with, select_with, call_with, refer_with, function_by, special_by, dollar_by, dollar_with, primary_with}
-use Rattle.std.proofs.Common.{nat_le}
+use Rattle.mgrammar.proofs.GrammarWords.{◌≡◌, ℕ, ◌<◌, Bool, true, false, cond, eqb, List, [], ◌∷◌, ◌++◌, length, Option, Some, None, inl, inr, refl, sym, ap, subst, ◌∙◌, append_assoc, arith, ◌||◌, eqb-true, nat_tests, is_letter, is_character, AllAre, ExprTree, PrimaryTree, number, text, special, reference, bracket, call, select, refer, ReferenceTree, ExprsTree, exprs_of, ChoicesTree, choices_of, quoted, spell_expr, spell_primary, spell_reference, spell_exprs, spell_more_exprs, spell_more, spell_choices, spell_list, SpecialTree, special_of, ValueFunctionTree, VariableFunctionTree, FunctionTree, of_values, of_variable, of_choices, function_of, takes, IsReferring, exprs_count, IsCall, bare_primary, WellPrimary, WellBelow, WellAll, WellList, ◌>>=◌, run_of, after_run, number_at, is_digit_or_point, text_from, past, many, after_comma, list_at, Readers, reference_with, bracket_with, choice_with, select_with, call_with, refer_with, function_by, special_by, dollar_by, dollar_with, primary_with, nat_le}
 use Rattle.mgrammar.proofs.ReadingBasics.{Takes, Again, Stops, Stops-weaker, Begins, Begins-weaker, Begins-append, goes_on, bind_some, chosen, some_is, run_parts, run_again, past_takes, text_takes, text_again}
 use Rattle.mgrammar.proofs.ReadingNumbers.{number_takes, number_again, number_begins, goes_on_number}
 use Rattle.mgrammar.proofs.ReadingLists.{each, joined_by, spell_more-each, many_takes, comma_takes, more_again, list_takes, list_again}

@@ -1,7 +1,7 @@
 -- SPDX-License-Identifier: Apache-2.0
 -- What is read of a variable is spelled so, and what is spelled so is read.
 use Rattle.mgrammar.proofs.GrammarWords.{◌≡◌, ℕ, ◌<◌, ◌-◌, Bool, true, false, eqb, List, [], ◌∷◌, ◌++◌, Option, Some, None, inl, inr, refl, sym, ap, subst, ◌∙◌, append_assoc, arith, eqb-true, nat_tests, append-nil, ◌||◌, is_name_start, is_name_rest, IsName, ExprTree, PrimaryTree, ExprsTree, no_exprs, exprs, exprs_of, ReferenceTree, local, global, naked, indirect, extended, spell_expr, spell_primary, spell_more, spell_list, spell_more_exprs, spell_subscripts, spell_attached, spell_reference, HasExpr, bare_reference, bare_primary, IsAttached, WellSubscripts, WellReference, WellBelow, WellList, Read, ◌>>=◌, name_at, past, list_at, Readers, attached_at, subscripts_with, attached_by, attached_with, indirect_with, local_by, extended_with, owned_by, global_by, reference_by, reference_with}
-use Rattle.mgrammar.proofs.ReadingBasics.{Takes, Again, Stops, Stops-weaker, Begins, Begins-stops, Begins-append, Begins-weaker, goes_on, goes_further, bind_some, chosen, some_is, past_takes, not_past, name_takes, name_again}
+use Rattle.mgrammar.proofs.ReadingBasics.{IsRead, Takes, Again, Stops, Stops-weaker, Begins, Begins-stops, Begins-append, Begins-weaker, goes_on, goes_further, bind_some, chosen, some_is, past_takes, not_past, name_takes, name_again}
 use Rattle.mgrammar.proofs.ReadingOperators.{is_operator}
 use Rattle.mgrammar.proofs.ReadingLists.{joined, enclosed, list_takes, list_again}
 use Rattle.mgrammar.proofs.ReadingTrees.{WellInner, exprs_list, exprs_back, more_exprs-list, exprs_well, exprs_inner}
@@ -62,13 +62,9 @@ subscripts_are : (d : ℕ) (es : List ExprTree) → WellList (WellInner d) es �
 subscripts_are d [] w = absurd w
 subscripts_are d (e ∷ es) w = (bracketed e es, (w.0.0, w.0.1, exprs_well d es w.1), tt)
 
--- what was read of subscripts
-abbrev SubscriptsAre : ℕ → List ℕ → ExprsTree × List ℕ → Type 0
-SubscriptsAre d cs x = (cs ≡ spell_subscripts x.0 ++ x.1) × WellSubscripts d x.0
-
 -- what was read of subscripts in brackets
 abbrev SomeAre : ℕ → List ℕ → ExprsTree × List ℕ → Type 0
-SomeAre d cs x = SubscriptsAre d cs x × HasExpr x.0
+SomeAre d cs x = IsRead spell_subscripts (WellSubscripts d) cs x × HasExpr x.0
 
 -- what was read of a variable
 abbrev ReferenceIs : ℕ → List ℕ → ReferenceTree × List ℕ → Type 0
@@ -114,11 +110,11 @@ module _ (d : ℕ) (r : Readers) (inner_takes : Takes spell_expr (WellInner d) (
 
   subscripts_takes : Takes spell_subscripts (WellSubscripts d) (subscripts_with r)
   unfolding subscripts_with
-  subscripts_takes [] x e = subst (SubscriptsAre d []) {x = (no_exprs, [])} (some_is (no_exprs, []) x e) (refl, tt)
+  subscripts_takes [] x e = subst (IsRead spell_subscripts (WellSubscripts d) []) {x = (no_exprs, [])} (some_is (no_exprs, []) x e) (refl, tt)
   subscripts_takes (c ∷ cs) x e =
       elim (chosen (eqb c 40) (list_at (r.inner) cs >>= λ x. past 41 x.1 >>= λ rest. Some (exprs_of x.0, rest)) (Some (no_exprs, c ∷ cs)) (Some x) e) [
         | inl p ↦ (some_subscripts c cs x (eqb-true _ _ p.0) p.1).0
-        | inr p ↦ subst (SubscriptsAre d (c ∷ cs)) {x = (no_exprs, c ∷ cs)} (some_is (no_exprs, c ∷ cs) x p.1) (refl, tt)
+        | inr p ↦ subst (IsRead spell_subscripts (WellSubscripts d) (c ∷ cs)) {x = (no_exprs, c ∷ cs)} (some_is (no_exprs, c ∷ cs) x p.1) (refl, tt)
       ]
 
   -- where a bracket opens, some are read

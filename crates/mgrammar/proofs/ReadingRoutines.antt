@@ -2,7 +2,7 @@
 -- What is read as a line of a routine is spelled so, and what is spelled so is read.
 use Rattle.mgrammar.proofs.GrammarWords.{◌≡◌, ◌↔◌, ℕ, zero, suc, ◌<◌, Bool, true, false, cond, eqb, List, [], ◌∷◌, ◌++◌, length, Option, Some, None, refl, sym, ap, subst, ◌∙◌, append_assoc, arith, replicate, length-append, filter, eqb-true, nat_tests, length-replicate, is_letter, is_name_rest, IsName, SpacedTree, LineTree, spell_command, spell_commands, spell_comment, spell, WellCommands, WellAll, well, ◌>>=◌, run_of, after_run, name_at, past, is_space, at_end, comment_at, line_at, BodyTree, short, spaced_out, RoutineLineTree, dots_of_body, spell_dot, spell_dots, spell_body, spell_label, spell_routine_line, WellLabel, WellBody, well_routine_line, label_ends, label_by, label_at, is_dot, is_space_or_dot, dots_in, dot_by, dot_at, dots_at, body_by, body_at, routine_line_at}
 use Rattle.mgrammar.specs.GrammarLaws.{TellsRoutineLine}
-use Rattle.mgrammar.proofs.ReadingBasics.{Stops, Stops-weaker, Begins-stops, Begins-append, bind_some, some_is, run_parts, run_again, past_takes, not_past, name_takes, name_again, unique, told}
+use Rattle.mgrammar.proofs.ReadingBasics.{IsRead, Stops, Stops-weaker, Begins-stops, Begins-append, bind_some, some_is, run_parts, run_again, past_takes, not_past, name_takes, name_again, unique, told}
 use Rattle.mgrammar.proofs.ReadingLists.{each, many_takes, many_again, count_le}
 use Rattle.mgrammar.proofs.ReadingArguments.{all_copies, copies_are}
 use Rattle.mgrammar.proofs.ReadingCommands.{command_letter}
@@ -10,19 +10,15 @@ use Rattle.mgrammar.proofs.ReadingLines.{head_well, stop_commands, comment_ends,
 
 -- ---- labels
 
--- what was read of a label, or that there is none
-abbrev LabelIs : List ℕ → Option (List ℕ) × List ℕ → Type 0
-LabelIs cs x = (cs ≡ spell_label x.0 ++ x.1) × WellLabel x.0
-
-label_takes_if : (cs : List ℕ) (name : List ℕ × List ℕ) (b : Bool) → (cs ≡ name.0 ++ name.1) × IsName name.0 → LabelIs cs (cond b (Some name.0, name.1) (None, cs))
+label_takes_if : (cs : List ℕ) (name : List ℕ × List ℕ) (b : Bool) → (cs ≡ name.0 ++ name.1) × IsName name.0 → IsRead spell_label WellLabel cs (cond b (Some name.0, name.1) (None, cs))
 label_takes_if cs name true t = t
 label_takes_if cs name false t = (refl, tt)
 
-label_takes_by : (cs : List ℕ) (o : Option (List ℕ × List ℕ)) → name_at cs ≡ o → LabelIs cs (label_by cs o)
+label_takes_by : (cs : List ℕ) (o : Option (List ℕ × List ℕ)) → name_at cs ≡ o → IsRead spell_label WellLabel cs (label_by cs o)
 label_takes_by cs None h = (refl, tt)
 label_takes_by cs (Some name) h = label_takes_if cs name (label_ends name.1) (name_takes cs name h)
 
-label_takes : (cs : List ℕ) → LabelIs cs (label_at cs)
+label_takes : (cs : List ℕ) → IsRead spell_label WellLabel cs (label_at cs)
 unfolding label_at
 label_takes cs = label_takes_by cs (name_at cs) refl
 

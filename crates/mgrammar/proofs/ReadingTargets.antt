@@ -1,7 +1,7 @@
 -- SPDX-License-Identifier: Apache-2.0
 -- What is read of the left side of an set_argument is spelled so, and what is spelled so is read.
 use Rattle.mgrammar.proofs.GrammarWords.{◌≡◌, ℕ, ◌<◌, ◌-◌, Bool, true, eqb, List, [], ◌∷◌, ◌++◌, Option, Some, None, inl, inr, refl, sym, ap, subst, ◌∙◌, append_assoc, arith, eqb-true, nat_tests, is_letter, AllAre, ExprTree, PrimaryTree, no_exprs, ReferenceTree, indirect, TargetTree, variable, piece, DestinationTree, one, several, ArgTree, assign, indirect_args, FormTree, spell_expr, spell_primary, spell_reference, spell_place, spell_target, spell_destination, spell_arg, set_argument, is_piece, max_depth, bare_primary, bare_destination, WellBelow, WellReference, WellOptional, WellTarget, WellDestination, WellArg, Read, ◌>>=◌, run_of, after_run, past, Readers, reference_with, expr_at, readers_at, place_with, piece_with, piece_by, target_with, destination_at, given_by, set_argument_by, set_argument_at}
-use Rattle.mgrammar.proofs.ReadingBasics.{Takes, Again, Stops, Begins, Begins-append, Begins-stops, Begins-weaker, bind_some, chosen, some_is, both_are, run_parts, run_again, past_takes, not_past}
+use Rattle.mgrammar.proofs.ReadingBasics.{IsRead, Takes, Again, Stops, Begins, Begins-append, Begins-stops, Begins-weaker, bind_some, chosen, some_is, both_are, run_parts, run_again, past_takes, not_past}
 use Rattle.mgrammar.proofs.ReadingLists.{joined_by, listed_or_one, bracketed_again, is_comma}
 use Rattle.mgrammar.proofs.ReadingTrees.{WellInner}
 use Rattle.mgrammar.proofs.ReadingReferences.{OperandEnds, Ends, TakesFree, AgainFree, WellWithin, begins_reference, reference_takes, reference_again, reference_begins, bare_spelled, bare_well, bare_reference_is}
@@ -21,10 +21,6 @@ piece_cells ds w after cs n t a e u p last rest f g h k l m z =
     let whole : 36 ∷ ds ≡ 36 ∷ (w ++ 40 ∷ (n ++ 44 ∷ (e ++ (p ++ 41 ∷ rest)))) = rw (f, g, h, k, l, m, z) refl in
     whole ∙ sym (spread w n e p rest)
 
--- a target that is read with so many brackets to open
-abbrev TargetIs : ℕ → List ℕ → TargetTree × List ℕ → Type 0
-TargetIs d cs x = (cs ≡ spell_target x.0 ++ x.1) × WellTarget d x.0
-
 module _ (d : ℕ) (r : Readers) (takes : Takes spell_expr (WellInner d) (r.inner)) (within : Takes spell_reference (WellWithin d) (r.within)) (below : TakesFree spell_primary (WellBelow d) bare_primary (r.below)) where
   place_takes : Takes spell_place (WellOptional (d - 1)) (place_with r)
   unfolding place_with
@@ -41,7 +37,7 @@ module _ (d : ℕ) (r : Readers) (takes : Takes spell_expr (WellInner d) (r.inne
 
   -- behind a word and its bracket
   piece_takes : (w cs ds after : List ℕ) (x : TargetTree × List ℕ) → ds ≡ w ++ after → after ≡ 40 ∷ cs → AllAre is_letter w → is_piece w ≡ true → piece_with r w cs ≡ Some x
-      → TargetIs d (36 ∷ ds) x
+      → IsRead spell_target (WellTarget d) (36 ∷ ds) x
   unfolding piece_with
   piece_takes w cs ds after x p q l f e =
       let n = bind_some (r.within cs) (λ n. past 44 n.1 >>= λ rest. r.inner rest >>= λ e. place_with r e.1 >>= λ p. past 41 p.1 >>= λ end. Some (piece w n.0 e.0 p.0, end)) x e in
@@ -57,9 +53,9 @@ module _ (d : ℕ) (r : Readers) (takes : Takes spell_expr (WellInner d) (r.inne
       let made : TargetTree × List ℕ = (piece w n.0.0 v.0.0 u.0.0, z.0) in
       let whole : 36 ∷ ds ≡ spell_target made.0 ++ made.1 =
       piece_cells ds w after cs (spell_reference n.0.0) n.0.1 k.0 (spell_expr v.0.0) v.0.1 (spell_place u.0.0) u.0.1 z.0 p q variable.0 comma delimiter.0 place.0 close in
-      subst (TargetIs d (36 ∷ ds)) {x = made} (some_is made x z.2) (whole, ((f, l), variable.1.1, delimiter.1.1, place.1))
+      subst (IsRead spell_target (WellTarget d) (36 ∷ ds)) {x = made} (some_is made x z.2) (whole, ((f, l), variable.1.1, delimiter.1.1, place.1))
 
-  piece_takes_by : (w cs ds after : List ℕ) (x : TargetTree × List ℕ) → ds ≡ w ++ after → after ≡ 40 ∷ cs → AllAre is_letter w → piece_by r w cs ≡ Some x → TargetIs d (36 ∷ ds) x
+  piece_takes_by : (w cs ds after : List ℕ) (x : TargetTree × List ℕ) → ds ≡ w ++ after → after ≡ 40 ∷ cs → AllAre is_letter w → piece_by r w cs ≡ Some x → IsRead spell_target (WellTarget d) (36 ∷ ds) x
   piece_takes_by w cs ds after x p q l e =
       elim (chosen (is_piece w) (piece_with r w cs) None (Some x) e) [
         | inl s ↦ piece_takes w cs ds after x p q l s.0 s.1
@@ -81,11 +77,8 @@ module _ (d : ℕ) (r : Readers) (takes : Takes spell_expr (WellInner d) (r.inne
             (ap (λ (y : ℕ). y ∷ cs) at ∙ is.0, is.1)
         | inr p ↦
             let b = bind_some (reference_with r (c ∷ cs)) (λ n. Some (variable n.0, n.1)) x p.1 in
-            subst (TargetIs d (c ∷ cs)) (some_is (variable b.0.0, b.0.1) x b.2) (reference_takes d r takes below (c ∷ cs) b.0 b.1)
+            subst (IsRead spell_target (WellTarget d) (c ∷ cs)) (some_is (variable b.0.0, b.0.1) x b.2) (reference_takes d r takes below (c ∷ cs) b.0 b.1)
       ]
-
-abbrev DestinationIs : List ℕ → DestinationTree × List ℕ → Type 0
-DestinationIs cs x = (cs ≡ spell_destination x.0 ++ x.1) × WellDestination x.0
 
 -- how the targets of a list are read
 abbrev listed : List ℕ → Read TargetTree
@@ -96,12 +89,8 @@ unfolding destination_at
 destination_takes [] x e = absurd cc
 destination_takes (c ∷ cs) x e =
     let takes = λ (d : ℕ). target_takes d (readers_at d) (inner_takes d) (within_takes d) (below_takes d) in
-    listed_or_one spell_target (WellTarget (max_depth - 1)) listed several spell_target (WellTarget max_depth) (target_with (readers_at max_depth)) one (DestinationIs (c ∷ cs))
+    listed_or_one spell_target (WellTarget (max_depth - 1)) listed several spell_target (WellTarget max_depth) (target_with (readers_at max_depth)) one (IsRead spell_destination WellDestination (c ∷ cs))
     (takes (max_depth - 1)) (takes max_depth) c cs x e (λ ys rest q w. (q, w)) (λ t rest q w. (q, w))
-
--- what was read of an argument of SET
-abbrev AssignmentIs : List ℕ → ArgTree × List ℕ → Type 0
-AssignmentIs cs x = (cs ≡ spell_arg x.0 ++ x.1) × WellArg set_argument x.0
 
 -- a destination that is an `@` with its operand alone
 bare_is : (d : DestinationTree) (p : PrimaryTree) → bare_destination d ≡ Some p → WellDestination d → (spell_destination d ≡ 64 ∷ spell_primary p) × WellBelow max_depth p
@@ -109,18 +98,18 @@ bare_is (one (variable v)) p e w = bare_reference_is max_depth v p e w
 bare_is (one (piece word v delimiter place)) p e w = absurd cc
 bare_is (several ts) p e w = absurd cc
 
-given_takes : (cs : List ℕ) (d : DestinationTree) (t : List ℕ) (o : Option PrimaryTree) (x : ArgTree × List ℕ) → cs ≡ spell_destination d ++ t → WellDestination d → bare_destination d ≡ o → given_by set_argument t o ≡ Some x → AssignmentIs cs x
+given_takes : (cs : List ℕ) (d : DestinationTree) (t : List ℕ) (o : Option PrimaryTree) (x : ArgTree × List ℕ) → cs ≡ spell_destination d ++ t → WellDestination d → bare_destination d ≡ o → given_by set_argument t o ≡ Some x → IsRead spell_arg (WellArg set_argument) cs x
 given_takes cs d t None x p w h e = absurd cc
 given_takes cs d t (Some q) x p w h e =
     let is = bare_is d q h w in
-    subst (AssignmentIs cs) {x = (indirect_args set_argument q, t)} (some_is (indirect_args set_argument q, t) x e) (p ∙ ap (λ (y : List ℕ). y ++ t) is.0, (refl, refl, is.1))
+    subst (IsRead spell_arg (WellArg set_argument) cs) {x = (indirect_args set_argument q, t)} (some_is (indirect_args set_argument q, t) x e) (p ∙ ap (λ (y : List ℕ). y ++ t) is.0, (refl, refl, is.1))
 
-set_argument_takes_by : (cs : List ℕ) (d : DestinationTree) (t : List ℕ) (o : Option (List ℕ)) (x : ArgTree × List ℕ) → cs ≡ spell_destination d ++ t → WellDestination d → past 61 t ≡ o → set_argument_by d t o ≡ Some x → AssignmentIs cs x
+set_argument_takes_by : (cs : List ℕ) (d : DestinationTree) (t : List ℕ) (o : Option (List ℕ)) (x : ArgTree × List ℕ) → cs ≡ spell_destination d ++ t → WellDestination d → past 61 t ≡ o → set_argument_by d t o ≡ Some x → IsRead spell_arg (WellArg set_argument) cs x
 set_argument_takes_by cs d t None x p w h e = given_takes cs d t (bare_destination d) x p w refl e
 set_argument_takes_by cs d t (Some rest) x p w h e =
     let v = bind_some (expr_at max_depth rest) (λ v. Some (assign d v.0, v.1)) x e in
     let value = expr_takes max_depth (readers_at max_depth) (inner_takes max_depth) (within_takes max_depth) (below_takes max_depth) rest v.0 v.1 in
-    subst (AssignmentIs cs) {x = (assign d v.0.0, v.0.1)} (some_is (assign d v.0.0, v.0.1) x v.2)
+    subst (IsRead spell_arg (WellArg set_argument) cs) {x = (assign d v.0.0, v.0.1)} (some_is (assign d v.0.0, v.0.1) x v.2)
     (joined_by 61 cs (spell_destination d) t rest (spell_expr v.0.0) v.0.1 p (past_takes 61 t rest h) value.0, ((w, value.1), refl))
 
 pub set_argument_takes : Takes spell_arg (WellArg set_argument) set_argument_at

@@ -1,7 +1,6 @@
 -- SPDX-License-Identifier: Apache-2.0
 -- The settings that are put together from the parts of a document.
-use Rattle.mgrant.proofs.GrantWords.{◌≡◌, ◌⊎◌, inl, inr, ℕ, suc, ◌+◌, ◌==◌, ◌<◌, ℤ, pos, negsuc, Bool, true, false, cond, List, [], ◌∷◌, ◌++◌, length, map, Option, Some, None, refl, sym, ap, subst, ◌∙◌, arith, append_assoc, length-append, slice_get, option_and_then, unsigned_abs, int_eq, list_all, flat_map, FinMap, from_entries, get-from_entries, same_map, nat_cmp-IsAntisymmetric, find, nat_cmp_total, cases_Bool, cases_eq, and_parts, false≢true, eq-eqb, ne_eqb, Decides-int_eq, list_all-append, none-some, same_Some, get_or_from_slice_get, Account, Written, WrittenAccount, names_of, terminals_of, are_distinct, is_within, account_of, terminals_with, settings_of, Placed, Claim, claims, claimed, HasTerminals, AreGranted, accounts_of, terminals_from, settings_view}
-use Rattle.std.proofs.Common.{nat_cmp}
+use Rattle.mgrant.proofs.GrantWords.{◌≡◌, ◌⊎◌, inl, inr, ℕ, suc, ◌+◌, ◌==◌, ◌<◌, ℤ, pos, negsuc, Bool, true, false, cond, List, [], ◌∷◌, ◌++◌, length, map, Option, Some, None, refl, sym, ap, subst, ◌∙◌, arith, append_assoc, length-append, slice_get, option_and_then, unsigned_abs, int_eq, list_all, flat_map, FinMap, from_entries, get-from_entries, same_map, nat_cmp-IsAntisymmetric, find, nat_cmp_total, cases_Bool, cases_eq, and_parts, false≢true, eq-eqb, ne_eqb, Decides-int_eq, list_all-append, none-some, same_Some, get_or_from_slice_get, Account, Written, WrittenAccount, names_of, terminals_of, are_distinct, is_within, account_of, terminals_with, settings_of, Placed, Claim, claims, claimed, HasTerminals, AreGranted, accounts_of, terminals_from, settings_view, nat_cmp}
 use Rattle.mgrant.proofs.Places.{slice_get_at}
 use Rattle.mgrant.proofs.Seen.{terminal_seen, tied_is}
 use Rattle.mgrant.proofs.Parts.{terminals_all, different}

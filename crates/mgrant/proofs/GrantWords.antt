@@ -1,6 +1,6 @@
 -- SPDX-License-Identifier: Apache-2.0
 -- The words that most proofs of this crate have, in one place.
-pub use Rattle.std.proofs.Common.{All, Any, Bool, Bor, Global, IfNone, IfSome, List, None, Option, Some, String, [], add-one, add-zero, ap, append-nil, append_assoc, arith, bytes_eq, cond, count_by, drop, false, get_or, if◌then◌else◌, inl, inr, int_eq, is_some, length, length-append, length-drop, length-take-le, map, nat_le, nat_lt, negsuc, not, option_and_then, option_map, pos, refl, replicate, rules, set, slice_get, string_bytes, subst, subst₂, suc, sum_by, sym, take, take-append-drop, take_all, true, unsigned_abs, unwrap_or, vec_len, zero, zero-add, ℕ, ℤ, ◌&&◌, ◌++◌, ◌+◌, ◌-◌, ◌<◌, ◌==◌, ◌||◌, ◌↔◌, ◌∙◌, ◌∷◌, ◌≡◌, ◌≤◌, ◌⊎◌}
+pub use Rattle.std.proofs.Common.{All, Any, Bool, Bor, Global, IfNone, IfSome, List, None, Option, Some, String, [], add-one, add-zero, ap, append-nil, append_assoc, arith, bytes_eq, cond, count_by, drop, false, get_or, if◌then◌else◌, inl, inr, int_eq, is_some, length, length-append, length-drop, length-take-le, map, nat_cmp, nat_le, nat_lt, negsuc, not, option_and_then, option_map, pos, refl, replicate, rules, set, slice_get, string_bytes, subst, subst₂, suc, sum_by, sym, take, take-append-drop, take_all, true, unsigned_abs, unwrap_or, vec_len, zero, zero-add, ℕ, ℤ, ◌&&◌, ◌++◌, ◌+◌, ◌-◌, ◌<◌, ◌==◌, ◌||◌, ◌↔◌, ◌∙◌, ◌∷◌, ◌≡◌, ◌≤◌, ◌⊎◌}
 pub use Rattle.std.proofs.lemmas.Bool.{MatchBool-at_false, MatchBool-at_true, and_from, and_left, and_parts, and_right, cases_Bool, cases_eq, cases_lt, cond-false, cond-true, eq-eqb, eqb-true, false_from_ne_true, false≢true, le-leb, leb-false, leb-true, lt-leb, ltb-false, ltb-true, ne_eqb, not-true, or_cases, or_left, or_right}
 pub use Rattle.std.proofs.lemmas.Bool.Decides.{Decides-int_eq, nat_tests}
 pub use Rattle.std.proofs.lemmas.Grind.{common_steps}
@@ -24,10 +24,10 @@ pub use Rattle.mspec.specs.Flow.{Reaches, carries, flows, itself, through}
 pub use Rattle.mspec.specs.Names.{AllAre, IsName, is_letter, is_name_rest, is_name_start}
 pub use Rattle.mspec.specs.Node.{Text}
 pub use Rattle.mspec.specs.Trees.{text_eq}
-pub use Rattle.toml.proofs.Views.{Entry}
+pub use Rattle.toml.proofs.Views.{Entry, table_get}
 pub use Rattle.toml.specs.Data.{Data, as_integer}
 pub use Rattle.toml.specs.View.{array_view, items_view, members_view, table_view, view}
-pub use Rattle.mgrant.specs.Document.{Written, WrittenAccount, WrittenGrant, account_of, are_distinct, are_grants, are_names, are_steps, are_terminals, count_items, each_read, entries_of, max_entries, grant_of, has_only, is_account_name, is_grant, is_name, is_within, mode_named, names_of, settings_of, terminals_of, terminals_with, written_account, written_grant}
+pub use Rattle.mgrant.specs.Document.{Written, WrittenAccount, WrittenGrant, account_of, are_distinct, are_grants, are_names, are_steps, are_terminals, count_items, each_read, entries_of, grant_of, has_only, is_account_name, is_grant, is_name, is_within, max_entries, mode_named, names_of, settings_of, terminals_of, terminals_with, written_account, written_by, written_grant}
 pub use Rattle.mgrant.specs.Edges.{IsMore, IsRun, IsStage, Leads, goes, leads, stays}
 pub use Rattle.mgrant.specs.Islands.{IsIslandAt, IsIslandOf}
 pub use Rattle.mgrant.specs.Placed.{Allowed, IsAllowance, IsInterned, Placed, allows_so, carries_at, lets_at, mode_of, placed, same_permit, ties_at}

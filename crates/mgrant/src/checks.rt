@@ -65,6 +65,7 @@ fn claim(terminals: &mut Vec<Option<usize>>, listed: &[i64], place: usize) -> bo
 }
 
 // So many terminals, all without accounts.
+#[tactic(auto, using(crate::proofs::Parts::no_terminals, crate::proofs::Parts::none_more))]
 fn unclaimed(alloc: Global, count: usize) -> Result<Vec<Option<usize>>, AllocError>
     ensures none { IfOk result (λ terminals. HasTerminals [] terminals.items) }
     ensures len { IfOk result (λ terminals. vec_len terminals ≡ count) }
@@ -93,6 +94,7 @@ pub(crate) fn terminals_of(
 }
 
 // The steps of the accounts.
+#[tactic(auto, using(crate::proofs::Parts::all_more, crate::proofs::Parts::all_fails, crate::proofs::Parts::steps_more))]
 pub(crate) fn steps_of(alloc: Global, accounts: &[AccountEntry]) -> Result<Vec<u32>, SettingsFault>
     ensures { Judges (are_steps (entries_seen accounts.now)) fault.Steps (λ steps. steps.items ≡ map (λ a. unsigned_abs a.steps) (entries_seen accounts.now)) result }
 {
@@ -126,6 +128,7 @@ pub(crate) struct Placing {
 }
 
 // The places of a grant's accounts, and its mode, where it is good.
+#[tactic(auto, using(crate::proofs::Places::place_any, crate::proofs::Parts::granted))]
 fn places_of(names: &Words, entry: &GrantEntry) -> Option<Placing>
     ensures { MatchOption result (is_grant names.now (grant_view entry.now) ≡ false) (IsPlacing names.now (grant_view entry.now)) }
 {
@@ -139,6 +142,7 @@ fn places_of(names: &Words, entry: &GrantEntry) -> Option<Placing>
 }
 
 // The grants.
+#[tactic(auto, using(crate::proofs::Parts::all_fails))]
 pub(crate) fn grants_of(
     alloc: Global,
     names: &Words,

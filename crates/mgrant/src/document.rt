@@ -56,6 +56,7 @@ fn has_only(table: &Table, keys: &[&str]) -> bool
 }
 
 // The value at a key.
+#[tactic(auto, using(toml::proofs::Views::table_get))]
 fn value_at<'a>(table: &'a Table, key: &str) -> Option<&'a Value>
     ensures { option_map (λ v. view v.now) result ≡ get_member key.now (table_view table.now) }
 {
@@ -86,6 +87,7 @@ fn integer_at(table: &Table, key: &str) -> Option<i64>
 }
 
 // The whole numbers of a list, if all of it are.
+#[tactic(auto, using(crate::proofs::EachRead::none_read))]
 fn integers(alloc: Global, values: &Vec<Value>) -> Result<Option<Vec<i64>>, AllocError>
     ensures { IfOk result (λ o. option_map (λ v. v.items) o ≡ each_read as_integer (array_view values.now)) }
 {
@@ -196,6 +198,7 @@ fn read_entry<E: Entry>(alloc: Global, value: &Value) -> Result<Option<E>, Alloc
 }
 
 // The entries of a list.
+#[tactic(auto, using(crate::proofs::EachRead::too_long))]
 fn list<E: Entry + Drop>(alloc: Global, values: &Vec<Value>) -> Result<Option<Vec<E>>, AllocError>
     ensures { IfOk result (λ o. option_map (λ v. map E.seen v.items) o ≡ entries_of (written_by E.written) (array_view values.now)) }
 {

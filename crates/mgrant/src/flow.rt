@@ -120,6 +120,7 @@ pub(crate) fn reached(
 }
 
 // Whether a chain of steps between so many places leads from one place to another.
+#[tactic(auto, using(std::proofs::lemmas::List::get_or_default))]
 pub(crate) fn leads(
     alloc: Global,
     edges: Vec<Edge>,

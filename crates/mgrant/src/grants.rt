@@ -161,6 +161,7 @@ impl Grants {
     }
 
     // Whether one of the grants lets an account use a global of the owner so. Takes no memory.
+    #[tactic(auto, using(crate::proofs::Allowances::lets_none))]
     pub fn allow(&self, to: usize, from: usize, global: &[u8], mode: Mode) -> bool
         ensures { result ≡ list_any (lets_at to from global.now (mode_of mode)) self.now }
     {

@@ -30,6 +30,7 @@ fn starts_name(c: u8) -> bool
 }
 
 // Whether this is an account's name: 1 to 16 letters or digits.
+#[tactic(auto, using(mspec::proofs::SubscriptTests::account_name_is, mspec::proofs::SubscriptTests::account_name_test))]
 pub(crate) fn is_account_name(text: &[u8]) -> bool
     ensures test { result ≡ is_account_name text.now }
     ensures fact { IsTrue result ↔ IsAccountName text.now }
@@ -38,6 +39,7 @@ pub(crate) fn is_account_name(text: &[u8]) -> bool
 }
 
 // Whether this is a name: a letter or `%` with at most 30 letters or digits behind it.
+#[tactic(auto, using(crate::proofs::NameTests::name_is, crate::proofs::NameTests::name_test))]
 pub(crate) fn is_name(text: &[u8]) -> bool
     ensures test { result ≡ is_name text.now }
     ensures fact { IsTrue result ↔ IsName text.now }

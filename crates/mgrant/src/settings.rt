@@ -133,6 +133,7 @@ impl Settings {
     }
 
     /// The account of a terminal. Takes no memory.
+    #[tactic(auto, using(crate::proofs::Seen::terminal_seen, crate::proofs::Seen::length_seen, crate::proofs::Seen::there))]
     pub fn account_of(&self, terminal: u32) -> Option<AccountId>
         ensures account { option_and_then (access.account_at self.now) result ≡ access.account_of self.now terminal }
         ensures known { IfSome result (λ id. id < length self.now.accounts) }
@@ -144,6 +145,7 @@ impl Settings {
     }
 
     /// The account of a name. Takes no memory.
+    #[tactic(auto, using(std::proofs::lemmas::Option::slice_get_within, crate::proofs::Seen::named_seen, crate::proofs::Seen::unnamed_seen, crate::proofs::Seen::length_seen))]
     pub fn account_named(&self, name: &[u8]) -> Option<AccountId>
         ensures account { option_and_then (access.account_at self.now) result ≡ access.account_named self.now name.now }
         ensures known { IfSome result (λ id. id < length self.now.accounts) }
@@ -164,6 +166,7 @@ impl Settings {
     }
 
     /// The steps that each line of an account may use, 1 to 1,000,000; 0 for an id that names none here. Takes no memory.
+    #[tactic(auto, using(crate::proofs::Seen::steps_seen))]
     pub fn steps_of(&self, id: AccountId) -> u32
         ensures { result ≡ access.steps_at self.now id }
     {
@@ -207,6 +210,7 @@ impl Settings {
     /// The island of an account, in the order of the settings: the least set of accounts that has it and that no grant ties to
     /// others, so that they may be kept on a machine of their own. None for an id that names none here. Fails by want of memory
     /// alone.
+    #[tactic(auto, using(crate::proofs::IslandsFound::none_at))]
     pub fn island_of(&self, alloc: Global, account: AccountId) -> Result<Vec<AccountId>, AllocError>
         ensures { IfOk result (λ ids. IsIslandAt self.now (access.name_at self.now account) ids.items) }
     {

@@ -56,6 +56,7 @@ impl Words {
     }
 
     // The place of a text.
+    #[tactic(auto, using(crate::proofs::Places::place_told, crate::proofs::Places::absence_told))]
     pub fn find(&self, text: &[u8]) -> Option<usize>
         ensures found { IfSome result (IsPlaceOf self.now text.now) }
         ensures absent { IfNone result (list_any (text_eq text.now) self.now ≡ false) }

@@ -61,6 +61,7 @@ fn lines(
 }
 
 // Whether an island has the account of a name.
+#[tactic(auto, using(crate::proofs::Lines::any_here, crate::proofs::Lines::none_more))]
 fn has_account(settings: &Settings, island: &[AccountId], name: &[u8]) -> bool
     ensures { result ≡ list_any (text_eq name.now) (names_at settings.now island.now) }
 {
@@ -73,6 +74,7 @@ fn has_account(settings: &Settings, island: &[AccountId], name: &[u8]) -> bool
 }
 
 // Whether one of the islands has the account of a name.
+#[tactic(auto, using(crate::proofs::Lines::any_here))]
 fn is_among(settings: &Settings, islands: &[Vec<AccountId>], name: &[u8]) -> bool
     ensures { result ≡ is_among name.now (named settings.now islands.now) }
 {
@@ -85,6 +87,7 @@ fn is_among(settings: &Settings, islands: &[Vec<AccountId>], name: &[u8]) -> boo
 }
 
 // Adds the island of the account of a name, unless one of the islands has it.
+#[tactic(auto, using(crate::proofs::Lines::known_name))]
 fn add_island(
     alloc: Global,
     settings: &Settings,

@@ -15,6 +15,7 @@ use std::alloc::{AllocError, Global};
 use toml::{Table, Value};
 
 // The value at a key.
+#[tactic(auto, using(toml::proofs::Views::table_get))]
 fn value_at<'a>(table: &'a Table, key: &str) -> Option<&'a Value>
     ensures { option_map (λ v. view v.now) result ≡ get_member key.now (table_view table.now) }
 {
@@ -50,10 +51,10 @@ fn names(alloc: Global, values: &Vec<Value>) -> Result<Option<Vec<Vec<u8>>>, All
 {
     let mut all = Vec::new(alloc);
     for value in values {
-        match name(alloc, value)? {
-            Some(name) => all.push(name)?,
-            None => return Ok(None),
-        }
+        let Some(name) = name(alloc, value)? else {
+            return Ok(None);
+        };
+        all.push(name)?;
     }
     Ok(Some(all))
 }

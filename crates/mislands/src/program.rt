@@ -22,26 +22,30 @@ fn first_bytes<I: Read + Drop>(alloc: Global, input: I) -> io::Result<Vec<u8>>
     Ok(bytes)
 }
 
+// Why nothing was read, by what the reader said.
+fn unread(error: &io::Error) -> ListFault
+    ensures { NoDocument result }
+{
+    if error.kind() == ErrorKind::OutOfMemory {
+        return ListFault::Settings(SettingsFault::Memory);
+    }
+    ListFault::Unread
+}
+
 // All bytes of a reader, of which there are at most 1,000,000.
 fn document<I: Read + Drop>(alloc: Global, input: I) -> Result<Vec<u8>, ListFault>
     ensures bytes { IfOk result (λ bytes. vec_len bytes ≤ 1000000) }
     ensures all { IfOk result (λ bytes. IsInput (I.remaining input) bytes.items) }
     ensures early { IfErr result NoDocument }
 {
-    match first_bytes(alloc, input) {
-        Ok(bytes) => {
-            if bytes.len() as u64 > MAX_DOCUMENT {
-                return Err(ListFault::Unread);
-            }
-            Ok(bytes)
-        }
-        Err(error) => {
-            if error.kind() == ErrorKind::OutOfMemory {
-                return Err(ListFault::Settings(SettingsFault::Memory));
-            }
-            Err(ListFault::Unread)
-        }
+    let bytes = match first_bytes(alloc, input) {
+        Ok(bytes) => bytes,
+        Err(error) => return Err(unread(&error)),
+    };
+    if bytes.len() as u64 > MAX_DOCUMENT {
+        return Err(ListFault::Unread);
     }
+    Ok(bytes)
 }
 
 // Writes the lines of the islands of the settings that the input says.

@@ -124,24 +124,19 @@ busy_fits = fit_insert apart empty (held 3 (lock ledger)) 1 (ap (λ o. holds_by 
 abbrev line : ℕ → Text → Event
 line t text = record { terminal = t; text = text }
 
--- what a failed line of the bank leaves that failed before it did anything
-abbrev failed : World → World
-failed world = record {
-  shared = record { globals = world.shared.globals; locks = released world.shared.locks 3 };
-  sessions = remove world.sessions 3;
+-- what a failed line leaves that failed before it did anything
+abbrev failed_at : ℕ → World → World
+failed_at t world = record {
+  shared = record { globals = world.shared.globals; locks = released world.shared.locks t };
+  sessions = remove world.sessions t;
 }
 
-bank_fails : (world : World) (text : Text) → is_too_long text ≡ false → is_ascii text ≡ true → FailedTransition apart (line 3 text) world (failed world)
-bank_fails world text short ascii = record {
-  account = account bank;
-  known = of_bank;
-  short = short;
-  ascii = ascii;
-  operations = 0;
-  globals = refl;
-  locks = refl;
-  sessions = refl;
-}
+fails_at : (t : ℕ) (a : Account) → get terminals t ≡ Some a → (world : World) (text : Text) → is_too_long text ≡ false → is_ascii text ≡ true → FailedTransition apart (line t text) world (failed_at t world)
+fails_at t a known world text short ascii =
+    record { account = a; known = known; short = short; ascii = ascii; operations = 0; globals = refl; locks = refl; sessions = refl }
+
+abbrev failed : World → World
+failed = failed_at 3
 
 clinic_runs : (world : World) (e : Event) → Transition apart e (normal apart e world).0 world (normal apart e world).1
 clinic_runs world e = subst (λ b. TransitionBy b apart e (normal apart e world).0 world (normal apart e world).1) (sym (normal_never_fails apart e world)) refl
@@ -172,13 +167,13 @@ module _ (text : Text) where
   crowded_runs : History apart busy crowded (failed (normal apart (line 1 text) (failed busy)).1)
   crowded_runs = (
     failed busy,
-    (refl, bank_fails busy (codes "S A=1") refl refl),
+    (refl, fails_at 3 (account bank) of_bank busy (codes "S A=1") refl refl),
     (
       (normal apart (line 1 text) (failed busy)).1,
       clinic_runs (failed busy) (line 1 text),
       (
         failed (normal apart (line 1 text) (failed busy)).1,
-        (refl, bank_fails (normal apart (line 1 text) (failed busy)).1 (codes "W A") refl refl),
+        (refl, fails_at 3 (account bank) of_bank (normal apart (line 1 text) (failed busy)).1 (codes "W A") refl refl),
         refl,
       ),
     ),
@@ -232,37 +227,27 @@ of_laboratory = simp gets refl
 laboratory_inside : is_inside tied apart 2 ≡ true
 laboratory_inside = ap (is_member tied) of_laboratory
 
--- what a failed line of the laboratory leaves
-abbrev laboratory_failed : World → World
-laboratory_failed world = record {
-  shared = record { globals = world.shared.globals; locks = released world.shared.locks 2 };
-  sessions = remove world.sessions 2;
-}
-
 module _ (text : Text) where
   abbrev short_of_memory : List (Event × Reply)
   short_of_memory =
       (line 2 (codes "S A=1"), lost (Faulted (Lost Memory))) ∷
-      (line 1 text, (normal apart (line 1 text) (laboratory_failed busy)).0) ∷ []
+      (line 1 text, (normal apart (line 1 text) (failed_at 2 busy)).0) ∷ []
 
-  laboratory_fails : History apart busy short_of_memory (normal apart (line 1 text) (laboratory_failed busy)).1
+  laboratory_fails : History apart busy short_of_memory (normal apart (line 1 text) (failed_at 2 busy)).1
   laboratory_fails = (
-    laboratory_failed busy,
-    (
-      refl,
-      record { account = account laboratory; known = of_laboratory; short = refl; ascii = refl; operations = 0; globals = refl; locks = refl; sessions = refl },
-    ),
-    ((normal apart (line 1 text) (laboratory_failed busy)).1, clinic_runs (laboratory_failed busy) (line 1 text), refl),
+    failed_at 2 busy,
+    (refl, fails_at 2 (account laboratory) of_laboratory busy (codes "S A=1") refl refl),
+    ((normal apart (line 1 text) (failed_at 2 busy)).1, clinic_runs (failed_at 2 busy) (line 1 text), refl),
   )
 
   whole_part : part tied apart short_of_memory ≡ short_of_memory
   whole_part = simp (clinic_inside, laboratory_inside) refl
 
   -- the same lines with the same replies are a history where there is no bank
-  past_failure : History (cut_settings tied apart) (cut_world tied apart quiet) short_of_memory (cut_world tied apart (normal apart (line 1 text) (laboratory_failed busy)).1)
+  past_failure : History (cut_settings tied apart) (cut_world tied apart quiet) short_of_memory (cut_world tied apart (normal apart (line 1 text) (failed_at 2 busy)).1)
   past_failure =
       let least : IsLeastClosed apart clinic tied = reach_is_least_closed apart clinic in
-      let after = (normal apart (line 1 text) (laboratory_failed busy)).1 in
+      let after = (normal apart (line 1 text) (failed_at 2 busy)).1 in
       subst₂ (λ world es. History (cut_settings tied apart) world es (cut_world tied apart after)) same_cut whole_part
       (part_is_history tied apart busy after short_of_memory least.closed busy_fits laboratory_fails)
 

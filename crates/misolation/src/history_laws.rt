@@ -4,11 +4,13 @@ ghost use Rattle.misolation.specs.HistoryLaws.{PartIsHistory, HistoryHasTrace, P
 
 /// The part of every history at the terminals of a closed set, its worlds cut to the set, is a history over the cuts, whichever of
 /// its steps failed.
+#[tactic(auto, using(crate::proofs::PartsAlone::part_is_history))]
 pub fn part_is_history()
     ensures { PartIsHistory }
 {}
 
 /// A history is what a trace tells without the worlds between its steps.
+#[tactic(auto, using(crate::proofs::PartsAlone::history_has_trace))]
 pub fn history_has_trace()
     ensures { HistoryHasTrace }
 {}
@@ -44,6 +46,7 @@ pub fn opening_is_fit()
 {}
 
 /// Histories keep every lock on a name that its terminal's account may hold.
+#[tactic(auto, using(crate::proofs::PartsAlone::histories_keep_fit))]
 pub fn histories_keep_fit()
     ensures { HistoriesKeepFit }
 {}

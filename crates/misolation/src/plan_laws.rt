@@ -32,6 +32,7 @@ pub fn plans_keep_fit()
 {}
 
 /// The cut to a closed set is a world of that kind too, under the cut settings.
+#[tactic(auto, using(crate::proofs::PlansInside::cut_is_fit))]
 pub fn cut_is_fit()
     ensures { CutIsFit }
 {}

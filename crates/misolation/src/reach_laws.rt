@@ -8,6 +8,7 @@ pub fn reach_is_least_closed()
 {}
 
 /// A chain of flows leads to the account exactly from the members of that set.
+#[tactic(auto, using(crate::proofs::Reaching::reach_is_chains))]
 pub fn reach_is_chains()
     ensures { ReachIsChains }
 {}

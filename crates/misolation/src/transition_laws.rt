@@ -14,6 +14,7 @@ pub fn outside_transitions()
 {}
 
 /// Each transition, normal or failed, keeps every lock on a name that its terminal's account may hold.
+#[tactic(auto, using(crate::proofs::Transitions::transitions_keep_fit))]
 pub fn transitions_keep_fit()
     ensures { TransitionsKeepFit }
 {}

@@ -1,6 +1,6 @@
 -- SPDX-License-Identifier: Apache-2.0
 -- The words that most proofs of this crate have, in one place.
-pub use Rattle.std.proofs.Common.{All, Bool, Err, Fits, IsOk, List, MatchOption, None, Ok, Option, Result, Some, [], add-one, ap, append-nil, append_assoc, ap₂, arith, cond, drop, get_or, inl, inr, is_ok, length, length-append, length-drop, map, nat_eq, not, refl, reverse, rules, subst, suc, sym, take, true, vec_capacity, vec_len, w8, zero, zero-add, ℕ, ◌%◌, ◌&&◌, ◌*◌, ◌++◌, ◌+◌, ◌-◌, ◌/◌, ◌<◌, ◌^◌, ◌∙◌, ◌∷◌, ◌≡◌, ◌≢◌, ◌≤◌, ◌⊎◌}
+pub use Rattle.std.proofs.Common.{All, Bool, Err, Fits, IsOk, IsTrue, List, MatchOption, None, Ok, Option, Result, Some, [], add-one, ap, append-nil, append_assoc, ap₂, arith, cond, drop, false, get_or, if◌then◌else◌, inl, inr, is_ok, length, length-append, length-drop, map, nat_eq, nat_lt, not, refl, reverse, rules, subst, suc, sym, take, take-append-drop, true, vec_capacity, vec_len, w8, zero, zero-add, ℕ, ◌%◌, ◌&&◌, ◌*◌, ◌++◌, ◌+◌, ◌-◌, ◌/◌, ◌<◌, ◌==◌, ◌^◌, ◌∙◌, ◌∷◌, ◌≡◌, ◌≢◌, ◌≤◌, ◌⊎◌}
 pub use Rattle.std.proofs.Math.Nat.{div-add-mod', div-one, mod-eq_of_lt, mul-le-mul_right, one-le-pow, pow-le-pow_right, pow-suc}
 pub use Rattle.std.proofs.Math.Seq.{drop-append_seam, drop-cons, take-append_seam}
 pub use Rattle.std.proofs.lemmas.Bool.Decides.{Decides-eqb, nat_tests}
@@ -37,9 +37,13 @@ unfoldable pub use Rattle.mspec.specs.NumberText.{literal_size, numeric_value, s
 pub use Rattle.mspec.specs.Trees.{AreOrderSubscripts, child_of, front, is_before, is_below, is_empty, is_within, last, text_eq}
 pub use Rattle.mvalue.proofs.AsciiNumbers.{text_ascii}
 pub use Rattle.mvalue.specs.Texts.{kind_text}
-pub use Rattle.mkey.specs.Front.{AreSubs, BeginsWithNo, BeginsWithNumber, IsFront, IsSub}
+pub use Rattle.mkey.specs.Front.{AreSubs, BeginsWithNo, BeginsWithNumber, IsFirst, IsFront, IsSub}
 unfoldable pub use Rattle.mkey.specs.Head.{head_number}
 pub use Rattle.mkey.specs.Key.{BoundsKeysOf, IsKey, IsKeyBy, none_empty, one_node}
 pub use Rattle.mkey.specs.Parent.{IsLastAt, IsParent}
 pub use Rattle.mkey.specs.SubsKey.{IsSubsKeyOf, behind_below, beyond, one_list}
 pub use Rattle.mkey.specs.Under.{child_under, passes}
+pub use Rattle.mspec.proofs.Basics.{all_true, byte_pos, rest_is_ascii, start_is_ascii}
+pub use Rattle.mspec.specs.Act.{Node, Text}
+pub use mir.Syntax.{w128}
+pub use mir.Val.{SFits, of_z, to_z}

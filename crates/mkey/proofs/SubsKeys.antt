@@ -1,11 +1,7 @@
 -- SPDX-License-Identifier: Apache-2.0
 -- Bytes of lists of subscripts that begin alike.
-use Rattle.mkey.proofs.KeyWords.{ℕ, suc, ◌≡◌, ◌<◌, ◌++◌, Bool, true, nat_eq, List, [], ◌∷◌, length, drop, Option, Some, None, MatchOption, refl, sym, ◌∙◌, ap, ap₂, arith, slice_get, bytes_decides, slice_cmp, starts_with, nat_cmp, is_ne, Ordering, drop-append_seam, Decides-eqb, nat_tests, flat_map-append, All-push, starts_is, subscript_bytes, subscripts_bytes, NoneEmpty, canonical_value, subscripts_cmp, significant_digits, round, round_size, nearest, rounding_unit, digits_before, numeric_value, literal_size, size_text, is_within, child_of, tag_of, subscripts_order, subscripts_split, subscript_split, BeginsWithNo, IsSub, AreSubs, head_number, IsSubsKeyOf, beyond, behind_below}
-use Rattle.std.proofs.Common.{◌==◌, false}
-use Rattle.std.specs.Prelude.{if◌then◌else◌}
+use Rattle.mkey.proofs.KeyWords.{ℕ, suc, ◌≡◌, ◌<◌, ◌++◌, Bool, true, nat_eq, List, [], ◌∷◌, length, drop, Option, Some, None, MatchOption, refl, sym, ◌∙◌, ap, ap₂, arith, slice_get, bytes_decides, slice_cmp, starts_with, nat_cmp, is_ne, Ordering, drop-append_seam, Decides-eqb, nat_tests, flat_map-append, All-push, starts_is, subscript_bytes, subscripts_bytes, NoneEmpty, canonical_value, subscripts_cmp, significant_digits, round, round_size, nearest, rounding_unit, digits_before, numeric_value, literal_size, size_text, is_within, child_of, tag_of, subscripts_order, subscripts_split, subscript_split, BeginsWithNo, IsSub, AreSubs, head_number, IsSubsKeyOf, beyond, behind_below, ◌==◌, false, if◌then◌else◌, Text, IsFirst}
 use Rattle.std.specs.Fmt.{digits}
-use Rattle.mspec.specs.Node.{Text}
-use Rattle.mkey.specs.Front.{IsFirst}
 use Rattle.mkey.proofs.Children.{at_front}
 use Rattle.mkey.proofs.Heads.{AreBytes, head_decides}
 use Rattle.mkey.proofs.SubscriptFronts.{nothing_begins}

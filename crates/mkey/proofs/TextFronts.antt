@@ -1,10 +1,7 @@
 -- SPDX-License-Identifier: Apache-2.0
 -- The text that bytes begin with.
-use Rattle.mkey.proofs.KeyWords.{ℕ, ◌≡◌, ◌≢◌, ◌+◌, ◌-◌, ◌<◌, ◌≤◌, Option, Some, None, MatchOption, List, [], ◌∷◌, ◌++◌, map, length, get_or, drop, All, refl, sym, ◌∙◌, ap, subst, arith, append_assoc, append-nil, add-one, drop-cons, map-append, All-nil, All-cons, AllAre, IsName, is_name_rest, text_bytes, IsAscii, text_split, IsFront, BeginsWithNo}
-use Rattle.std.proofs.Common.{false, IsTrue}
+use Rattle.mkey.proofs.KeyWords.{ℕ, ◌≡◌, ◌≢◌, ◌+◌, ◌-◌, ◌<◌, ◌≤◌, Option, Some, None, MatchOption, List, [], ◌∷◌, ◌++◌, map, length, get_or, drop, All, refl, sym, ◌∙◌, ap, subst, arith, append_assoc, append-nil, add-one, drop-cons, map-append, All-nil, All-cons, AllAre, IsName, is_name_rest, text_bytes, IsAscii, text_split, IsFront, BeginsWithNo, false, IsTrue, Text, rest_is_ascii, start_is_ascii}
 use Rattle.std.proofs.Math.ListN.{drop_of_length-le}
-use Rattle.mspec.specs.Act.{Text}
-use Rattle.mspec.proofs.Basics.{rest_is_ascii, start_is_ascii}
 
 -- each case of an option, told in other words
 pub match_map : {A : Type 0} {P P' : Type 0} {Q Q' : A → Type 0} (o : Option A) → (P → P') → ((a : A) → Q a → Q' a) → MatchOption o P Q → MatchOption o P' Q'

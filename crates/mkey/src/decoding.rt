@@ -282,6 +282,7 @@ fn read_name(alloc: Global, bytes: &[u8]) -> Result<Option<(Bytes7, usize)>, All
 }
 
 // The parts of the node whose key these bytes are where numbers keep so many digits.
+#[tactic(auto, using(crate::proofs::SubscriptLists::node_found))]
 fn read_by(
     alloc: Global,
     bytes: &[u8],

@@ -102,6 +102,7 @@ pub fn push_texts(out: &mut Vec<u8>, subs: &[Bytes7]) -> Result<(), AllocError>
 }
 
 // How much room a subscript may take.
+#[tactic(auto, using(mvalue::proofs::AsciiNumbers::text_ascii))]
 fn value_room(value: &Value) -> usize
     requires { IsSubscript value.now }
     ensures at_most { result ≤ 272 }

@@ -1,9 +1,5 @@
 // SPDX-License-Identifier: Apache-2.0
 // Why a key could not be built.
-ghost use Rattle.std.specs.Prelude.{◌≡◌};
-ghost use Rattle.mkey.specs.declared.fault.KeyFault.TheVariants.{Memory};
-
-use std::alloc::AllocError;
 
 /// Why a key was not built.
 #[derive(Clone, Copy, Debug, PartialEq, Eq)]
@@ -12,12 +8,4 @@ pub enum KeyFault {
     Sub,
     /// There was no memory for the key.
     Memory,
-}
-
-impl From<AllocError> for KeyFault {
-    ghost from_gives = { λ _ fault. fault ≡ Memory };
-
-    fn from(_error: AllocError) -> KeyFault {
-        KeyFault::Memory
-    }
 }

@@ -95,6 +95,7 @@ impl Half {
 }
 
 // The number that the first eight bytes are, with zeros behind fewer.
+#[tactic(auto, using(std::proofs::lemmas::List::nil_from_length, crate::proofs::Heads::head_nil))]
 fn word(bytes: &[u8]) -> u64
     ensures { result ≡ head_number 8 bytes.now }
 {
@@ -108,6 +109,7 @@ fn word(bytes: &[u8]) -> u64
 }
 
 // The same, a byte at a time, for fewer than eight.
+#[tactic(auto, using(crate::proofs::Heads::head_none, crate::proofs::Heads::head_more))]
 fn short_word(bytes: &[u8]) -> u64
     ensures { result ≡ head_number 8 bytes.now }
 {

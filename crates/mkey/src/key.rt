@@ -62,6 +62,17 @@ fn begun(alloc: Global, account: &[u8], name: &Bytes7, room: usize) -> Result<Ve
     Ok(bytes)
 }
 
+impl From<AllocError> for KeyFault {
+    ghost use Rattle.std.specs.Prelude.{◌≡◌};
+    ghost use Rattle.mkey.specs.declared.fault.KeyFault.TheVariants.{Memory};
+
+    ghost from_gives = { λ _ fault. fault ≡ Memory };
+
+    fn from(_error: AllocError) -> KeyFault {
+        KeyFault::Memory
+    }
+}
+
 impl NodeKey {
     /// The key of the node of this account, global name and subscripts.
     ///

@@ -3,6 +3,7 @@
 ghost use Rattle.mspec.specs.KeyReading.{KeysAreRead};
 
 /// The node that the bytes of a node's key stand for is the node.
+#[tactic(auto, using(mspec::proofs::KeyReadings::keys_are_read))]
 pub fn keys_are_read()
     ensures { KeysAreRead }
 {}

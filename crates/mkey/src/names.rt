@@ -1,33 +1,18 @@
 // SPDX-License-Identifier: Apache-2.0
 // Names of accounts.
-ghost use Rattle.std.specs.Prelude.{◌≡◌, ◌↔◌, All, IsTrue, MatchOption, true};
-ghost use Rattle.mspec.specs.Names.{is_name_rest};
+ghost use Rattle.std.specs.Prelude.{◌≡◌, ◌↔◌, IsTrue, MatchOption};
 ghost use Rattle.mspec.specs.KeyBytes.{IsAccountName};
 
 use arrayvec::ArrayVec;
-use mnum::Bytes7;
+use mnum::{Bytes7, continue_name};
 use mspec::limits::MAX_ACCOUNT_NAME;
 use std::marker::Model;
-
-// Whether the character is a letter or a digit.
-fn is_word(c: u8) -> bool
-    ensures { result ≡ is_name_rest c }
-{
-    c.is_ascii_alphanumeric()
-}
-
-// Whether these are letters and digits alone.
-fn are_words(text: &[u8]) -> bool
-    ensures { IsTrue result ↔ All (λ c. is_name_rest c ≡ true) text.now }
-{
-    text.iter().all(|c| is_word(*c))
-}
 
 // Whether these bytes are an account's name.
 fn names_account(characters: &[u8]) -> bool
     ensures { IsTrue result ↔ IsAccountName characters.now }
 {
-    !characters.is_empty() && characters.len() <= MAX_ACCOUNT_NAME && are_words(characters)
+    !characters.is_empty() && characters.len() <= MAX_ACCOUNT_NAME && continue_name(characters)
 }
 
 /// Whether this is an account's name: 1 to 16 letters or digits. Takes no memory.

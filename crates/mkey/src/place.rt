@@ -12,6 +12,7 @@ const UNIT: i128 = 1_000_000_000_000_000_000;
 
 // The number that the text writes, where it is one to eighteen digits without a zero in front, or `0`: the short way of small
 // whole numbers.
+#[tactic(auto, using(crate::proofs::ShortTexts::short_values))]
 fn short_canonical(text: &[u8]) -> Option<u64>
     ensures value { IfSome result (λ n. canonical_value significant_digits text.now ≡ Some (pos (n * 10 ^ 18))) }
     ensures below { IfSome result (λ n. n < 10 ^ 18) }

@@ -50,6 +50,7 @@ pub fn is_subscript(text: &Bytes7) -> bool
 }
 
 // The same of a value. Each number has so many.
+#[tactic(auto, using(crate::proofs::NumericValues::number_is_sub))]
 fn is_value_subscript(value: &Value) -> bool
     ensures { IsTrue result ↔ IsSubscript value.now }
 {
@@ -60,6 +61,7 @@ fn is_value_subscript(value: &Value) -> bool
 }
 
 // Whether the value can be the last subscript of a walk: one of a node, or empty.
+#[tactic(auto, using(crate::proofs::NumericValues::number_is_sub))]
 fn is_value_short(value: &Value) -> bool
     ensures { IsTrue result ↔ length value.now ≤ max_subscript }
 {

@@ -87,6 +87,7 @@ impl SubsKey {
     }
 
     /// Whether it is the key of no subscripts. Takes no memory.
+    #[tactic(auto, using(crate::proofs::SubsKeys::none_of_bytes))]
     pub fn is_empty(&self) -> bool
         ensures { result ≡ (length self.now == 0) }
     {
@@ -114,6 +115,7 @@ impl SubsKey {
     }
 
     /// Whether the list begins with another one. Takes no memory.
+    #[tactic(auto, using(crate::proofs::SubsKeys::within_bytes))]
     pub fn is_within(&self, above: &SubsKey) -> bool
         ensures { result ≡ is_within above.now self.now }
     {
@@ -127,6 +129,7 @@ impl SubsKey {
     ///
     /// `AllocError` for want of memory.
     #[inline]
+    #[tactic(auto, using(crate::proofs::SubsKeys::bytes_behind, crate::proofs::SubsKeys::child_read))]
     pub fn child_of(&self, alloc: Global, above: &SubsKey) -> Result<Option<Value>, AllocError>
         requires { AreSubs self.now }
         ensures { IfOk result (λ child. child ≡ child_of above.now self.now) }

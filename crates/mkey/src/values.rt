@@ -12,6 +12,7 @@ use std::alloc::{AllocError, Global};
 
 // The subscript that bytes with the tag 1 in front begin with, and how many of them are its own.
 #[inline]
+#[tactic(auto, using(crate::proofs::NumericValues::number_front, crate::proofs::NumericValues::number_is_sub))]
 fn numeric_value(bytes: &[u8]) -> Option<(Value, usize)>
     ensures { MatchOption result
         (BeginsWithNo IsSub (subscript_bytes significant_digits) (1 ∷ bytes.now))

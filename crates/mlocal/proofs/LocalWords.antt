@@ -1,6 +1,6 @@
 -- SPDX-License-Identifier: Apache-2.0
 -- The words that most proofs of this crate have, in one place.
-pub use Rattle.std.proofs.Common.{All, Bool, Bor, Equal, Err, Greater, HashMap, IfOk, IfSome, Less, List, MatchOption, None, Ok, OnErr, OnOk, Option, Ordering, Result, Some, T, [], add-one, ap, append-nil, append_assoc, arith, cond, drop, drop-cons, false, get_or, is_eq, is_none, is_some, length, map, nat_eq, not, option_and_then, option_copied, option_map, position, refl, reverse, rules, set, slice_get, subst, suc, sym, take, true, unwrap_or, ℕ, ℤ, ◌&&◌, ◌++◌, ◌+◌, ◌-◌, ◌<◌, ◌||◌, ◌∙◌, ◌∷◌, ◌≡◌, ◌≤◌}
+pub use Rattle.std.proofs.Common.{All, BTreeMap, Bool, Bor, Equal, Err, Greater, HashMap, IfOk, IfSome, Less, List, MatchOption, None, Ok, OnErr, OnOk, Option, Ordering, Result, Some, T, [], add-one, ap, append-nil, append_assoc, arith, cond, drop, drop-cons, false, filter, get_or, is_eq, is_le, is_lt, is_none, is_some, length, map, nat_cmp, nat_eq, not, option_and_then, option_copied, option_map, position, refl, reverse, rules, set, slice_get, subst, suc, sym, take, true, unwrap_or, ℕ, ℤ, ◌&&◌, ◌++◌, ◌+◌, ◌-◌, ◌<◌, ◌||◌, ◌∙◌, ◌∷◌, ◌≡◌, ◌≤◌}
 pub use Rattle.std.proofs.Math.Bool.{and-true, or-false, or-true}
 pub use Rattle.std.proofs.lemmas.Bool.{and_right, false_from_ne_true}
 pub use Rattle.std.proofs.lemmas.Bool.Decides.{nat_tests}

@@ -13,7 +13,7 @@ or_swap true false = refl
 or_swap false true = refl
 or_swap false false = refl
 
-pub any-reverse : (p : Scope → Bool) (xs : List Scope) → list_any p (reverse xs) ≡ list_any p xs
+pub any-reverse : {A : Type 0} (p : A → Bool) (xs : List A) → list_any p (reverse xs) ≡ list_any p xs
 any-reverse p [] = refl
 any-reverse p (x ∷ xs) = ap (list_any p) (reverse-append (x ∷ []) xs) ∙ list_any-append p (reverse xs) (x ∷ []) ∙ ap (λ b. b || (p x || false)) (any-reverse p xs) ∙ or_swap (p x) (list_any p xs)
 

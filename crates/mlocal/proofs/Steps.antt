@@ -1,11 +1,11 @@
 -- SPDX-License-Identifier: Apache-2.0
 -- What a search in the map of a variable finds of its tree.
-use Rattle.mlocal.proofs.LocalWords.{◌≡◌, Bool, false, List, [], ◌++◌, reverse, All, Option, sym, ap, ◌∙◌, option_and_then, is_some, IsOrdered, list_any, find, map_of, Text, subscripts_cmp, significant_digits, Tree, child_of, order_of, is_before, AreSubs, behind_below, with_own, AreSomeSubs, is_behind, is_between, has_child}
+use Rattle.mlocal.proofs.LocalWords.{◌≡◌, Bool, false, List, [], ◌++◌, reverse, All, Option, sym, ap, ◌∙◌, option_and_then, is_some, IsOrdered, list_any, find, map_of, Text, subscripts_cmp, significant_digits, Tree, child_of, order_of, is_before, AreSubs, behind_below, with_own, AreSomeSubs, is_behind, is_between, has_child, BTreeMap}
 use Rattle.std.specs.BTreeMap as tree
-use Rattle.std.specs.BTreeMap.{BTreeMap}
 use Rattle.std.specs.FinMap as map
 use Rattle.mspec.specs.Trees as trees
 use Rattle.mlocal.proofs.Own.{own_keys, subs_each, keys_with_own, not_child, first_of_others, last_of_others, any_of_others}
+use Rattle.mlocal.proofs.Stacks.{any-reverse}
 use Rattle.mlocal.proofs.Walks.{find_alike, any_found, all_reversed, onward, order_forward}
 
 module _ (t : Tree) (o : Option Text) (m : BTreeMap (List Text) Text) (is : with_own o (map_of (λ x. x) m) ≡ t) (ordered : IsOrdered (subscripts_cmp significant_digits) m) (all : All AreSomeSubs (tree.keys m)) where
@@ -21,8 +21,10 @@ module _ (t : Tree) (o : Option Text) (m : BTreeMap (List Text) Text) (is : with
         e ∙ find_alike q p (reverse (tree.keys m)) (all_reversed AreSubs (tree.keys m) subs) alike
         ∙ last_of_others p none (tree.keys m) o ∙ ap (λ ks. find p (reverse ks)) same_keys
 
-    pub any_walk : is_some (find q (tree.keys m)) ≡ list_any p (map.keys t)
-    any_walk = any_found q p (tree.keys m) subs alike ∙ any_of_others p none (tree.keys m) o ∙ ap (list_any p) same_keys
+    pub any_walk : is_some (find q (reverse (tree.keys m))) ≡ list_any p (map.keys t)
+    any_walk =
+        any_found q p (reverse (tree.keys m)) (all_reversed AreSubs (tree.keys m) subs) alike ∙ any-reverse p (tree.keys m)
+        ∙ any_of_others p none (tree.keys m) o ∙ ap (list_any p) same_keys
 
   pub onward_walk : (low xs : List Text) (x : Text) → ((k : List Text) → AreSubs k → is_between low (behind_below xs) k ≡ has_child (is_before x) xs k)
       → (r : Option (List Text)) → r ≡ find (is_behind low) (tree.keys m) → option_and_then (child_of xs) r ≡ order_of t trees.Forward xs x

@@ -72,6 +72,7 @@ impl Scope {
 
     // Whether it has the name by itself. Not drawn in, so that the walk over levels, most of which have no name, stays short.
     #[inline(never)]
+    #[tactic(auto, using(crate::proofs::Views::yes_or, crate::proofs::Views::no_or))]
     pub(crate) fn has(&self, name: &Name) -> bool
         ensures { result ≡ has self.now name.now }
     {
@@ -85,6 +86,7 @@ impl Scope {
     }
 
     // The value of a variable without subscripts.
+    #[tactic(auto, using(crate::proofs::Views::tree_seen))]
     pub(crate) fn own(&self, name: &Name) -> Option<&Value>
         ensures { option_map (λ value. value.now) result ≡ get (tree_in self.now name.now) [] }
     {
@@ -95,6 +97,7 @@ impl Scope {
     }
 
     // The value at a node.
+    #[tactic(auto, using(crate::proofs::Views::tree_seen))]
     pub(crate) fn get(&self, name: &Name, key: &SubsKey) -> Option<&Value>
         ensures { option_map (λ value. value.now) result ≡ get (tree_in self.now name.now) key.now }
     {

@@ -74,6 +74,7 @@ impl Locals {
     }
 
     /// Closes all levels, so that the scope at the bottom is left. Takes no memory.
+    #[tactic(auto, using(crate::proofs::Levels::all_go))]
     pub fn leave_all(&mut self)
         ensures { self.new ≡ outermost self.old }
     {

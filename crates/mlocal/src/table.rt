@@ -61,6 +61,7 @@ impl Table {
     }
 
     // The variable of a name.
+    #[tactic(auto, using(crate::proofs::Tables::read))]
     pub(crate) fn get(&self, name: &Name) -> Option<&Variable>
         ensures { option_map (λ variable. variable.now) result ≡ get self.now name.now }
     {
@@ -122,6 +123,7 @@ impl Table {
     }
 
     // Puts the variable of a name that has none. For want of memory the variables are as they were.
+    #[tactic(auto, using(crate::proofs::Tables::added))]
     fn add(&mut self, name: &Name, variable: Variable) -> Result<(), AllocError>
         ensures ok { OnOk result (self.new ≡ insert self.old name.now variable) }
         ensures err { OnErr result (self.new ≡ self.old) }
@@ -235,6 +237,7 @@ fn index_of(variables: &IndexMap<Name, Variable>, hint: u16, name: &Name) -> Opt
 
 // Where the map finds a name. Not drawn in, so that a look-up by a hint stays short.
 #[inline(never)]
+#[tactic(auto, using(crate::proofs::Tables::found_there))]
 fn index_by_hash(variables: &IndexMap<Name, Variable>, name: &Name) -> Option<usize>
     ensures { MatchOption result (find (pointwise nat_eq) variables.now name.now ≡ None) (StandsAt variables.now name.now) }
 {

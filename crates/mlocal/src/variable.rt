@@ -3,18 +3,20 @@
 ghost use Rattle.std.specs.Prelude.{◌≡◌, [], IfOk, OnOk, OnErr, option_and_then, option_map, IfSome, not, ◌||◌, reverse};
 ghost use Rattle.std.specs.BTreeMap.{IsOrdered, keys};
 ghost use Rattle.std.specs.BTreeMap.Range.{IsLtBy};
-ghost use Rattle.std.specs.FinMap.{get, insert, empty, keys as nodes_of};
+ghost use Rattle.std.specs.Coded.{coded_ℕ, coded_list};
+ghost use Rattle.std.specs.FinMap.{get, insert, empty, code, keys as nodes_of};
 ghost use Rattle.std.specs.List.{All, find};
 ghost use Rattle.mkey.specs.Front.{AreSubs};
 ghost use Rattle.mkey.specs.SubsKey.{behind_below};
-ghost use Rattle.mlocal.specs.Own.{AreSomeSubs};
+ghost use Rattle.mlocal.specs.Own.{with_own, AreSomeSubs};
 ghost use Rattle.mkey.specs.Way.{way};
 ghost use Rattle.mlocal.specs.Way.{is_behind, is_between, has_child};
 ghost use Rattle.mspec.specs.KeyBytes.{AreSubscripts};
+ghost use Rattle.mspec.specs.Maps.{map_of};
 ghost use Rattle.mspec.specs.NodeOrder.{subscripts_cmp};
 ghost use Rattle.mspec.specs.Number.{significant_digits};
 ghost use Rattle.mspec.specs.Scopes.{is_bare};
-ghost use Rattle.mspec.specs.Trees.{without, is_within, child_of, has_value, has_descendants, Forward, order_of, is_before, is_empty, front, last, AreOrderSubscripts};
+ghost use Rattle.mspec.specs.Trees.{Tree, without, is_within, child_of, has_value, has_descendants, Forward, order_of, is_before, is_empty, front, last, AreOrderSubscripts};
 
 use crate::subtree::{keys_from, remove_all};
 use mkey::{Data, Direction, SubsKey, front, last};
@@ -34,14 +36,6 @@ pub(crate) struct Variable {
 }
 
 impl Model for Variable {
-    ghost use Rattle.std.specs.Coded.{coded_ℕ, coded_list};
-    ghost use Rattle.std.specs.BTreeMap.{keys};
-    ghost use Rattle.std.specs.FinMap.{code};
-    ghost use Rattle.std.specs.List.{All};
-    ghost use Rattle.mlocal.specs.Own.{with_own, AreSomeSubs};
-    ghost use Rattle.mspec.specs.Maps.{map_of};
-    ghost use Rattle.mspec.specs.Trees.{Tree};
-
     ghost Value = { Tree };
 
     ghost coded = { code (coded_list (coded_list coded_ℕ)) (coded_list coded_ℕ) };
@@ -63,6 +57,7 @@ impl Variable {
     }
 
     // Its own value.
+    #[tactic(auto, using(crate::proofs::Own::own_there, crate::proofs::Views::shown))]
     pub(crate) fn own(&self) -> Option<&Value>
         ensures { option_map (λ value. value.now) result ≡ get self.now [] }
     {
@@ -87,6 +82,7 @@ impl Variable {
     }
 
     // Gives it a value of its own.
+    #[tactic(auto, using(crate::proofs::Own::own_set))]
     pub(crate) fn set_own(&mut self, value: Value)
         ensures { self.new ≡ insert self.old [] value }
     {
@@ -139,7 +135,7 @@ impl Variable {
         let end = SubsKey::behind_below(alloc, subs)?;
         Ok(Data {
             value: self.get(&key).is_some(),
-            descendants: first_between(&self.values, &key, &end).is_some(),
+            descendants: last_between(&self.values, &key, &end).is_some(),
         })
     }
 
@@ -217,6 +213,7 @@ fn child(
 }
 
 // The first key that stands behind one.
+#[tactic(auto, using(crate::proofs::Walks::none_is))]
 fn first_behind<'a>(values: &'a BTreeMap<SubsKey, Value>, low: &SubsKey) -> Option<&'a SubsKey>
     requires subs { All AreSomeSubs (keys values.now) }
     ensures ordered { IsOrdered (subscripts_cmp significant_digits) values.now }
@@ -232,28 +229,8 @@ fn first_behind<'a>(values: &'a BTreeMap<SubsKey, Value>, low: &SubsKey) -> Opti
     }
 }
 
-// The first key that stands behind one and before another.
-fn first_between<'a>(
-    values: &'a BTreeMap<SubsKey, Value>,
-    low: &SubsKey,
-    high: &SubsKey,
-) -> Option<&'a SubsKey>
-    requires forward { IsLtBy (subscripts_cmp significant_digits) low.now high.now }
-    requires subs { All AreSomeSubs (keys values.now) }
-    ensures ordered { IsOrdered (subscripts_cmp significant_digits) values.now }
-    ensures subs { IfSome result (λ k. AreSubs k.now) }
-    ensures key { option_map (λ k. k.now) result ≡ find (is_between low.now high.now) (keys values.now) }
-{
-    match values
-        .range((Bound::Excluded(low), Bound::Excluded(high)))
-        .next()
-    {
-        Some((key, _)) => Some(key),
-        None => None,
-    }
-}
-
-// The last of them.
+// The last key that stands behind one and before another.
+#[tactic(auto, using(crate::proofs::Walks::none_last))]
 fn last_between<'a>(
     values: &'a BTreeMap<SubsKey, Value>,
     low: &SubsKey,

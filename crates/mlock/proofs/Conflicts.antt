@@ -1,6 +1,6 @@
 -- SPDX-License-Identifier: Apache-2.0
 -- Whether a name conflicts with those that are held, by the holdings.
-use Rattle.mlock.proofs.LockWords.{Entry, ◌≡◌, ◌<◌, ℕ, Bool, true, false, not, nat_eq, ◌&&◌, ◌||◌, List, [], ◌∷◌, map, length, Option, Some, None, ◌⊎◌, inl, inr, refl, sym, ap, ◌∙◌, append-nil, subst, is_some, slice_get, true≢false, slice_get_within, get_or_from_slice_get, slice_get-get_or, Any-from_list_any, list_any_at, and_parts, and_from, false_from_ne_true, or_left, or_right, or_cases, keys, contains_key-keys, get-from_entries, is_some-find, list_any, eq_by_cmp, eq_by_cmp_equiv, both_ways, place_from_lookup, lookup_from_place, IndexMap, IsUnique, LockName, Held, held, held_cmp, is_within, is_conflict, has_conflict, Locks, held_cmp_total, lock_name_cmp_total, name_above, is_other, Holding, lock_of, locks_of, IsFree, name_eq, is_under}
+use Rattle.mlock.proofs.LockWords.{Entry, ◌≡◌, ◌<◌, ℕ, Bool, true, false, not, nat_eq, ◌||◌, List, [], ◌∷◌, map, length, Option, Some, None, ◌⊎◌, inl, inr, refl, sym, ap, ◌∙◌, append-nil, subst, is_some, slice_get, true≢false, slice_get_within, get_or_from_slice_get, slice_get-get_or, Any-from_list_any, list_any_at, and_parts, and_from, false_from_ne_true, or_right, or_cases, keys, contains_key-keys, get-from_entries, is_some-find, list_any, eq_by_cmp, eq_by_cmp_equiv, both_ways, place_from_lookup, lookup_from_place, IndexMap, IsUnique, LockName, Held, held, held_cmp, is_within, is_conflict, has_conflict, Locks, held_cmp_total, lock_name_cmp_total, name_above, is_other, Holding, lock_of, locks_of, IsFree, name_eq, is_under, ◌&&◌, nil_from_length, or_left}
 use Rattle.std.specs.FinMap.{get}
 use Rattle.indexmap.specs.IndexMap as index
 use Rattle.std.proofs.Common.{arith}
@@ -97,6 +97,10 @@ module _ {S : Type 0} (m : IndexMap LockName Holding S) (n : LockName) (t : ℕ)
 
   pub by_itself : is_other t (index.get name_eq m n) ≡ true → has_conflict (locks_of m) (held t n) ≡ true
   by_itself = by_name n (within_itself n)
+
+  -- where no name is held, none conflicts
+  pub by_no_name : length m.entries ≡ 0 → has_conflict (locks_of m) (held t n) ≡ false
+  by_no_name none = conflict_is m (held t n) ∙ ap (list_any conflicts_with) (nil_from_length m.entries none)
 
   -- where none of these is another's, none conflicts
   pub by_none : IsUnique name_eq m → list_any (under_other n t) m.entries ≡ false → is_other t (index.get name_eq m n) ≡ false

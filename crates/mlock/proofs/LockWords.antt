@@ -4,6 +4,7 @@ pub use Rattle.std.proofs.Common.{All, Bool, Equal, Err, Greater, IfOk, IfSome, 
 pub use Rattle.std.proofs.Math.Seq.{take-append-add, take-append_seam}
 pub use Rattle.std.proofs.lemmas.Bool.{and_from, and_parts, and_right, cases_Bool, cases_eq, cases_lt, false_from_ne_true, or_cases, or_left, or_parts, or_right}
 pub use Rattle.std.proofs.lemmas.Bool.Decides.{nat_tests}
+pub use Rattle.std.proofs.lemmas.List.{nil_from_length}
 pub use Rattle.std.proofs.lemmas.List.Folds.{Any-from_list_any, list_any_at, list_any_none}
 pub use Rattle.std.proofs.lemmas.Map.Entries.{lookup_from_place, place_from_lookup}
 pub use Rattle.std.proofs.lemmas.Option.{get_or_from_slice_get, none-some, slice_get-get_or, slice_get_within}

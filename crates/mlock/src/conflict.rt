@@ -14,7 +14,7 @@ use crate::tally::Tally;
 use indexmap::IndexMap;
 use std::alloc::AllocError;
 
-// Whether another terminal holds a name that conflicts with this one.
+// Whether another terminal holds a name that conflicts with this one. Where no name is held, none is looked up.
 pub fn conflicts(
     holdings: &IndexMap<LockName, Holding>,
     below: &IndexMap<LockName, Tally>,
@@ -24,6 +24,9 @@ pub fn conflicts(
     requires { Kept holdings.now below.now }
     ensures { IfOk result (λ conflict. conflict ≡ has_conflict (locks_of holdings.now) (lock terminal name.now)) }
 {
+    if holdings.is_empty() {
+        return Ok(false);
+    }
     if is_others_below(below, terminal, name) {
         return Ok(true);
     }

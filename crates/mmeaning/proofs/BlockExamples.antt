@@ -1,6 +1,6 @@
 -- SPDX-License-Identifier: Apache-2.0
 -- Argumentless DO and lines with dots on examples, as proved equations.
-use Rattle.mspec.specs.Code.{M9, M13, Zsyntax, Zlevel, Zsteps}
+use Rattle.mmeaning.proofs.MeaningWords.{M9, M13, Zsyntax, Zlevel, Zsteps}
 use Rattle.mmeaning.proofs.Running.{[], ◌∷◌, refl, codes, new_session, done, failed, at_first, at_last, asked, serving_in, holding_in, With, WithSteps, Anywhere, WithEach, at_case, no_more, runs, running}
 
 record Blocks : Type 0 where

@@ -1,7 +1,6 @@
 -- SPDX-License-Identifier: Apache-2.0
 -- Globals on examples, as proved equations. What a line asks of the world is followed one operation after another.
-use Rattle.mmeaning.proofs.MeaningWords.{Bool, cond, Option, ap, ◌∙◌, eq_by_cmp, nat_cmp, get, insert, retain_keys, get-insert, get-empty, Op, Answer, Plan, Done, Ask, Ops, perform, Outcome, Fails, State, LineTree, line_at, Completion, Reply, World, Session, normal, kept, ended, begun, is_too_long, is_ascii, not, option_map, get_cut, node_cmp_total, node_cmp_exact, computes, Code, M1, M7, Zsub, node_cmp, significant_digits, is_node_within, status, Shared, act}
-use Rattle.mspec.specs.Node.{Text, Node}
+use Rattle.mmeaning.proofs.MeaningWords.{Bool, cond, Option, ap, ◌∙◌, eq_by_cmp, nat_cmp, get, insert, retain_keys, get-insert, get-empty, Op, Answer, Plan, Done, Ask, Ops, perform, Outcome, Fails, State, LineTree, line_at, Completion, Reply, World, Session, normal, kept, ended, begun, is_too_long, is_ascii, not, option_map, get_cut, node_cmp_total, node_cmp_exact, computes, Code, M1, M7, Zsub, node_cmp, significant_digits, is_node_within, status, Shared, act, Text, Node}
 use Rattle.mmeaning.proofs.ExampleAccount.{alice}
 use Rattle.mmeaning.proofs.LineRuns.{event, shut, shut_run, shut_step, step_is_shut}
 use Rattle.mmeaning.proofs.Running.{◌≡◌, List, [], ◌∷◌, Some, None, true, false, refl, codes, empty, gets, Globals, new_session, opening, account, done, failed, AreAnswered, at_last, Anywhere, runs}

@@ -76,8 +76,13 @@ and_seven n = suc (suc (suc (suc (suc (suc (suc n))))))
 abbrev looping : List CommandTree
 looping = commands_in doubling_2.body
 
--- in a level, and with variables of which N is one
-module _ (levels : ℕ) (locals : Text → Locals) (reads : (x : Text) → value_of (locals x) (codes "N") [] ≡ Some x) (sets : (x y : Text) → assigned_to (locals x) (codes "N") [] y ≡ locals y) where
+-- variables of which N is one
+record HaveNumber (locals : Text → Locals) : Type 0 where
+  reads : (x : Text) → value_of (locals x) (codes "N") [] ≡ Some x
+  sets : (x y : Text) → assigned_to (locals x) (codes "N") [] y ≡ locals y
+
+-- in a level, and with such variables
+module _ (levels : ℕ) (locals : Text → Locals) (have : HaveNumber locals) where
   abbrev in_store : Plan (Outcome Completion) → Shared → Outcome Completion × Shared
   in_store p w = perform (act alice 1 (codes "ALICE")) p w
 
@@ -111,17 +116,17 @@ module _ (levels : ℕ) (locals : Text → Locals) (reads : (x : Text) → value
   turns : Turns
   unfolding name_at label_at
   turns = record {
-    from_1 = λ n steps f w. simp (by_number, reads, sets, doubling_2_read);
-    from_2 = λ n steps f w. simp (by_number, reads, sets, doubling_2_read);
-    from_4 = λ n steps f w. simp (by_number, reads, sets, doubling_2_read);
-    from_8 = λ n steps f w. simp (by_number, reads, sets, doubling_2_read);
-    from_16 = λ n steps f w. simp (by_number, reads, sets, doubling_2_read);
+    from_1 = λ n steps f w. simp (by_number, have.reads, have.sets, doubling_2_read);
+    from_2 = λ n steps f w. simp (by_number, have.reads, have.sets, doubling_2_read);
+    from_4 = λ n steps f w. simp (by_number, have.reads, have.sets, doubling_2_read);
+    from_8 = λ n steps f w. simp (by_number, have.reads, have.sets, doubling_2_read);
+    from_16 = λ n steps f w. simp (by_number, have.reads, have.sets, doubling_2_read);
   }
 
   -- six steps of the last turn, one of the third line and three of its commands
   last_turn : (n steps : ℕ) (f : Completion → Act Completion) (w : Shared) → entered_at (suc (suc n)) (suc (suc (suc (suc (suc (suc (suc (suc (suc (suc steps)))))))))) (codes "32") f w ≡ in_store (f Go_on (at_number steps (codes "64") (codes "64"))) w
   unfolding name_at label_at
-  last_turn n steps f w = simp (by_number, text_opened, reads, sets, doubling_3_read)
+  last_turn n steps f w = simp (by_number, text_opened, have.reads, have.sets, doubling_3_read)
 
   abbrev for_turns : ℕ → ℕ → ℕ
   for_turns zero steps = suc (suc (suc (suc (suc (suc (suc (suc (suc (suc steps)))))))))
@@ -141,16 +146,12 @@ module _ (levels : ℕ) (locals : Text → Locals) (reads : (x : Text) → value
 abbrev in_do : Text → Locals
 in_do x = level_begun (level_begun (record bottom { trees = insert empty (codes "N") (insert empty [] x) } ∷ []))
 
-do_reads : (x : Text) → value_of (in_do x) (codes "N") [] ≡ Some x
-unfolding value_of level_begun
-do_reads x = simp variables
+do_have : HaveNumber in_do
+unfolding value_of assigned_to level_begun
+do_have = record { reads = λ x. simp variables; sets = λ x y. simp variables }
 
-do_sets : (x y : Text) → assigned_to (in_do x) (codes "N") [] y ≡ in_do y
-unfolding assigned_to level_begun
-do_sets x y = simp variables
-
-do_turns : (f : Completion → Act Completion) (w : Shared) → shut_at 1 in_do do_reads do_sets 1999 1995 (codes "1") f w ≡ in_store 1 in_do do_reads do_sets (f Go_on (at_number 1 in_do do_reads do_sets 1950 (codes "64") (codes "64"))) w
-do_turns f w = all_turns 1 in_do do_reads do_sets 1992 1950 f w
+do_turns : (f : Completion → Act Completion) (w : Shared) → shut_at 1 in_do do_have 1999 1995 (codes "1") f w ≡ in_store 1 in_do do_have (f Go_on (at_number 1 in_do do_have 1950 (codes "64") (codes "64"))) w
+do_turns f w = all_turns 1 in_do do_have 1992 1950 f w
 
 goto_in_routine : (g : Globals) → lines_in g (codes "G") ≡ doubling → AreAnswered account (opening g) (codes "D A^G W \".\"" ∷ []) (done (codes "64.") ∷ [])
 unfolding name_at label_at no_locals level_begun value_of assigned_to canonical_value
@@ -184,19 +185,15 @@ with_index x = record bottom { trees = insert (insert empty (codes "I") (insert 
 abbrev in_line : Text → Locals
 in_line x = level_begun (with_index x)
 
-line_reads : (x : Text) → value_of (in_line x) (codes "N") [] ≡ Some x
-unfolding value_of level_begun
-line_reads x = simp variables
-
-line_sets : (x y : Text) → assigned_to (in_line x) (codes "N") [] y ≡ in_line y
-unfolding assigned_to level_begun
-line_sets x y = simp variables
+line_have : HaveNumber in_line
+unfolding value_of assigned_to level_begun
+line_have = record { reads = λ x. simp variables; sets = λ x y. simp variables }
 
 -- nothing follows the level of the line
-line_turns : (w : Shared) → perform (act alice 1 (codes "ALICE")) ((shut (codes "ALICE") 1999).enter (second 0 in_line line_reads line_sets) looping (at_number 0 in_line line_reads line_sets 1990 (codes "1") [])) w ≡ (Gives Go_on (at_number 0 in_line line_reads line_sets 1945 (codes "64") (codes "64")), w)
+line_turns : (w : Shared) → perform (act alice 1 (codes "ALICE")) ((shut (codes "ALICE") 1999).enter (second 0 in_line line_have) looping (at_number 0 in_line line_have 1990 (codes "1") [])) w ≡ (Gives Go_on (at_number 0 in_line line_have 1945 (codes "64") (codes "64")), w)
 line_turns w =
-    ap (λ p. perform (act alice 1 (codes "ALICE")) p w) (sym (then_give ((shut (codes "ALICE") 1999).enter (second 0 in_line line_reads line_sets) looping (at_number 0 in_line line_reads line_sets 1990 (codes "1") []))))
-    ∙ all_turns 0 in_line line_reads line_sets 1992 1945 give w
+    ap (λ p. perform (act alice 1 (codes "ALICE")) p w) (sym (then_give ((shut (codes "ALICE") 1999).enter (second 0 in_line line_have) looping (at_number 0 in_line line_have 1990 (codes "1") []))))
+    ∙ all_turns 0 in_line line_have 1992 1945 give w
 
 goto_leaves_for : (g : Globals) → lines_in g (codes "G") ≡ doubling → AreAnswered account (opening g) (codes "F I=1:1:3 G A^G" ∷ codes "W I" ∷ []) (done (codes "64") ∷ done (codes "1") ∷ [])
 unfolding name_at label_at no_locals level_begun value_of assigned_to canonical_value

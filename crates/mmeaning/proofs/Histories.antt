@@ -1,6 +1,6 @@
 -- SPDX-License-Identifier: Apache-2.0
 -- Histories and normal steps.
-use Rattle.mmeaning.proofs.MeaningWords.{◌≡◌, Bool, true, false, [], ◌∷◌, Option, Some, None, refl, sym, ap, ◌∙◌, subst, map, get, Outcome, Gives, Fails, Completion, Go_on, Skips, Quits, Goes, Halts, Settings, Account, World, Event, Reply, Transition, TransitionBy, normal, at_account, checked, is_too_long, is_ascii, ending_of, reply_of, is_failure, replies, world_after, NormalNeverFails, NormalTransitionsAreHistory, HistoryIsNormal}
+use Rattle.mmeaning.proofs.MeaningWords.{◌≡◌, Bool, true, false, [], ◌∷◌, Option, Some, None, refl, sym, ap, ◌∙◌, subst, map, get, Outcome, Gives, Fails, Completion, Halts, Settings, Account, World, Event, Reply, Transition, TransitionBy, normal, at_account, checked, is_too_long, is_ascii, ending_of, reply_of, is_failure, replies, world_after, NormalNeverFails, NormalTransitionsAreHistory, HistoryIsNormal}
 
 -- no act ends with a loss
 ending_is_own : (s : Completion) → is_failure (ending_of s) ≡ false

@@ -1,6 +1,6 @@
 -- SPDX-License-Identifier: Apache-2.0
 -- The interpreter on examples, as proved equations.
-use Rattle.mmeaning.proofs.MeaningWords.{ℕ, ◌*◌, ◌++◌, Option, rules, ◌^◌, map, replicate, line_at, Done, perform, State, Outcome, Gives, Fails, Completion, replies, computes, size_text, join, Code, M4, M6, M9, M10, Zlong, Zsyntax, Zover, Zarg, Zchar, Zline, Zterm, Zsteps, Event, Reply, begun, text_run}
+use Rattle.mmeaning.proofs.MeaningWords.{ℕ, ◌++◌, Option, map, replicate, line_at, Done, perform, State, Outcome, Gives, Fails, Completion, replies, computes, join, Code, M4, M6, M9, M10, Zlong, Zsyntax, Zover, Zarg, Zchar, Zline, Zterm, Zsteps, Event, Reply, begun, text_run}
 use Rattle.mmeaning.specs.Operators.{binary}
 use Rattle.mmeaning.specs.Transition.{act}
 use Rattle.mmeaning.proofs.ExampleAccount.{alice}

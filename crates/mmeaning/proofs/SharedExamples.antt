@@ -1,7 +1,6 @@
 -- SPDX-License-Identifier: Apache-2.0
 -- What operations do on examples, as proved equations: an account does what its settings let it, and nothing else.
-use Rattle.mmeaning.proofs.MeaningWords.{◌≡◌, [], ◌∷◌, None, true, false, rules, codes, empty, get, insert, remove, LockName, taken, released, May, Value, Status, Put, Kill, Take, State, Gives, Halts, Quits, World, Finished, Halted, ended, kept, Read, Write, status, Shared, act, took}
-use Rattle.mspec.specs.Node.{Text, Node}
+use Rattle.mmeaning.proofs.MeaningWords.{◌≡◌, [], ◌∷◌, None, true, false, rules, codes, empty, get, insert, remove, LockName, taken, released, May, Value, Status, Put, Kill, Take, State, Gives, Halts, Quits, World, Finished, Halted, ended, kept, Read, Write, status, Shared, act, took, Text, Node}
 use Rattle.mspec.specs.Access.{Settings}
 
 -- ALICE lets BOB read her global X

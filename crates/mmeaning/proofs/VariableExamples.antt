@@ -1,7 +1,7 @@
 -- SPDX-License-Identifier: Apache-2.0
 -- Variables on examples, as proved equations.
-use Rattle.mmeaning.proofs.MeaningWords.{◌*◌, ◌^◌, M9, Zsub, Zarg, digits, computes, size_text, reads}
-use Rattle.mmeaning.proofs.Running.{◌≡◌, [], ◌∷◌, refl, codes, gets, done, failed, Answered, holding, at_first, at_last, Each, at_case, no_more, runs, running, numbers}
+use Rattle.mmeaning.proofs.MeaningWords.{M9, Zsub, Zarg, computes, reads}
+use Rattle.mmeaning.proofs.Running.{[], ◌∷◌, refl, codes, gets, done, failed, Answered, holding, at_first, at_last, Each, at_case, no_more, runs, running, numbers}
 
 refusals : Each (
     -- and none but 1 and -1

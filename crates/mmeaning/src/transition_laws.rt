@@ -4,8 +4,7 @@ ghost use Rattle.std.specs.Prelude.{ℕ};
 ghost use Rattle.mspec.specs.Plan.{Plan};
 ghost use Rattle.mspec.specs.Act.{Text, Outcome};
 ghost use Rattle.mmeaning.specs.LineMeaning.{Completion};
-ghost use Rattle.mmeaning.specs.Shared.{Shared};
-ghost use Rattle.mmeaning.specs.Transition.{Settings};
+ghost use Rattle.mmeaning.specs.Transition.{Settings, Shared};
 ghost use Rattle.mmeaning.specs.TransitionLaws.{NormalNeverFails, PlanKeepsOthersLocks, NormalTransitionsAreHistory, HistoryIsNormal};
 
 /// A normal transition is never answered ZMEM or ZSTORE.

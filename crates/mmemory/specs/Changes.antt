@@ -30,7 +30,7 @@ Fits (Put p row) n = (p.chunk < length n) × ((p.row ≤ length (rows_at n p)) �
 Fits (Set p row) n = (p.chunk < length n) × (p.row < length (rows_at n p))
 Fits (Take p) n = (p.chunk < length n) × (p.row < length (rows_at n p))
 Fits (Begin at row) n = at ≤ length n
-Fits (Split at) n = (at < length n) × (1 < length (get_or n at []))
+Fits (Split at head) n = (at < length n) × ((0 < head) × (head < length (get_or n at [])))
 
 -- the rows that it makes
 abbrev pub rows_after : Change → List (List Row) → List Row
@@ -38,7 +38,7 @@ rows_after (Put p row) n = before n p ++ row ∷ after n p
 rows_after (Set p row) n = before n p ++ row ∷ after_row n p (p.row + 1)
 rows_after (Take p) n = before n p ++ after_row n p (p.row + 1)
 rows_after (Begin at row) n = joined (take at n) ++ row ∷ joined (drop at n)
-rows_after (Split at) n = joined n
+rows_after (Split at head) n = joined n
 
 -- what becomes of the chunks if one is split
 abbrev pub Halves : Change → List (List Row) → List (List Row) → Type 0
@@ -46,7 +46,7 @@ Halves (Put p row) old new = Unit {0}
 Halves (Set p row) old new = Unit {0}
 Halves (Take p) old new = Unit {0}
 Halves (Begin at row) old new = Unit {0}
-Halves (Split at) old new = HalvedAt old new at
+Halves (Split at head) old new = HalvedAt old new at
 
 -- where a row stands after that
 abbrev pub is_moved : ℕ → ℕ → ℕ → ℕ × ℕ

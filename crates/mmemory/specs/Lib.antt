@@ -1,5 +1,6 @@
 -- SPDX-License-Identifier: Apache-2.0
 pub mod Lists
+pub mod Packed
 pub mod Nest
 pub mod Probe
 pub mod Sought

@@ -8,15 +8,15 @@ ghost use Rattle.mmemory.specs.Changes.{Makes, HalvedAt, Fits, Halves, rows_afte
 
 use crate::change::Change;
 use crate::chunk::Chunk;
+use crate::packed::Packed;
 use crate::place::Place;
 use crate::step::Step;
 use crate::tree::Tree;
-use sqlite_value::row::Row;
 use std::alloc::{AllocError, Global};
 
 impl Tree {
     // Puts a row in at a place of a chunk that is not full.
-    fn put_at(&mut self, place: Place, row: Row) -> Step
+    fn put_at(&mut self, place: Place, row: Packed) -> Step
         requires chunk { place.chunk < length (tree_nest self.old) }
         requires row { place.row ≤ length (rows_at (tree_nest self.old) place) }
         requires room { length (rows_at (tree_nest self.old) place) < 128 }
@@ -27,7 +27,7 @@ impl Tree {
     }
 
     // Puts a row in place of another.
-    fn set_at(&mut self, place: Place, row: Row) -> Step
+    fn set_at(&mut self, place: Place, row: Packed) -> Step
         requires chunk { place.chunk < length (tree_nest self.old) }
         requires row { place.row < length (rows_at (tree_nest self.old) place) }
         ensures { let n = tree_nest self.old in Makes (plain self.old) (plain self.new) result (before n place ++ row ∷ after_row n place (place.row + 1)) }
@@ -52,7 +52,7 @@ impl Tree {
     }
 
     // Puts a row in as a chunk of its own.
-    fn add_chunk(&mut self, alloc: Global, at: usize, row: Row) -> Result<Step, AllocError>
+    fn add_chunk(&mut self, alloc: Global, at: usize, row: Packed) -> Result<Step, AllocError>
         requires { at ≤ length (tree_nest self.old) }
         ensures ok { let n = tree_nest self.old in IfOk result (λ step. Makes (plain self.old) (plain self.new) step (joined (take at n) ++ row ∷ joined (drop at n))) }
         ensures err { OnErr result (plain self.new ≡ plain self.old) }
@@ -63,16 +63,17 @@ impl Tree {
         Ok(Step::DropChunk(at))
     }
 
-    // Makes two chunks of one.
-    fn split(&mut self, alloc: Global, at: usize) -> Result<Step, AllocError>
+    // Makes two chunks of one, of which the first keeps that many rows.
+    fn split(&mut self, alloc: Global, at: usize, head: usize) -> Result<Step, AllocError>
         requires chunk { at < length (tree_nest self.old) }
-        requires rows { 1 < length (get_or (tree_nest self.old) at []) }
+        requires some { 0 < head }
+        requires rows { head < length (get_or (tree_nest self.old) at []) }
         ensures ok { IfOk result (λ step. Makes (plain self.old) (plain self.new) step (tree_rows self.old)) }
         ensures halves { IfOk result (λ _. HalvedAt (tree_nest self.old) (tree_nest self.new) at) }
         ensures err { OnErr result (plain self.new ≡ plain self.old) }
     {
         self.chunks.reserve(self.spare + 1)?;
-        let tail = self.chunks[at].split(alloc)?;
+        let tail = self.chunks[at].split(alloc, head)?;
         self.chunks.insert(at + 1, tail).unwrap();
         Ok(Step::Join(at))
     }
@@ -89,7 +90,7 @@ impl Tree {
             Change::Set(place, row) => Ok(self.set_at(place, row)),
             Change::Take(place) => Ok(self.take_at(place)),
             Change::Begin(at, row) => self.add_chunk(alloc, at, row),
-            Change::Split(at) => self.split(alloc, at),
+            Change::Split(at, head) => self.split(alloc, at, head),
         }
     }
 }

@@ -6,26 +6,47 @@ ghost use Rattle.mmemory.specs.Lists.{put_in, taken};
 
 use crate::lead::Lead;
 use crate::marks::Marks;
-use sqlite_value::row::Row;
+use crate::packed::Packed;
+use sqlite_trees::store::Shape;
 use std::alloc::{AllocError, Global};
 use std::mem;
 
 pub(crate) const CHUNK_LIMIT: usize = 128;
 
+// So much room is left in a chunk that rows fill from one end.
+const ROOM_LEFT: usize = 16;
+
 /// Up to 128 rows, with room for all of them from the start. How the first of them begins and the
 /// marks of all lead a search, and nothing that is proved rests on them.
 #[derive(Drop)]
 pub(crate) struct Chunk {
-    pub rows: Vec<Row>,
+    pub rows: Vec<Packed>,
     pub lead: Lead,
     pub marks: Marks,
     pub ghost some: { rows.items ≢ [] },
     pub ghost fits: { (length rows.items ≤ 128) × (128 ≤ vec_capacity rows) },
 }
 
+// How many rows a full chunk keeps if a row goes in at a place: half of them, unless rows come in
+// order. The numbers of a table's rows rise, and none comes between others.
+pub(crate) fn rows_kept(shape: Shape, at: usize) -> usize
+    ensures some { 0 < result }
+    ensures fewer { result < 128 }
+{
+    if at == 0 {
+        ROOM_LEFT
+    } else if at < CHUNK_LIMIT {
+        CHUNK_LIMIT / 2
+    } else if shape == Shape::Table {
+        CHUNK_LIMIT - 1
+    } else {
+        CHUNK_LIMIT - ROOM_LEFT
+    }
+}
+
 impl Chunk {
     // A chunk of one row.
-    pub(crate) fn of_row(alloc: Global, row: Row) -> Result<Chunk, AllocError>
+    pub(crate) fn of_row(alloc: Global, row: Packed) -> Result<Chunk, AllocError>
         ensures { IfOk result (λ c. c.rows.items ≡ row ∷ []) }
     {
         let mut rows = Vec::with_capacity(alloc, CHUNK_LIMIT)?;
@@ -35,7 +56,7 @@ impl Chunk {
     }
 
     // A chunk of these rows.
-    fn of_rows(rows: Vec<Row>, mut marks: Marks) -> Chunk
+    fn of_rows(rows: Vec<Packed>, mut marks: Marks) -> Chunk
         requires some { rows.items ≢ [] }
         requires fits { (length rows.items ≤ 128) × (128 ≤ vec_capacity rows) }
         ensures { result.rows.items ≡ rows.items }
@@ -46,7 +67,7 @@ impl Chunk {
     }
 
     // Puts a row in, unless the chunk is full.
-    pub(crate) fn put(&mut self, at: usize, row: Row)
+    pub(crate) fn put(&mut self, at: usize, row: Packed)
         ensures { self.new.rows.items ≡ put_in at row self.old.rows.items }
     {
         if at <= self.rows.len() && self.rows.len() < CHUNK_LIMIT {
@@ -57,7 +78,7 @@ impl Chunk {
     }
 
     // Takes a row out that is not the only one.
-    pub(crate) fn take(&mut self, at: usize) -> Row
+    pub(crate) fn take(&mut self, at: usize) -> Packed
         requires within { at < length self.old.rows.items }
         requires others { 1 < length self.old.rows.items }
         ensures rows { self.new.rows.items ≡ remove self.old.rows.items at }
@@ -79,7 +100,7 @@ impl Chunk {
     }
 
     // Puts a row in place of another, which it gives.
-    pub(crate) fn set(&mut self, at: usize, row: Row) -> Row
+    pub(crate) fn set(&mut self, at: usize, row: Packed) -> Packed
         requires { at < length self.old.rows.items }
         ensures rows { self.new.rows.items ≡ slice_set self.old.rows.items at row }
         ensures row { result ≡ slice_index_or self.old.rows.items at [] }
@@ -91,15 +112,15 @@ impl Chunk {
         old
     }
 
-    // Takes the rows of the second half off.
-    pub(crate) fn split(&mut self, alloc: Global) -> Result<Chunk, AllocError>
-        requires { 1 < length self.old.rows.items }
+    // Takes the rows from a place on off.
+    pub(crate) fn split(&mut self, alloc: Global, at: usize) -> Result<Chunk, AllocError>
+        requires some { 0 < at }
+        requires rows { at < length self.old.rows.items }
         ensures rows { IfOk result (λ tail. self.old.rows.items ≡ self.new.rows.items ++ tail.rows.items) }
         ensures err { OnErr result (self.new.rows.items ≡ self.old.rows.items) }
     {
         let mut rows = Vec::with_capacity(alloc, CHUNK_LIMIT)?;
         let marks = Marks::new(alloc, CHUNK_LIMIT)?;
-        let at = self.rows.len() / 2;
         while self.rows.len() > at {
             rows.push(self.rows.pop().unwrap()).unwrap();
         }

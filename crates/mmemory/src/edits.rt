@@ -8,6 +8,7 @@ ghost use Rattle.mmemory.specs.Held.{now, Keeps, Writes, shape_at};
 
 use crate::change::Change;
 use crate::held::Held;
+use crate::packed::Packed;
 use crate::probe::Probe;
 use sqlite_trees::store::Shape;
 use sqlite_value::keys::Order;
@@ -23,7 +24,7 @@ impl Held {
         ensures ok { OnOk result (Writes self.old self.new tree (put_row row.now (rows_of (now self.old) tree))) }
         ensures err { OnErr result (Keeps self.old self.new) }
     {
-        let new = row.copy(self.alloc)?;
+        let new = Packed::of(self.alloc, row)?;
         let (place, hit) = self.trees[tree].seek(Probe::BelowRowid(row.get(0)));
         if hit {
             return self.change(tree, Change::Set(place, new));
@@ -59,7 +60,7 @@ impl Held {
         if hit {
             return Ok(());
         }
-        let new = entry.copy(self.alloc)?;
+        let new = Packed::of(self.alloc, entry)?;
         self.add(tree, place, new)
     }
 

@@ -6,10 +6,10 @@ ghost use Rattle.mmemory.specs.Plain.{tree_nest, tree_rows};
 ghost use Rattle.mmemory.specs.Probe.{passes, Falls, Splits};
 ghost use Rattle.mmemory.specs.Sought.{IsSought};
 
+use crate::packed::Packed;
 use crate::place::Place;
 use crate::probe::{Probe, chunk_edge, row_edge};
 use crate::tree::Tree;
-use sqlite_value::row::Row;
 
 impl Tree {
     // Where the rows cease to pass.
@@ -29,7 +29,7 @@ impl Tree {
     }
 
     // The rows of the chunk of a place.
-    pub(crate) fn rows_at(&self, place: Place) -> &[Row]
+    pub(crate) fn rows_at(&self, place: Place) -> &[Packed]
         ensures rows { result.now ≡ rows_at (tree_nest self.now) place }
         ensures small { length result.now ≤ 128 }
     {
@@ -40,7 +40,7 @@ impl Tree {
     }
 
     // The first row from a place on, and its place.
-    pub(crate) fn next_row(&self, place: Place) -> Option<(Place, &Row)>
+    pub(crate) fn next_row(&self, place: Place) -> Option<(Place, &Packed)>
         ensures none { IfNone result (after (tree_nest self.now) place ≡ []) }
         ensures some { let n = tree_nest self.now in IfSome result (λ found. ComesNext n found.0 (before n place) (after n place) found.1.now) }
     {
@@ -61,7 +61,7 @@ impl Tree {
     }
 
     // The last row of its chunk before a place.
-    fn row_before(&self, place: Place) -> Option<(Place, &Row)>
+    fn row_before(&self, place: Place) -> Option<(Place, &Packed)>
         ensures none { IfNone result (take place.row (rows_at (tree_nest self.now) place) ≡ []) }
         ensures some { IfSome result (λ found. before (tree_nest self.now) place ≡ before (tree_nest self.now) found.0 ++ found.1.now ∷ []) }
     {
@@ -78,7 +78,7 @@ impl Tree {
     }
 
     // The last row before a place, and its place.
-    pub(crate) fn last_row(&self, place: Place) -> Option<(Place, &Row)>
+    pub(crate) fn last_row(&self, place: Place) -> Option<(Place, &Packed)>
         ensures none { IfNone result (before (tree_nest self.now) place ≡ []) }
         ensures some { IfSome result (λ found. before (tree_nest self.now) place ≡ before (tree_nest self.now) found.0 ++ found.1.now ∷ []) }
     {

@@ -19,6 +19,7 @@ mod making;
 mod marks;
 pub mod memory;
 mod moments;
+mod packed;
 mod place;
 mod probe;
 mod step;

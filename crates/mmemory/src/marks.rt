@@ -2,7 +2,7 @@
 // What leads a search within a chunk. Nothing that is proved rests on it.
 use crate::guess::Guess;
 use crate::lead::{common, mark};
-use sqlite_value::row::Row;
+use crate::packed::Packed;
 use sqlite_value::value::ValueRef;
 use std::alloc::{AllocError, Global};
 
@@ -23,7 +23,7 @@ impl Marks {
     }
 
     // The marks of these rows.
-    pub(crate) fn make(&mut self, rows: &[Row]) {
+    pub(crate) fn make(&mut self, rows: &[Packed]) {
         self.skip = begins_alike(rows);
         self.marks.clear();
         for row in rows {
@@ -32,7 +32,7 @@ impl Marks {
     }
 
     // The marks of these rows, one of which is new.
-    pub(crate) fn put(&mut self, at: usize, rows: &[Row]) {
+    pub(crate) fn put(&mut self, at: usize, rows: &[Packed]) {
         let is_within = 0 < at && at < rows.len().saturating_sub(1);
         if !is_within && begins_alike(rows) < self.skip {
             self.make(rows);
@@ -60,7 +60,7 @@ impl Marks {
 }
 
 // How many bytes all rows begin with, if they are in order.
-fn begins_alike(rows: &[Row]) -> usize {
+fn begins_alike(rows: &[Packed]) -> usize {
     match (rows.first(), rows.last()) {
         (Some(first), Some(last)) => common(first.get(0), last.get(0)),
         _ => 0,

@@ -81,7 +81,7 @@ impl Memory {
                 let Some((place, found)) = tree.next_row(cursor.place) else {
                     return Ok(None);
                 };
-                row.copy_from(found)?;
+                found.copy_to(row)?;
                 let place = Place {
                     chunk: place.chunk,
                     row: place.row + 1,
@@ -92,7 +92,7 @@ impl Memory {
                 let Some((place, found)) = tree.last_row(cursor.place) else {
                     return Ok(None);
                 };
-                row.copy_from(found)?;
+                found.copy_to(row)?;
                 Ok(Some(Cursor { place, ..cursor }))
             }
         }
@@ -199,7 +199,7 @@ impl Store for Memory {
         let probe = Probe::BelowRowid(ValueRef::Int(id));
         match tree.next_row(tree.find(probe)) {
             Some((_, found)) if probe.meets(found) => {
-                row.copy_from(found)?;
+                found.copy_to(row)?;
                 Ok(true)
             }
             _ => Ok(false),

@@ -8,6 +8,7 @@ use crate::chunk::Chunk;
 use crate::guess::Guess;
 use crate::lead::Lead;
 use crate::marks::Marks;
+use crate::packed::Packed;
 use sqlite_value::keys::Order;
 use sqlite_value::order::compare;
 use sqlite_value::row::Row;
@@ -45,7 +46,7 @@ impl<'a> Probe<'a> {
         }
     }
 
-    fn passes(self, row: &Row) -> bool
+    fn passes(self, row: &Packed) -> bool
         ensures { result ≡ passes self.entry row.now }
     {
         match self {
@@ -64,7 +65,7 @@ impl<'a> Probe<'a> {
     }
 
     // Whether the row is what is sought.
-    pub(crate) fn meets(self, row: &Row) -> bool
+    pub(crate) fn meets(self, row: &Packed) -> bool
         ensures { result ≡ meets self.entry row.now }
     {
         match self {
@@ -95,7 +96,7 @@ pub(crate) fn chunk_edge(chunks: &[Chunk], probe: Probe<'_>) -> usize
 }
 
 // How many rows the test passes, up to one that fails.
-pub(crate) fn row_edge(rows: &[Row], marks: &Marks, probe: Probe<'_>) -> usize
+pub(crate) fn row_edge(rows: &[Packed], marks: &Marks, probe: Probe<'_>) -> usize
     ensures within { result ≤ length rows.now }
     ensures edge { IsEdge (passes probe.entry) rows.now result }
 {

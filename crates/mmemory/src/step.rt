@@ -1,14 +1,15 @@
 // SPDX-License-Identifier: Apache-2.0
 // What takes back a change of one tree.
 use crate::chunk::Chunk;
+use crate::packed::Packed;
 use sqlite_value::row::Row;
 
 /// A place is the number of a chunk, and that of a row in it.
 #[derive(Drop)]
 pub(crate) enum Step {
     DropRow(usize, usize),
-    PutRow(usize, usize, Row),
-    SetRow(usize, usize, Row),
+    PutRow(usize, usize, Packed),
+    SetRow(usize, usize, Packed),
     DropChunk(usize),
     PutChunk(usize, Chunk),
     /// The chunk takes the rows of the one behind it.

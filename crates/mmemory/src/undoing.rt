@@ -6,10 +6,10 @@ ghost use Rattle.mmemory.specs.Plain.{plain, with_chunks, put_back, chunk_rows, 
 ghost use Rattle.mmemory.specs.States.{state_of, undone_one};
 
 use crate::chunk::{CHUNK_LIMIT, Chunk};
+use crate::packed::Packed;
 use crate::step::Step;
 use crate::tree::Tree;
 use crate::undo::Undo;
-use sqlite_value::row::Row;
 
 impl Tree {
     fn drop_row(&mut self, chunk: usize, at: usize)
@@ -20,7 +20,7 @@ impl Tree {
         }
     }
 
-    fn put_row(&mut self, chunk: usize, at: usize, row: Row)
+    fn put_row(&mut self, chunk: usize, at: usize, row: Packed)
         ensures { plain self.new ≡ with_chunks (plain self.old) (over chunk (put_in at row) (tree_nest self.old)) }
     {
         if chunk < self.chunks.len() {
@@ -28,7 +28,7 @@ impl Tree {
         }
     }
 
-    fn set_row(&mut self, chunk: usize, at: usize, row: Row)
+    fn set_row(&mut self, chunk: usize, at: usize, row: Packed)
         ensures { plain self.new ≡ with_chunks (plain self.old) (over chunk (λ rows. set rows at row) (tree_nest self.old)) }
     {
         if chunk < self.chunks.len() && at < self.chunks[chunk].rows.len() {

@@ -7,11 +7,11 @@ ghost use Rattle.mmemory.specs.Changes.{Fits, Halves, IsMoved, rows_after, is_mo
 ghost use Rattle.mmemory.specs.Held.{Keeps, Writes, shape_at, nest_at};
 
 use crate::change::Change;
-use crate::chunk::CHUNK_LIMIT;
+use crate::chunk::{CHUNK_LIMIT, rows_kept};
 use crate::held::Held;
+use crate::packed::Packed;
 use crate::place::Place;
 use crate::undo::Undo;
-use sqlite_value::row::Row;
 use std::alloc::AllocError;
 
 // The place of a row, after its chunk was made two.
@@ -55,13 +55,14 @@ impl Held {
         ensures room { IfOk result (λ at. (at.chunk < length (nest_at self.new tree)) × (length (rows_at (nest_at self.new tree) at) < 128)) }
         ensures err { OnErr result (Keeps self.old self.new) }
     {
-        self.change(tree, Change::Split(place.chunk))?;
+        let kept = rows_kept(self.trees[tree].shape, place.row);
+        self.change(tree, Change::Split(place.chunk, kept))?;
         let head = self.trees[tree].rows_at(place).len();
         Ok(moved(place, head))
     }
 
     // Puts a row in before a place of a full chunk.
-    fn put_apart(&mut self, tree: usize, place: Place, row: Row) -> Result<(), AllocError>
+    fn put_apart(&mut self, tree: usize, place: Place, row: Packed) -> Result<(), AllocError>
         requires tree { tree < length self.old.trees.items }
         requires chunk { place.chunk < length (nest_at self.old tree) }
         requires row { place.row ≤ length (rows_at (nest_at self.old tree) place) }
@@ -70,18 +71,12 @@ impl Held {
         ensures ok { let n = nest_at self.old tree in OnOk result (Writes self.old self.new tree (before n place ++ row ∷ after n place)) }
         ensures err { OnErr result (Keeps self.old self.new) }
     {
-        if place.row == 0 {
-            return self.change(tree, Change::Begin(place.chunk, row));
-        }
-        if place.row == CHUNK_LIMIT {
-            return self.change(tree, Change::Begin(place.chunk + 1, row));
-        }
         let place = self.halve(tree, place)?;
         self.change(tree, Change::Put(place, row))
     }
 
     // Puts a row in before a place.
-    pub(crate) fn add(&mut self, tree: usize, place: Place, row: Row) -> Result<(), AllocError>
+    pub(crate) fn add(&mut self, tree: usize, place: Place, row: Packed) -> Result<(), AllocError>
         requires tree { tree < length self.old.trees.items }
         requires chunk { (place.chunk < length (nest_at self.old tree)) ⊎ (nest_at self.old tree ≡ []) }
         requires row { place.row ≤ length (rows_at (nest_at self.old tree) place) }

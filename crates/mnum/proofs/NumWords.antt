@@ -1,6 +1,6 @@
 -- SPDX-License-Identifier: Apache-2.0
 -- The words that most proofs of this crate have, in one place.
-pub use Rattle.std.proofs.Common.{All, Bool, Equal, Err, Greater, IfErr, IsTrue, Less, List, MatchOption, MatchResult, None, Ok, OnOk, Option, Ordering, Result, Some, [], add-one, add-zero, ap, append-nil, append_assoc, arith, below_more, cond, decimal, drop, drop-cons, eqb, false, get_or, inl, inr, int_cmp, int_div, int_eq, le-ltb, length, length-drop, lit<, lit≤, mul-zero, nat_eq, neg_ℤ, negsuc, not, option_map, pos, refl, rules, subst, suc, sym, take, take_all, true, unsigned_abs, w64, zero, ℕ, ℤ, ⊎_elim, ◌%◌, ◌&&◌, ◌*ℤ◌, ◌*◌, ◌++◌, ◌+ℤ◌, ◌+◌, ◌-ℤ◌, ◌-◌, ◌/◌, ◌<◌, ◌==◌, ◌^◌, ◌∙◌, ◌∷◌, ◌≡◌, ◌≢◌, ◌≤◌, ◌⊎◌}
+pub use Rattle.std.proofs.Common.{All, Bool, Equal, Err, Greater, IfErr, IsTrue, Less, List, MatchOption, MatchResult, None, Ok, OnOk, Option, Ordering, Result, Some, [], add-one, add-zero, ap, append-nil, append_assoc, arith, below_more, cond, decimal, div-le_self, drop, drop-cons, eqb, false, get_or, inl, inr, int_cmp, int_div, int_eq, le-ltb, length, length-drop, lit<, lit≤, mul-le-mul_left, mul-le-mul_right, mul-lt-mul_of_pos_right, mul-pos, mul-zero, mul_assoc, nat_eq, neg_ℤ, negsuc, not, option_map, pos, pow-suc, refl, rules, subst, suc, sym, take, take_all, true, unsigned_abs, w64, zero, zero-mul, ℕ, ℤ, ⊎_elim, ◌%◌, ◌&&◌, ◌*ℤ◌, ◌*◌, ◌++◌, ◌+ℤ◌, ◌+◌, ◌-ℤ◌, ◌-◌, ◌/◌, ◌<◌, ◌==◌, ◌^◌, ◌∙◌, ◌∷◌, ◌≡◌, ◌≢◌, ◌≤◌, ◌⊎◌}
 pub use Rattle.std.proofs.Math.Nat.{div-add-mod, div-add-mod', div-eq_of_lt-le, div-mul-le_self, le_of_mul-le-mul_right, lt-div-mul-add, lt_of_mul-lt-mul_right, mul-div-mul_right, mul-sub, mul_comm, pow-le-pow_right, zero-div}
 pub use Rattle.std.proofs.lemmas.Bool.{cases_eq, cases_lt}
 pub use Rattle.std.proofs.lemmas.Bool.Decides.{Decides-eqb, Decides-int_eq, nat_tests, same_from_decides}
@@ -26,3 +26,5 @@ pub use Rattle.mnum.specs.Floor.{IsFine, IsFloor, floor_left}
 pub use Rattle.mnum.specs.Head.{IsCapped, IsHead}
 pub use Rattle.mnum.specs.Num.{units}
 pub use Rattle.mnum.specs.declared.num.Num.{Num}
+pub use mathlib.Core.Bool.{beq}
+pub use mir.Val.{SFits, of_z, to_z}

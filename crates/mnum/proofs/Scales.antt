@@ -1,7 +1,6 @@
 -- SPDX-License-Identifier: Apache-2.0
 -- Rounding half up.
-use Rattle.mnum.proofs.NumWords.{ℕ, ◌≡◌, ◌+◌, ◌*◌, ◌<◌, ◌≤◌, ap, arith}
-use Rattle.std.proofs.Common.{mul-le-mul_left}
+use Rattle.mnum.proofs.NumWords.{ℕ, ◌≡◌, ◌+◌, ◌*◌, ◌<◌, ◌≤◌, ap, arith, mul-le-mul_left}
 
 -- rounding half up from one digit more than is kept
 pub half_low : (K h n m q X : ℕ) → K ≡ 2 * h → m * K ≤ n + h → n * q ≤ X → m * (2 * (K * q)) ≤ 2 * X + K * q

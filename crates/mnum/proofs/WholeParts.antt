@@ -1,9 +1,6 @@
 -- SPDX-License-Identifier: Apache-2.0
 -- The whole part of a number, and whether it is 0.
-use Rattle.mnum.proofs.NumWords.{ℕ, zero, suc, ◌≡◌, ◌*◌, ◌-◌, ◌/◌, ◌^◌, ◌<◌, ◌≤◌, ◌+◌, Bool, true, false, not, refl, sym, ◌∙◌, ap, arith, lit<, pos, ◌-ℤ◌, ◌==◌, unsigned_abs, int_eq, w64, abs_signed, mul-div-mul_right, Decides-eqb, Decides-int_eq, same_from_decides, ints, signed, ten_pos, ten_add}
-use Rattle.std.proofs.Math.Nat.{mul-pos, zero-mul, div-le_self}
-use mathlib.Core.Bool.{beq}
-use mir.Val.{to_z, of_z}
+use Rattle.mnum.proofs.NumWords.{ℕ, zero, suc, ◌≡◌, ◌*◌, ◌-◌, ◌/◌, ◌^◌, ◌<◌, ◌≤◌, ◌+◌, Bool, true, false, not, refl, sym, ◌∙◌, ap, arith, lit<, pos, ◌-ℤ◌, ◌==◌, unsigned_abs, int_eq, w64, abs_signed, mul-div-mul_right, Decides-eqb, Decides-int_eq, same_from_decides, ints, signed, ten_pos, ten_add, mul-pos, zero-mul, div-le_self, beq, to_z, of_z}
 use Rattle.mspec.specs.Interpretations.{whole_part, is_true}
 use Rattle.mnum.proofs.Sums.{quotient_signed}
 

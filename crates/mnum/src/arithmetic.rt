@@ -55,6 +55,7 @@ fn spread(digits: u64) -> (u64, u32)
 }
 
 // The number of these digits, without zeros behind its point.
+#[tactic(auto, using(crate::proofs::UnitDigits::stripped))]
 fn shortened(digits: u64, places: u32, negative: bool) -> Num
     requires digits_below { digits < 10 ^ 18 }
     requires places_at_most { places ≤ 18 }
@@ -130,6 +131,15 @@ fn signed_digits(n: &Num) -> i64
     if n.negative { -digits } else { digits }
 }
 
+// The number as one of its methods leaves it, which changes it where it stands.
+macro_rules! changed {
+    ($number:expr, $method:ident, $other:expr) => {{
+        let mut number = $number;
+        number.$method(&$other)?;
+        Ok(number)
+    }};
+}
+
 impl Num {
     fn common_places(self, other: Num) -> u32
         ensures first { self.places ≤ result }
@@ -144,6 +154,7 @@ impl Num {
     }
 
     // The digits where so many places are counted.
+    #[tactic(auto, using(crate::proofs::Sums::places_value, crate::proofs::Sums::places_below))]
     fn at_places(self, places: u32) -> u128
         requires near { self.places ≤ places }
         requires at_most { places ≤ 18 }
@@ -166,6 +177,7 @@ impl Num {
 
     /// The order of two numbers by value.
     #[inline]
+    #[tactic(auto, using(crate::proofs::MachineNumbers::cmp_is))]
     pub fn cmp(self, other: Num) -> Ordering
         ensures { result ≡ int_cmp (units self) (units other) }
     {
@@ -219,9 +231,7 @@ impl Num {
     pub fn add(self, other: Num) -> Result<Num, Over>
         ensures { MatchResult result (λ r. sum_of (units self) (units other) ≡ Some (units r)) (λ _. sum_of (units self) (units other) ≡ None) }
     {
-        let mut number = self;
-        number.add_assign(&other)?;
-        Ok(number)
+        changed!(self, add_assign, other)
     }
 
     /// The difference, rounded once.
@@ -286,9 +296,7 @@ impl Num {
     pub fn quot(self, other: Num) -> Result<Num, ArithFault>
         ensures { IsOutcome (units other) (whole_quotient_of (units self) (units other)) result }
     {
-        let mut number = self;
-        number.quot_assign(&other)?;
-        Ok(number)
+        changed!(self, quot_assign, other)
     }
 
     // `rem` at places that differ; the divisor is not zero.
@@ -341,9 +349,7 @@ impl Num {
         ensures value { IsOutcome (units other) (remainder_of (units self) (units other)) result }
         ensures never_over { IfErr result (λ e. e ≡ ArithFault.Zero) }
     {
-        let mut number = self;
-        number.rem_assign(&other)?;
-        Ok(number)
+        changed!(self, rem_assign, other)
     }
 
     /// The number with its sign turned; zero stays zero.
@@ -397,9 +403,7 @@ impl Num {
     pub fn mul(self, other: Num) -> Result<Num, Over>
         ensures { MatchResult result (λ r. product_of (units self) (units other) ≡ Some (units r)) (λ _. product_of (units self) (units other) ≡ None) }
     {
-        let mut number = self;
-        number.mul_assign(&other)?;
-        Ok(number)
+        changed!(self, mul_assign, other)
     }
 
     // `div` of digits that leave something, with zeros behind them too; the divisor is not zero.
@@ -423,6 +427,7 @@ impl Num {
     ///
     /// `Zero` exactly for a zero divisor; else `Over` exactly where the quotient reaches 10^18 in size, before or after
     /// rounding.
+    #[tactic(auto, using(crate::proofs::Quotients::quotient_rounded, crate::proofs::Quotients::some_digits, crate::proofs::Quotients::some_units, crate::proofs::Quotients::exact_quotient))]
     pub fn div_assign(&mut self, other: &Num) -> Result<(), ArithFault>
         ensures { Leaves (units other.now) (quotient_of (units self.old) (units other.now)) self.new result }
     {
@@ -451,8 +456,6 @@ impl Num {
     pub fn div(self, other: Num) -> Result<Num, ArithFault>
         ensures { IsOutcome (units other) (quotient_of (units self) (units other)) result }
     {
-        let mut number = self;
-        number.div_assign(&other)?;
-        Ok(number)
+        changed!(self, div_assign, other)
     }
 }

@@ -19,7 +19,7 @@ mod whole;
 mod writing;
 
 pub use bytes::Bytes7;
-pub use name::{Name, is_name};
+pub use name::{Name, continue_name, is_name};
 pub use num::{ArithFault, Num, Over};
 pub use reading::short_whole;
 pub use writing::{is_canonical, is_canonical_by};

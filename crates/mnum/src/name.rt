@@ -29,8 +29,8 @@ fn continues_name(c: u8) -> bool
     c.is_ascii_alphanumeric()
 }
 
-// Whether these are letters and digits alone.
-fn continue_name(text: &[u8]) -> bool
+/// Whether these are letters and digits alone, as behind the first character of a name. Takes no memory.
+pub fn continue_name(text: &[u8]) -> bool
     ensures { IsTrue result ↔ All (λ c. is_name_rest c ≡ true) text.now }
 {
     text.iter().all(|c| continues_name(*c))
@@ -88,6 +88,7 @@ impl Name {
     /// # Errors
     ///
     /// `AllocError` for want of memory.
+    #[tactic(auto, using(crate::proofs::NameTexts::name_is_ascii))]
     pub fn from_slice(alloc: Global, bytes: &[u8]) -> Result<Name, AllocError>
         requires { IsName bytes.now }
         ensures { IfOk result (λ name. name ≡ bytes.now) }

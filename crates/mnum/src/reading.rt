@@ -53,6 +53,7 @@ pub fn read_digits(head: Head, text: &[u8]) -> (Head, usize)
 }
 
 // The number that the text's first digits write, or some number from 10 ^ 20 on where that is so large.
+#[tactic(auto, using(crate::proofs::Scans::front_is))]
 fn read_capped(text: &[u8]) -> u128
     ensures below { result < 10 ^ 21 }
     ensures value { IsCapped result (digits_after 0 (front_digits text.now)) }
@@ -187,6 +188,7 @@ fn read_literal(text: &[u8], kept: u32) -> Option<Size>
 }
 
 // How many signs the text begins with, and whether they negate.
+#[tactic(auto, using(crate::proofs::LiteralLaws::signs_is, crate::proofs::LiteralLaws::signs_stop))]
 fn read_signs(text: &[u8]) -> (bool, usize)
     ensures negated { result.0 ≡ is_negated text.now }
     ensures count { result.1 ≡ prefix_len is_sign text.now }
@@ -224,6 +226,7 @@ pub fn short_whole(text: &[u8]) -> Option<u64>
 }
 
 // The numeric value of a text, rounded to `kept` digits.
+#[tactic(auto, using(crate::proofs::LiteralLaws::value_is, crate::proofs::Outcomes::same_number))]
 pub fn value_of(text: &[u8], kept: u32) -> Result<Num, Over>
     requires some_kept { 0 < kept }
     requires kept_at_most { kept ≤ 18 }
@@ -240,6 +243,7 @@ impl Num {
     /// # Errors
     ///
     /// `Over` exactly where the value reaches 10^18 in size, before or after rounding.
+    #[tactic(auto, using(mspec::proofs::WholeTexts::value_of_digits))]
     pub fn from_text(text: &[u8]) -> Result<Num, Over>
         ensures { MatchResult result (λ n. numeric_value significant_digits text.now ≡ Some (units n)) (λ _. numeric_value significant_digits text.now ≡ None) }
     {

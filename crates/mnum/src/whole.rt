@@ -33,6 +33,7 @@ impl Num {
 
     /// Whether the number is true: whether it is not 0.
     #[inline]
+    #[tactic(auto, using(crate::proofs::WholeParts::truth_is))]
     pub fn is_true(self) -> bool
         ensures { result ≡ is_true (units self) }
     {

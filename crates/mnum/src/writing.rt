@@ -3,11 +3,11 @@
 ghost use Rattle.std.specs.Prelude.{◌≡◌, ℕ, ◌+◌, ◌-◌, ◌*◌, ◌/◌, ◌%◌, ◌^◌, ◌<◌, ◌≤◌, [], ◌∷◌, ◌++◌, ◌↔◌, true, IsTrue, OnOk, OnErr, length, All, cond, nat_eq};
 ghost use Rattle.std.specs.Cmp.Lexicographic.{pointwise};
 ghost use Rattle.arrayvec.specs.ArrayVec.{array_vec_len};
+ghost use Rattle.mspec.specs.NumberText.{fraction_text, whole_text, number_text, IsCanonical};
 ghost use Rattle.mnum.specs.Num.{units};
 ghost use Rattle.mnum.specs.Start.{starts_number};
 ghost use Rattle.mspec.specs.Literal.{is_digit};
 ghost use Rattle.mspec.specs.Number.{significant_digits};
-ghost use Rattle.mspec.specs.NumberText.{fraction_text, whole_text, number_text, IsCanonical};
 
 use crate::num::Num;
 use crate::powers::power;
@@ -17,6 +17,7 @@ use itoa::Buffer;
 use std::alloc::AllocError;
 
 // Appends the digits of a fraction, up to the last that is not 0.
+#[tactic(auto, using(std::proofs::lemmas::Nat::mod_below, crate::proofs::Prints::fraction_more))]
 fn push_fraction(out: &mut ArrayVec<u8, 40>, places: u32, fraction: u64)
     requires below { fraction < 10 ^ places }
     requires few { places ≤ 18 }
@@ -35,6 +36,7 @@ fn push_fraction(out: &mut ArrayVec<u8, 40>, places: u32, fraction: u64)
 }
 
 // Appends the digits of a whole number, none for 0.
+#[tactic(auto, using(crate::proofs::Prints::decimal_short))]
 fn push_whole(out: &mut ArrayVec<u8, 40>, whole: u64)
     requires below { whole < 10 ^ 18 }
     requires room { array_vec_len out.old + 18 ≤ 40 }
@@ -62,6 +64,7 @@ fn push_sign(out: &mut ArrayVec<u8, 40>, negative: bool)
 
 impl Num {
     /// The canonical text of the number, as `write` has it, on the stack. Takes no memory.
+    #[tactic(auto, using(crate::proofs::Prints::text_zero, crate::proofs::Prints::text_some, crate::proofs::Prints::text_whole))]
     pub fn text(self) -> ArrayVec<u8, 40>
         ensures { result.items ≡ number_text (units self) }
     {
@@ -87,6 +90,7 @@ impl Num {
     /// # Errors
     ///
     /// `AllocError` for want of memory; `out` is then as it was.
+    #[tactic(auto, using(crate::proofs::Prints::text_of_digits))]
     pub fn write(self, out: &mut Vec<u8>) -> Result<(), AllocError>
         ensures ok { OnOk result (out.new.items ≡ out.old.items ++ number_text (units self)) }
         ensures err { OnErr result (out.new.items ≡ out.old.items) }
@@ -99,6 +103,7 @@ impl Num {
     }
 
     /// Whether a text is the canonical text of the number. Takes no memory.
+    #[tactic(auto, using(crate::proofs::Starts::other_text))]
     pub fn is_text(self, text: &[u8]) -> bool
         ensures { result ≡ pointwise nat_eq (number_text (units self)) text.now }
     {

@@ -49,6 +49,7 @@ pub fn arithmetic_of(operator: Binary) -> Option<Arithmetic>
 
 // What was computed in the place of a number, or the code in its place.
 #[inline]
+#[tactic(auto, using(crate::proofs::Numbers::number_left, crate::proofs::Numbers::no_number_left))]
 fn in_range(outcome: Result<(), Over>) -> Result<(), Code>
     ensures { (x : Option ℤ) (left : Num) → MatchResult outcome (λ _. x ≡ Some (units left)) (λ _. x ≡ None) → Yields fault_of (meaning.as_text x) (λ _. number_text (units left)) result }
 {
@@ -60,6 +61,7 @@ fn in_range(outcome: Result<(), Over>) -> Result<(), Code>
 
 // The same of a division.
 #[inline]
+#[tactic(auto, using(crate::proofs::Numbers::quotient_left, crate::proofs::Numbers::no_quotient))]
 fn divided(outcome: Result<(), ArithFault>) -> Result<(), Code>
     ensures { (divisor : ℤ) (x : Option ℤ) (left : Num) → Leaves divisor x left outcome → Yields fault_of (division divisor x) (λ _. number_text (units left)) result }
 {

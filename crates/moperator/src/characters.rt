@@ -1,14 +1,14 @@
 // SPDX-License-Identifier: Apache-2.0
 // Characters and their codes.
 ghost use Rattle.std.specs.Prelude.{◌≡◌, ◌^◌, ◌<◌, unsigned_abs, length, IfErr, OnOk};
+ghost use Rattle.moperator.specs.Codes.{fault_of};
+ghost use Rattle.moperator.specs.Outcomes.{IsDone};
 ghost use Rattle.mspec.specs.CharacterFunctions.{ascii_of, char_of, character_of, is_over_ascii};
+ghost use Rattle.mspec.specs.Code as spec;
 ghost use Rattle.mgrammar.specs.Functions.{char_function};
 ghost use Rattle.mmeaning.specs.Functions.{function_value};
 ghost use Rattle.mmeaning.specs.Operators.{outcome};
 ghost use Rattle.mmeaning.specs.Yields.{Yields, YieldsFault};
-ghost use Rattle.moperator.specs.Codes.{fault_of};
-ghost use Rattle.moperator.specs.Outcomes.{IsDone};
-ghost use Rattle.mspec.specs.Code as spec;
 
 use crate::code::Code;
 use crate::conversions::whole_of;

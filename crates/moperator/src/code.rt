@@ -1,13 +1,5 @@
 // SPDX-License-Identifier: Apache-2.0
 // The codes that end a line.
-ghost use Rattle.std.specs.Prelude.{◌≡◌};
-ghost use Rattle.moperator.specs.declared.code.Code.TheVariants.{Zmem, Zover};
-ghost use Rattle.moperator.specs.Faults.{division_code, fault_code};
-
-use mnum::{ArithFault, Over};
-use mtext::TextFault;
-use std::alloc::{AllocError, AllocFailed};
-
 /// A code that ends a line. Those that begin with M are the standard's, those that begin with Z mserve's own.
 #[derive(Clone, Copy, Debug, PartialEq, Eq)]
 pub enum Code {
@@ -57,51 +49,4 @@ pub enum Code {
     Zmem,
     /// A fault of the database.
     Zstore,
-}
-
-impl From<AllocError> for Code {
-    ghost from_gives = { λ _ code. code ≡ Zmem };
-
-    fn from(_error: AllocError) -> Code {
-        Code::Zmem
-    }
-}
-
-impl<T: Drop> From<AllocFailed<T>> for Code {
-    ghost from_gives = { λ _ code. code ≡ Zmem };
-
-    fn from(_error: AllocFailed<T>) -> Code {
-        Code::Zmem
-    }
-}
-
-impl From<Over> for Code {
-    ghost from_gives = { λ _ code. code ≡ Zover };
-
-    fn from(_over: Over) -> Code {
-        Code::Zover
-    }
-}
-
-impl From<ArithFault> for Code {
-    ghost from_gives = { λ fault code. code ≡ division_code fault };
-
-    fn from(fault: ArithFault) -> Code {
-        match fault {
-            ArithFault::Zero => Code::M9,
-            ArithFault::Over => Code::Zover,
-        }
-    }
-}
-
-impl From<TextFault> for Code {
-    ghost from_gives = { λ fault code. code ≡ fault_code fault };
-
-    fn from(fault: TextFault) -> Code {
-        match fault {
-            TextFault::Arg => Code::Zarg,
-            TextFault::TooLong => Code::Zlong,
-            TextFault::Memory => Code::Zmem,
-        }
-    }
 }

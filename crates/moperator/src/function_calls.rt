@@ -21,6 +21,7 @@ use std::alloc::Global;
 
 // ---- functions, by their names
 
+#[tactic(auto, using(mmeaning::proofs::Yieldings::yields_then, mmeaning::proofs::Yieldings::yields_stopped, mmeaning::proofs::Yieldings::yields_gives, crate::proofs::Numbers::whole_fits))]
 fn ascii(alloc: Global, arguments: &[Value]) -> Result<Value, Code>
     ensures { Yields fault_of (meaning.function_value grammar.ascii_function arguments.now) (λ value. value) result }
 {
@@ -29,6 +30,7 @@ fn ascii(alloc: Global, arguments: &[Value]) -> Result<Value, Code>
     Ok(Value::of_whole(code_at(text.as_text().as_bytes(), place)))
 }
 
+#[tactic(auto, using(mmeaning::proofs::Yieldings::yields_then, mmeaning::proofs::Yieldings::yields_stopped))]
 fn char(alloc: Global, arguments: &[Value]) -> Result<Value, Code>
     ensures value { Yields fault_of (meaning.function_value grammar.char_function arguments.now) (λ value. value) result }
     ensures refused { (code : spec.Code) → (s : State) → FailsBy (meaning.function_value grammar.char_function arguments.now) code s → IsErrAnd result (λ given. fault_of given ≡ spec.Own code) }
@@ -38,6 +40,7 @@ fn char(alloc: Global, arguments: &[Value]) -> Result<Value, Code>
     characters(alloc, &codes)
 }
 
+#[tactic(auto, using(mmeaning::proofs::Yieldings::yields_then, mmeaning::proofs::Yieldings::yields_stopped, mmeaning::proofs::Yieldings::yields_gives))]
 fn extracted(alloc: Global, arguments: &[Value]) -> Result<Value, Code>
     ensures { Yields fault_of (meaning.function_value grammar.extract_function arguments.now) (λ value. value) result }
 {
@@ -48,6 +51,7 @@ fn extracted(alloc: Global, arguments: &[Value]) -> Result<Value, Code>
     Ok(Value::of_bytes(alloc, part)?)
 }
 
+#[tactic(auto, using(mmeaning::proofs::Yieldings::yields_then, mmeaning::proofs::Yieldings::yields_stopped, mmeaning::proofs::Yieldings::yields_gives))]
 fn found(alloc: Global, arguments: &[Value]) -> Result<Value, Code>
     ensures { Yields fault_of (meaning.function_value grammar.find_function arguments.now) (λ value. value) result }
 {
@@ -58,6 +62,7 @@ fn found(alloc: Global, arguments: &[Value]) -> Result<Value, Code>
     Ok(Value::of_count(alloc, place)?)
 }
 
+#[tactic(auto, using(mmeaning::proofs::Yieldings::yields_stopped))]
 fn justified(alloc: Global, arguments: &[Value]) -> Result<Value, Code>
     ensures { Yields fault_of (meaning.function_value grammar.justify_function arguments.now) (λ value. value) result }
 {
@@ -67,6 +72,7 @@ fn justified(alloc: Global, arguments: &[Value]) -> Result<Value, Code>
 }
 
 // Of characters, and of pieces where there is a delimiter.
+#[tactic(auto, using(mmeaning::proofs::Yieldings::yields_gives, crate::proofs::GivenArguments::argument_is))]
 fn length(alloc: Global, arguments: &[Value]) -> Result<Value, Code>
     ensures { Yields fault_of (meaning.function_value grammar.length_function arguments.now) (λ value. value) result }
 {
@@ -82,6 +88,7 @@ fn length(alloc: Global, arguments: &[Value]) -> Result<Value, Code>
     }
 }
 
+#[tactic(auto, using(mmeaning::proofs::Yieldings::yields_then, mmeaning::proofs::Yieldings::yields_stopped, mmeaning::proofs::Yieldings::yields_gives))]
 fn pieces_from_to(alloc: Global, arguments: &[Value]) -> Result<Value, Code>
     ensures { Yields fault_of (meaning.function_value grammar.piece_function arguments.now) (λ value. value) result }
 {

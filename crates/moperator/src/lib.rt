@@ -10,6 +10,7 @@ mod arguments;
 mod arithmetic;
 mod characters;
 mod code;
+mod code_from;
 mod conversions;
 mod function_calls;
 mod operators;

@@ -42,6 +42,7 @@ pub fn computed(outcome: Result<Num, Over>) -> Result<Value, Code>
 }
 
 // A sign makes a number of its operand, `-` turns that number's sign, and `'` negates it as a truth.
+#[tactic(auto, using(mmeaning::proofs::Yieldings::yields_then, mmeaning::proofs::Yieldings::yields_stopped, mmeaning::proofs::Yieldings::yields_gives))]
 fn unary(sign: Sign, value: &Value) -> Result<Value, Code>
     ensures value { Yields fault_of (meaning.unary (sign_tree sign) value.now) (λ value. value) result }
     ensures over { IfErr result (λ code. code ≡ Zover) }
@@ -82,6 +83,7 @@ pub fn unaries(signs: &[Sign], value: Value) -> Result<Value, Code>
 
 // Both operands as numbers, the left one first.
 #[inline(always)]
+#[tactic(auto, using(mmeaning::proofs::Yieldings::yields_then, mmeaning::proofs::Yieldings::yields_stopped, mmeaning::proofs::Yieldings::yields_gives))]
 pub(crate) fn numbers(left: &Value, right: &Value) -> Result<(Num, Num), Code>
     ensures { Yields fault_of (meaning.both_numbers left.now right.now) (λ pair. (units pair.0, units pair.1)) result }
 {
@@ -92,6 +94,7 @@ pub(crate) fn numbers(left: &Value, right: &Value) -> Result<(Num, Num), Code>
 
 // Makes of the left value what an operator of arithmetic gives of the two as numbers.
 #[inline(never)]
+#[tactic(auto, using(mmeaning::proofs::Yieldings::yields_then, mmeaning::proofs::Yieldings::yields_stopped))]
 fn calculate_values(operator: Arithmetic, left: &mut Value, right: &Value) -> Result<(), Code>
     ensures { Yields fault_of (calculated_texts operator left.old right.now) (λ _. left.new) result }
 {
@@ -132,6 +135,7 @@ fn put(place: &mut Value, outcome: Result<Value, Code>) -> Result<(), Code>
 ///
 /// `Zover` where the number of an operand that is to be one, or of the result, is too large; `M9` for a divisor of 0; `Zlong` where joined
 /// texts have more than 4,095 characters, which needs no memory; `Zmem` if out of memory. What the left operand is then is left open.
+#[tactic(auto, using(mmeaning::proofs::Yieldings::yields_stopped))]
 pub fn binary(alloc: Global, operator: Binary, left: &mut Value, right: &Value) -> Result<(), Code>
     ensures value { Yields fault_of (meaning.binary (binary_tree operator) left.old right.now) (λ _. left.new) result }
     ensures long { operator ≡ Join → max_text < length (left.old ++ right.now) → result ≡ Err Zlong }

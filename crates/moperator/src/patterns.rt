@@ -175,6 +175,7 @@ fn has_reversed(atoms: &[mtree::Atom]) -> bool
 }
 
 // The classes that letters name.
+#[tactic(auto, using(crate::proofs::PatternWalk::letter_more))]
 fn classes(letters: &[u8]) -> Classes
     ensures { (c : ℕ) → is_in_set result c ≡ is_in_any (map pattern_code letters.now) c }
 {
@@ -195,6 +196,7 @@ fn lent_repeated(repeated: &mtree::Repeated) -> LentRepeated<'_>
 }
 
 // The atom at a place of a pattern, where there is one.
+#[tactic(auto, using(crate::proofs::PatternWalk::from_atom))]
 fn lent_atom(atoms: &[mtree::Atom], index: usize) -> Option<LentAtom<'_>>
     ensures { IsFirstOf result (drop index (pattern_of atoms.now)) }
 {
@@ -248,6 +250,7 @@ fn value_matches(alloc: Global, atoms: &[mtree::Atom], value: &Value) -> Result<
 /// # Errors
 ///
 /// `M10` where the least count of any atom is above its greatest, before the matching; `Zmem` for want of memory.
+#[tactic(auto, using(crate::proofs::PatternMatches::reversed_fails))]
 pub fn matching(alloc: Global, atoms: &[mtree::Atom], value: &Value) -> Result<bool, Code>
     ensures value { Yields fault_of (meaning.matching (map plain_atom (map atom_tree atoms.now)) value.now) (λ matches. matches) result }
     ensures reversed { list_any (λ a. is_reversed a.count) (map plain_atom (map atom_tree atoms.now)) ≡ true → result ≡ Err Code.M10 }

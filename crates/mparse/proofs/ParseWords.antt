@@ -7,6 +7,8 @@ pub use Rattle.std.proofs.lemmas.List.{map_push}
 pub use Rattle.std.proofs.lemmas.Result.{err_from_is_err_and}
 pub use Rattle.std.specs.Prelude.{Err, IfOk, Ok, Result}
 pub use Rattle.mgrammar.proofs.ReadingIndirectTexts.{reads_its_arguments, reads_its_reference}
+pub use Rattle.mgrammar.proofs.ReadingLines.{reads_its_tree}
+pub use Rattle.mgrammar.proofs.ReadingRoutines.{reads_its_routine_tree}
 pub use Rattle.mgrammar.proofs.ReadingLoops.{comma_goes_on, comma_stops, goes_on, is_done, list_begins, stops}
 pub use Rattle.mgrammar.specs.Grammar.{ExprTree, LineTree, OperandTree, PrimaryTree, ReferenceTree, TailTree, exprs_of, spell, spell_arg, spell_list, spell_reference, tails_of}
 pub use Rattle.mgrammar.specs.IndirectTexts.{args_of, ref_at}

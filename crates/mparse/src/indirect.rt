@@ -43,6 +43,7 @@ fn whole_args(alloc: Global, keyword: Keyword, text: &[u8]) -> Result<Vec<Arg>, 
 /// # Errors
 ///
 /// `Syntax` only where no variable has the text, as where it is empty; `Memory` for want of memory.
+#[tactic(auto, using(mgrammar::proofs::ReadingIndirectTexts::reads_its_reference, crate::proofs::WholeTexts::is_tree, crate::proofs::WholeTexts::is_syntax))]
 pub fn parse_ref(alloc: Global, text: &[u8]) -> Result<Reference, ParseFault>
     ensures read { Gives (λ v. reference_tree v) result (ref_at text.now) }
     ensures tree { IfOk result (λ v. WellReference max_depth (reference_tree v) × (spell_reference (reference_tree v) ≡ text.now)) }
@@ -58,6 +59,7 @@ pub fn parse_ref(alloc: Global, text: &[u8]) -> Result<Reference, ParseFault>
 /// # Errors
 ///
 /// `Syntax` only where no arguments of the command have the text, as where it is empty; `Memory` for want of memory.
+#[tactic(auto, using(mgrammar::proofs::ReadingIndirectTexts::reads_its_arguments, crate::proofs::WholeTexts::is_syntax))]
 pub fn parse_args(alloc: Global, keyword: Keyword, text: &[u8]) -> Result<Vec<Arg>, ParseFault>
     ensures read { Gives (λ args. map arg_tree args.items) result (args_of (form_of (keyword_tree keyword)) text.now) }
     ensures tree { may_be_indirect (form_of (keyword_tree keyword)) ≡ true → IfOk result (λ args. WellList (WellArg (form_of (keyword_tree keyword))) (map arg_tree args.items) × (spell_list spell_arg (map arg_tree args.items) ≡ text.now)) }

@@ -98,6 +98,7 @@ pub fn line(alloc: Global, text: &[u8]) -> Result<Line, ParseFault>
 /// # Errors
 ///
 /// `Syntax` only where no tree of the grammar has the text, as where a byte is over 127; `Memory` for want of memory.
+#[tactic(auto, using(mgrammar::proofs::ReadingLines::reads_its_tree, crate::proofs::WholeTexts::is_syntax))]
 pub fn parse_line(alloc: Global, text: &[u8]) -> Result<Line, ParseFault>
     ensures tree { IfOk result (λ l. well (line_tree l) × (spell (line_tree l) ≡ text.now)) }
     ensures syntax { result ≡ Err ParseFault.Syntax → (t : LineTree) → well t → spell t ≡ text.now → ⊥ }

@@ -47,6 +47,7 @@ fn more<T: Items>(
 
 // One item or more, with commas between. The functions of expressions have loops of their own in its place: their proof
 // is one of all calls between them, which takes no call through a trait.
+#[tactic(auto, using(std::proofs::lemmas::Result::err_from_is_err_and, mscan::proofs::Faults::list_fails, crate::proofs::Lists::list_goes_on, crate::proofs::Lists::is_alone))]
 pub fn list<T: Items>(
     items: T,
     alloc: Global,

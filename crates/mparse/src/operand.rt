@@ -8,6 +8,7 @@ ghost use Rattle.mtree.specs.Tree.{expr_tree, primary_tree, reference_tree, dest
 use mtree::{Destination, Expr, Locked, Operand, Primary, Reference, Target};
 
 // The operand; or the variable again, where it is more than that.
+#[tactic(auto, using(crate::proofs::Operands::with_subscripts, crate::proofs::Operands::without_subscripts))]
 pub fn reference_operand(reference: Reference) -> Result<Primary, Reference>
     ensures operand { IfOk result (λ p. bare_reference (reference_tree reference) ≡ Some (primary_tree p)) }
     ensures more { IfErr result (λ r. (bare_reference (reference_tree reference) ≡ None) × (r ≡ reference)) }
@@ -36,6 +37,7 @@ fn primary_operand(primary: Primary) -> Result<Primary, Primary>
 }
 
 // The operand; or the expression again, where it is more than that.
+#[tactic(auto, using(crate::proofs::Operands::with_tails, crate::proofs::Operands::with_signs, crate::proofs::Operands::without_both))]
 pub fn expr_operand(expr: Expr) -> Result<Primary, Expr>
     ensures operand { IfOk result (λ p. bare_expr (expr_tree expr) ≡ Some (primary_tree p)) }
     ensures more { IfErr result (λ e. (bare_expr (expr_tree expr) ≡ None) × (e ≡ expr)) }

@@ -70,6 +70,7 @@ fn routine_line(alloc: Global, text: &[u8]) -> Result<RoutineLine, ParseFault>
 /// # Errors
 ///
 /// `Syntax` only where no tree of the grammar has the text as a routine's line, as where a byte is over 127; `Memory` for want of memory.
+#[tactic(auto, using(mgrammar::proofs::ReadingRoutines::reads_its_routine_tree, crate::proofs::WholeTexts::is_syntax))]
 pub fn parse_routine_line(alloc: Global, text: &[u8]) -> Result<RoutineLine, ParseFault>
     ensures read { Gives (λ l. routine_line_tree l) result (routine_line_at text.now) }
     ensures tree { IfOk result (λ l. well_routine_line (routine_line_tree l) × (spell_routine_line (routine_line_tree l) ≡ text.now)) }

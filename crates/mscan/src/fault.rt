@@ -14,18 +14,18 @@ pub enum ParseFault {
     Memory,
 }
 
-impl From<AllocError> for ParseFault {
-    ghost from_gives = { λ _ fault. fault ≡ Memory };
-
-    fn from(_error: AllocError) -> ParseFault {
-        ParseFault::Memory
-    }
-}
-
 impl<T: Drop> From<AllocFailed<T>> for ParseFault {
     ghost from_gives = { λ _ fault. fault ≡ Memory };
 
     fn from(_error: AllocFailed<T>) -> ParseFault {
+        ParseFault::Memory
+    }
+}
+
+impl From<AllocError> for ParseFault {
+    ghost from_gives = { λ _ fault. fault ≡ Memory };
+
+    fn from(_error: AllocError) -> ParseFault {
         ParseFault::Memory
     }
 }

@@ -6,7 +6,7 @@ ghost use Rattle.mtree.specs.Tree.{count_tree, repeated_tree, atom_tree};
 ghost use Rattle.mscan.specs.Gives.{Gives};
 
 use crate::fault::ParseFault;
-use crate::runs::{Class, run, text_after};
+use crate::runs::{Class, past, run, text_after};
 use mnum::Bytes7;
 use mtree::{Atom, Count, Repeated};
 use std::alloc::Global;
@@ -53,10 +53,7 @@ fn count(alloc: Global, bytes: &[u8]) -> Result<(Count, &[u8]), ParseFault>
 fn repeated(alloc: Global, bytes: &[u8]) -> Result<(Repeated, &[u8]), ParseFault>
     ensures { Gives (λ x. (repeated_tree x.0, x.1.now)) result (repeated_at bytes.now) }
 {
-    let Some((first, behind)) = bytes.split_first() else {
-        return Err(ParseFault::Syntax);
-    };
-    if *first == b'"' {
+    if let Some(behind) = past(b'"', bytes) {
         let (text, rest) = text_after(alloc, behind)?;
         return Ok((Repeated::Copies(text), rest));
     }

@@ -1,8 +1,7 @@
 -- SPDX-License-Identifier: Apache-2.0
 -- The node of a node's key is the node.
-use Rattle.mspec.proofs.SpecWords.{ℕ, zero, suc, ◌≡◌, ◌+◌, ◌*◌, ◌/◌, ◌%◌, ◌^◌, ◌<◌, ◌≤◌, Option, Some, None, List, [], ◌∷◌, ◌++◌, length, take, drop, refl, sym, ◌∙◌, ap, ap₂, subst, arith, add-one, ℤ, pos, negsuc, unsigned_abs, div-add-mod', pow-suc, mod_below, Text, number_text, canonical_value, text_bytes, raised, number_bytes, subscript_by, subscript_bytes, subscripts_bytes, local_bytes, key_bytes}
+use Rattle.mspec.proofs.SpecWords.{ℕ, zero, suc, ◌≡◌, ◌+◌, ◌*◌, ◌/◌, ◌%◌, ◌^◌, ◌<◌, ◌≤◌, Option, Some, None, List, [], ◌∷◌, ◌++◌, length, take, drop, refl, sym, ◌∙◌, ap, ap₂, subst, arith, add-one, ℤ, pos, negsuc, unsigned_abs, div-add-mod', pow-suc, mod_below, Text, number_text, canonical_value, text_bytes, raised, number_bytes, subscript_by, subscript_bytes, subscripts_bytes, local_bytes, key_bytes, length-append}
 use Rattle.std.specs.Slice.Scan.{big_endian}
-use Rattle.std.proofs.lemmas.List.{length-append}
 use Rattle.mspec.specs.KeyBytes as Bytes
 use Rattle.mspec.specs.KeyReading.{text_of, behind_text, lowered, text_of_number, subscripts_of, node_of, KeysAreRead}
 use Rattle.mspec.proofs.NodeOrders.{canonical_of_value}

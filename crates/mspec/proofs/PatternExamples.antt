@@ -1,7 +1,6 @@
 -- SPDX-License-Identifier: Apache-2.0
 -- The definition of pattern match on examples.
-use Rattle.std.proofs.Common.{◌≡◌, ◌+◌, ℕ, zero, suc, List, [], ◌∷◌, refl, ap, sym, subst, get_or, arith, true, if◌then◌else◌, rules}
-use Rattle.std.specs.Prelude.{codes, Some, None}
+use Rattle.mspec.proofs.SpecWords.{◌≡◌, ◌+◌, ℕ, zero, suc, List, [], ◌∷◌, refl, ap, sym, subst, get_or, arith, true, if◌then◌else◌, rules, codes, Some, None}
 use Rattle.mspec.specs.Pattern.{PatternCode, letter, control, upper, numeral, everything, lower, punctuation, Atom, members, copies, is_in, is_in_any, Matches}
 
 -- 2U1"-"1.N

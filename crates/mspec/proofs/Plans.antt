@@ -1,6 +1,6 @@
 -- SPDX-License-Identifier: Apache-2.0
 -- The laws of plans.
-use Rattle.std.proofs.Common.{◌≡◌, ℕ, zero, suc, refl, subst}
+use Rattle.mspec.proofs.SpecWords.{◌≡◌, ℕ, zero, suc, refl, subst}
 use Rattle.mspec.specs.Plan.{Op, Plan, Done, Ask, then_plan, Ops, perform, cut_short}
 
 -- one plan after another

@@ -1,6 +1,6 @@
 -- SPDX-License-Identifier: Apache-2.0
 -- The words that most proofs of this crate have, in one place.
-pub use Rattle.std.proofs.Common.{All, Bool, List, None, Option, Some, [], add-one, ap, append_assoc, ap₂, arith, cond, drop, eqb, false, get_or, inl, inr, length, length-append, lit≤, map, not, one-add, pow-add, refl, rules, subst, suc, sym, take, take-append-drop, true, zero, ℕ, ⊎_elim, ◌%◌, ◌&&◌, ◌*◌, ◌++◌, ◌+◌, ◌-◌, ◌/◌, ◌<◌, ◌^◌, ◌||◌, ◌∙◌, ◌∷◌, ◌≡◌, ◌≢◌, ◌≤◌, ◌⊎◌}
+pub use Rattle.std.proofs.Common.{All, Bool, List, None, Option, Some, [], add-one, ap, append_assoc, ap₂, arith, cond, drop, drop-cons, eqb, false, get_or, inl, inr, length, length-append, lit≤, map, not, one-add, pow-add, refl, replicate, rules, subst, suc, sym, take, take-append-drop, true, zero, ℕ, ⊎_elim, ◌%◌, ◌&&◌, ◌*◌, ◌++◌, ◌+◌, ◌-◌, ◌/◌, ◌<◌, ◌^◌, ◌||◌, ◌∙◌, ◌∷◌, ◌≡◌, ◌≢◌, ◌≤◌, ◌⊎◌}
 pub use Rattle.std.proofs.Math.Nat.{div-add-mod', div-eq_of_lt, div-eq_of_lt-le, div-mul-le_self, le_of_mul-le-mul_right, lt-div-mul-add, lt_of_mul-lt-mul_right, mul-le-mul_left, mul-le-mul_right, mul-lt-mul_of_pos_right, mul-pos, mul_assoc, one-le-pow, pow-le-pow_right, pow-suc, zero-mul}
 pub use Rattle.std.proofs.Math.Seq.{drop-append_seam, drop-length, take-append_seam}
 pub use Rattle.std.proofs.lemmas.Bool.{and_from, and_parts, cases_lt, cases_order, cond-false, cond-true, eq-eqb, eqb-true, le-leb, leb-true, lt-ltb, ltb-true, or_right}

@@ -1,7 +1,6 @@
 -- SPDX-License-Identifier: Apache-2.0
 -- Texts that are made part by part, and refused where they are too long.
-use Rattle.mtext.proofs.TextWords.{◌≡◌, ℕ, zero, suc, ◌+◌, ◌*◌, ◌≤◌, ◌<◌, Bool, List, [], ◌∷◌, ◌++◌, length, refl, sym, ap, subst, ◌∙◌, arith, add-one, cond, Option, Some, None, Result, Ok, Err, slice_get, MatchOption, IsErr, IsErrAnd, IsOk, option_copied, option_to_list, HoldsAt, Bor, append_assoc, append-nil, repeat, le-leb, lt-leb, max_text, made, translated_at, first_place, translation, Answers}
-use Rattle.std.proofs.Common.{length-append}
+use Rattle.mtext.proofs.TextWords.{◌≡◌, ℕ, zero, suc, ◌+◌, ◌*◌, ◌≤◌, ◌<◌, Bool, List, [], ◌∷◌, ◌++◌, length, refl, sym, ap, subst, ◌∙◌, arith, add-one, cond, Option, Some, None, Result, Ok, Err, slice_get, MatchOption, IsErr, IsErrAnd, IsOk, option_copied, option_to_list, HoldsAt, Bor, append_assoc, append-nil, repeat, le-leb, lt-leb, max_text, made, translated_at, first_place, translation, Answers, length-append}
 use Rattle.std.proofs.lemmas.Option.{slice_get_past, slice_get-get_or}
 use Rattle.mspec.specs.Code.{Zlong}
 use Rattle.mtext.specs.declared.fault.TextFault.{TextFault}

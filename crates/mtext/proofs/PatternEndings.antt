@@ -1,7 +1,6 @@
 -- SPDX-License-Identifier: Apache-2.0
 -- Where the segment of an atom must end: behind so many repetitions, or behind the longest run of characters of its classes.
-use Rattle.mtext.proofs.TextWords.{append-nil, ◌≡◌, ◌≢◌, ℕ, zero, suc, ◌+◌, ◌-◌, ◌≤◌, ◌<◌, ◌↔◌, Bool, true, false, cond, List, [], ◌∷◌, ◌++◌, length, take, drop, Option, Some, Bor, slice_get, refl, sym, ap, subst, ◌∙◌, arith, append_assoc, take-append-drop, length-take-le, length-drop, prefix_len, drop_at, append_cancel_left, append_cancel_right, prefix_len-le-length, AllAre, Atom, Count, IsAtMost, IsPermitted, IsRepetition, Matches, is_in_any, members, copies, copied, Repeats, IsEnding, IsOtherwise, IsBarred, NoneBegins, members_atom, copies_atom}
-use Rattle.std.proofs.Common.{length-append, drop-drop, take_all}
+use Rattle.mtext.proofs.TextWords.{append-nil, ◌≡◌, ◌≢◌, ℕ, zero, suc, ◌+◌, ◌-◌, ◌≤◌, ◌<◌, ◌↔◌, Bool, true, false, cond, List, [], ◌∷◌, ◌++◌, length, take, drop, Option, Some, Bor, slice_get, refl, sym, ap, subst, ◌∙◌, arith, append_assoc, take-append-drop, length-take-le, length-drop, prefix_len, drop_at, append_cancel_left, append_cancel_right, prefix_len-le-length, AllAre, Atom, Count, IsAtMost, IsPermitted, IsRepetition, Matches, is_in_any, members, copies, copied, Repeats, IsEnding, IsOtherwise, IsBarred, NoneBegins, members_atom, copies_atom, length-append, drop-drop, take_all}
 use Rattle.mspec.proofs.Basics.{nothing_copied}
 use Rattle.mspec.specs.Pattern as plain
 use Rattle.mtext.proofs.PatternCopies.{copied_last}

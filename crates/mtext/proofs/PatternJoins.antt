@@ -1,7 +1,6 @@
 -- SPDX-License-Identifier: Apache-2.0
 -- A pattern with one more atom at its end.
-use Rattle.mtext.proofs.TextWords.{ℕ, ◌≡◌, ◌+◌, ◌≤◌, true, false, Bool, List, ◌∷◌, ◌++◌, get_or, take, length, refl, sym, subst, ◌∙◌, ap, arith, append_assoc, append-nil, length-take-le, take-take, slice_range, [], Count, Repeated, Atom, IsSegment, IsRepetition, Matches, IsEnd, AreEnds, AreMatched}
-use Rattle.std.proofs.Common.{length-append, take_at}
+use Rattle.mtext.proofs.TextWords.{ℕ, ◌≡◌, ◌+◌, ◌≤◌, true, false, Bool, List, ◌∷◌, ◌++◌, get_or, take, length, refl, sym, subst, ◌∙◌, ap, arith, append_assoc, append-nil, length-take-le, take-take, slice_range, [], Count, Repeated, Atom, IsSegment, IsRepetition, Matches, IsEnd, AreEnds, AreMatched, length-append, take_at}
 use Rattle.mtext.proofs.PatternSlices.{front_and_part, joined_rest}
 
 -- a text is matched by the first atoms, and then by the last one

@@ -1,7 +1,6 @@
 -- SPDX-License-Identifier: Apache-2.0
 -- Giving a text a piece.
-use Rattle.mtext.proofs.TextWords.{◌≡◌, ◌≢◌, ℕ, zero, suc, ◌+◌, ◌-◌, ◌≤◌, ◌<◌, List, [], ◌∷◌, ◌++◌, length, take, drop, replicate, Some, None, refl, sym, ap, subst, ◌∙◌, arith, append_assoc, append-nil, repeat, drop-length, FindsNeedle, OccursAt-split, join, ArePieces, pieces_of, with_piece, one_list, closed, IsBehind}
-use Rattle.std.proofs.Common.{drop-drop}
+use Rattle.mtext.proofs.TextWords.{◌≡◌, ◌≢◌, ℕ, zero, suc, ◌+◌, ◌-◌, ◌≤◌, ◌<◌, List, [], ◌∷◌, ◌++◌, length, take, drop, replicate, Some, None, refl, sym, ap, subst, ◌∙◌, arith, append_assoc, append-nil, repeat, drop-length, FindsNeedle, OccursAt-split, join, ArePieces, pieces_of, with_piece, one_list, closed, IsBehind, drop-drop}
 use Rattle.mtext.proofs.PieceSteps.{join_behind, join_pieces, pieces_last, rest_is}
 
 -- ---- the list with another piece

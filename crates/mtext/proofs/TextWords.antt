@@ -1,6 +1,6 @@
 -- SPDX-License-Identifier: Apache-2.0
 -- The words that most proofs of this crate have, in one place.
-pub use Rattle.std.proofs.Common.{Bool, Bor, Decides, Err, HoldsAt, IfOk, IsErr, IsErrAnd, IsOk, List, MatchOption, None, Ok, Option, Ordering, Result, Some, Vec, [], add-one, add-sub_cancel, ap, append-nil, append_assoc, arith, below_more, cond, drop, eqb, false, get_or, inl, inr, is_some, length, length-drop, length-take-le, min, option_copied, option_map, option_to_list, pos, refl, replicate, rules, slice_get, slice_range, subst, suc, sym, take, take-append-drop, take-take, true, true≢false, unwrap_or, zero, ℕ, ℤ, ◌*◌, ◌++◌, ◌+◌, ◌-◌, ◌<◌, ◌==◌, ◌↔◌, ◌∙◌, ◌∷◌, ◌≡◌, ◌≢◌, ◌≤◌, ◌⊎◌}
+pub use Rattle.std.proofs.Common.{Bool, Bor, Decides, Err, HoldsAt, IfOk, IsErr, IsErrAnd, IsOk, List, MatchOption, None, Ok, Option, Ordering, Result, Some, Vec, [], add-one, add-sub_cancel, ap, append-nil, append_assoc, arith, below_more, cond, drop, drop-drop, eqb, eqb-true, false, get_or, inl, inr, is_some, length, length-append, length-drop, length-take-le, min, option_copied, option_map, option_to_list, pos, refl, replicate, rules, slice_get, slice_range, subst, suc, sym, take, take-add, take-append-drop, take-take, take_all, take_at, true, true≢false, unwrap_or, zero, ℕ, ℤ, ◌*◌, ◌++◌, ◌+◌, ◌-◌, ◌<◌, ◌==◌, ◌↔◌, ◌∙◌, ◌∷◌, ◌≡◌, ◌≢◌, ◌≤◌, ◌⊎◌}
 pub use Rattle.std.proofs.Math.Seq.{drop-append_seam, drop-length, drop-nil, take-append_seam, take-length, take-nil}
 pub use Rattle.std.proofs.lemmas.Bool.{cases_eq, cases_lt, eq-eqb, le-leb, lt-leb}
 pub use Rattle.std.proofs.lemmas.Bool.Decides.{Decides-at, Decides-eqb, nat_tests}
@@ -16,7 +16,7 @@ pub use Rattle.mspec.specs.Names.{AllAre}
 pub use Rattle.mspec.specs.Pattern.{Atom, Count, IsAtMost, IsPermitted, IsRepetition, IsSegment, Matches, PatternCode, Repeated, copied, copies, is_in, is_in_any, members}
 pub use Rattle.mspec.specs.Pieces.{ArePieces, Lacks, OnlyAtEnd, begins_with, join}
 unfoldable pub use Rattle.mspec.specs.Pieces.{pieces_of}
-pub use Rattle.mspec.specs.TextFunctions.{find_of, follows, from_place, max_text, made, translated_at}
+pub use Rattle.mspec.specs.TextFunctions.{find_of, follows, from_place, made, max_text, translated_at}
 unfoldable pub use Rattle.mspec.specs.TextFunctions.{first_place, with_piece}
 pub use Rattle.mtext.specs.ClassSets.{is_in_set}
 pub use Rattle.mtext.specs.Cuts.{IsBehind, closed, delimiter_text}

@@ -25,6 +25,7 @@ fn occurrences(character: u8, block: &[u8]) -> usize
 }
 
 /// How many delimiters part the pieces of a text.
+#[tactic(auto, using(crate::proofs::CharacterPieces::counted_to))]
 pub(crate) fn delimiters(character: u8, text: &[u8]) -> usize
     ensures count { length (pieces_of (character ∷ []) text.now) ≡ result + 1 }
     ensures few { result ≤ length text.now }
@@ -40,6 +41,7 @@ pub(crate) fn delimiters(character: u8, text: &[u8]) -> usize
 }
 
 /// The place behind whole blocks that have fewer delimiters than are sought, and how many are left to be sought.
+#[tactic(auto, using(crate::proofs::CharacterPieces::counted_to))]
 fn pass_blocks(character: u8, text: &[u8], count: usize) -> (usize, usize)
     requires { 0 < count }
     ensures within { result.0 ≤ length text.now }

@@ -11,6 +11,7 @@ use crate::places::range;
 use memchr::memmem::Finder;
 
 /// $LENGTH with a delimiter: how many pieces `text` has by `delimiter`, and 0 where that is empty. Takes no memory.
+#[tactic(auto, using(crate::proofs::PieceSteps::empty_is, crate::proofs::PieceSteps::no_pieces))]
 pub fn pieces(text: &[u8], delimiter: &[u8]) -> usize
     ensures { result ≡ piece_count text.now delimiter.now }
 {
@@ -24,6 +25,7 @@ pub fn pieces(text: &[u8], delimiter: &[u8]) -> usize
 }
 
 /// How many delimiters part the pieces of a text.
+#[tactic(auto, using(crate::proofs::PieceSteps::behind_last, crate::proofs::FoundPlaces::in_rest))]
 fn delimiters(finder: &Finder, text: &[u8]) -> usize
     requires { finder.now ≢ [] }
     ensures count { length (pieces_of finder.now text.now) ≡ result + 1 }
@@ -43,6 +45,7 @@ fn delimiters(finder: &Finder, text: &[u8]) -> usize
 /// # Errors
 ///
 /// How many delimiters the text has too few.
+#[tactic(auto, using(crate::proofs::PieceSteps::behind_last, crate::proofs::FoundPlaces::in_rest))]
 fn skip_texts(finder: &Finder, text: &[u8], count: usize) -> Result<usize, usize>
     requires { finder.now ≢ [] }
     ensures behind { IfOk result (λ at. IsBehind finder.now text.now count at) }
@@ -77,6 +80,7 @@ pub(crate) fn skip(delimiter: &Delimiter, text: &[u8], count: usize) -> Result<u
 }
 
 /// The end of the first `count` pieces of a text and one more, or of the text where it has fewer.
+#[tactic(auto, using(crate::proofs::PieceSteps::behind_last, crate::proofs::PieceSteps::end_of_text, crate::proofs::FoundPlaces::in_rest))]
 pub(crate) fn end_of(delimiter: &Delimiter, text: &[u8], count: usize) -> usize
     requires { delimiter_text delimiter.now ≢ [] }
     ensures within { result ≤ length text.now }
@@ -96,6 +100,7 @@ pub(crate) fn end_of(delimiter: &Delimiter, text: &[u8], count: usize) -> usize
 /// `from`, where no such piece is there, and where `delimiter` is empty.
 ///
 /// A part of `text`; takes no memory.
+#[tactic(auto, using(crate::proofs::PieceSteps::empty_is, crate::proofs::PieceSteps::none_by_nothing))]
 pub fn piece<'t>(text: &'t [u8], delimiter: &[u8], from: Option<i64>, to: Option<i64>) -> &'t [u8]
     ensures { result.now ≡ piece_of text.now delimiter.now from to }
 {

@@ -1,8 +1,10 @@
 // SPDX-License-Identifier: Apache-2.0
 // Why a text could not be made.
-ghost use Rattle.std.specs.Prelude.{◌≡◌};
+ghost use Rattle.std.specs.Prelude.{◌≡◌, ◌<◌, ◌≤◌, MatchResult};
+ghost use Rattle.mspec.specs.TextFunctions.{max_text};
 ghost use Rattle.mtext.specs.declared.fault.TextFault.TheVariants.{Memory};
 
+use mspec::limits::MAX_TEXT;
 use std::alloc::AllocError;
 
 /// Why a text was not made.
@@ -14,6 +16,20 @@ pub enum TextFault {
     TooLong,
     /// There was no memory for the text.
     Memory,
+}
+
+/// Lets so many characters be a text.
+///
+/// # Errors
+///
+/// `TooLong` exactly where they are more than 4,095.
+pub fn check_length(length: usize) -> Result<(), TextFault>
+    ensures { MatchResult result (λ _. length ≤ max_text) (λ fault. (fault ≡ TextFault.TooLong) × (max_text < length)) }
+{
+    if length > MAX_TEXT {
+        return Err(TextFault::TooLong);
+    }
+    Ok(())
 }
 
 impl From<AllocError> for TextFault {

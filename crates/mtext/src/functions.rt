@@ -33,6 +33,7 @@ pub fn find(text: &[u8], what: &[u8], from: Option<i64>) -> u64
 }
 
 /// The operator `[`: whether `text` contains `what`, as each text contains the empty one. Takes no memory.
+#[tactic(auto, using(crate::proofs::FoundPlaces::first_place_is))]
 pub fn contains(text: &[u8], what: &[u8]) -> bool
     ensures { result ≡ contains text.now what.now }
 {
@@ -40,6 +41,7 @@ pub fn contains(text: &[u8], what: &[u8]) -> bool
 }
 
 /// The operator `]`: whether `text` comes after `other` in the order of character codes. Takes no memory.
+#[tactic(auto, using(crate::proofs::CharacterOrder::follows_is))]
 pub fn follows(text: &[u8], other: &[u8]) -> bool
     ensures { result ≡ follows text.now other.now }
 {

@@ -18,28 +18,15 @@ ghost use Rattle.mtext.specs.Made.{translation, Answers};
 
 use crate::cutting::skip;
 use crate::delimiter::Delimiter;
-use crate::fault::TextFault;
+use crate::fault::{TextFault, check_length};
 use crate::places::end_at;
 use memchr::memchr;
 use mnum::Bytes7;
 use mspec::limits::{MAX_PLACE, MAX_TEXT};
 use std::alloc::{AllocError, Global};
 
-/// Lets so many characters be a text.
-///
-/// # Errors
-///
-/// `TooLong` exactly where they are more than 4,095.
-fn check_length(length: usize) -> Result<(), TextFault>
-    ensures { MatchResult result (λ _. length ≤ max_text) (λ fault. (fault ≡ TextFault.TooLong) × (max_text < length)) }
-{
-    if length > MAX_TEXT {
-        return Err(TextFault::TooLong);
-    }
-    Ok(())
-}
-
 /// The character that stands for one in a translation, or none where it goes.
+#[tactic(auto, using(crate::proofs::FoundPlaces::character_place_is, crate::proofs::MadeTexts::got_is))]
 fn translated(character: u8, from: &[u8], to: &[u8]) -> Option<u8>
     ensures { option_to_list result ≡ translated_at to.now character (first_place (character ∷ []) from.now) }
 {
@@ -88,6 +75,7 @@ fn translation(
 /// # Errors
 ///
 /// `TooLong` exactly where the result would have more than 4,095 characters; for any other `Memory`, where there is none.
+#[tactic(auto, using(crate::proofs::MadeTexts::is_made, crate::proofs::MadeTexts::wanting, crate::proofs::MadeTexts::translation_is_short, crate::proofs::MadeTexts::same_translation))]
 pub fn translate(
     alloc: Global,
     text: &Bytes7,
@@ -188,6 +176,7 @@ fn padded(
 }
 
 /// A text with another piece behind so many.
+#[tactic(auto, using(crate::proofs::PieceSetting::set_past))]
 fn replaced(
     alloc: Global,
     text: &[u8],

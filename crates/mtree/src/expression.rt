@@ -205,17 +205,6 @@ pub fn put_reference(out: &mut Bytes7, reference: &Reference) -> Result<(), Allo
     }
 }
 
-// Between bars, behind a `^`.
-#[cycle(expr)]
-fn put_environment(out: &mut Bytes7, environment: &Expr) -> Result<(), AllocError>
-    ensures { OnOk result (out.new ≡ out.old ++ 94 ∷ 124 ∷ (spell_expr (expr_tree environment.now) ++ 124 ∷ [])) }
-{
-    out.push(b'^')?;
-    out.push(b'|')?;
-    put_expr(out, environment)?;
-    out.push(b'|')
-}
-
 // In brackets, where there are some.
 #[cycle(expr)]
 fn put_subscripts(out: &mut Bytes7, subscripts: &Vec<Expr>) -> Result<(), AllocError>
@@ -238,6 +227,17 @@ fn put_attached(out: &mut Bytes7, subscripts: &Vec<Expr>) -> Result<(), AllocErr
         out.push(b'@')?;
     }
     put_subscripts(out, subscripts)
+}
+
+// Between bars, behind a `^`.
+#[cycle(expr)]
+fn put_environment(out: &mut Bytes7, environment: &Expr) -> Result<(), AllocError>
+    ensures { OnOk result (out.new ≡ out.old ++ 94 ∷ 124 ∷ (spell_expr (expr_tree environment.now) ++ 124 ∷ [])) }
+{
+    out.push(b'^')?;
+    out.push(b'|')?;
+    put_expr(out, environment)?;
+    out.push(b'|')
 }
 
 #[cycle(expr)]

@@ -1,6 +1,6 @@
 // SPDX-License-Identifier: Apache-2.0
 // Numbers as they are written.
-ghost use Rattle.std.specs.Prelude.{◌≡◌, None, Some, MatchOption, MatchResult};
+ghost use Rattle.std.specs.Prelude.{List, ℕ, ◌≡◌, None, Some, MatchOption, MatchResult};
 ghost use Rattle.mspec.specs.Number.{significant_digits};
 ghost use Rattle.mspec.specs.NumberText.{numeric_value};
 ghost use Rattle.mnum.specs.Num.{units};
@@ -16,11 +16,6 @@ pub struct Literal {
 }
 
 impl Model for Literal {
-    ghost use Rattle.std.specs.Prelude.{List, ℕ, ◌≡◌, None, Some, MatchResult};
-    ghost use Rattle.mspec.specs.Number.{significant_digits};
-    ghost use Rattle.mspec.specs.NumberText.{numeric_value};
-    ghost use Rattle.mnum.specs.Num.{units};
-
     ghost Value = { List ℕ };
 
     ghost view = { λ literal. literal.text };

@@ -1,6 +1,6 @@
 // SPDX-License-Identifier: Apache-2.0
 // Lists with commas between, appended to the text of a line.
-ghost use Rattle.std.specs.Prelude.{◌≡◌, ◌++◌, List, ℕ, OnOk};
+ghost use Rattle.std.specs.Prelude.{◌≡◌, ◌++◌, ◌∷◌, [], List, ℕ, OnOk};
 ghost use Rattle.mgrammar.specs.Grammar.{spell_list};
 
 use mnum::Bytes7;
@@ -29,4 +29,13 @@ pub fn put_list<T: Listed>(out: &mut Bytes7, all: &Vec<T>) -> Result<(), AllocEr
         other.put(out)?;
     }
     Ok(())
+}
+
+// The same in brackets.
+pub fn put_bracketed<T: Listed>(out: &mut Bytes7, all: &Vec<T>) -> Result<(), AllocError>
+    ensures { OnOk result (out.new ≡ out.old ++ 40 ∷ (spell_list T.spelling all.now.items ++ 41 ∷ [])) }
+{
+    out.push(b'(')?;
+    put_list(out, all)?;
+    out.push(b')')
 }

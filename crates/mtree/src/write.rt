@@ -8,7 +8,7 @@ ghost use Rattle.mtree.specs.Tree.{expr_tree, primary_tree, piece_tree, target_t
 
 use crate::expression::{put_expr, put_primary, put_reference, put_word};
 use crate::pieces::{put_run, put_text};
-use crate::put_list::{Listed, put_list};
+use crate::put_list::{Listed, put_bracketed, put_list};
 use crate::tree::{
     Arg, Body, Command, Destination, Entry, Expr, Line, LockKind, Locked, Parameter, PieceTarget,
     Primary, Reference, RoutineLine, Spaced, Target,
@@ -48,16 +48,13 @@ impl Listed for Target {
     }
 }
 
+#[tactic(auto, using(crate::proofs::ListTexts::targets))]
 fn put_destination(out: &mut Bytes7, destination: &Destination) -> Result<(), AllocError>
     ensures { OnOk result (out.new ≡ out.old ++ spell_destination (destination_tree destination.now)) }
 {
     match destination {
         Destination::One(target) => target.put(out),
-        Destination::Several(targets) => {
-            out.push(b'(')?;
-            put_list(out, targets)?;
-            out.push(b')')
-        }
+        Destination::Several(targets) => put_bracketed(out, targets),
     }
 }
 
@@ -85,9 +82,7 @@ impl Listed for Name {
 fn put_names(out: &mut Bytes7, names: &Vec<Name>) -> Result<(), AllocError>
     ensures { OnOk result (out.new ≡ out.old ++ spell_names names.now.items) }
 {
-    out.push(b'(')?;
-    put_list(out, names)?;
-    out.push(b')')
+    put_bracketed(out, names)
 }
 
 impl Listed for Parameter {
@@ -189,16 +184,13 @@ impl Listed for Reference {
     }
 }
 
+#[tactic(auto, using(crate::proofs::ListTexts::references))]
 fn put_locked(out: &mut Bytes7, locked: &Locked) -> Result<(), AllocError>
     ensures { OnOk result (out.new ≡ out.old ++ spell_locked (locked_tree locked.now)) }
 {
     match locked {
         Locked::One(reference) => put_reference(out, reference),
-        Locked::Several(references) => {
-            out.push(b'(')?;
-            put_list(out, references)?;
-            out.push(b')')
-        }
+        Locked::Several(references) => put_bracketed(out, references),
     }
 }
 

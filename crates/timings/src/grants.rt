@@ -1,10 +1,10 @@
 // SPDX-License-Identifier: Apache-2.0
 // Settings of a thousand accounts: who has a terminal, who may read what, and who reaches whom.
-use crate::measuring::{Plan, measure};
+use crate::measuring::Page;
 use anyhow::Context;
 use mgrant::{AccountId, Mode, Settings};
 use mnum::Bytes7;
-use mtranscript::{numbered, print_result, push_numbered};
+use mtranscript::{numbered, push_numbered};
 use std::alloc::Global;
 
 const ACCOUNTS: usize = 1000;
@@ -140,31 +140,15 @@ fn read(alloc: Global, document: &[u8]) -> i128 {
 }
 
 /// What settings are asked, and the reading of them.
-pub fn grants(rt: &HostRuntime, plan: Plan, out: &mut Vec<u8>) -> anyhow::Result<()> {
-    print_result(out, b"a thousand accounts")?;
-    let alloc = rt.alloc();
+pub fn grants(page: &mut Page) -> anyhow::Result<()> {
+    page.title(b"a thousand accounts")?;
+    let alloc = page.alloc();
     let document = document(alloc)?;
     let known = settings_of(alloc, &document)?;
-    measure(
-        rt,
-        plan,
-        out,
-        "account_of",
-        |i| account_of(&known.settings, i),
-    )?;
-    measure(rt, plan, out, "may", |i| may(&known, i))?;
-    measure(
-        rt,
-        plan.at_most(MOST_REACHED),
-        out,
-        "reaches",
-        |i| reaches(alloc, &known, i),
-    )?;
-    measure(
-        rt,
-        plan.at_most(MOST_READ),
-        out,
-        "read",
-        |_| read(alloc, &document),
-    )
+    page.measure("account_of", |i| account_of(&known.settings, i))?;
+    page.measure("may", |i| may(&known, i))?;
+    let some = page.plan.at_most(MOST_REACHED);
+    page.measure_by(some, "reaches", |i| reaches(alloc, &known, i))?;
+    let few = page.plan.at_most(MOST_READ);
+    page.measure_by(few, "read", |_| read(alloc, &document))
 }

@@ -1,10 +1,10 @@
 // SPDX-License-Identifier: Apache-2.0
 // Keys of nodes, and the order of subscripts.
-use crate::measuring::{Plan, measure};
+use crate::measuring::Page;
 use anyhow::Context;
 use mkey::{NodeKey, collate, is_account_name, is_name, read};
 use mnum::Bytes7;
-use mtranscript::{print_result, text_of, texts_of};
+use mtranscript::{text_of, texts_of};
 use std::alloc::Global;
 
 const KEYS: [(&str, &[&str]); 3] = [
@@ -43,20 +43,14 @@ fn found(alloc: Global, bytes: &[u8]) -> i128 {
 }
 
 // Keys of one kind of subscripts, made and read.
-fn keys(rt: &HostRuntime, plan: Plan, out: &mut Vec<u8>, words: &[&str]) -> anyhow::Result<()> {
-    let alloc = rt.alloc();
+fn keys(page: &mut Page, words: &[&str]) -> anyhow::Result<()> {
+    let alloc = page.alloc();
     let account = text_of(alloc, "ALICE")?;
     let name = text_of(alloc, "DATA")?;
     let subs = texts_of(alloc, words)?;
-    measure(
-        rt,
-        plan,
-        out,
-        "build",
-        |_| built(alloc, &account, &name, &subs),
-    )?;
+    page.measure("build", |_| built(alloc, &account, &name, &subs))?;
     let key = made(alloc, &account, &name, &subs).context("no key")?;
-    measure(rt, plan, out, "read", |_| found(alloc, key.as_bytes()))
+    page.measure("read", |_| found(alloc, key.as_bytes()))
 }
 
 fn less(texts: &[Bytes7], round: usize) -> i128 {
@@ -67,15 +61,15 @@ fn less(texts: &[Bytes7], round: usize) -> i128 {
 }
 
 /// Keys of each kind, and the order of subscripts.
-pub fn keys_and_orders(rt: &HostRuntime, plan: Plan, out: &mut Vec<u8>) -> anyhow::Result<()> {
+pub fn keys_and_orders(page: &mut Page) -> anyhow::Result<()> {
     for (title, words) in &KEYS {
-        print_result(out, title.as_bytes())?;
-        keys(rt, plan, out, words)?;
+        page.title(title.as_bytes())?;
+        keys(page, words)?;
     }
     for (title, words) in &ORDERS {
-        print_result(out, title.as_bytes())?;
-        let texts = texts_of(rt.alloc(), words)?;
-        measure(rt, plan, out, "collate", |i| less(&texts, i))?;
+        page.title(title.as_bytes())?;
+        let texts = texts_of(page.alloc(), words)?;
+        page.measure("collate", |i| less(&texts, i))?;
     }
     Ok(())
 }

@@ -1,12 +1,13 @@
 // SPDX-License-Identifier: Apache-2.0
 //! Times bare calls that no line of M reaches by itself: those of numbers, texts, keys, locals, stores,
-//! settings and locks, a page each. In a transcript a page is played without its times, and its
+//! settings and locks, a page each, and a page of those of a store that workloads make. In a transcript a page is played without its times, and its
 //! checksums, which are the same on every machine, stand below it.
 //!
 //! No call has a contract: a program's output is the test of it.
 #![tactic(auto)]
 
 mod cached;
+mod floors;
 mod grants;
 mod keys;
 mod locals;
@@ -16,12 +17,12 @@ mod numbers;
 mod stores;
 mod texts;
 
-use crate::measuring::Plan;
+use crate::measuring::{Page, Plan};
 use mtranscript::play;
 
 /// The names of the pages, in their order.
-pub const PAGES: [&str; 8] = [
-    "numbers", "texts", "keys", "locals", "stores", "cached", "grants", "locks",
+pub const PAGES: [&str; 9] = [
+    "numbers", "texts", "keys", "locals", "stores", "cached", "floors", "grants", "locks",
 ];
 
 /// Of each page, the checksum of each call that it makes: the sum of what a thousand rounds give, in five passes.
@@ -30,12 +31,7 @@ pub const PAGES: [&str; 8] = [
 ///
 /// If a case is no page, and out of memory.
 pub fn checksums(rt: &HostRuntime, cases: &[&str], out: &mut Vec<u8>) -> anyhow::Result<()> {
-    let plan = Plan {
-        rounds: 1000,
-        passes: 5,
-        timed: false,
-    };
-    play(cases, out, |page, out| calls(rt, plan, page, out))
+    play(cases, out, |name, out| add_page(rt, 1000, false, name, out))
 }
 
 /// Times the calls of a page, so many rounds of each in each of five passes, of which the fastest counts.
@@ -43,25 +39,45 @@ pub fn checksums(rt: &HostRuntime, cases: &[&str], out: &mut Vec<u8>) -> anyhow:
 /// # Errors
 ///
 /// If there is no such page, and out of memory.
-pub fn times(rt: &HostRuntime, rounds: usize, page: &str, out: &mut Vec<u8>) -> anyhow::Result<()> {
+pub fn times(rt: &HostRuntime, rounds: usize, name: &str, out: &mut Vec<u8>) -> anyhow::Result<()> {
+    add_page(rt, rounds, true, name, out)
+}
+
+// Adds a page, in whose calls so many rounds are made in a pass.
+fn add_page(
+    rt: &HostRuntime,
+    rounds: usize,
+    timed: bool,
+    name: &str,
+    out: &mut Vec<u8>,
+) -> anyhow::Result<()> {
     let plan = Plan {
         rounds,
         passes: 5,
-        timed: true,
+        timed,
+        bytes: None,
     };
-    calls(rt, plan, page, out)
+    let mut page = Page {
+        rt,
+        plan,
+        out: Vec::new(rt.alloc()),
+    };
+    calls(&mut page, name)?;
+    out.extend_from_slice(&page.out)?;
+    Ok(())
 }
 
-fn calls(rt: &HostRuntime, plan: Plan, page: &str, out: &mut Vec<u8>) -> anyhow::Result<()> {
-    match page {
-        "numbers" => numbers::numbers(rt, plan, out),
-        "texts" => texts::texts(rt, plan, out),
-        "keys" => keys::keys_and_orders(rt, plan, out),
-        "locals" => locals::locals(rt, plan, out),
-        "stores" => stores::stores(rt, plan, out),
-        "cached" => cached::cached(rt, plan, out),
-        "grants" => grants::grants(rt, plan, out),
-        "locks" => locks::locks(rt, plan, out),
+fn calls(page: &mut Page, name: &str) -> anyhow::Result<()> {
+    match name {
+        "numbers" => numbers::numbers(page),
+        "texts" => texts::texts(page),
+        "keys" => keys::keys_and_orders(page),
+        "locals" => locals::locals(page),
+        "stores" => stores::stores(page),
+        "cached" => cached::cached(page),
+        "floors" => floors::floors(page),
+        "grants" => grants::grants(page),
+        "locks" => locks::locks(page),
         _ => anyhow::bail!("no such page"),
     }
 }

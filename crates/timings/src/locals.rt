@@ -1,11 +1,11 @@
 // SPDX-License-Identifier: Apache-2.0
 // Local variables, beside ten thousand others.
-use crate::measuring::{Plan, measure};
+use crate::measuring::Page;
 use anyhow::Context;
 use mkey::{order_values_ok, values_ok};
 use mlocal::{Direction, Locals};
 use mnum::{Bytes7, Name, Num};
-use mtranscript::{numbered, print_result};
+use mtranscript::numbered;
 use mvalue::Value;
 use std::alloc::Global;
 
@@ -164,49 +164,28 @@ fn level(locals: &mut Locals, names: &[Name]) -> i128 {
 }
 
 // The unsubscripted variables of so many names.
-fn variables(rt: &HostRuntime, plan: Plan, out: &mut Vec<u8>) -> anyhow::Result<()> {
-    print_result(out, b"ten thousand locals")?;
-    let alloc = rt.alloc();
+fn variables(page: &mut Page) -> anyhow::Result<()> {
+    page.title(b"ten thousand locals")?;
+    let alloc = page.alloc();
     let names = names(alloc)?;
     let mut locals = Locals::new(alloc);
     for round in 0..COUNT {
         set_text(&mut locals, &names, round);
     }
-    measure(
-        rt,
-        plan,
-        out,
-        "get",
-        |i| get_text(alloc, &locals, &names, i),
-    )?;
-    measure(rt, plan, out, "set", |i| set_text(&mut locals, &names, i))?;
-    measure(rt, plan, out, "copy alone", |i| copied(&names, i))?;
-    measure(
-        rt,
-        plan,
-        out,
+    page.measure("get", |i| get_text(alloc, &locals, &names, i))?;
+    page.measure("set", |i| set_text(&mut locals, &names, i))?;
+    page.measure("copy alone", |i| copied(&names, i))?;
+    page.measure(
         "level",
         |_| level(&mut locals, &names[..1.min(names.len())]),
     )?;
-    measure(
-        rt,
-        plan,
-        out,
-        "set number",
-        |i| set_number(&mut locals, &names, i),
-    )?;
-    measure(
-        rt,
-        plan,
-        out,
-        "get number",
-        |i| get_number(&locals, &names, i),
-    )
+    page.measure("set number", |i| set_number(&mut locals, &names, i))?;
+    page.measure("get number", |i| get_number(&locals, &names, i))
 }
 
 // One variable with subscripts of this form.
-fn orders(rt: &HostRuntime, plan: Plan, out: &mut Vec<u8>, form: &[u8]) -> anyhow::Result<()> {
-    let alloc = rt.alloc();
+fn orders(page: &mut Page, form: &[u8]) -> anyhow::Result<()> {
+    let alloc = page.alloc();
     let subs = subscripts(alloc, form)?;
     let names = names(alloc)?;
     let name = names.first().context("no name")?;
@@ -215,43 +194,31 @@ fn orders(rt: &HostRuntime, plan: Plan, out: &mut Vec<u8>, form: &[u8]) -> anyho
         let text = name.as_bytes7().copy()?;
         set(&mut locals, name, &[sub.copy()?], Value::of_text(text));
     }
-    measure(
-        rt,
-        plan,
-        out,
+    page.measure(
         "order",
         |i| order(&locals, name, one_at(&subs, i), Direction::Forward),
     )?;
-    measure(
-        rt,
-        plan,
-        out,
+    page.measure(
         "order back",
         |i| order(&locals, name, one_at(&subs, i), Direction::Backward),
     )?;
     let mut at = [Value::of_text(Bytes7::empty(alloc))];
-    measure(
-        rt,
-        plan,
-        out,
+    page.measure(
         "walk",
         |_| step(alloc, &locals, name, &mut at, Direction::Forward),
     )?;
     let mut at = [Value::of_text(Bytes7::empty(alloc))];
-    measure(
-        rt,
-        plan,
-        out,
+    page.measure(
         "walk back",
         |_| step(alloc, &locals, name, &mut at, Direction::Backward),
     )
 }
 
 /// Variables without subscripts, and one with many: numbers, and texts.
-pub fn locals(rt: &HostRuntime, plan: Plan, out: &mut Vec<u8>) -> anyhow::Result<()> {
-    variables(rt, plan, out)?;
-    print_result(out, b"ten thousand subscripts, numbers")?;
-    orders(rt, plan, out, b"#")?;
-    print_result(out, b"ten thousand subscripts, texts")?;
-    orders(rt, plan, out, b"item#")
+pub fn locals(page: &mut Page) -> anyhow::Result<()> {
+    variables(page)?;
+    page.title(b"ten thousand subscripts, numbers")?;
+    orders(page, b"#")?;
+    page.title(b"ten thousand subscripts, texts")?;
+    orders(page, b"item#")
 }

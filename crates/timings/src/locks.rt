@@ -1,8 +1,8 @@
 // SPDX-License-Identifier: Apache-2.0
 // Locks: taking and giving back beside ten thousand names that another terminal holds.
-use crate::measuring::{Plan, measure};
+use crate::measuring::Page;
 use mlock::{LockName, Locks};
-use mtranscript::{key_of, numbered, print_result, text_of};
+use mtranscript::{key_of, numbered, text_of};
 use std::alloc::Global;
 
 const COUNT: usize = 10_000;
@@ -17,71 +17,35 @@ const HOLDER: u32 = 2;
 
 const TAKER: u32 = 1;
 
-// Names of which there are ten thousand.
-struct Form {
-    /// The name of the global.
-    name: &'static [u8],
-    /// Its subscripts.
-    subs: &'static [&'static [u8]],
-    /// What the place of a name is multiplied by, and what is added then, for the number in it.
-    times: usize,
-    plus: usize,
-}
+// Names of which there are ten thousand: the name of the global, its subscripts, and what the place of a name is multiplied by, and what is added
+// then, for the number in it.
+struct Form(&'static [u8], &'static [&'static [u8]], usize, usize);
 
 // ^H0, ^H1 and so on.
-const OTHER_GLOBALS: Form = Form {
-    name: b"H#",
-    subs: &[],
-    times: 1,
-    plus: 0,
-};
+const OTHER_GLOBALS: Form = Form(b"H#", &[], 1, 0);
 
 // ^G(0), ^G(2), ^G(4) and so on.
-const SAME_GLOBAL: Form = Form {
-    name: b"G",
-    subs: &[b"#"],
-    times: 2,
-    plus: 0,
-};
+const SAME_GLOBAL: Form = Form(b"G", &[b"#"], 2, 0);
 
 // ^G0, ^G1 and so on.
-const WITHOUT_SUBSCRIPTS: Form = Form {
-    name: b"G#",
-    subs: &[],
-    times: 1,
-    plus: 0,
-};
+const WITHOUT_SUBSCRIPTS: Form = Form(b"G#", &[], 1, 0);
 
 // ^G(1,"item",7), ^G(3,"item",7) and so on.
-const THREE_SUBSCRIPTS: Form = Form {
-    name: b"G",
-    subs: &[b"#", b"item", b"7"],
-    times: 2,
-    plus: 1,
-};
+const THREE_SUBSCRIPTS: Form = Form(b"G", &[b"#", b"item", b"7"], 2, 1);
 
 // ^G, each time.
-const ABOVE_HELD: Form = Form {
-    name: b"G",
-    subs: &[],
-    times: 1,
-    plus: 0,
-};
+const ABOVE_HELD: Form = Form(b"G", &[], 1, 0);
 
 // ^G(0,"item",7), ^G(2,"item",7) and so on.
-const BELOW_HELD: Form = Form {
-    name: b"G",
-    subs: &[b"#", b"item", b"7"],
-    times: 2,
-    plus: 0,
-};
+const BELOW_HELD: Form = Form(b"G", &[b"#", b"item", b"7"], 2, 0);
 
 fn lock_at(alloc: Global, form: &Form, place: usize) -> anyhow::Result<LockName> {
-    let number = place.saturating_mul(form.times).saturating_add(form.plus);
+    let Form(name, parts, times, plus) = form;
+    let number = place.saturating_mul(*times).saturating_add(*plus);
     let account = text_of(alloc, "ALICE")?;
-    let name = numbered(alloc, form.name, &[number])?;
+    let name = numbered(alloc, name, &[number])?;
     let mut subs = Vec::new(alloc);
-    for sub in form.subs {
+    for sub in *parts {
         subs.push(numbered(alloc, sub, &[number])?)?;
     }
     let key = key_of(alloc, &account, &name, &subs)?;
@@ -135,57 +99,41 @@ fn give_back(locks: &mut Locks, names: &[LockName], place: &mut usize) -> i128 {
     }
 }
 
-// Takes names of a form beside those that are held, and gives them back.
-fn beside(
-    rt: &HostRuntime,
-    plan: Plan,
-    out: &mut Vec<u8>,
+// Takes names of a form beside those that are held: the names.
+fn taken(
+    page: &mut Page,
     title: &str,
     locks: &mut Locks,
     form: &Form,
-) -> anyhow::Result<()> {
-    print_result(out, title.as_bytes())?;
-    let names = all_of(rt.alloc(), form)?;
+) -> anyhow::Result<Vec<LockName>> {
+    page.title(title.as_bytes())?;
+    let names = all_of(page.alloc(), form)?;
     let mut place = 0;
-    measure(rt, plan, out, "take", |_| take(locks, &names, &mut place))?;
-    let mut place = 0;
-    measure(
-        rt,
-        plan,
-        out,
-        "give_back",
-        |_| give_back(locks, &names, &mut place),
-    )
+    page.measure("take", |_| take(locks, &names, &mut place))?;
+    Ok(names)
 }
 
-// Names of a form, each of which is refused.
-fn refused(
-    rt: &HostRuntime,
-    plan: Plan,
-    out: &mut Vec<u8>,
-    title: &str,
-    locks: &mut Locks,
-    form: &Form,
-) -> anyhow::Result<()> {
-    print_result(out, title.as_bytes())?;
-    let names = all_of(rt.alloc(), form)?;
+// Takes them, and gives them back.
+fn beside(page: &mut Page, title: &str, locks: &mut Locks, form: &Form) -> anyhow::Result<()> {
+    let names = taken(page, title, locks, form)?;
     let mut place = 0;
-    measure(rt, plan, out, "take", |_| take(locks, &names, &mut place))
+    page.measure("give_back", |_| give_back(locks, &names, &mut place))
 }
 
 /// Names that are taken, and names that are refused, beside those of another terminal.
-pub fn locks(rt: &HostRuntime, plan: Plan, out: &mut Vec<u8>) -> anyhow::Result<()> {
-    let plan = plan.at_most(MOST_TAKEN);
-    let mut locks = held(rt.alloc(), &OTHER_GLOBALS)?;
+pub fn locks(page: &mut Page) -> anyhow::Result<()> {
+    page.plan = page.plan.at_most(MOST_TAKEN);
+    let mut locks = held(page.alloc(), &OTHER_GLOBALS)?;
     let title = "beside locks of other globals, no subscript";
-    beside(rt, plan, out, title, &mut locks, &WITHOUT_SUBSCRIPTS)?;
+    beside(page, title, &mut locks, &WITHOUT_SUBSCRIPTS)?;
     let title = "beside locks of other globals, three subscripts";
-    beside(rt, plan, out, title, &mut locks, &THREE_SUBSCRIPTS)?;
-    let mut locks = held(rt.alloc(), &SAME_GLOBAL)?;
+    beside(page, title, &mut locks, &THREE_SUBSCRIPTS)?;
+    let mut locks = held(page.alloc(), &SAME_GLOBAL)?;
     let title = "beside locks of the same global, three subscripts";
-    beside(rt, plan, out, title, &mut locks, &THREE_SUBSCRIPTS)?;
+    beside(page, title, &mut locks, &THREE_SUBSCRIPTS)?;
     let title = "above locks, no subscript";
-    refused(rt, plan, out, title, &mut locks, &ABOVE_HELD)?;
+    drop(taken(page, title, &mut locks, &ABOVE_HELD)?);
     let title = "below a lock, three subscripts";
-    refused(rt, plan, out, title, &mut locks, &BELOW_HELD)
+    drop(taken(page, title, &mut locks, &BELOW_HELD)?);
+    Ok(())
 }

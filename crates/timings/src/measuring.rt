@@ -1,6 +1,7 @@
 // SPDX-License-Identifier: Apache-2.0
 // How a call is timed.
 use mtranscript::print_result;
+use std::alloc::Global;
 use std::time::Instant;
 
 /// How often a call is made in a pass, in how many passes, and whether its time is told, or the sum of what the calls gave.
@@ -10,6 +11,8 @@ pub struct Plan {
     pub rounds: usize,
     pub passes: u32,
     pub timed: bool,
+    /// How many bytes a call goes over, where it is told how many of them in a nanosecond.
+    pub bytes: Option<usize>,
 }
 
 impl Plan {
@@ -17,53 +20,79 @@ impl Plan {
     pub fn at_most(self, rounds: usize) -> Plan {
         Plan {
             rounds: self.rounds.min(rounds),
-            passes: self.passes,
-            timed: self.timed,
+            ..self
+        }
+    }
+
+    /// The same for calls that go over so many bytes.
+    pub fn over(self, bytes: usize) -> Plan {
+        Plan {
+            bytes: Some(bytes),
+            ..self
         }
     }
 }
 
-/// Tells the time of a call, in nanoseconds, or its checksum.
-pub fn measure<F: FnMut(usize) -> i128>(
-    rt: &HostRuntime,
-    plan: Plan,
-    out: &mut Vec<u8>,
-    name: &str,
-    work: F,
-) -> anyhow::Result<()>
-    requires { F.IsAlwaysCallable work }
-{
-    let (sum, least) = passes(rt, plan, work)?;
-    if !plan.timed {
-        return tell_sum(rt, out, name, sum);
-    }
-    let tenths = least / (plan.rounds as u128).div_ceil(10).max(1);
-    tell_tenths(rt, out, name, tenths, "ns")
+/// A page that is being made: how its calls are timed, and its lines up to here.
+#[derive(Drop)]
+pub struct Page<'a> {
+    pub rt: &'a HostRuntime,
+    pub plan: Plan,
+    pub out: Vec<u8>,
 }
 
-/// Tells how many bytes a call goes over in a nanosecond, or its checksum, if it goes over so many.
-pub fn measure_bytes<F: FnMut(usize) -> i128>(
-    rt: &HostRuntime,
-    plan: Plan,
-    out: &mut Vec<u8>,
-    name: &str,
-    bytes: usize,
-    work: F,
-) -> anyhow::Result<()>
-    requires { F.IsAlwaysCallable work }
-{
-    let (sum, least) = passes(rt, plan, work)?;
-    if !plan.timed {
-        return tell_sum(rt, out, name, sum);
+impl<'a> Page<'a> {
+    /// Where memory comes from.
+    pub fn alloc(&self) -> Global {
+        self.rt.alloc()
     }
-    let all = (bytes as u128).saturating_mul(plan.rounds as u128);
-    tell_tenths(
-        rt,
-        out,
-        name,
-        all.saturating_mul(10) / least.max(1),
-        "bytes/ns",
-    )
+
+    /// Adds a line above those of calls.
+    pub fn title(&mut self, title: &[u8]) -> anyhow::Result<()> {
+        print_result(&mut self.out, title)
+    }
+
+    /// Tells the time of a call, in nanoseconds, or its checksum.
+    pub fn measure<F: FnMut(usize) -> i128>(&mut self, name: &str, work: F) -> anyhow::Result<()>
+        requires { F.IsAlwaysCallable work }
+    {
+        let plan = self.plan;
+        self.measure_by(plan, name, work)
+    }
+
+    /// The same by another plan than the page's.
+    pub fn measure_by<F: FnMut(usize) -> i128>(
+        &mut self,
+        plan: Plan,
+        name: &str,
+        work: F,
+    ) -> anyhow::Result<()>
+        requires { F.IsAlwaysCallable work }
+    {
+        let (sum, least) = passes(self.rt, plan, work)?;
+        if !plan.timed {
+            return self.tell_sum(name, sum);
+        }
+        let rounds = plan.rounds as u128;
+        match plan.bytes {
+            None => self.tell_tenths(name, least / rounds.div_ceil(10).max(1), "ns"),
+            Some(bytes) => {
+                let all = (bytes as u128).saturating_mul(rounds);
+                self.tell_tenths(name, all.saturating_mul(10) / least.max(1), "bytes/ns")
+            }
+        }
+    }
+
+    fn tell_sum(&mut self, name: &str, sum: i128) -> anyhow::Result<()> {
+        let told = format!(in self.alloc(); "  {name:<12} {sum}")?;
+        print_result(&mut self.out, told.as_bytes())
+    }
+
+    fn tell_tenths(&mut self, name: &str, tenths: u128, unit: &str) -> anyhow::Result<()> {
+        let (whole, tenth) = (tenths / 10, tenths % 10);
+        let told = format!(in self.alloc(); "  {name:<12} {whole:>4}.{tenth} {unit}")?;
+        print_result(&mut self.out, told.as_bytes())
+    }
 }
 
 // The sum of what the calls gave, and the nanoseconds of the fastest pass.
@@ -84,21 +113,4 @@ fn passes<F: FnMut(usize) -> i128>(
         least = least.min(start.elapsed(rt)?.as_nanos());
     }
     Ok((sum, least))
-}
-
-fn tell_sum(rt: &HostRuntime, out: &mut Vec<u8>, name: &str, sum: i128) -> anyhow::Result<()> {
-    let told = format!(in rt.alloc(); "  {name:<12} {sum}")?;
-    print_result(out, told.as_bytes())
-}
-
-fn tell_tenths(
-    rt: &HostRuntime,
-    out: &mut Vec<u8>,
-    name: &str,
-    tenths: u128,
-    unit: &str,
-) -> anyhow::Result<()> {
-    let (whole, tenth) = (tenths / 10, tenths % 10);
-    let told = format!(in rt.alloc(); "  {name:<12} {whole:>4}.{tenth} {unit}")?;
-    print_result(out, told.as_bytes())
 }

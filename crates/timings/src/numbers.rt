@@ -1,8 +1,7 @@
 // SPDX-License-Identifier: Apache-2.0
 // The operations on numbers.
-use crate::measuring::{Plan, measure};
+use crate::measuring::Page;
 use mnum::{Num, is_canonical};
-use mtranscript::print_result;
 
 // The kinds of operands, with four of each.
 const KINDS: [(&str, [&str; 4]); 3] = [
@@ -34,65 +33,35 @@ fn digest<E: Drop>(outcome: Result<Num, E>) -> i128 {
     }
 }
 
-// The operands of a round.
-fn pair(xs: &[Num; 4], round: usize) -> (Num, Num) {
-    (xs[round % 4], xs[round / 4 % 4])
+// The operand at a place. A round has the one at its number, and the one at a quarter of it.
+fn at(xs: &[Num; 4], place: usize) -> Num {
+    xs[place % 4]
 }
 
-fn operators(rt: &HostRuntime, plan: Plan, out: &mut Vec<u8>, xs: &[Num; 4]) -> anyhow::Result<()> {
-    measure(rt, plan, out, "add", |i| {
-        let (x, y) = pair(xs, i);
-        digest(x.add(y))
-    })?;
-    measure(rt, plan, out, "sub", |i| {
-        let (x, y) = pair(xs, i);
-        digest(x.sub(y))
-    })?;
-    measure(rt, plan, out, "mul", |i| {
-        let (x, y) = pair(xs, i);
-        digest(x.mul(y))
-    })?;
-    measure(rt, plan, out, "div", |i| {
-        let (x, y) = pair(xs, i);
-        digest(x.div(y))
-    })?;
-    measure(rt, plan, out, "quot", |i| {
-        let (x, y) = pair(xs, i);
-        digest(x.quot(y))
-    })?;
-    measure(rt, plan, out, "rem", |i| {
-        let (x, y) = pair(xs, i);
-        digest(x.rem(y))
-    })?;
-    measure(rt, plan, out, "cmp", |i| {
-        let (x, y) = pair(xs, i);
-        x.cmp(y).is_lt() as i128
-    })
+fn operators(page: &mut Page, xs: &[Num; 4]) -> anyhow::Result<()> {
+    page.measure("add", |i| digest(at(xs, i).add(at(xs, i / 4))))?;
+    page.measure("sub", |i| digest(at(xs, i).sub(at(xs, i / 4))))?;
+    page.measure("mul", |i| digest(at(xs, i).mul(at(xs, i / 4))))
 }
 
-fn texts(
-    rt: &HostRuntime,
-    plan: Plan,
-    out: &mut Vec<u8>,
-    words: &[&str; 4],
-    xs: &[Num; 4],
-) -> anyhow::Result<()> {
-    measure(
-        rt,
-        plan,
-        out,
+fn quotients(page: &mut Page, xs: &[Num; 4]) -> anyhow::Result<()> {
+    page.measure("div", |i| digest(at(xs, i).div(at(xs, i / 4))))?;
+    page.measure("quot", |i| digest(at(xs, i).quot(at(xs, i / 4))))?;
+    page.measure("rem", |i| digest(at(xs, i).rem(at(xs, i / 4))))?;
+    page.measure("cmp", |i| at(xs, i).cmp(at(xs, i / 4)).is_lt() as i128)
+}
+
+fn texts(page: &mut Page, words: &[&str; 4], xs: &[Num; 4]) -> anyhow::Result<()> {
+    page.measure(
         "from_text",
         |i| digest(Num::from_text(words[i % 4].as_bytes())),
     )?;
-    measure(
-        rt,
-        plan,
-        out,
+    page.measure(
         "is_canonical",
         |i| is_canonical(words[i % 4].as_bytes()) as i128,
     )?;
-    let mut text = Vec::with_capacity(rt.alloc(), 64)?;
-    measure(rt, plan, out, "write", |i| {
+    let mut text = Vec::with_capacity(page.alloc(), 64)?;
+    page.measure("write", |i| {
         text.clear();
         match xs[i % 4].write(&mut text) {
             Ok(()) => text.len() as i128,
@@ -102,17 +71,18 @@ fn texts(
 }
 
 /// Each operation, on operands of three kinds.
-pub fn numbers(rt: &HostRuntime, plan: Plan, out: &mut Vec<u8>) -> anyhow::Result<()> {
+pub fn numbers(page: &mut Page) -> anyhow::Result<()> {
     for (title, words) in &KINDS {
-        print_result(out, title.as_bytes())?;
+        page.title(title.as_bytes())?;
         let xs = [
             number(words[0])?,
             number(words[1])?,
             number(words[2])?,
             number(words[3])?,
         ];
-        operators(rt, plan, out, &xs)?;
-        texts(rt, plan, out, words, &xs)?;
+        operators(page, &xs)?;
+        quotients(page, &xs)?;
+        texts(page, words, &xs)?;
     }
     Ok(())
 }

@@ -1,14 +1,19 @@
 // SPDX-License-Identifier: Apache-2.0
 // Stores: puts, gets and neighbours of nodes, and the memory that a node takes.
-use crate::measuring::{Plan, measure};
+use crate::measuring::{Page, Plan};
 use anyhow::Context;
 use mkey::NodeKey;
 use mnum::Bytes7;
 use mspec::limits::MAX_TEXT;
 use mstore::{NodeStore, Plain, StoreFault, Table};
-use mtranscript::{key_of, numbered, print_result, text_of};
+use mtranscript::{key_of, numbered, text_of};
 use std::alloc::Global;
 use std::fs;
+
+// What is told of a store before its calls.
+const PLAIN_TITLE: &[u8] = b"plain store of # nodes";
+
+const TABLE_TITLE: &[u8] = b"table of # nodes";
 
 // The stores of a timed run have so many nodes; others have few.
 const TIMED: [usize; 2] = [10_000, 1_000_000];
@@ -27,12 +32,12 @@ const PAGE_BYTES: u64 = 4096;
 pub(crate) struct Nodes {
     pub keys: Vec<NodeKey>,
     low: Vec<u8>,
-    high: Vec<u8>,
+    pub high: Vec<u8>,
     pub text: Bytes7,
 }
 
 // A place below the count, by the number of the round.
-fn drawn(round: usize, count: usize) -> usize {
+pub(crate) fn drawn(round: usize, count: usize) -> usize {
     let mixed = (round as u64).wrapping_mul(0x9e37_79b9_7f4a_7c15) >> 32;
     (mixed % count.max(1) as u64) as usize
 }
@@ -86,11 +91,11 @@ pub(crate) fn put<S: NodeStore>(
     }
 }
 
-pub(crate) fn get<S: NodeStore>(store: &mut S, nodes: &Nodes, place: usize) -> i128 {
-    if place >= nodes.keys.len() {
+pub(crate) fn get<S: NodeStore>(store: &mut S, keys: &[NodeKey], place: usize) -> i128 {
+    if place >= keys.len() {
         return -1;
     }
-    match store.get(&nodes.keys[place]) {
+    match store.get(&keys[place]) {
         Ok(Some(text)) => text.as_bytes().len() as i128,
         Ok(None) => 0,
         Err(_) => -1,
@@ -98,7 +103,7 @@ pub(crate) fn get<S: NodeStore>(store: &mut S, nodes: &Nodes, place: usize) -> i
 }
 
 // The length of what was found.
-fn length(found: Result<Option<Vec<u8>>, StoreFault>) -> i128 {
+pub(crate) fn length(found: Result<Option<Vec<u8>>, StoreFault>) -> i128 {
     match found {
         Ok(Some(found)) => found.len() as i128,
         Ok(None) => 0,
@@ -144,101 +149,64 @@ fn resident(rt: &HostRuntime) -> anyhow::Result<u64> {
 }
 
 // Fills a store with nodes in order, once.
-fn fill<S: NodeStore>(
-    rt: &HostRuntime,
-    timed: bool,
-    out: &mut Vec<u8>,
-    store: &mut S,
-    nodes: &Nodes,
-) -> anyhow::Result<()> {
-    let rounds = nodes.keys.len();
+fn fill<S: NodeStore>(page: &mut Page, store: &mut S, nodes: &Nodes) -> anyhow::Result<()> {
     let once = Plan {
-        rounds,
+        rounds: nodes.keys.len(),
         passes: 1,
-        timed,
+        ..page.plan
     };
-    let before = resident(rt)?;
-    measure(
-        rt,
-        once,
-        out,
-        "put",
-        |i| put(store, &nodes.keys, &nodes.text, i),
-    )?;
-    if timed {
-        let taken = resident(rt)?.saturating_sub(before) / rounds.max(1) as u64;
-        let told = format!(in rt.alloc(); "  {:<12} {taken:>4} bytes a node", "memory")?;
-        print_result(out, told.as_bytes())?;
+    let before = resident(page.rt)?;
+    page.measure_by(once, "put", |i| put(store, &nodes.keys, &nodes.text, i))?;
+    if once.timed {
+        let taken = resident(page.rt)?.saturating_sub(before) / once.rounds.max(1) as u64;
+        let told = format!(in page.alloc(); "  {:<12} {taken:>4} bytes a node", "memory")?;
+        page.title(told.as_bytes())?;
     }
     Ok(())
 }
 
 // Asks a store of drawn nodes.
-fn ask<S: NodeStore>(
-    rt: &HostRuntime,
-    plan: Plan,
-    out: &mut Vec<u8>,
-    store: &mut S,
-    nodes: &Nodes,
-) -> anyhow::Result<()> {
+fn ask<S: NodeStore>(page: &mut Page, store: &mut S, nodes: &Nodes) -> anyhow::Result<()> {
     let count = nodes.keys.len();
-    measure(
-        rt,
+    let plan = page.plan.at_most(MOST_DRAWN);
+    page.measure_by(
         plan,
-        out,
         "put again",
         |i| put(store, &nodes.keys, &nodes.text, drawn(i, count)),
     )?;
-    measure(rt, plan, out, "get", |i| get(store, nodes, drawn(i, count)))?;
-    measure(
-        rt,
-        plan,
-        out,
-        "next",
-        |i| next(store, nodes, drawn(i, count)),
-    )?;
-    measure(
-        rt,
-        plan,
-        out,
-        "prev",
-        |i| prev(store, nodes, drawn(i, count)),
-    )
+    page.measure_by(plan, "get", |i| get(store, &nodes.keys, drawn(i, count)))?;
+    page.measure_by(plan, "next", |i| next(store, nodes, drawn(i, count)))?;
+    page.measure_by(plan, "prev", |i| prev(store, nodes, drawn(i, count)))
 }
 
 // All of it, on a store with so many nodes.
 fn calls<S: NodeStore>(
-    rt: &HostRuntime,
-    plan: Plan,
-    out: &mut Vec<u8>,
+    page: &mut Page,
+    form: &[u8],
     store: &mut S,
     count: usize,
 ) -> anyhow::Result<()> {
-    let nodes = make_nodes(rt.alloc(), count)?;
-    let few = plan.at_most(MOST_BETWEEN);
-    let new = new_nodes(rt.alloc(), count, few.rounds)?;
-    fill(rt, plan.timed, out, store, &nodes)?;
-    ask(rt, plan.at_most(MOST_DRAWN), out, store, &nodes)?;
-    measure(
-        rt,
+    let title = numbered(page.alloc(), form, &[count])?;
+    page.title(title.as_bytes())?;
+    let nodes = make_nodes(page.alloc(), count)?;
+    let few = page.plan.at_most(MOST_BETWEEN);
+    let new = new_nodes(page.alloc(), count, few.rounds)?;
+    fill(page, store, &nodes)?;
+    ask(page, store, &nodes)?;
+    page.measure_by(
         few,
-        out,
         "put and kill",
         |i| between(store, &new, &nodes.text, i),
     )
 }
 
 /// Each store, with few nodes and with many.
-pub fn stores(rt: &HostRuntime, plan: Plan, out: &mut Vec<u8>) -> anyhow::Result<()> {
-    let alloc = rt.alloc();
-    let sizes = if plan.timed { TIMED } else { FEW };
-    for count in sizes {
-        let title = numbered(alloc, b"plain store of # nodes", &[count])?;
-        print_result(out, title.as_bytes())?;
-        calls(rt, plan, out, &mut Plain::new(alloc), count)?;
-        let title = numbered(alloc, b"table of # nodes", &[count])?;
-        print_result(out, title.as_bytes())?;
-        calls(rt, plan, out, &mut Table::open_memory(alloc)?, count)?;
+pub fn stores(page: &mut Page) -> anyhow::Result<()> {
+    let alloc = page.alloc();
+    let counts = if page.plan.timed { TIMED } else { FEW };
+    for count in counts {
+        calls(page, PLAIN_TITLE, &mut Plain::new(alloc), count)?;
+        calls(page, TABLE_TITLE, &mut Table::open_memory(alloc)?, count)?;
     }
     Ok(())
 }

@@ -1,8 +1,8 @@
 // SPDX-License-Identifier: Apache-2.0
 // Searches in texts, and pattern match.
-use crate::measuring::{Plan, measure, measure_bytes};
+use crate::measuring::Page;
 use mtext::{Atom, Count, Pattern, PatternCode, Repeated, find, matches, pieces};
-use mtranscript::{print_result, text_of};
+use mtranscript::text_of;
 use std::alloc::Global;
 
 // The long text is so many pieces, each with its delimiter, and then what is sought.
@@ -52,37 +52,17 @@ fn letters_and_digits(alloc: Global) -> anyhow::Result<Pattern> {
 }
 
 /// Each on one text.
-pub fn texts(rt: &HostRuntime, plan: Plan, out: &mut Vec<u8>) -> anyhow::Result<()> {
-    print_result(out, b"texts")?;
-    let text = long_text(rt.alloc())?;
-    let length = text.len();
-    measure_bytes(
-        rt,
-        plan,
-        out,
-        "pieces",
-        length,
-        |_| pieces(&text, b"^") as i128,
-    )?;
-    measure_bytes(
-        rt,
-        plan,
-        out,
-        "find",
-        length,
-        |_| find(&text, SOUGHT, None) as i128,
-    )?;
-    let pattern = letters_and_digits(rt.alloc())?;
-    let alloc = rt.alloc();
-    measure(
-        rt,
-        plan,
-        out,
-        "matches",
-        |_| match matches(alloc, &pattern, SHORT) {
-            Ok(true) => 1,
-            Ok(false) => 0,
-            Err(_) => -1,
-        },
-    )
+pub fn texts(page: &mut Page) -> anyhow::Result<()> {
+    page.title(b"texts")?;
+    let text = long_text(page.alloc())?;
+    let over = page.plan.over(text.len());
+    page.measure_by(over, "pieces", |_| pieces(&text, b"^") as i128)?;
+    page.measure_by(over, "find", |_| find(&text, SOUGHT, None) as i128)?;
+    let alloc = page.alloc();
+    let pattern = letters_and_digits(alloc)?;
+    page.measure("matches", |_| match matches(alloc, &pattern, SHORT) {
+        Ok(true) => 1,
+        Ok(false) => 0,
+        Err(_) => -1,
+    })
 }

@@ -1,14 +1,7 @@
 -- SPDX-License-Identifier: Apache-2.0
-use Rattle.mgrant.proofs.GrantWords.{◌≡◌, ◌+◌, ◌++◌, [], ◌∷◌, inr, false, get_or, take, refl, sym, ap, subst, ◌∙◌, arith, rules, common_steps, is_grant, mode_of, grants_seen, grant_view, AreGranted, IsPlacing}
-use Rattle.mgrant.proofs.Parts.{all_more, all_fails, grants_more}
+use Rattle.mgrant.proofs.GrantWords.{◌≡◌, ◌+◌, ◌++◌, [], ◌∷◌, get_or, take, sym, ap, subst, ◌∙◌, arith, rules, common_steps, is_grant, mode_of, grants_seen, grant_view, AreGranted, IsPlacing}
+use Rattle.mgrant.proofs.Parts.{all_more, grants_more}
 use Rattle.mgrant.proofs.checks.grants_of.Goals as goal
-
-pub returns-in_default : goal.returns-in_default
-returns-in_default c =
-    let e = c.entry-item.result in
-    let at : get_or c.args.entries.now c.loop-entry.entry-index e ≡ e = grind (arith, common_steps) in
-    let bad : is_grant c.args.names.now (grant_view e) ≡ false = search rules in
-    inr (refl, all_fails grant_view (is_grant c.args.names.now) c.args.entries.now c.loop-entry.entry-index e c.loop-entry-test.true (rw at bad))
 
 pub loop-entry-preserved : goal.loop-entry-preserved
 loop-entry-preserved c =

@@ -1,6 +1,5 @@
 -- SPDX-License-Identifier: Apache-2.0
-use Rattle.mgrant.proofs.GrantWords.{◌≡◌, ◌++◌, drop, map, option_map, items_view, array_view, each_read}
-use Rattle.mgrant.specs.Document.{written_by}
+use Rattle.mgrant.proofs.GrantWords.{◌≡◌, ◌++◌, drop, map, option_map, items_view, array_view, each_read, written_by}
 use Rattle.mgrant.proofs.document.list.Given as goal
 
 abbrev pub invariant-loop-value : goal.invariant-loop-value

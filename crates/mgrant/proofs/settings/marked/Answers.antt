@@ -1,5 +1,5 @@
 -- SPDX-License-Identifier: Apache-2.0
-use Rattle.std.proofs.Common.{◌≡◌, ◌++◌, [], ◌∷◌, true, false, get_or, sym, ap, ◌∙◌, rules}
+use Rattle.mgrant.proofs.GrantWords.{◌≡◌, ◌++◌, [], ◌∷◌, true, false, get_or, sym, ap, ◌∙◌, rules}
 use Rattle.mgrant.proofs.IslandsFound.{marked_more, unmarked_more}
 use Rattle.mgrant.proofs.settings.marked.Goals.{then-marks-place+in_ok-push, else-marks-place}
 

@@ -1,16 +1,13 @@
 -- SPDX-License-Identifier: Apache-2.0
 use Rattle.mislands.proofs.IslandWords.{◌≡◌, ℕ, List, ◌++◌, [], ◌∷◌, false, refl, sym, ap, subst, ◌∙◌, map_push, IsIslandAt, named, is_among, AreIslands, adds, has, Island}
 use Rattle.mislands.specs.Listing.{names_at}
-use Rattle.mislands.proofs.Lines.{known_name, name_is}
+use Rattle.mislands.proofs.Lines.{name_is}
 use Rattle.mislands.proofs.listing.add_island.Goals as goal
 
 pub returns-then-is_among : goal.returns-then-is_among
 returns-then-is_among c = λ before old.
     has before (named c.args.settings.now c.args.islands.now.items) c.args.name.now old
     (ap (λ islands. is_among c.args.name.now (named c.args.settings.now islands)) (sym c.deref.ensures.value) ∙ sym c.is_among.ensures ∙ c.if-is_among.true)
-
-pub returns-in_default : goal.returns-in_default
-returns-in_default c = absurd (known_name c.args.settings.now c.args.name.now c.requires c.in_default.ensures.account)
 
 pub returns : goal.returns
 returns c = λ before old.

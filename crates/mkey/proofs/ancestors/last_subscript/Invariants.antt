@@ -1,6 +1,5 @@
 -- SPDX-License-Identifier: Apache-2.0
-use Rattle.mkey.proofs.KeyWords.{◌≡◌, ◌≤◌, length, key_bytes, significant_digits}
-use Rattle.mspec.specs.Act.{Node}
+use Rattle.mkey.proofs.KeyWords.{◌≡◌, ◌≤◌, length, key_bytes, significant_digits, Node}
 use Rattle.mkey.proofs.KeyWalks.{Walked}
 use Rattle.mkey.proofs.ancestors.last_subscript.Given as goal
 

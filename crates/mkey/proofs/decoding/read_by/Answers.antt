@@ -1,5 +1,5 @@
 -- SPDX-License-Identifier: Apache-2.0
-use Rattle.mkey.proofs.SubscriptLists.{no_such_name, no_such_subs, node_found}
+use Rattle.mkey.proofs.SubscriptLists.{no_such_name, no_such_subs}
 use Rattle.mkey.proofs.decoding.read_by.Goals as goal
 
 pub returns-in_default-2 : goal.returns-in_default-2
@@ -13,11 +13,3 @@ returns-in_default-3 c =
     let name = rw c.in-Some-2.is at c.in_ok-name.ensures in
     no_such_subs c.args.kept c.args.bytes.now c.in-Some.account c.in-Some.count account.0 c.behind-local.result.now c.behind-local.ensures c.in-Some-2.name c.in-Some-2.count name.0
     c.behind.result.now c.behind.ensures (rw c.in_default-3.is at c.in_ok-subs.ensures)
-
-pub returns : goal.returns
-returns c =
-    let account = rw c.in-Some.is at c.in_ok-account.ensures in
-    let name = rw c.in-Some-2.is at c.in_ok-name.ensures in
-    let subs = rw c.in-Some-3.is at c.in_ok-subs.ensures in
-    node_found c.args.kept c.args.bytes.now c.in-Some.account c.in-Some.count account.0 c.behind-local.result.now c.behind-local.ensures c.in-Some-2.name c.in-Some-2.count name.0
-    c.behind.result.now c.in-Some-3.subs c.behind.ensures subs.0 subs.1 account.1 name.1

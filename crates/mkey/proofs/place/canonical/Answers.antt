@@ -1,8 +1,5 @@
 -- SPDX-License-Identifier: Apache-2.0
-use Rattle.mkey.proofs.KeyWords.{◌≡◌, Some, sym, ◌∙◌, ap, rules, to_z-of_z}
-use Rattle.std.specs.Prelude.{IsTrue, false}
-use mir.Syntax.{w128}
-use mir.Val.{SFits, to_z, of_z}
+use Rattle.mkey.proofs.KeyWords.{◌≡◌, Some, sym, ◌∙◌, ap, rules, to_z-of_z, IsTrue, false, w128, SFits, to_z, of_z}
 use Rattle.mkey.proofs.ShortTexts.{value_where_canonical, none_where_other}
 use Rattle.mkey.proofs.place.canonical.Goals as goal
 

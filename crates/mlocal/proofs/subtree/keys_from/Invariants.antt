@@ -1,6 +1,5 @@
 -- SPDX-License-Identifier: Apache-2.0
-use Rattle.mlocal.proofs.LocalWords.{◌≡◌, ◌++◌, map, is_from}
-use Rattle.std.proofs.Common.{filter}
+use Rattle.mlocal.proofs.LocalWords.{◌≡◌, ◌++◌, map, is_from, filter}
 use Rattle.mlocal.proofs.subtree.keys_from.Given as goal
 
 abbrev pub invariant-loop-entry : goal.invariant-loop-entry

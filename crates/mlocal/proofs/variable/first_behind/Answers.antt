@@ -1,6 +1,6 @@
 -- SPDX-License-Identifier: Apache-2.0
 use Rattle.mlocal.proofs.LocalWords.{sym, ◌∙◌, keys, AreSomeSubs, is_behind}
-use Rattle.mlocal.proofs.Walks.{first_is, none_is, found_all}
+use Rattle.mlocal.proofs.Walks.{first_is, found_all}
 use Rattle.mlocal.proofs.variable.first_behind.Goals as goal
 
 pub returns-in-Some-clause-key : goal.returns-in-Some-clause-key
@@ -10,7 +10,3 @@ returns-in-Some-clause-key c =
 pub returns-in-Some-clause-subs : goal.returns-in-Some-clause-subs
 returns-in-Some-clause-subs c =
     (found_all AreSomeSubs (is_behind c.args.low.now) (keys c.args.values.now) (c.requires.subs) c.in-Some.key.now (returns-in-Some-clause-key c)).0
-
-pub returns-in-None-clause-key : goal.returns-in-None-clause-key
-returns-in-None-clause-key c =
-    none_is (is_behind c.args.low.now) c.args.values.now.entries (sym (c.range.ensures.between tt) ∙ c.in-None.ensures.steps.0)

@@ -1,6 +1,6 @@
 -- SPDX-License-Identifier: Apache-2.0
 use Rattle.mlocal.proofs.LocalWords.{reverse, sym, ◌∙◌, keys, AreSomeSubs, is_between}
-use Rattle.mlocal.proofs.Walks.{last_is, none_last, found_all, all_reversed}
+use Rattle.mlocal.proofs.Walks.{last_is, found_all, all_reversed}
 use Rattle.mlocal.proofs.variable.last_between.Goals as goal
 
 pub returns-in-Some-clause-key : goal.returns-in-Some-clause-key
@@ -10,7 +10,3 @@ returns-in-Some-clause-key c =
 pub returns-in-Some-clause-subs : goal.returns-in-Some-clause-subs
 returns-in-Some-clause-subs c =
     (found_all AreSomeSubs (is_between c.args.low.now c.args.high.now) (reverse (keys c.args.values.now)) (all_reversed AreSomeSubs (keys c.args.values.now) c.requires.subs) c.in-Some.key.now (returns-in-Some-clause-key c)).0
-
-pub returns-in-None-clause-key : goal.returns-in-None-clause-key
-returns-in-None-clause-key c =
-    none_last (is_between c.args.low.now c.args.high.now) c.args.values.now.entries (sym (c.range.ensures.between tt) ∙ c.in-None.ensures.steps.0)

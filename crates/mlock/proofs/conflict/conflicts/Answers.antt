@@ -1,6 +1,6 @@
 -- SPDX-License-Identifier: Apache-2.0
 use Rattle.mlock.proofs.LockWords.{◌≡◌, ◌<◌, ℕ, Bool, true, false, Result, Ok, Err, not, length, refl, sym, ap, ◌∙◌, IfOk, list_any, IndexMap, IsUnique, get, LockName, held, has_conflict, Holding, name_above, is_other, locks_of, name_eq, is_only}
-use Rattle.mlock.proofs.Conflicts.{by_below, by_above, by_itself, by_none}
+use Rattle.mlock.proofs.Conflicts.{by_below, by_above, by_itself, by_none, by_no_name}
 use Rattle.mlock.proofs.Sums.{under_other, only_is}
 use Rattle.mlock.proofs.conflict.conflicts.Goals as goal
 
@@ -12,6 +12,9 @@ module _ {S : Type 0} (m : IndexMap LockName Holding S) (unique : IsUnique name_
   by_answer (Ok true) some none = let found = some refl in sym (by_above m n t found.0 found.1)
   by_answer (Ok false) some none = sym (by_none m n t unique below itself (none refl))
   by_answer (Err e) some none = some
+
+pub returns-then-is_empty : goal.returns-then-is_empty
+returns-then-is_empty c = sym (by_no_name c.args.holdings.now c.args.name.now c.args.terminal (c.is_empty.ensures.0 c.if-is_empty.true))
 
 pub returns-then-is_others_below : goal.returns-then-is_others_below
 returns-then-is_others_below c =

@@ -1,6 +1,5 @@
 -- SPDX-License-Identifier: Apache-2.0
-use Rattle.mnum.proofs.NumWords.{arith, ap, sym, ◌∙◌, ◌≡◌, ◌*◌, ◌^◌, ◌+◌, ten_add}
-use Rattle.std.proofs.Common.{mul_assoc}
+use Rattle.mnum.proofs.NumWords.{arith, ap, sym, ◌∙◌, ◌≡◌, ◌*◌, ◌^◌, ◌+◌, ten_add, mul_assoc}
 use Rattle.mnum.proofs.arithmetic.raised.Goals as goal
 
 pub loop-zeros-preserved : goal.loop-zeros-preserved

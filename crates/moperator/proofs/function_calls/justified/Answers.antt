@@ -1,10 +1,7 @@
 -- SPDX-License-Identifier: Apache-2.0
 use Rattle.moperator.proofs.Numbers.{width_fits}
-use Rattle.moperator.proofs.OperatorWords.{yields_then, yields_stopped}
+use Rattle.moperator.proofs.OperatorWords.{yields_then}
 use Rattle.moperator.proofs.function_calls.justified.Goals as goal
-
-pub returns-in_err-width : goal.returns-in_err-width
-returns-in_err-width c = yields_stopped _ c.in_err-width.ensures.whole c.from_residual.ensures
 
 pub returns : goal.returns
 returns c =

@@ -1,10 +1,7 @@
 -- SPDX-License-Identifier: Apache-2.0
 use Rattle.moperator.proofs.OperatorWords.{refl, map, atom_of, atom_tree, pattern_of}
-use Rattle.moperator.proofs.PatternMatches.{reversed_fails, match_gives}
+use Rattle.moperator.proofs.PatternMatches.{match_gives}
 use Rattle.moperator.proofs.patterns.matching.Goals as goal
-
-pub returns-then-has_reversed-clause-value : goal.returns-then-has_reversed-clause-value
-returns-then-has_reversed-clause-value c = reversed_fails (map atom_of (map atom_tree c.args.atoms.now)) c.args.value.now c.has_reversed.result c.has_reversed.ensures c.if-has_reversed.true
 
 pub returns-clause-value : goal.returns-clause-value
 returns-clause-value c =

@@ -1,6 +1,5 @@
 -- SPDX-License-Identifier: Apache-2.0
-use Rattle.mtext.proofs.TextWords.{ap, arith, count_by, is_byte}
-use Rattle.std.proofs.lemmas.List.{take_all}
+use Rattle.mtext.proofs.TextWords.{ap, arith, count_by, is_byte, take_all}
 use Rattle.mtext.proofs.CharacterPieces.{pieces_counted, behind_delimiter}
 use Rattle.mtext.proofs.by_character.skip.Goals as goal
 

@@ -1,6 +1,6 @@
 -- SPDX-License-Identifier: Apache-2.0
-use Rattle.mtext.proofs.TextWords.{arith, Some, None, subst, sym, length, ◌+◌, ap, IsBehind}
-use Rattle.mtext.proofs.PieceSteps.{behind_more, behind_last, some_characters}
+use Rattle.mtext.proofs.TextWords.{arith, Some, subst, sym, length, ◌+◌, ap, IsBehind}
+use Rattle.mtext.proofs.PieceSteps.{behind_more, some_characters}
 use Rattle.mtext.proofs.FoundPlaces.{in_rest}
 use Rattle.mtext.proofs.cutting.delimiters.Goals as goal
 
@@ -15,8 +15,3 @@ loop-before-preserved c =
           (in_rest c.args.text.now d c.loop-before.at (Some c.in-Some.before) c.in-Some.ensures));
       few = omega arith;
     }
-
-pub returns-clause-count : goal.returns-clause-count
-returns-clause-count c =
-    behind_last c.args.finder.now c.args.text.now c.loop-before.passed c.loop-before.at c.requires c.loop-before.invariant.behind
-    (in_rest c.args.text.now c.args.finder.now c.loop-before.at None c.in_default.ensures)

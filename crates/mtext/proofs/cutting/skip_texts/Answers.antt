@@ -1,16 +1,8 @@
 -- SPDX-License-Identifier: Apache-2.0
-use Rattle.mtext.proofs.TextWords.{arith, ◌+◌, sym, length, Some, None, subst, IsBehind}
-use Rattle.mtext.proofs.PieceSteps.{behind_more, behind_last}
+use Rattle.mtext.proofs.TextWords.{◌+◌, sym, length, Some, subst, IsBehind}
+use Rattle.mtext.proofs.PieceSteps.{behind_more}
 use Rattle.mtext.proofs.FoundPlaces.{in_rest}
 use Rattle.mtext.proofs.cutting.skip_texts.Goals as goal
-
-pub returns-in-None-clause-missing : goal.returns-in-None-clause-missing
-returns-in-None-clause-missing c =
-    omega (
-      arith,
-      behind_last c.args.finder.now c.args.text.now c.loop-passed.passed c.loop-passed.at c.requires c.loop-passed.invariant
-          (in_rest c.args.text.now c.args.finder.now c.loop-passed.at None c.in-None.ensures),
-    )
 
 pub loop-passed-preserved : goal.loop-passed-preserved
 loop-passed-preserved c =

@@ -1,6 +1,5 @@
 -- SPDX-License-Identifier: Apache-2.0
-use Rattle.mtext.proofs.TextWords.{◌≡◌, length, take, sym, ◌∙◌, arith, length-take-le, eq-eqb, is_in_set}
-use Rattle.std.proofs.lemmas.Bool.{eqb-true}
+use Rattle.mtext.proofs.TextWords.{◌≡◌, length, take, sym, ◌∙◌, arith, length-take-le, eq-eqb, is_in_set, eqb-true}
 use Rattle.mtext.proofs.PatternEndings.{whole_run, all_from_run}
 use Rattle.mtext.proofs.ending.has_members.Goals as goal
 

@@ -1,6 +1,5 @@
 -- SPDX-License-Identifier: Apache-2.0
-use Rattle.mtext.proofs.TextWords.{◌≡◌, ◌+◌, ◌*◌, ◌++◌, List, ℕ, length, Ok, sym, ap, ◌∙◌, arith, repeat}
-use Rattle.std.proofs.Common.{length-append}
+use Rattle.mtext.proofs.TextWords.{◌≡◌, ◌+◌, ◌*◌, ◌++◌, List, ℕ, length, Ok, sym, ap, ◌∙◌, arith, repeat, length-append}
 use Rattle.mtext.proofs.MadeTexts.{is_made, refused, wanting, length-repeat}
 use Rattle.mtext.proofs.making.padded.Goals as goal
 

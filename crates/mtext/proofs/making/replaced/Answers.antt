@@ -1,14 +1,8 @@
 -- SPDX-License-Identifier: Apache-2.0
-use Rattle.mtext.proofs.TextWords.{◌≡◌, ◌+◌, subst, length, drop, Some, None, pieces_of, made, Answers, IsBehind, delimiter_text, FindsNeedle}
+use Rattle.mtext.proofs.TextWords.{subst, length, drop, Some, None, made, Answers, IsBehind, delimiter_text, FindsNeedle}
 use Rattle.mtext.proofs.FoundPlaces.{in_rest}
-use Rattle.mtext.proofs.PieceSetting.{set_found, set_last, set_past}
+use Rattle.mtext.proofs.PieceSetting.{set_found, set_last}
 use Rattle.mtext.proofs.making.replaced.Goals as goal
-
-pub returns-in-Err : goal.returns-in-Err
-returns-in-Err c =
-    let missing = subst (λ needle. length (pieces_of needle c.args.text.now) + c.in-Err.missing ≡ c.args.before + 1) c.new-sought.ensures c.in-Err.ensures.missing in
-    subst (λ t. Answers (made t) c.padded.result) (set_past c.args.delimiter.now c.args.text.now c.args.value.now c.args.before c.in-Err.missing c.requires.some missing c.in-Err.ensures.some)
-    c.padded.ensures
 
 pub returns-in-None : goal.returns-in-None
 returns-in-None c =

@@ -1,6 +1,5 @@
 -- SPDX-License-Identifier: Apache-2.0
-use Rattle.mtext.proofs.TextWords.{◌≡◌, ◌+◌, ◌++◌, ◌∷◌, [], false, Decides, take, length, get_or, subst, sym, ap, ◌∙◌, arith, take_more, map-append, get_or_default, Decides-at, Matches, atom_of, atoms_of, count_of, repeated_of, AreEnds, AreMatched}
-use Rattle.std.proofs.lemmas.List.{take_all}
+use Rattle.mtext.proofs.TextWords.{◌≡◌, ◌+◌, ◌++◌, ◌∷◌, [], false, Decides, take, length, get_or, subst, sym, ap, ◌∙◌, arith, take_more, map-append, get_or_default, Decides-at, Matches, atom_of, atoms_of, count_of, repeated_of, AreEnds, AreMatched, take_all}
 use Rattle.mtext.proofs.PatternJoins.{matched_more}
 use Rattle.mtext.proofs.pattern.matches.Goals as goal
 

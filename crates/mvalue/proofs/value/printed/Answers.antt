@@ -1,6 +1,5 @@
 -- SPDX-License-Identifier: Apache-2.0
-use Rattle.mvalue.proofs.ValueWords.{◌≡◌, ◌++◌, All, true, false, ap, sym, ◌∙◌, subst, number_text, units}
-use Rattle.std.proofs.Common.{ℕ, List}
+use Rattle.mvalue.proofs.ValueWords.{◌≡◌, ◌++◌, All, true, false, ap, sym, ◌∙◌, subst, number_text, units, ℕ, List}
 use Rattle.mvalue.proofs.AsciiNumbers.{Ascii, text_ascii}
 use Rattle.mvalue.proofs.value.printed.Goals as goal
 

@@ -1,14 +1,12 @@
 -- SPDX-License-Identifier: Apache-2.0
-use Rattle.meval.proofs.EvalWords.{◌≡◌, ◌≤◌, ◌∙◌, ◌++◌, length, [], ◌∷◌, map, refl, sym, ap, arith, rules, nat_tests, nil_from_length, apply, exprs_of, tails_of, named_by, values, tails_value, at_local, of_global, subscripts_of, with_subscripts, direction_of, residual_is, slice_get, ◌>>=◌, give, expr_tree, operand_tree, reference_tree, tail_tree, units, number_text, read_act, data_act, get_act, order_from, order_behind, pending_view, walk_view, of_local, of_naked, read_or, value_of, unwrap_or, decides_subscripts}
-use Rattle.std.proofs.Common.{List, Option, Ok}
+use Rattle.meval.proofs.EvalWords.{◌≡◌, ◌∙◌, ◌++◌, length, [], ◌∷◌, map, refl, sym, ap, arith, nat_tests, nil_from_length, apply, exprs_of, named_by, values, at_local, of_global, subscripts_of, with_subscripts, direction_of, residual_is, slice_get, ◌>>=◌, give, expr_tree, operand_tree, reference_tree, tail_tree, units, read_act, data_act, get_act, order_from, order_behind, pending_view, walk_view, of_local, of_naked, read_or, unwrap_or, decides_subscripts}
+use Rattle.std.proofs.Common.{List, Ok}
 use Rattle.mspec.specs.Act.{Text}
-use Rattle.mspec.specs.Scopes.{next_subscript}
-use Rattle.mkey.specs.Way.{way}
 use Rattle.mtree.specs.Functions.{variable_function_tree}
 use Rattle.meval.specs.AtHand.{at_hand_tree}
 use Rattle.mvalue.specs.Texts.{kind_text}
 use Rattle.moperator.proofs.Numbers.{computed_outcome}
-use Rattle.meval.proofs.Calls.{evaluates_then, evaluates_whole, evaluates_failed, evaluates_gives, evaluates_seen, evaluates_refused, evaluates_stopped, evaluates_wanting, evaluates_yielded, never_refused, asks_locals, keeps_itself, keeps_on}
+use Rattle.meval.proofs.Calls.{evaluates_then, evaluates_whole, evaluates_failed, evaluates_gives, evaluates_seen, evaluates_refused, evaluates_stopped, evaluates_wanting, evaluates_yielded, never_refused, keeps_itself, keeps_on}
 use Rattle.meval.proofs.LocalVariables.{node_evaluated, node_failed, variable_told, function_failed, got, let_through, ordered_next, ordered_stopped, walk_through, walk_refused}
 use Rattle.meval.proofs.Chains.{step_leads, operand_refused, operator_refused, leads_itself, leads_on, leads_into, of_primary, alone, in_brackets, bracket_refused}
 use Rattle.meval.proofs.Indirections.{not_free, is_free, evaluates_behind, evaluates_deep, evaluates_unnamed, evaluates_entry}
@@ -244,15 +242,26 @@ named-returns-in_err-text-clause-does g t c =
 pub named-returns-in_err-reference-clause-does : goal.named-returns-in_err-reference-clause-does
 named-returns-in_err-reference-clause-does g t c =
     let free = is_free _ _ c.in-Some.is c.indirected.ensures.free in
-    let none = rw (c.as_bytes.ensures.bytes, c.in_ok-text.ensures) at c.in_err-reference.ensures in
+    let none = rw c.in_ok-text.ensures at c.in_err-reference.ensures in
     evaluates_then (λ i x. named_by i _ x) c.in_ok-value.ensures.does (evaluates_unnamed _ _ free none c.from_residual-in_err-reference.ensures)
 
 pub named-returns-clause-does : goal.named-returns-clause-does
 named-returns-clause-does g t c =
     let free = is_free _ _ c.in-Some.is c.indirected.ensures.free in
     let deeper = rw c.in-Some.is at c.indirected.ensures.deeper in
-    let named = rw (c.as_bytes.ensures.bytes, c.in_ok-text.ensures) at c.in_ok-reference.ensures in
-    evaluates_entry _ _ _ reference_tree _ _ c.in_ok-value.ensures.does c.in_ok-value.ensures.spent free deeper named c.through-result.ensures.does
+    let named = rw c.in_ok-text.ensures at c.in_ok-reference.ensures in
+    evaluates_entry _ _ _ reference_tree _ _ c.in_ok-value.ensures.does c.in_ok-value.ensures.spent free deeper named c.through_given-result.ensures.does
+
+pub through_given-returns-in-Variable-clause-does : goal.through_given-returns-in-Variable-clause-does
+through_given-returns-in-Variable-clause-does g t c = rw (c.in-Variable.is, variable_is c.in-Variable.name) c.fast_through.ensures.does
+
+pub fast_through-returns-in_err-values-clause-does : goal.fast_through-returns-in_err-values-clause-does
+fast_through-returns-in_err-values-clause-does g t c =
+    evaluates_stopped (λ i xs. give (of_local c.args.name xs)) c.in_err-values.ensures.does c.from_residual.ensures
+
+pub fast_through-returns-clause-does : goal.fast_through-returns-clause-does
+fast_through-returns-clause-does g t c =
+    evaluates_then (λ i xs. give (of_local c.args.name xs)) c.in_ok-values.ensures.does (evaluates_gives _ pending_view _ refl)
 
 pub through-returns-in_err-front-clause-does : goal.through-returns-in_err-front-clause-does
 through-returns-in_err-front-clause-does g t c =

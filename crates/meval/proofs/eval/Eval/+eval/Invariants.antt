@@ -94,6 +94,12 @@ decreases-order_of g l = 16 * l.self.now.steps + 8
 abbrev pub decreases-variable : goal.decreases-variable
 decreases-variable g l = 16 * l.self.now.steps + 9
 
+abbrev pub decreases-fast_through : goal.decreases-fast_through
+decreases-fast_through g l = 16 * l.self.now.steps + 6
+
+abbrev pub decreases-through_given : goal.decreases-through_given
+decreases-through_given g l = 16 * l.self.now.steps + 10
+
 abbrev pub decreases-through : goal.decreases-through
 decreases-through g l = 16 * l.self.now.steps + 9
 

@@ -1,7 +1,7 @@
 -- SPDX-License-Identifier: Apache-2.0
-use Rattle.mgrant.proofs.GrantWords.{◌≡◌, ◌↔◌, ◌<◌, false, true, All, length, get_or, sym, ap, subst, ◌∙◌, arith, filter, range_with_len, Leads, IsIslandAt, settings_view}
+use Rattle.mgrant.proofs.GrantWords.{◌≡◌, ◌↔◌, ◌<◌, false, true, All, length, get_or, sym, ap, subst, ◌∙◌, arith, filter, range_with_len, Leads, IsIslandAt}
 use Rattle.mspec.specs.Access as access
-use Rattle.mgrant.proofs.IslandsFound.{ties_within, found_at, none_at}
+use Rattle.mgrant.proofs.IslandsFound.{ties_within, found_at}
 use Rattle.mgrant.proofs.settings.Settings.island_of.Goals as goal
 
 pub reached-requires-clause-in_range : goal.reached-requires-clause-in_range
@@ -9,15 +9,6 @@ reached-requires-clause-in_range c =
     let names = c.self.inside.names in
     subst (λ n. All (λ e. e.target < n) c.in_ok-ties.ties.items) (sym c.len-count.ensures)
     (ties_within names c.self.inside.grants c.self.invariant.granted c.in_ok-ties.ties.items c.in_ok-ties.ensures)
-
-pub returns-then-start-count : goal.returns-then-start-count
-returns-then-start-count c =
-    let names = c.self.inside.names in
-    let places = c.new.result.items in
-    let a = c.args.account in
-    subst (λ s. IsIslandAt s (access.name_at s a) places) c.self.view_is
-    (subst (IsIslandAt (settings_view names c.self.inside.steps.items c.self.inside.terminals.items c.self.inside.grants) _) (sym c.new.ensures.items)
-    (none_at names c.self.inside.steps.items c.self.inside.terminals.items c.self.inside.grants c.self.invariant a (omega arith)))
 
 pub returns : goal.returns
 returns c =

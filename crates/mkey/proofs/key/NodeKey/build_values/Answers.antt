@@ -1,6 +1,5 @@
 -- SPDX-License-Identifier: Apache-2.0
-use Rattle.mkey.proofs.KeyWords.{◌≡◌, key_bytes, AreSubscripts, IsStored, significant_digits, one_node}
-use Rattle.mspec.specs.Act.{Node}
+use Rattle.mkey.proofs.KeyWords.{◌≡◌, key_bytes, AreSubscripts, IsStored, significant_digits, one_node, Node}
 use Rattle.mkey.proofs.Keys.{joined}
 use Rattle.mkey.proofs.key.NodeKey.build_values.Goals as goal
 

@@ -1,6 +1,5 @@
 -- SPDX-License-Identifier: Apache-2.0
-use Rattle.mkey.proofs.KeyWords.{ℕ, ◌≡◌, ◌∙◌, List, sym, ap, subst, take, key_bytes, significant_digits, IsKey, one_node, IsParent, IsLastAt}
-use Rattle.mspec.specs.Act.{Node}
+use Rattle.mkey.proofs.KeyWords.{ℕ, ◌≡◌, ◌∙◌, List, sym, ap, subst, take, key_bytes, significant_digits, IsKey, one_node, IsParent, IsLastAt, Node}
 use Rattle.mkey.proofs.KeyWalks.{parent_stored}
 use Rattle.mkey.proofs.key.NodeKey.into_parent.Goals as goal
 

@@ -1,6 +1,6 @@
 -- SPDX-License-Identifier: Apache-2.0
 use Rattle.mkey.proofs.KeyWords.{◌≡◌, ◌∙◌, true, length, drop, ap, sym, arith, length-append, subscripts_bytes, significant_digits, is_within}
-use Rattle.mkey.proofs.SubsKeys.{bytes_within, bytes_behind, child_read}
+use Rattle.mkey.proofs.SubsKeys.{bytes_within}
 use Rattle.mkey.proofs.subs_key.SubsKey.child_of.Goals as goal
 
 pub behind-requires : goal.behind-requires
@@ -14,11 +14,3 @@ behind-requires c =
       ap length bytes,
       length-append (subscripts_bytes significant_digits c.args.above.now) (subscripts_bytes significant_digits (drop (length c.args.above.now) c.args.self.now)),
     )
-
-pub returns : goal.returns
-returns c =
-    let within : is_within c.args.above.now c.args.self.now ≡ true = sym c.is_within.ensures ∙ c.if-not-is_within.false in
-    child_read c.args.above.now c.args.self.now c.requires within c.behind.result.now
-    (c.behind.ensures ∙ ap (λ b. drop (length b) c.as_bytes.result.now) c.as_bytes-2.ensures.bytes
-    ∙ ap (drop (length (subscripts_bytes significant_digits c.args.above.now))) c.as_bytes.ensures.bytes ∙ bytes_behind c.args.above.now c.args.self.now within)
-    _ c.in_ok-child.ensures

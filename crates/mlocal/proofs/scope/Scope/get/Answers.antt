@@ -6,6 +6,3 @@ use Rattle.mlocal.proofs.scope.Scope.get.Goals as goal
 
 pub returns-in-None : goal.returns-in-None
 returns-in-None c = sym (get-empty (subscripts_cmp significant_digits) c.args.key.now) ∙ ap (λ t. get t c.args.key.now) (tree_seen _ _ c.self.inside.trees c.args.name.now _ c.in-None.ensures _ c.self.view_is)
-
-pub returns-in-Some : goal.returns-in-Some
-returns-in-Some c = c.get-in-Some.ensures ∙ ap (λ t. get t c.args.key.now) (tree_seen _ _ c.self.inside.trees c.args.name.now _ c.in-Some.ensures _ c.self.view_is)

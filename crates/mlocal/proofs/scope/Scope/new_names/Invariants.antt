@@ -1,6 +1,5 @@
 -- SPDX-License-Identifier: Apache-2.0
-use Rattle.mlocal.proofs.LocalWords.{◌≡◌, ◌++◌, drop, not, has}
-use Rattle.std.proofs.Common.{filter}
+use Rattle.mlocal.proofs.LocalWords.{◌≡◌, ◌++◌, drop, not, has, filter}
 use Rattle.mlocal.proofs.scope.Scope.new_names.Given as goal
 
 abbrev pub invariant-loop-name : goal.invariant-loop-name

@@ -13,5 +13,5 @@ pub returns-clause-moved : goal.returns-clause-moved
 returns-clause-moved c =
     let h = c.args.self.now in
     let split = c.in_ok-change.ensures in
-    moved_at h c.change.new.self c.args.tree c.args.place c.moved.result c.index.result.now c.rows_at-head.result.now (wrote_same h c.change.new.self c.args.tree split.ok) split.halves
-    c.requires.tree c.requires.chunk c.requires.row c.index.ensures c.rows_at-head.ensures.rows c.moved.ensures
+    moved_at h c.change.new.self c.args.tree c.args.place c.moved.result c.index-2.result.now c.rows_at-head.result.now (wrote_same h c.change.new.self c.args.tree split.ok) split.halves
+    c.requires.tree c.requires.chunk c.requires.row c.index-2.ensures c.rows_at-head.ensures.rows c.moved.ensures

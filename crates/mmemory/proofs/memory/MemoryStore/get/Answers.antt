@@ -14,12 +14,12 @@ find-requires c =
     let y = c.index-tree.result.now in
     simp to_z-of_z (falls_below_rowid (Int c.args.id) (tree_rows y) (rows_up c.args.self.now c.args.table (omega arith) (c.requires (no_doubt true refl)) y c.index-tree.ensures))
 
-pub returns-in_ok-copy_from-in-Some-clause-ok : goal.returns-in_ok-copy_from-in-Some-clause-ok
-returns-in_ok-copy_from-in-Some-clause-ok c _ =
+pub returns-in_ok-copy_to-in-Some-clause-ok : goal.returns-in_ok-copy_to-in-Some-clause-ok
+returns-in_ok-copy_to-in-Some-clause-ok c _ =
     let fits = c.ranges.id in
     named_found c.args.self.now c.args.table (omega arith) (c.requires (no_doubt true refl)) c.index-tree.result.now c.index-tree.ensures c.args.id c.find.result (simp to_z-of_z at c.find.ensures.splits)
     c.in-Some.found.now _ c.in-Some.ensures.some.is (sym (simp to_z-of_z at c.meets.ensures) ∙ c.if-meets.true)
-    ∙ ap (λ r. r ∷ []) (sym c.in_ok-copy_from-in-Some.ensures.ok)
+    ∙ ap (λ r. r ∷ []) (sym c.in_ok-copy_to-in-Some.ensures)
 
 pub returns-in_default-clause-ok : goal.returns-in_default-clause-ok
 returns-in_default-clause-ok c _ =

@@ -1,7 +1,6 @@
 -- SPDX-License-Identifier: Apache-2.0
-use Rattle.mnum.proofs.NumWords.{◌≡◌, ◌≢◌, ◌⊎◌, inl, inr, ◌%◌, ◌≤◌, ◌∙◌, ap, rules, arith, unsigned_abs, to_z-of_z}
+use Rattle.mnum.proofs.NumWords.{◌≡◌, ◌≢◌, ◌⊎◌, inl, inr, ◌%◌, ◌≤◌, ◌∙◌, ap, rules, arith, unsigned_abs, to_z-of_z, SFits}
 use mir.Syntax.{w128}
-use mir.Val.{SFits}
 use Rattle.mnum.proofs.UnitDigits.{stripped, not_number}
 use Rattle.mnum.proofs.num.Num.from_units.Goals as goal
 use Rattle.mnum.proofs.num.Num.from_units.Goals.{then-loop-digits-test+then-places-gt0+else-digits-eq0, then-loop-digits-test+else-places-gt0, else-loop-digits-test}

@@ -1,6 +1,5 @@
 -- SPDX-License-Identifier: Apache-2.0
-use Rattle.mnum.proofs.NumWords.{◌*◌, ◌/◌, ◌^◌, ◌-◌, Some, refl, ap, arith, lit≤, ten_pos, whole_quotient_of, units}
-use Rattle.std.proofs.Common.{div-le_self}
+use Rattle.mnum.proofs.NumWords.{◌*◌, ◌/◌, ◌^◌, ◌-◌, Some, refl, ap, arith, lit≤, ten_pos, whole_quotient_of, units, div-le_self}
 use Rattle.mnum.proofs.Cuts.{returns_exact}
 use Rattle.mnum.proofs.Quotients.{some_units}
 use Rattle.mnum.proofs.Sums.{quotient_is}

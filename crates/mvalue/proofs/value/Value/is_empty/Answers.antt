@@ -1,6 +1,5 @@
 -- SPDX-License-Identifier: Apache-2.0
-use Rattle.mvalue.proofs.ValueWords.{◌≡◌, ◌<◌, false, length, ap, sym, ◌∙◌, arith, nat_tests, kind_text}
-use Rattle.std.proofs.Common.{◌==◌, ℕ}
+use Rattle.mvalue.proofs.ValueWords.{◌≡◌, ◌<◌, false, length, ap, sym, ◌∙◌, arith, nat_tests, kind_text, ◌==◌, ℕ}
 use Rattle.mvalue.proofs.NumberLengths.{text_some}
 use Rattle.mvalue.proofs.value.Value.is_empty.Goals as goal
 

@@ -1,3 +1,0 @@
--- SPDX-License-Identifier: Apache-2.0
-pub returns : Rattle.misolation.proofs.transition_laws.transitions_keep_fit.Goals.returns
-returns c = Rattle.misolation.proofs.Transitions.transitions_keep_fit

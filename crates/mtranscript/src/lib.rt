@@ -23,7 +23,7 @@ mod words;
 pub use block::{Block, blocks_of};
 pub use database::remove;
 pub use escapes::bytes_of;
-pub use playing::play;
+pub use playing::{play, play_each};
 pub use printing::{print, print_case, print_others, print_result, print_results};
 pub use words::{
     data_word, key_of, name_of, names_of, numbered, push_numbered, text_of, texts_of, words_of,

@@ -1,6 +1,6 @@
 // SPDX-License-Identifier: Apache-2.0
 // The cases of a block, one after another.
-use crate::printing::print_case;
+use crate::printing::{print_case, print_result};
 
 /// Prints each case, and below each, unless it is a comment, what the call adds for it.
 ///
@@ -20,4 +20,19 @@ pub fn play<F: FnMut(&str, &mut Vec<u8>) -> anyhow::Result<()>>(
         }
     }
     Ok(())
+}
+
+/// As [`play`], of a call that gives one result for each case, which is printed.
+///
+/// # Errors
+///
+/// What the call fails with, and out of memory.
+pub fn play_each<F: Fn(&str) -> anyhow::Result<Vec<u8>>>(
+    cases: &[&str],
+    out: &mut Vec<u8>,
+    given: F,
+) -> anyhow::Result<()>
+    requires { F.IsAlwaysCallable given }
+{
+    play(cases, out, |case, out| print_result(out, &given(case)?))
 }

@@ -3,7 +3,7 @@
 use anyhow::Context;
 use mkey::{KeyFault, NodeKey, collate, is_account_name, is_name, read, subs_ok};
 use mnum::Bytes7;
-use mtranscript::{key_of, play, print_result, text_of, texts_of, words_of};
+use mtranscript::{key_of, play_each, text_of, texts_of, words_of};
 use std::alloc::Global;
 use std::cmp::Ordering;
 
@@ -13,10 +13,7 @@ use std::cmp::Ordering;
 ///
 /// If a case is no such call, and out of memory.
 pub fn play_keys(alloc: Global, cases: &[&str], out: &mut Vec<u8>) -> anyhow::Result<()> {
-    play(cases, out, |case, out| {
-        let words = words_of(alloc, case)?;
-        print_result(out, &given(alloc, &words)?)
-    })
+    play_each(cases, out, |case| given(alloc, &words_of(alloc, case)?))
 }
 
 fn given(alloc: Global, words: &[&str]) -> anyhow::Result<Vec<u8>> {

@@ -1,7 +1,7 @@
 // SPDX-License-Identifier: Apache-2.0
 // Calls on numbers.
 use mnum::{ArithFault, Num, is_canonical, is_canonical_by};
-use mtranscript::{play, print_result, words_of};
+use mtranscript::{play_each, words_of};
 use std::alloc::Global;
 use std::cmp::Ordering;
 
@@ -11,10 +11,7 @@ use std::cmp::Ordering;
 ///
 /// If a case is no such call, and out of memory.
 pub fn play_numbers(alloc: Global, cases: &[&str], out: &mut Vec<u8>) -> anyhow::Result<()> {
-    play(cases, out, |case, out| {
-        let words = words_of(alloc, case)?;
-        print_result(out, &given(alloc, &words)?)
-    })
+    play_each(cases, out, |case| given(alloc, &words_of(alloc, case)?))
 }
 
 fn given(alloc: Global, words: &[&str]) -> anyhow::Result<Vec<u8>> {

@@ -2,7 +2,7 @@
 // Texts of M by themselves: parsed and written back.
 use mnum::Bytes7;
 use mparse::{ParseFault, dots_of, label_of, parse_line, parse_routine_line};
-use mtranscript::{bytes_of, play, print_result};
+use mtranscript::{bytes_of, play, play_each, print_result};
 use mtree::{write_line, write_routine_line};
 use std::alloc::Global;
 
@@ -24,10 +24,7 @@ pub fn play_texts(alloc: Global, cases: &[&str], out: &mut Vec<u8>) -> anyhow::R
 ///
 /// If an escape is none, and out of memory.
 pub fn play_routine_lines(alloc: Global, cases: &[&str], out: &mut Vec<u8>) -> anyhow::Result<()> {
-    play(cases, out, |case, out| {
-        let text = bytes_of(alloc, case)?;
-        print_result(out, &routine_line(alloc, &text)?)
-    })
+    play_each(cases, out, |case| routine_line(alloc, &bytes_of(alloc, case)?))
 }
 
 fn routine_line(alloc: Global, text: &[u8]) -> anyhow::Result<Vec<u8>> {

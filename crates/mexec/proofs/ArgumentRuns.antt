@@ -1,6 +1,6 @@
 -- SPDX-License-Identifier: Apache-2.0
 -- Arguments, one after another: what the code does up to where lines or a text are entered, and then that, is what each does.
-use Rattle.mexec.proofs.ExecWords.{◌≡◌, ℕ, ◌+◌, ◌<◌, Bool, true, false, cond, List, Option, Result, Ok, Err, length, get_or, map, drop, refl, sym, ◌∙◌, subst, IsErr, IsErrAnd, Text, Act, ◌>>=◌, give, next_item, ExprTree, ArgTree, do_one, executed, indirect_args, inside, Context, Go_on, argument, context, holds, inside_of, assoc, ended, arg_tree, Arg, Ghosts, Code, Parts, DoesAt, completion_of, args_started, begun_of, Entrance, into_lines, into_text, entered, finished, start_of, entrance_of, where_applies, behind, over, stops, ends, progress_of, Progress, Position, Completion, started}
+use Rattle.mexec.proofs.ExecWords.{arith, ◌≡◌, ℕ, ◌+◌, ◌<◌, Bool, true, false, cond, List, Option, Result, Ok, Err, length, get_or, map, drop, refl, sym, ◌∙◌, subst, IsErr, IsErrAnd, Text, Act, ◌>>=◌, give, next_item, ExprTree, ArgTree, do_one, executed, indirect_args, inside, Context, Go_on, argument, context, holds, inside_of, assoc, ended, arg_tree, Arg, Ghosts, Code, Parts, DoesAt, completion_of, args_started, begun_of, Entrance, into_lines, into_text, entered, finished, start_of, entrance_of, where_applies, behind, over, stops, ends, progress_of, Progress, Position, Completion, started}
 use Rattle.mmeaning.specs.LineMeaning as meaning
 use Rattle.mexec.specs.declared.arguments.Entrance as entrances
 use Rattle.mexec.specs.declared.completion.Progress as the_progress
@@ -20,8 +20,7 @@ module _ (x : Context) where
       ∙ (λ i. holds (inside_of x) c >>= (λ b. either b i)))
     where
       either : (b : Bool) → ◌≡◌ {A = Act meaning.Completion} (finished x (cond b (stops e) (over Go_on))) (cond b (entered x e) (give Go_on))
-      either true = refl
-      either false = refl
+      either b = grind arith
 
   pub argument_is : (a : ArgTree) → ◌≡◌ {A = Act meaning.Completion} (argument x a) (started x a >>= finished x)
   argument_is (do_one e c) = where_entered c (into_lines e)

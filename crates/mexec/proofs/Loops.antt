@@ -81,6 +81,11 @@ pub turn_charge_failed : {S X : Type 0} {g : Ghosts S} {f : X → Unit {0}} {fs 
     → IsErr r × IsErrAnd r (λ x. x ≡ e) → Runs g (λ a n. begin_turn (context a n d) t) fs old r fs' new
 turn_charge_failed d t c few h = runs_stopped (λ a n _. (context a n d).texts.turn d t) c few h
 
+-- where a call fails, nothing falls
+pub falls_failed : {X E : Type 0} (P : X → Type 0) (r : Result X E) → IsErr r → IfOk r P
+falls_failed P (Ok x) h = cc
+falls_failed P (Err e) h = tt
+
 -- what falls from a later point on falls from an earlier one on
 pub falls_within : {X E : Type 0} (left from to : ℕ) (r : Result X E) → from ≤ to → IfOk r (λ _. left ≤ from) → IfOk r (λ _. left ≤ to)
 falls_within left from to (Ok x) few h = omega (arith, few, h)

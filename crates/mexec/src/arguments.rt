@@ -1,9 +1,9 @@
 // SPDX-License-Identifier: Apache-2.0
 // The arguments of a command, one after another.
-ghost use Rattle.std.specs.Prelude.{◌≡◌, ◌≤◌, map, drop, IfOk};
+ghost use Rattle.std.specs.Prelude.{◌≡◌, ◌≤◌, map, drop};
 ghost use Rattle.mmeaning.specs.LineMeaning as meaning;
 ghost use Rattle.mexec.specs.Words.{DoesAt, KeepsLoans, arg_tree, condition_tree, context, depth_of, entry_tree, expr_tree, inside};
-ghost use Rattle.mexec.specs.Falls.{Falls};
+ghost use Rattle.mexec.specs.Falls.{Moves};
 ghost use Rattle.mexec.specs.Frames.{Runs, completion_of, went, source_args, source_position, position_of, stack};
 ghost use Rattle.mexec.specs.Progress.{ends};
 ghost use Rattle.mexec.specs.Fronts.{args_started, begun_of};
@@ -159,8 +159,7 @@ pub(crate) fn enter_argument<S: NodeStore>(
     argument: usize,
     scratch: &mut Scratch,
 ) -> Result<Completion, Code>
-    ensures loans { KeepsLoans parts.old parts.new }
-    ensures falls { IfOk result (λ _. Falls parts.old scratch.old parts.new scratch.new) }
+    ensures moves { Moves parts.old scratch.old result parts.new scratch.new }
     ensures does { Runs S.NodeStore (λ a n. entered_then (context a n (position_of (source_position source.entry))) (entrance_of entrance.entry) (map arg_tree (drop argument (source_args source.entry)))) (stack scratch.old.frames.items) parts.old result (stack scratch.new.frames.items) parts.new }
 {
     source.leave(argument, scratch)?;
@@ -182,8 +181,7 @@ pub(crate) fn arguments<S: NodeStore>(
     from: usize,
     scratch: &mut Scratch,
 ) -> Result<Completion, Code>
-    ensures loans { KeepsLoans parts.old parts.new }
-    ensures falls { IfOk result (λ _. Falls parts.old scratch.old parts.new scratch.new) }
+    ensures moves { Moves parts.old scratch.old result parts.new scratch.new }
     ensures does { Runs S.NodeStore (λ a n. meaning.arguments (context a n (position_of (source_position source.entry))) (map arg_tree (drop from (source_args source.entry)))) (stack scratch.old.frames.items) parts.old result (stack scratch.new.frames.items) parts.new }
 {
     let (begun, argument) = arguments_begun(alloc, parts, source.position(), source.all(), from)?;

@@ -4,7 +4,7 @@ ghost use Rattle.std.specs.Prelude.{◌≡◌, ◌≤◌, ◌+◌, ◌*◌, [], 
 ghost use Rattle.mmeaning.specs.LineMeaning as meaning;
 ghost use Rattle.mmeaning.specs.LineMeaning.{context};
 ghost use Rattle.mcommand.specs.Does.{KeepsLoans};
-ghost use Rattle.mexec.specs.Falls.{Falls};
+ghost use Rattle.mexec.specs.Falls.{Moves};
 ghost use Rattle.mexec.specs.Frames.{Runs, args_before, rest_tree, resting, stack, position_of};
 ghost use Rattle.mexec.specs.Fronts.{StopsIn, resumed, stop_of};
 
@@ -29,8 +29,7 @@ fn forever<S: NodeStore>(
     scratch: &mut Scratch,
 ) -> Result<Completion, Code>
     requires { args_before behind.now.line.value behind.now.at ≡ [] }
-    ensures loans { KeepsLoans parts.old parts.new }
-    ensures falls { IfOk result (λ _. Falls parts.old scratch.old parts.new scratch.new) }
+    ensures moves { Moves parts.old scratch.old result parts.new scratch.new }
     ensures does { Runs S.NodeStore (λ a n. meaning.turns_forever (context a n (position_of behind.now.position.value)) (rest_tree behind.now)) (stack scratch.old.frames.items) parts.old result (stack scratch.new.frames.items) parts.new }
 {
     let turns = ForLoop {
@@ -93,8 +92,7 @@ pub(crate) fn next_command<S: NodeStore>(
     rest: Continuation,
     scratch: &mut Scratch,
 ) -> Result<Completion, Code>
-    ensures loans { KeepsLoans parts.old parts.new }
-    ensures falls { IfOk result (λ _. Falls parts.old scratch.old parts.new scratch.new) }
+    ensures moves { Moves parts.old scratch.old result parts.new scratch.new }
     ensures does { Runs S.NodeStore (λ a n. meaning.commands (context a n (position_of rest.position.value)) (rest_tree rest)) (stack scratch.old.frames.items) parts.old result (stack scratch.new.frames.items) parts.new }
 {
     let (outcome, at) = front(alloc, parts, &rest.position, &rest.line, rest.at)?;

@@ -8,7 +8,7 @@ ghost use Rattle.mmeaning.specs.Frames.{Rests, Levels};
 ghost use Rattle.mtree.specs.Tree.{entry_tree, expr_tree};
 ghost use Rattle.meval.specs.Evaluates.{depth_of};
 ghost use Rattle.mcommand.specs.Does.{DoesAt, KeepsLoans};
-ghost use Rattle.mexec.specs.Falls.{FallsFurther, Falls};
+ghost use Rattle.mexec.specs.Falls.{Moves, MovesFurther};
 ghost use Rattle.mexec.specs.Frames.{Runs, stack, position_of, commands_from};
 ghost use Rattle.mexec.specs.Entering.{text_entered, text_position};
 
@@ -49,8 +49,7 @@ pub(crate) fn doing<S: NodeStore>(
     entry: &Entry,
     scratch: &mut Scratch,
 ) -> Result<Completion, Code>
-    ensures loans { KeepsLoans parts.old parts.new }
-    ensures falls { IfOk result (λ _. FallsFurther parts.old scratch.old parts.new scratch.new) }
+    ensures moves { MovesFurther parts.old scratch.old result parts.new scratch.new }
     ensures does { Runs S.NodeStore (λ a n. meaning.doing (context a n (position_of position.now)) (entry_tree entry.now)) (stack scratch.old.frames.items) parts.old result (stack scratch.new.frames.items) parts.new }
 {
     let depth = one_deeper(parts, position.depth)?;
@@ -73,8 +72,7 @@ pub(crate) fn doing_block<S: NodeStore>(
     position: &Position,
     scratch: &mut Scratch,
 ) -> Result<Completion, Code>
-    ensures loans { KeepsLoans parts.old parts.new }
-    ensures falls { IfOk result (λ _. Falls parts.old scratch.old parts.new scratch.new) }
+    ensures moves { Moves parts.old scratch.old result parts.new scratch.new }
     ensures does { Runs S.NodeStore (λ a n. meaning.doing_block (context a n (position_of position.now))) (stack scratch.old.frames.items) parts.old result (stack scratch.new.frames.items) parts.new }
 {
     let depth = one_deeper(parts, position.depth)?;
@@ -138,8 +136,7 @@ pub(crate) fn executing<S: NodeStore>(
     e: &Expr,
     scratch: &mut Scratch,
 ) -> Result<Completion, Code>
-    ensures loans { KeepsLoans parts.old parts.new }
-    ensures falls { IfOk result (λ _. FallsFurther parts.old scratch.old parts.new scratch.new) }
+    ensures moves { MovesFurther parts.old scratch.old result parts.new scratch.new }
     ensures does { Runs S.NodeStore (λ a n. meaning.executing (context a n (position_of position.now)) (expr_tree e.now)) (stack scratch.old.frames.items) parts.old result (stack scratch.new.frames.items) parts.new }
 {
     parts.eval.depth = position.depth;

@@ -8,7 +8,7 @@ ghost use Rattle.mmeaning.specs.LineMeaning.{context, Go_on};
 ghost use Rattle.mtree.specs.Tree.{body_tree};
 ghost use Rattle.mcommand.specs.Targets.{target_view};
 ghost use Rattle.mcommand.specs.Does.{DoesAt, KeepsLoans};
-ghost use Rattle.mexec.specs.Falls.{FallsFurther, Falls};
+ghost use Rattle.mexec.specs.Falls.{Moves, MovesFurther};
 ghost use Rattle.mexec.specs.Frames.{Runs, stack, completion_of, position_of, closing_of, commands_from};
 ghost use Rattle.mexec.specs.Entering.{reached as first_reached, next_reached, entering, at_next, at_target, on_body};
 
@@ -169,8 +169,7 @@ pub(crate) fn enter_line<S: NodeStore>(
     scratch: &mut Scratch,
 ) -> Result<Completion, Code>
     requires { at < length position.now.level.copy.value.items }
-    ensures loans { KeepsLoans parts.old parts.new }
-    ensures falls { IfOk result (λ _. FallsFurther parts.old scratch.old parts.new scratch.new) }
+    ensures moves { MovesFurther parts.old scratch.old result parts.new scratch.new }
     ensures does { Runs S.NodeStore (λ a n. entering (context a n (position_of position.now)) (closing_of closing) at (get_or position.now.level.copy.value.items at [])) (stack scratch.old.frames.items) parts.old result (stack scratch.new.frames.items) parts.new }
 {
     parts.eval.charge()?;
@@ -188,8 +187,7 @@ pub(crate) fn lines_next<S: NodeStore>(
     closing: Closing,
     scratch: &mut Scratch,
 ) -> Result<Completion, Code>
-    ensures loans { KeepsLoans parts.old parts.new }
-    ensures falls { IfOk result (λ _. Falls parts.old scratch.old parts.new scratch.new) }
+    ensures moves { Moves parts.old scratch.old result parts.new scratch.new }
     ensures does { Runs S.NodeStore (λ a n. frame a n (Levels (position_of position.now) (closing_of closing)) Go_on) (stack scratch.old.frames.items) parts.old result (stack scratch.new.frames.items) parts.new }
 {
     match next_line(parts, &position.level)? {
@@ -207,8 +205,7 @@ fn go_to<S: NodeStore>(
     target: Target,
     scratch: &mut Scratch,
 ) -> Result<Completion, Code>
-    ensures loans { KeepsLoans parts.old parts.new }
-    ensures falls { IfOk result (λ _. Falls parts.old scratch.old parts.new scratch.new) }
+    ensures moves { Moves parts.old scratch.old result parts.new scratch.new }
     ensures does { Runs S.NodeStore (λ a n. frame a n (Levels (at_target (position_of position.now) (target_view target)) (closing_of closing)) Go_on) (stack scratch.old.frames.items) parts.old result (stack scratch.new.frames.items) parts.new }
 {
     let there = Position {
@@ -231,8 +228,7 @@ pub(crate) fn after_level<S: NodeStore>(
     completion: Completion,
     scratch: &mut Scratch,
 ) -> Result<Completion, Code>
-    ensures loans { KeepsLoans parts.old parts.new }
-    ensures falls { IfOk result (λ _. Falls parts.old scratch.old parts.new scratch.new) }
+    ensures moves { Moves parts.old scratch.old result parts.new scratch.new }
     ensures does { Runs S.NodeStore (λ a n. frame a n (Levels (position_of position.now) (closing_of closing)) (completion_of completion)) (stack scratch.old.frames.items) parts.old result (stack scratch.new.frames.items) parts.new }
 {
     match completion {

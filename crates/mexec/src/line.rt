@@ -3,7 +3,7 @@
 ghost use Rattle.std.specs.Prelude.{◌≡◌, ◌≤◌, [], ◌∷◌, IfOk, OnOk};
 ghost use Rattle.mexec.specs.Words.{DoesAt, KeepsLoans, Levels, commands_of, frame, line_tree, stays};
 ghost use Rattle.mmeaning.specs.LineMeaning as meaning;
-ghost use Rattle.mexec.specs.Falls.{Falls};
+ghost use Rattle.mexec.specs.Falls.{Moves};
 ghost use Rattle.mexec.specs.Frames.{Runs, view, stack, completion_of, position_of};
 
 use crate::arguments::arguments;
@@ -29,8 +29,7 @@ fn run_frame<S: NodeStore>(
     completion: Completion,
     scratch: &mut Scratch,
 ) -> Result<Completion, Code>
-    ensures loans { KeepsLoans parts.old parts.new }
-    ensures falls { IfOk result (λ _. Falls parts.old scratch.old parts.new scratch.new) }
+    ensures moves { Moves parts.old scratch.old result parts.new scratch.new }
     ensures does { Runs S.NodeStore (λ a n. frame a n (view top) (completion_of completion)) (stack scratch.old.frames.items) parts.old result (stack scratch.new.frames.items) parts.new }
 {
     match top {

@@ -1,5 +1,5 @@
 -- SPDX-License-Identifier: Apache-2.0
-use Rattle.mexec.proofs.ExecWords.{arith, position_of}
+use Rattle.mexec.proofs.ExecWords.{keeps_on, arith, position_of}
 use Rattle.mexec.proofs.Calls.{runs_completion, runs_wanting}
 use Rattle.mexec.proofs.Loops.{falls_within}
 use Rattle.mexec.proofs.FrontRuns.{front_runs, front_stopped}
@@ -28,10 +28,10 @@ go_on-requires g c =
     let stops = rw (c.deref-2.ensures, c.in-Stops.is) at c.in_ok-outcome.ensures.stops in
     rw c.in_ok-copy-in-Stops.ensures.line stops
 
-pub returns-clause-falls : goal.returns-clause-falls
-returns-clause-falls g c =
+pub returns-clause-moves : goal.returns-clause-moves
+returns-clause-moves g c =
     let less = rw c.in-Stops.is at c.in_ok-outcome.ensures.spent in
-    falls_within _ _ _ c.go_on.result (omega (arith, less)) c.go_on.ensures.falls
+    record { loans = keeps_on c.in_ok-outcome.ensures.loans c.go_on.ensures.loans; falls = falls_within _ _ _ c.go_on.result (omega (arith, less)) c.go_on.ensures.falls }
 
 pub returns-clause-does : goal.returns-clause-does
 returns-clause-does g c =

@@ -17,7 +17,7 @@ pub loop-frame-init : goal.loop-frame-init
 loop-frame-init g c =
     let does = rw (c.in_ok-first.ensures.frames, c.in_ok-first.ensures.position, c.in_ok-first.ensures.line, c.in_ok-first.ensures.at) at c.in_ok-completion.ensures.does in
     record {
-      loans = c.in_ok-completion.ensures.loans;
+      loans = c.in_ok-completion.ensures.moves.loans;
       leads = leads_on _ _ _ (leads_first (commands_of (line_tree c.args.line.value)) c.args.parts.now) does;
     }
 
@@ -25,7 +25,7 @@ pub loop-frame-preserved : goal.loop-frame-preserved
 loop-frame-preserved g c =
     let leads = rw (c.in-Some.ensures.items, stack_push) at c.loop-frame.invariant.leads in
     record {
-      loans = keeps_on c.loop-frame.invariant.loans c.in_ok-completion-2.ensures.loans;
+      loans = keeps_on c.loop-frame.invariant.loans c.in_ok-completion-2.ensures.moves.loans;
       leads = leads_on _ _ _ leads c.in_ok-completion-2.ensures.does;
     }
 

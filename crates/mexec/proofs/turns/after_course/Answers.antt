@@ -22,12 +22,15 @@ returns-in_err-goes_on-clause-does g c =
     let gone = rw c.deref-in-turns.ensures at c.in_err-goes_on.ensures.does in
     rw c.turns.invariant.scratch (c.turns.invariant.leads _ _ _ (not_gone_on c.args.turns.value gone c.in_err-goes_on.ensures.fewer c.from_residual-in_err-goes_on.ensures))
 
-pub returns-then-not-goes_on-clause-falls : goal.returns-then-not-goes_on-clause-falls
-returns-then-not-goes_on-clause-falls g c =
+pub returns-then-not-goes_on-clause-moves : goal.returns-then-not-goes_on-clause-moves
+returns-then-not-goes_on-clause-moves g c =
     let before = c.turns.invariant.fewer in
     let here = c.in_ok-goes_on.ensures.fewer in
-    let falls = rw c.turns.invariant.scratch at c.further.ensures.falls in
-    falls_within _ _ _ c.further.result (omega (arith, before, here)) falls
+    let falls = rw c.turns.invariant.scratch at c.further.ensures.moves.falls in
+    record {
+      loans = keeps_on (keeps_on c.turns.invariant.loans c.in_ok-goes_on.ensures.loans) c.further.ensures.moves.loans;
+      falls = falls_within _ _ _ c.further.result (omega (arith, before, here)) falls;
+    }
 
 pub returns-then-not-goes_on-clause-does : goal.returns-then-not-goes_on-clause-does
 returns-then-not-goes_on-clause-does g c =
@@ -71,13 +74,16 @@ turns-preserved g c =
           (runs_as (λ a n. turn_goes_on (context a n (position_of c.args.turns.value.body.position.value)) (turning c.args.turns.value) (completion_of c.in-Over.completion) ends) k));
     }
 
-pub returns-in-Some-clause-falls : goal.returns-in-Some-clause-falls
-returns-in-Some-clause-falls g c =
+pub returns-in-Some-clause-moves : goal.returns-in-Some-clause-moves
+returns-in-Some-clause-moves g c =
     let before = c.turns.invariant.fewer in
     let gone = c.in_ok-goes_on.ensures.fewer in
     let spent = c.in_ok-charge.ensures.fewer in
     let done = c.in_ok-outcome.ensures.fewer in
-    rw c.turns.invariant.scratch (omega (arith, before, gone, spent, done))
+    record {
+      loans = keeps_on (keeps_evaluated (keeps_on c.turns.invariant.loans c.in_ok-goes_on.ensures.loans) c.in_ok-charge.ensures.loans) c.in_ok-outcome.ensures.loans;
+      falls = rw c.turns.invariant.scratch (omega (arith, before, gone, spent, done));
+    }
 
 pub returns-in-Some-clause-does : goal.returns-in-Some-clause-does
 returns-in-Some-clause-does g c =

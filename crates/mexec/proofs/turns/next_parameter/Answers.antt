@@ -3,7 +3,7 @@ use Rattle.mexec.proofs.ExecWords.{◌+◌, ◌≤◌, length, refl, arith, none
 use Rattle.mexec.specs.declared.completion.Completion.TheVariants as completion
 use Rattle.mexec.proofs.Calls.{runs_completion, runs_wanting, keeps_at_depth}
 use Rattle.mexec.proofs.Indexes.{any_course}
-use Rattle.mexec.proofs.Loops.{parameter_runs, parameter_stopped, begun_runs}
+use Rattle.mexec.proofs.Loops.{falls_failed, falls_within, parameter_runs, parameter_stopped, begun_runs}
 use Rattle.mexec.proofs.turns.next_parameter.Goals as goal
 
 pub loop-next-init : goal.loop-next-init
@@ -28,8 +28,11 @@ loop-next-preserved g c =
           (parameter_runs (position_of t.body.position.value) c.args.index.now (commands_from t.body.line.value t.body.at) c.args.parameters.now c.loop-next.next c.index-parameters-next.result c.loop-next-test.true c.index-parameters-next.is (at_done d does) c.in_ok-start_parameter.ensures.fewer k);
     }
 
-pub returns-in_err-start_parameter-clause-loans : goal.returns-in_err-start_parameter-clause-loans
-returns-in_err-start_parameter-clause-loans g c = keeps_on c.loop-next.invariant.loans (keeps_at_depth _ c.in_err-start_parameter.ensures.loans)
+pub returns-in_err-start_parameter-clause-moves : goal.returns-in_err-start_parameter-clause-moves
+returns-in_err-start_parameter-clause-moves g c = record {
+  loans = keeps_on c.loop-next.invariant.loans (keeps_at_depth _ c.in_err-start_parameter.ensures.loans);
+  falls = falls_failed _ _ c.from_residual.ensures.0;
+}
 
 pub returns-in_err-start_parameter-clause-does : goal.returns-in_err-start_parameter-clause-does
 returns-in_err-start_parameter-clause-does g c =
@@ -40,8 +43,15 @@ returns-in_err-start_parameter-clause-does g c =
     (c.loop-next.invariant.leads _ _ _
     (parameter_stopped (position_of t.body.position.value) c.args.index.now (commands_from t.body.line.value t.body.at) c.args.parameters.now c.loop-next.next c.index-parameters-next.result c.loop-next-test.true c.index-parameters-next.is (at_done d does) c.in_err-start_parameter.ensures.fewer c.from_residual.ensures))
 
-pub returns-in-Some-clause-loans : goal.returns-in-Some-clause-loans
-returns-in-Some-clause-loans g c = keeps_on c.loop-next.invariant.loans (keeps_on (keeps_at_depth _ c.in_ok-start_parameter.ensures.loans) c.begin_turn.ensures.loans)
+pub returns-in-Some-clause-moves : goal.returns-in-Some-clause-moves
+returns-in-Some-clause-moves g c =
+    let before = c.loop-next.invariant.fewer in
+    let here = c.in_ok-start_parameter.ensures.fewer in
+    let falls = rw c.loop-next.invariant.scratch at c.begin_turn.ensures.moves.falls in
+    record {
+      loans = keeps_on c.loop-next.invariant.loans (keeps_on (keeps_at_depth _ c.in_ok-start_parameter.ensures.loans) c.begin_turn.ensures.moves.loans);
+      falls = falls_within _ _ _ c.begin_turn.result (omega (arith, before, here)) falls;
+    }
 
 pub returns-in_err-turns-in-Some-clause-does : goal.returns-in_err-turns-in-Some-clause-does
 returns-in_err-turns-in-Some-clause-does g c =
@@ -63,8 +73,10 @@ returns-in-Some-clause-does g c =
     (parameter_runs (position_of t.body.position.value) c.args.index.now (commands_from t.body.line.value t.body.at) c.args.parameters.now c.loop-next.next c.index-parameters-next.result c.loop-next-test.true c.index-parameters-next.is (at_done d does) c.in_ok-start_parameter.ensures.fewer
     (begun_runs turn c.args.index.now c.args.parameters.now c.requires.found begun))
 
-pub returns-clause-loans : goal.returns-clause-loans
-returns-clause-loans g c = c.loop-next.invariant.loans
+pub returns-clause-moves : goal.returns-clause-moves
+returns-clause-moves g c =
+    let before = c.loop-next.invariant.fewer in
+    record { loans = c.loop-next.invariant.loans; falls = rw c.loop-next.invariant.scratch (omega (arith, before)) }
 
 pub returns-clause-does : goal.returns-clause-does
 returns-clause-does g c =

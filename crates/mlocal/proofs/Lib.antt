@@ -11,3 +11,4 @@ pub mod Steps
 pub mod Removals
 pub mod Bare
 pub mod Tables
+pub mod LocalLaws

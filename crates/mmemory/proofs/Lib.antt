@@ -16,3 +16,4 @@ pub mod Relisted
 pub mod Views
 pub mod Others
 pub mod Seen
+pub mod MemoryLaws

@@ -1,6 +1,5 @@
 -- SPDX-License-Identifier: Apache-2.0
-use Rattle.mlocal.proofs.LocalWords.{◌≤◌, ◌<◌, get_or, length, ap, ◌∙◌, sym, arith, is_among}
-use Rattle.mlocal.proofs.Killed.{kill-step, kill-done}
+use Rattle.mlocal.proofs.LocalLaws.{◌≤◌, ◌<◌, get_or, length, ap, ◌∙◌, sym, arith, is_among, kill-step, kill-done}
 use Rattle.mlocal.proofs.scopes.spare.Goals as goal
 
 pub loop-place-preserved : goal.loop-place-preserved

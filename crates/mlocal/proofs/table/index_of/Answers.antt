@@ -1,7 +1,6 @@
 -- SPDX-License-Identifier: Apache-2.0
-use Rattle.mlocal.proofs.LocalWords.{◌≡◌, nat_eq, sym, ap, ◌∙◌, slice_get_within, pointwise}
+use Rattle.mlocal.proofs.LocalLaws.{◌≡◌, nat_eq, sym, ap, ◌∙◌, slice_get_within, pointwise, same_name, hinted_key, hinted_value}
 use Rattle.indexmap.specs.IndexMap.{get}
-use Rattle.mlocal.proofs.Tables.{same_name, hinted_key, hinted_value}
 use Rattle.mlocal.proofs.table.index_of.Goals as goal
 
 pub returns-then-eq-clause-index : goal.returns-then-eq-clause-index

@@ -1,6 +1,5 @@
 -- SPDX-License-Identifier: Apache-2.0
-use Rattle.mlocal.proofs.LocalWords.{sym, ◌∙◌, keys, AreSomeSubs, is_behind}
-use Rattle.mlocal.proofs.Walks.{first_is, found_all}
+use Rattle.mlocal.proofs.LocalLaws.{sym, ◌∙◌, keys, AreSomeSubs, is_behind, first_is, found_all}
 use Rattle.mlocal.proofs.variable.first_behind.Goals as goal
 
 pub returns-in-Some-clause-key : goal.returns-in-Some-clause-key

@@ -1,6 +1,5 @@
 -- SPDX-License-Identifier: Apache-2.0
-use Rattle.mlocal.proofs.LocalWords.{reverse, sym, ◌∙◌, keys, AreSomeSubs, is_between}
-use Rattle.mlocal.proofs.Walks.{last_is, found_all, all_reversed}
+use Rattle.mlocal.proofs.LocalLaws.{reverse, sym, ◌∙◌, keys, AreSomeSubs, is_between, last_is, found_all, all_reversed}
 use Rattle.mlocal.proofs.variable.last_between.Goals as goal
 
 pub returns-in-Some-clause-key : goal.returns-in-Some-clause-key

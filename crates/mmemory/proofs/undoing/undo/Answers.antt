@@ -1,6 +1,5 @@
 -- SPDX-License-Identifier: Apache-2.0
-use Rattle.mmemory.proofs.MemoryWords.{◌≡◌, map, set, get_or, sym, ap, ◌∙◌, arith, map-set, take-map, plain, no_plain, undone_step}
-use Rattle.mmemory.proofs.Shown.{shown_at}
+use Rattle.mmemory.proofs.MemoryLaws.{◌≡◌, map, set, get_or, sym, ap, ◌∙◌, arith, map-set, take-map, plain, no_plain, undone_step, shown_at}
 use Rattle.mmemory.proofs.undoing.undo.Goals as goal
 
 pub returns-then-tree-len : goal.returns-then-tree-len

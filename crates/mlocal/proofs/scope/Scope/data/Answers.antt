@@ -1,7 +1,5 @@
 -- SPDX-License-Identifier: Apache-2.0
-use Rattle.mlocal.proofs.LocalWords.{ap, ◌∙◌, has_value, has_descendants}
-use Rattle.mlocal.proofs.Views.{IfOk-map, tree_seen}
-use Rattle.mlocal.proofs.Walks.{none_there, none_below}
+use Rattle.mlocal.proofs.LocalLaws.{ap, ◌∙◌, has_value, has_descendants, IfOk-map, tree_seen, none_there, none_below}
 use Rattle.mlocal.proofs.scope.Scope.data.Goals as goal
 
 pub returns-in-None-clause-value : goal.returns-in-None-clause-value

@@ -1,7 +1,6 @@
 -- SPDX-License-Identifier: Apache-2.0
-use Rattle.mlocal.proofs.LocalWords.{ap, sym, ◌∙◌, get-empty, subscripts_cmp, significant_digits}
+use Rattle.mlocal.proofs.LocalLaws.{ap, sym, ◌∙◌, get-empty, subscripts_cmp, significant_digits, tree_seen}
 use Rattle.std.specs.FinMap.{get}
-use Rattle.mlocal.proofs.Views.{tree_seen}
 use Rattle.mlocal.proofs.scope.Scope.get.Goals as goal
 
 pub returns-in-None : goal.returns-in-None

@@ -1,7 +1,5 @@
 -- SPDX-License-Identifier: Apache-2.0
-use Rattle.mlocal.proofs.LocalWords.{ap, ◌∙◌, order_of, front, last, way}
-use Rattle.mlocal.proofs.Views.{IfOk-map, tree_seen}
-use Rattle.mlocal.proofs.Walks.{none_next}
+use Rattle.mlocal.proofs.LocalLaws.{ap, ◌∙◌, order_of, front, last, way, IfOk-map, tree_seen, none_next}
 use Rattle.mlocal.proofs.scope.Scope.order.Goals as goal
 
 pub returns-in-None : goal.returns-in-None

@@ -1,6 +1,5 @@
 -- SPDX-License-Identifier: Apache-2.0
-use Rattle.mlocal.proofs.LocalWords.{[]}
-use Rattle.mlocal.proofs.Views.{OnOk-map, put_seen}
+use Rattle.mlocal.proofs.LocalLaws.{[], OnOk-map, put_seen}
 use Rattle.mlocal.proofs.scope.Scope.set_own.Goals as goal
 
 pub returns-clause-ok : goal.returns-clause-ok

@@ -1,6 +1,5 @@
 -- SPDX-License-Identifier: Apache-2.0
-use Rattle.mlocal.proofs.LocalWords.{ap, ◌∙◌, has_value, has_descendants}
-use Rattle.mlocal.proofs.Views.{IfOk-map}
+use Rattle.mlocal.proofs.LocalLaws.{ap, ◌∙◌, has_value, has_descendants, IfOk-map}
 use Rattle.mlocal.proofs.scopes.Locals.data.Goals as goal
 
 pub returns-clause-value : goal.returns-clause-value

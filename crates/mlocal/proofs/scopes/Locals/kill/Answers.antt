@@ -1,8 +1,6 @@
 -- SPDX-License-Identifier: Apache-2.0
-use Rattle.mlocal.proofs.LocalWords.{[], ◌∷◌, ap, ◌∙◌, Scope, kill_in, killed}
+use Rattle.mlocal.proofs.LocalLaws.{[], ◌∷◌, ap, ◌∙◌, Scope, kill_in, killed, OnOk-map, home-at, home-bottom}
 use Rattle.std.specs.FinMap.{get}
-use Rattle.mlocal.proofs.Views.{OnOk-map}
-use Rattle.mlocal.proofs.Stacks.{home-at, home-bottom}
 use Rattle.mlocal.proofs.scopes.Locals.kill.Goals as goal
 
 pub returns-in-None-clause-ok : goal.returns-in-None-clause-ok

@@ -1,6 +1,5 @@
 -- SPDX-License-Identifier: Apache-2.0
-use Rattle.mlocal.proofs.LocalWords.{ap, ◌||◌, ◌∙◌, list_any, is_among, emptied, killed_except, has_name}
-use Rattle.mlocal.proofs.Killed.{kill-all}
+use Rattle.mlocal.proofs.LocalLaws.{ap, ◌||◌, ◌∙◌, list_any, is_among, emptied, killed_except, has_name, kill-all}
 use Rattle.mlocal.proofs.scopes.Locals.kill_except.Goals as goal
 
 pub returns : goal.returns

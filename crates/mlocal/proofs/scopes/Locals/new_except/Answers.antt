@@ -1,7 +1,5 @@
 -- SPDX-License-Identifier: Apache-2.0
-use Rattle.mlocal.proofs.LocalWords.{◌≡◌, [], ◌∷◌, ◌+◌, ◌-◌, Some, length, ap, ◌∙◌, arith, hide_others, newed_except, common}
-use Rattle.mlocal.proofs.Stacks.{top-at, none_common}
-use Rattle.mlocal.proofs.Views.{OnOk-map}
+use Rattle.mlocal.proofs.LocalLaws.{◌≡◌, [], ◌∷◌, ◌+◌, ◌-◌, Some, length, ap, ◌∙◌, arith, hide_others, newed_except, common, top-at, none_common, OnOk-map}
 use Rattle.mlocal.proofs.scopes.Locals.new_except.Goals as goal
 
 pub invariant_of-self : goal.invariant_of-self

@@ -1,7 +1,5 @@
 -- SPDX-License-Identifier: Apache-2.0
-use Rattle.mlocal.proofs.LocalWords.{◌≡◌, [], ◌∷◌, ◌+◌, ◌-◌, length, ap, ◌∙◌, arith, hide, newed}
-use Rattle.mlocal.proofs.Stacks.{top-at}
-use Rattle.mlocal.proofs.Views.{OnOk-map}
+use Rattle.mlocal.proofs.LocalLaws.{◌≡◌, [], ◌∷◌, ◌+◌, ◌-◌, length, ap, ◌∙◌, arith, hide, newed, top-at, OnOk-map}
 use Rattle.mlocal.proofs.scopes.Locals.new_vars.Goals as goal
 
 pub returns-clause-ok : goal.returns-clause-ok

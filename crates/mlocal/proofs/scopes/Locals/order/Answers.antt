@@ -1,6 +1,5 @@
 -- SPDX-License-Identifier: Apache-2.0
-use Rattle.mlocal.proofs.LocalWords.{ap, ◌∙◌, order_of, front, last, way}
-use Rattle.mlocal.proofs.Views.{IfOk-map}
+use Rattle.mlocal.proofs.LocalLaws.{ap, ◌∙◌, order_of, front, last, way, IfOk-map}
 use Rattle.mlocal.proofs.scopes.Locals.order.Goals as goal
 
 pub returns : goal.returns

@@ -1,6 +1,5 @@
 -- SPDX-License-Identifier: Apache-2.0
-use Rattle.mlocal.proofs.LocalWords.{[], ◌∷◌, ap, sym, ◌∙◌, tree_in, tree_of}
-use Rattle.mlocal.proofs.Stacks.{tree-at, tree-bottom}
+use Rattle.mlocal.proofs.LocalLaws.{[], ◌∷◌, ap, sym, ◌∙◌, tree_in, tree_of, tree-at, tree-bottom}
 use Rattle.mlocal.proofs.scopes.Locals.scope_of.Goals as goal
 
 pub returns-in-None : goal.returns-in-None

@@ -1,7 +1,5 @@
 -- SPDX-License-Identifier: Apache-2.0
-use Rattle.mlocal.proofs.LocalWords.{[], ◌∷◌, ap, ◌∙◌, insert, Scope, with_tree, tree_in, assigned}
-use Rattle.mlocal.proofs.Views.{OnOk-map}
-use Rattle.mlocal.proofs.Stacks.{home-at, home-bottom}
+use Rattle.mlocal.proofs.LocalLaws.{[], ◌∷◌, ap, ◌∙◌, insert, Scope, with_tree, tree_in, assigned, OnOk-map, home-at, home-bottom}
 use Rattle.mlocal.proofs.scopes.Locals.set.Goals as goal
 
 pub returns-in-None-clause-ok : goal.returns-in-None-clause-ok

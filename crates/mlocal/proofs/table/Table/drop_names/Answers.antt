@@ -1,6 +1,5 @@
 -- SPDX-License-Identifier: Apache-2.0
-use Rattle.mlocal.proofs.LocalWords.{Bool, not, rules, ap, ◌∙◌, nat_list_cmp_total, retain_keys, Text, is_among}
-use Rattle.mlocal.proofs.Views.{names_exact, retain_same, retain-hash_map_of}
+use Rattle.mlocal.proofs.LocalLaws.{Bool, not, rules, ap, ◌∙◌, nat_list_cmp_total, retain_keys, Text, is_among, names_exact, retain_same, retain-hash_map_of}
 use Rattle.mlocal.proofs.table.Table.drop_names.Goals as goal
 
 pub returns : goal.returns

@@ -1,6 +1,5 @@
 -- SPDX-License-Identifier: Apache-2.0
-use Rattle.mlocal.proofs.LocalWords.{Bool, ◌||◌, rules, ap, ◌∙◌, nat_list_cmp_total, retain_keys, list_any, Text, is_among, has_name}
-use Rattle.mlocal.proofs.Views.{names_exact, retain_same, retain-hash_map_of}
+use Rattle.mlocal.proofs.LocalLaws.{Bool, ◌||◌, rules, ap, ◌∙◌, nat_list_cmp_total, retain_keys, list_any, Text, is_among, has_name, names_exact, retain_same, retain-hash_map_of}
 use Rattle.mlocal.proofs.table.Table.keep_spared.Goals as goal
 
 pub returns : goal.returns

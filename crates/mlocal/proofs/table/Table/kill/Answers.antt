@@ -1,7 +1,5 @@
 -- SPDX-License-Identifier: Apache-2.0
-use Rattle.mlocal.proofs.LocalWords.{None, ap, sym, ◌∙◌, kill_at}
-use Rattle.mlocal.proofs.Tables.{read, kept, some_left, none_left}
-use Rattle.mlocal.proofs.Views.{OnErr-always}
+use Rattle.mlocal.proofs.LocalLaws.{None, ap, sym, ◌∙◌, kill_at, read, kept, some_left, none_left, OnErr-always}
 use Rattle.mlocal.proofs.table.Table.kill.Goals as goal
 
 pub returns-in_default-clause-ok : goal.returns-in_default-clause-ok

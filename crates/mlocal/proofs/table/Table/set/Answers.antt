@@ -1,7 +1,5 @@
 -- SPDX-License-Identifier: Apache-2.0
-use Rattle.mlocal.proofs.LocalWords.{ap, ◌∙◌, insert}
-use Rattle.mlocal.proofs.Tables.{put_at, kept, none_read}
-use Rattle.mlocal.proofs.Views.{OnOk-map, OnErr-map}
+use Rattle.mlocal.proofs.LocalLaws.{ap, ◌∙◌, insert, put_at, kept, none_read, OnOk-map, OnErr-map}
 use Rattle.mlocal.proofs.table.Table.set.Goals as goal
 
 pub returns-in-Some-clause-ok : goal.returns-in-Some-clause-ok

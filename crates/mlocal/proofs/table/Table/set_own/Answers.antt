@@ -1,7 +1,5 @@
 -- SPDX-License-Identifier: Apache-2.0
-use Rattle.mlocal.proofs.LocalWords.{[], ap, ◌∙◌, insert}
-use Rattle.mlocal.proofs.Tables.{put_at, none_read}
-use Rattle.mlocal.proofs.Views.{OnOk-map}
+use Rattle.mlocal.proofs.LocalLaws.{[], ap, ◌∙◌, insert, put_at, none_read, OnOk-map}
 use Rattle.mlocal.proofs.table.Table.set_own.Goals as goal
 
 pub returns-in-Some-clause-ok : goal.returns-in-Some-clause-ok

@@ -1,9 +1,5 @@
 -- SPDX-License-Identifier: Apache-2.0
-use Rattle.mlocal.proofs.LocalWords.{◌≡◌, ◌<◌, ◌||◌, [], length, ap, sym, subst, ◌∙◌, arith, option_map, nat_tests, subscripts_cmp, significant_digits, front, last, is_before, is_empty, behind_below, beyond, is_between, has_child}
-use Rattle.mlocal.proofs.Bounds.{below_all, below_before, more_behind}
-use Rattle.mlocal.proofs.Steps.{last_walk}
-use Rattle.mlocal.proofs.Own.{not_child}
-use Rattle.mlocal.proofs.Walks.{split_last, whole, no_list, not_empty}
+use Rattle.mlocal.proofs.LocalLaws.{◌≡◌, ◌<◌, ◌||◌, [], length, ap, sym, subst, ◌∙◌, arith, option_map, nat_tests, subscripts_cmp, significant_digits, front, last, is_before, is_empty, behind_below, beyond, is_between, has_child, below_all, below_before, more_behind, last_walk, not_child, split_last, whole, no_list, not_empty}
 use Rattle.mlocal.proofs.variable.Variable.before.Goals as goal
 
 pub last_between-requires-clause-forward : goal.last_between-requires-clause-forward

@@ -1,6 +1,5 @@
 -- SPDX-License-Identifier: Apache-2.0
-use Rattle.mlocal.proofs.LocalWords.{◌≡◌, ◌&&◌, true, false, not, length, sym, ap, ◌∙◌, arith, is_some, nat_eq, nat_tests, is_bare}
-use Rattle.mlocal.proofs.Bare.{own_bare}
+use Rattle.mlocal.proofs.LocalLaws.{◌≡◌, ◌&&◌, true, false, not, length, sym, ap, ◌∙◌, arith, is_some, nat_eq, nat_tests, is_bare, own_bare}
 use Rattle.mlocal.proofs.variable.Variable.is_bare.Goals as goal
 
 pub returns-then-is_none : goal.returns-then-is_none

@@ -1,9 +1,5 @@
 -- SPDX-License-Identifier: Apache-2.0
-use Rattle.mlocal.proofs.LocalWords.{◌≡◌, ◌<◌, [], length, map, ap, sym, ◌∙◌, arith, from_entries, nat_tests, map_of, subscripts_cmp, significant_digits, without, beyond, with_own}
-use Rattle.mlocal.proofs.Bounds.{more_behind}
-use Rattle.mlocal.proofs.Own.{own_killed, other_killed}
-use Rattle.mlocal.proofs.Removals.{without_taken}
-use Rattle.mlocal.proofs.Walks.{no_list}
+use Rattle.mlocal.proofs.LocalLaws.{◌≡◌, ◌<◌, [], length, map, ap, sym, ◌∙◌, arith, from_entries, nat_tests, map_of, subscripts_cmp, significant_digits, without, beyond, with_own, more_behind, own_killed, other_killed, without_taken, no_list}
 use Rattle.mlocal.proofs.variable.Variable.kill.Goals as goal
 
 pub keys_from-requires : goal.keys_from-requires

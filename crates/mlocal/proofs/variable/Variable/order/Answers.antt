@@ -1,7 +1,5 @@
 -- SPDX-License-Identifier: Apache-2.0
-use Rattle.mlocal.proofs.LocalWords.{ap, sym, ◌∙◌, option_map, option_and_then, child_of, order_of, front, last, way}
-use Rattle.mlocal.proofs.Views.{IfOk-map}
-use Rattle.mlocal.proofs.Walks.{order_backward}
+use Rattle.mlocal.proofs.LocalLaws.{ap, sym, ◌∙◌, option_map, option_and_then, child_of, order_of, front, last, way, IfOk-map, order_backward}
 use Rattle.mlocal.proofs.variable.Variable.order.Goals as goal
 
 pub returns-in-Forward : goal.returns-in-Forward

@@ -1,7 +1,5 @@
 -- SPDX-License-Identifier: Apache-2.0
-use Rattle.mmemory.proofs.MemoryWords.{true, refl, ap, arith, no_doubt, Memory, joined, plain, nest}
-use Rattle.mmemory.proofs.Logs.{after_error, keeps_untouched}
-use Rattle.mmemory.proofs.Views.{created, seen_same, fails}
+use Rattle.mmemory.proofs.MemoryLaws.{true, refl, ap, arith, no_doubt, Memory, joined, plain, nest, after_error, keeps_untouched, created, seen_same, fails}
 use Rattle.mmemory.proofs.alter.MemoryAlter.create.Goals as goal
 
 pub returns-in_err-new-clause-err : goal.returns-in_err-new-clause-err

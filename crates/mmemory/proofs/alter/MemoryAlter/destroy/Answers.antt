@@ -1,7 +1,5 @@
 -- SPDX-License-Identifier: Apache-2.0
-use Rattle.mmemory.proofs.MemoryWords.{ap, arith, Memory, plain, heading, plain_rows}
-use Rattle.mmemory.proofs.Logs.{after_error}
-use Rattle.mmemory.proofs.Views.{destroyed, fails}
+use Rattle.mmemory.proofs.MemoryLaws.{ap, arith, Memory, plain, heading, plain_rows, after_error, destroyed, fails}
 use Rattle.mmemory.proofs.alter.MemoryAlter.destroy.Goals as goal
 
 pub returns-in_err-replace-clause-err : goal.returns-in_err-replace-clause-err

@@ -1,6 +1,5 @@
 -- SPDX-License-Identifier: Apache-2.0
-use Rattle.mmemory.proofs.Logs.{wrote_same, shaped_now}
-use Rattle.mmemory.proofs.Moved.{moved_at}
+use Rattle.mmemory.proofs.MemoryLaws.{wrote_same, shaped_now, moved_at}
 use Rattle.mmemory.proofs.held.Held.halve.Goals as goal
 
 pub change-requires-clause-shaped : goal.change-requires-clause-shaped

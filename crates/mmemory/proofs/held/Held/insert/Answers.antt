@@ -1,8 +1,5 @@
 -- SPDX-License-Identifier: Apache-2.0
-use Rattle.mmemory.proofs.MemoryWords.{OnOk, subst, IsIndex-insert_entry, tree_rows, rows_of, now, Writes}
-use Rattle.mmemory.proofs.Words.{falls_below_entry}
-use Rattle.mmemory.proofs.Logs.{shaped_now}
-use Rattle.mmemory.proofs.Wrote.{wrote_none, shaped_rows, entry_new, entry_stays}
+use Rattle.mmemory.proofs.MemoryLaws.{OnOk, subst, IsIndex-insert_entry, tree_rows, rows_of, now, Writes, falls_below_entry, shaped_now, wrote_none, shaped_rows, entry_new, entry_stays}
 use Rattle.mmemory.proofs.held.Held.insert.Goals as goal
 
 pub seek-hit-requires : goal.seek-hit-requires

@@ -1,7 +1,5 @@
 -- SPDX-License-Identifier: Apache-2.0
-use Rattle.mmemory.proofs.MemoryWords.{◌≡◌, ◌+◌, ◌-◌, ◌++◌, length, refl, sym, ap, subst, ◌∙◌, arith, Shorten, state_of, undone_one, IsInOrder, now}
-use Rattle.mmemory.proofs.Logs.{order_same, within_same, within_more, pushed, order_untouched}
-use Rattle.mmemory.proofs.Others.{order_by, shortened, order_padded, pads_more}
+use Rattle.mmemory.proofs.MemoryLaws.{◌≡◌, ◌+◌, ◌-◌, ◌++◌, length, refl, sym, ap, subst, ◌∙◌, arith, Shorten, state_of, undone_one, IsInOrder, now, order_same, within_same, within_more, pushed, order_untouched, order_by, shortened, order_padded, pads_more}
 use Rattle.mmemory.proofs.held.Held.make_room.Goals as goal
 
 pub invariant_of-self : goal.invariant_of-self

@@ -1,6 +1,5 @@
 -- SPDX-License-Identifier: Apache-2.0
-use Rattle.mmemory.proofs.Logs.{ok_weaker}
-use Rattle.mmemory.proofs.Moved.{fits_moved, wrote_moved}
+use Rattle.mmemory.proofs.MemoryLaws.{ok_weaker, fits_moved, wrote_moved}
 use Rattle.mmemory.proofs.held.Held.put_apart.Goals as goal
 
 pub change-requires-clause-shaped : goal.change-requires-clause-shaped

@@ -1,8 +1,5 @@
 -- SPDX-License-Identifier: Apache-2.0
-use Rattle.mmemory.proofs.MemoryWords.{set, refl, arith, state_of}
-use Rattle.mmemory.specs.declared.undo.Undo.TheVariants.{Step}
-use Rattle.mmemory.proofs.Logs.{order_same, within_same, within_more, pushed}
-use Rattle.mmemory.proofs.Others.{order_by, label_undone, label_order, relabels_in}
+use Rattle.mmemory.proofs.MemoryLaws.{set, refl, arith, state_of, Step, order_same, within_same, within_more, pushed, order_by, label_undone, label_order, relabels_in}
 use Rattle.mmemory.proofs.held.Held.relabel.Goals as goal
 
 pub invariant_of-self : goal.invariant_of-self

@@ -1,7 +1,5 @@
 -- SPDX-License-Identifier: Apache-2.0
-use Rattle.mmemory.proofs.MemoryWords.{◌≡◌, refl, arith, Version, state_of, undone_one, now}
-use Rattle.mmemory.proofs.Logs.{order_same, within_same, within_more, pushed}
-use Rattle.mmemory.proofs.Others.{order_by, kept_by}
+use Rattle.mmemory.proofs.MemoryLaws.{◌≡◌, refl, arith, Version, state_of, undone_one, now, order_same, within_same, within_more, pushed, order_by, kept_by}
 use Rattle.mmemory.proofs.held.Held.set_version.Goals as goal
 
 pub invariant_of-self : goal.invariant_of-self

@@ -1,7 +1,5 @@
 -- SPDX-License-Identifier: Apache-2.0
-use Rattle.mmemory.proofs.MemoryWords.{order_of, sorted_shape, tree_rows}
-use Rattle.mmemory.proofs.Words.{falls_below_key, falls_up_to_key}
-use Rattle.mmemory.proofs.Seen.{rows_shaped, forward_seen, backward_seen}
+use Rattle.mmemory.proofs.MemoryLaws.{order_of, sorted_shape, tree_rows, falls_below_key, falls_up_to_key, rows_shaped, forward_seen, backward_seen}
 use Rattle.mmemory.proofs.memory.Memory.placed.Goals as goal
 
 pub find-place-requires : goal.find-place-requires

@@ -1,7 +1,5 @@
 -- SPDX-License-Identifier: Apache-2.0
-use Rattle.mmemory.proofs.MemoryWords.{true, refl, ◌∙◌, arith, to_z-of_z, without_rowid, no_doubt}
-use Rattle.mmemory.proofs.Views.{written, sets_frame, fails_kept}
-use Rattle.mmemory.proofs.Seen.{shape_is, table_within}
+use Rattle.mmemory.proofs.MemoryLaws.{true, refl, ◌∙◌, arith, to_z-of_z, without_rowid, no_doubt, written, sets_frame, fails_kept, shape_is, table_within}
 use Rattle.mmemory.proofs.memory.MemoryStore.delete.Goals as goal
 
 pub delete-requires-clause-tree : goal.delete-requires-clause-tree

@@ -1,8 +1,5 @@
 -- SPDX-License-Identifier: Apache-2.0
-use Rattle.mmemory.proofs.MemoryWords.{◌≡◌, [], ◌∷◌, true, get_or, refl, sym, ap, ◌∙◌, arith, to_z-of_z, no_doubt, after, tree_nest, tree_rows}
-use Rattle.sqlite_value.specs.declared.value.Value.TheVariants.{Int}
-use Rattle.mmemory.proofs.Words.{falls_below_rowid}
-use Rattle.mmemory.proofs.Seen.{table_within, rows_up, named_found, named_missing}
+use Rattle.mmemory.proofs.MemoryLaws.{◌≡◌, [], ◌∷◌, true, get_or, refl, sym, ap, ◌∙◌, arith, to_z-of_z, no_doubt, after, tree_nest, tree_rows, Int, falls_below_rowid, table_within, rows_up, named_found, named_missing}
 use Rattle.mmemory.proofs.memory.MemoryStore.get.Goals as goal
 
 pub index-tree-requires : goal.index-tree-requires

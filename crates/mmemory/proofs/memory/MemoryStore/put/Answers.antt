@@ -1,7 +1,5 @@
 -- SPDX-License-Identifier: Apache-2.0
-use Rattle.mmemory.proofs.MemoryWords.{true, refl, ◌∙◌, arith, put_row, no_doubt}
-use Rattle.mmemory.proofs.Views.{written, sets_frame, fails_kept}
-use Rattle.mmemory.proofs.Seen.{shape_is, table_within}
+use Rattle.mmemory.proofs.MemoryLaws.{true, refl, ◌∙◌, arith, put_row, no_doubt, written, sets_frame, fails_kept, shape_is, table_within}
 use Rattle.mmemory.proofs.memory.MemoryStore.put.Goals as goal
 
 pub put-requires-clause-tree : goal.put-requires-clause-tree

@@ -1,7 +1,5 @@
 -- SPDX-License-Identifier: Apache-2.0
-use Rattle.mmemory.proofs.MemoryWords.{All, ◌≡◌, ℕ, zero, suc, ◌-◌, ◌<◌, ◌≤◌, List, [], ◌∷◌, length, slice_get, get_or, Some, map, refl, sym, ap, ◌∙◌, arith, newest, snapshot, Memory, shown, moment, memory_view, view_of, current, marks_of}
-use Rattle.std.proofs.Common.{slice_index}
-use Rattle.mmemory.proofs.Views.{map_same, newest_mark}
+use Rattle.mmemory.proofs.MemoryLaws.{All, ◌≡◌, ℕ, zero, suc, ◌-◌, ◌<◌, ◌≤◌, List, [], ◌∷◌, length, slice_get, get_or, Some, map, refl, sym, ap, ◌∙◌, arith, newest, snapshot, Memory, shown, moment, memory_view, view_of, current, marks_of, slice_index, map_same, newest_mark}
 use Rattle.mmemory.proofs.memory.MemoryStore.rollback_to.Goals as goal
 
 found_at : (xs : List ℕ) (k x : ℕ) → slice_get xs k ≡ Some x → (k < length xs) × (get_or xs k 0 ≡ x)

@@ -1,6 +1,5 @@
 -- SPDX-License-Identifier: Apache-2.0
-use Rattle.mmemory.proofs.MemoryWords.{◌≡◌, ◌++◌, ◌∷◌, [], length, map, refl, ap, ◌∙◌, arith, map-append, undone, shown, moment, memory_view, current}
-use Rattle.mmemory.proofs.Shown.{drop_past}
+use Rattle.mmemory.proofs.MemoryLaws.{◌≡◌, ◌++◌, ◌∷◌, [], length, map, refl, ap, ◌∙◌, arith, map-append, undone, shown, moment, memory_view, current, drop_past}
 use Rattle.mmemory.proofs.memory.MemoryStore.savepoint.Goals as goal
 
 pub returns-clause-ok : goal.returns-clause-ok

@@ -1,7 +1,5 @@
 -- SPDX-License-Identifier: Apache-2.0
-use Rattle.mmemory.proofs.MemoryWords.{◌≡◌, None, get_or, refl, arith, order_of, sought, named, unnumbered, Memory, memory_view, current, left_of}
-use Rattle.mmemory.proofs.Logs.{after_error, keeps_untouched}
-use Rattle.mmemory.proofs.Views.{cursors_set, seen_same, fails}
+use Rattle.mmemory.proofs.MemoryLaws.{◌≡◌, None, get_or, refl, arith, order_of, sought, named, unnumbered, Memory, memory_view, current, left_of, after_error, keeps_untouched, cursors_set, seen_same, fails}
 use Rattle.mmemory.proofs.memory.MemoryStore.seek.Goals as goal
 
 pub returns-clause-ok : goal.returns-clause-ok

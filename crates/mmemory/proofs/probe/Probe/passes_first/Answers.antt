@@ -1,6 +1,5 @@
 -- SPDX-License-Identifier: Apache-2.0
-use Rattle.mmemory.proofs.MemoryWords.{[], ap, ◌∙◌, chunk_rows, passes}
-use Rattle.mmemory.proofs.Shown.{first_of}
+use Rattle.mmemory.proofs.MemoryLaws.{[], ap, ◌∙◌, chunk_rows, passes, first_of}
 use Rattle.mmemory.proofs.probe.Probe.passes_first.Goals as goal
 
 pub returns : goal.returns

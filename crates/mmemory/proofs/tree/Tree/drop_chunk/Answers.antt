@@ -1,6 +1,5 @@
 -- SPDX-License-Identifier: Apache-2.0
-use Rattle.mmemory.proofs.MemoryWords.{ap, ◌∙◌, plain, with_chunks, nest}
-use Rattle.mmemory.proofs.Made.{nest_removed}
+use Rattle.mmemory.proofs.MemoryLaws.{ap, ◌∙◌, plain, with_chunks, nest, nest_removed}
 use Rattle.mmemory.proofs.tree.Tree.drop_chunk.Goals as goal
 
 pub returns-then-chunk-len : goal.returns-then-chunk-len

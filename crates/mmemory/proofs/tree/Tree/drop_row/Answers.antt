@@ -1,6 +1,5 @@
 -- SPDX-License-Identifier: Apache-2.0
-use Rattle.mmemory.proofs.MemoryWords.{arith, taken, plain, with_chunks}
-use Rattle.mmemory.proofs.Made.{changed}
+use Rattle.mmemory.proofs.MemoryLaws.{arith, taken, plain, with_chunks, changed}
 use Rattle.mmemory.proofs.tree.Tree.drop_row.Goals as goal
 
 pub returns-then-chunk-len : goal.returns-then-chunk-len

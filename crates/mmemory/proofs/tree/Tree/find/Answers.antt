@@ -1,7 +1,5 @@
 -- SPDX-License-Identifier: Apache-2.0
-use Rattle.mmemory.proofs.MemoryWords.{◌≡◌, ◌-◌, [], get_or, sym, ap, ◌∙◌, chunk_rows, nest, passes}
-use Rattle.mmemory.proofs.Shown.{shown_at}
-use Rattle.mmemory.proofs.Finds.{tree_found}
+use Rattle.mmemory.proofs.MemoryLaws.{◌≡◌, ◌-◌, [], get_or, sym, ap, ◌∙◌, chunk_rows, nest, passes, shown_at, tree_found}
 use Rattle.mmemory.proofs.tree.Tree.find.Goals as goal
 
 pub returns-clause-splits : goal.returns-clause-splits

@@ -1,6 +1,5 @@
 -- SPDX-License-Identifier: Apache-2.0
-use Rattle.mmemory.proofs.MemoryWords.{arith, plain, with_chunks}
-use Rattle.mmemory.proofs.Made.{join_made}
+use Rattle.mmemory.proofs.MemoryLaws.{arith, plain, with_chunks, join_made}
 use Rattle.mmemory.proofs.tree.Tree.join.Goals as goal
 
 pub returns : goal.returns

@@ -1,7 +1,5 @@
 -- SPDX-License-Identifier: Apache-2.0
-use Rattle.mmemory.proofs.MemoryWords.{◌+◌, ◌≤◌, [], length, get_or, rows_at, tree_nest}
-use Rattle.mmemory.proofs.Some.{chunks_some}
-use Rattle.mmemory.proofs.Steps.{nothing_after}
+use Rattle.mmemory.proofs.MemoryLaws.{◌+◌, ◌≤◌, [], length, get_or, rows_at, tree_nest, chunks_some, nothing_after}
 use Rattle.mmemory.proofs.tree.Tree.next_row.Goals as goal
 
 pub returns-in-None-clause-none : goal.returns-in-None-clause-none

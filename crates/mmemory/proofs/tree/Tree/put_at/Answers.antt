@@ -1,6 +1,5 @@
 -- SPDX-License-Identifier: Apache-2.0
-use Rattle.mmemory.proofs.MemoryWords.{put_in, plain}
-use Rattle.mmemory.proofs.Made.{made_over, made_put, some_at}
+use Rattle.mmemory.proofs.MemoryLaws.{put_in, plain, made_over, made_put, some_at}
 use Rattle.mmemory.proofs.tree.Tree.put_at.Goals as goal
 
 pub returns : goal.returns

@@ -1,6 +1,5 @@
 -- SPDX-License-Identifier: Apache-2.0
-use Rattle.mmemory.proofs.MemoryWords.{sym, ◌∙◌, inl, arith, tree_nest}
-use Rattle.mmemory.proofs.Steps.{within_chunks}
+use Rattle.mmemory.proofs.MemoryLaws.{sym, ◌∙◌, inl, arith, tree_nest, within_chunks}
 use Rattle.mmemory.proofs.tree.Tree.seek.Goals as goal
 
 pub returns-in-Some : goal.returns-in-Some

@@ -1,6 +1,5 @@
 -- SPDX-License-Identifier: Apache-2.0
-use Rattle.mmemory.proofs.MemoryWords.{set, arith, plain, with_chunks}
-use Rattle.mmemory.proofs.Made.{changed}
+use Rattle.mmemory.proofs.MemoryLaws.{set, arith, plain, with_chunks, changed}
 use Rattle.mmemory.proofs.tree.Tree.set_row.Goals as goal
 
 pub returns-then-at-len : goal.returns-then-at-len

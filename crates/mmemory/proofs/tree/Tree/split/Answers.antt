@@ -1,7 +1,5 @@
 -- SPDX-License-Identifier: Apache-2.0
-use Rattle.mmemory.proofs.MemoryWords.{◌≡◌, ◌<◌, [], length, set, ap, ◌∙◌, arith, length-map, set-get_or, plain, chunk_rows, nest, with_chunks}
-use Rattle.mmemory.proofs.Logs.{after_error}
-use Rattle.mmemory.proofs.Made.{changed, halves_made, halves_fit, made_halves}
+use Rattle.mmemory.proofs.MemoryLaws.{◌≡◌, ◌<◌, [], length, set, ap, ◌∙◌, arith, length-map, set-get_or, plain, chunk_rows, nest, with_chunks, after_error, changed, halves_made, halves_fit, made_halves}
 use Rattle.mmemory.proofs.tree.Tree.split.Goals as goal
 
 pub returns-in_err-tail-clause-err : goal.returns-in_err-tail-clause-err

@@ -1,6 +1,6 @@
 -- SPDX-License-Identifier: Apache-2.0
 -- The wire form and the replies of the definitional interpreter on examples, as proved equations.
-use Rattle.mwire.proofs.WireWords.{arith, ◌≡◌, ℕ, List, [], ◌∷◌, ◌++◌, refl, ap, ◌∙◌, codes, replicate, digits, lines, Text, no_locals, level_begun, value_of, assigned_to, Zlong, Own, Settings, World, Reply, Finished, Halted, Faulted, opening, WireLine, Ignored, TooLong, Unreadable, Runs, classify, shown, reply_text, line_served, lines_served, stream_served}
+use Rattle.mwire.proofs.WireWords.{◌≡◌, ℕ, List, [], ◌∷◌, ◌++◌, refl, ap, ◌∙◌, codes, replicate, digits, lines, Text, no_locals, level_begun, value_of, assigned_to, Zlong, Own, Settings, World, Reply, Finished, Halted, Faulted, opening, WireLine, Ignored, TooLong, Unreadable, Runs, classify, shown, reply_text, line_served, lines_served, stream_served}
 use Rattle.std.specs.FinMap.{empty, gets}
 use Rattle.mspec.specs.NodeOrder.{canonical_value}
 use Rattle.mspec.proofs.ComputedMaps.{computed_maps}
@@ -68,7 +68,8 @@ lines_by_shut settings world (line ∷ more) =
     (line_by_shut settings world (classify line)).0 ++ lines_by_shut settings (line_by_shut settings world (classify line)).1 more
 
 line_is_shut : (settings : Settings) (world : World) (f : WireLine) → line_served settings world f ≡ line_by_shut settings world f
-line_is_shut settings world f = grind arith
+line_is_shut settings world (Runs e) = ap (λ (r : Reply × World). (reply_text e.terminal r.0, r.1)) (step_is_shut settings e world)
+line_is_shut settings world unrun = refl
 
 lines_are_shut : (settings : Settings) (world : World) (ls : List Text) → lines_served settings world ls ≡ lines_by_shut settings world ls
 lines_are_shut settings world [] = refl

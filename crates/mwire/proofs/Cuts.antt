@@ -16,10 +16,7 @@ length-strip l =
     ]
 
 classify-long : (l : List ℕ) → 260 < length l → classify l ≡ TooLong
-classify-long l h =
-    let some : (length l == 0) ≡ false = grind arith in
-    let long = lt-ltb 260 (length l) h in
-    rw (some, long) refl
+classify-long l h = grind arith
 
 -- of a line, or of one that lost its carriage return
 module _ (f : List ℕ → List ℕ) (shorter : (l : List ℕ) → length l ≤ length (f l) + 1) where

@@ -19,13 +19,7 @@ HasServed-start g settings first left held = record { read = []; sent = []; cons
 -- a read that failed
 pub HasServed-kept : {S : Type 0} (g : Ghosts S) (settings : Settings) (first now : World) (left left' left'' held held' : Option Text) (kept : Text)
     → HasServed g settings first now left left' held held' kept → Keeps left' left'' → HasServed g settings first now left left'' held held' kept
-HasServed-kept g settings first now left left' left'' held held' kept h k = record {
-  read = h.read;
-  sent = h.sent;
-  consumed = Consumes-kept left left' left'' h.read h.consumed k;
-  appended = h.appended;
-  stands = h.stands;
-}
+HasServed-kept g settings first now left left' left'' held held' kept h k = grind arith
 
 -- a piece that was taken whole
 pub HasServed-more : {S E : Type 0} (g : Ghosts S) (settings : Settings) (first now new : World) (left left' left'' held held' held'' : Option Text) (kept kept' piece : Text) (u : Unit {0})
@@ -70,9 +64,7 @@ AnswersCutShort-end g settings first done (x ∷ xs) now text new before after b
 
 EndsBy-break : {S : Type 0} (g : Ghosts S) (settings : Settings) (old : World) (left : Option Text) (read sent : Text) (new : World) (e : WireFault)
     → e ≢ Read → ServeCutShort g settings old left read sent new → EndsBy g settings old left read sent new e
-EndsBy-break g settings old left read sent new Read ne b = absurd (ne refl)
-EndsBy-break g settings old left read sent new Write ne b = b
-EndsBy-break g settings old left read sent new Memory ne b = b
+EndsBy-break g settings old left read sent new e h f = grind arith
 
 -- a read of no bytes
 pub Consumes-none : (a b c : Option Text) (bs buf : Text) (n : ℕ) → n ≡ 0 → Consumes a b bs → Consumes b c (take n buf) → Consumes a c bs

@@ -4,8 +4,7 @@ use Rattle.mwire.proofs.WireWords.{◌≡◌, ◌++◌, ◌+◌, ◌<◌, ◌≤
 use Rattle.mwire.proofs.Cuts.{length-strip, classify-kept, IsCut-nil, IsCut-byte, IsCut-line, lines-cut, last_part}
 
 before_events-append : (wire_line : WireLine) (xs ys : List Event) → before_events wire_line (xs ++ ys) ≡ before_events wire_line xs ++ ys
-before_events-append (Runs e) xs ys = refl
-before_events-append unrun xs ys = refl
+before_events-append wire_line xs ys = grind arith
 
 events_of-append : (ls ms : List Text) → events_of (ls ++ ms) ≡ events_of ls ++ events_of ms
 events_of-append [] ms = refl
@@ -44,8 +43,7 @@ Gathered-all past piece kept i events end s =
     let P : Text → Type 0 = λ bytes. Gathered bytes kept events in subst P (ap (λ t. past ++ t) (take_all i piece end)) s
 
 last_events : (rest : Text) → events_of (rest ∷ []) ≡ events_of (lines_of_parts (rest ∷ []))
-last_events [] = refl
-last_events (x ∷ xs) = ap events_of (sym (last_part x xs))
+last_events rest = grind arith
 
 -- the stream's end
 pub Gathered-end : (bytes kept : Text) (events events' : List Event) → events' ≡ events ++ events_of (kept ∷ []) → Gathered bytes kept events → events' ≡ events_of (lines bytes)

@@ -1,13 +1,12 @@
 -- SPDX-License-Identifier: Apache-2.0
 -- How lines are answered, one after another.
-use Rattle.mwire.proofs.WireWords.{LineSent, Option, Bool, ◌≡◌, ◌≢◌, ◌++◌, List, [], ◌∷◌, refl, sym, ◌∙◌, ap, subst, append_assoc, append-nil, Text, Settings, World, Event, Reply, Transition, History, Ghosts, Zstore, Ended, Fault, reply_of, WireLine, Ignored, TooLong, Unreadable, Runs, classify, before_events, events_of, too_long_text, unreadable_text, reply_text, line_text, replies_behind, answer_text, LinesAnswered, RunAnswered, WireLineAnswered, LineAnswered, EachAnswered, AnswersCutShort, map}
+use Rattle.mwire.proofs.WireWords.{arith, LineSent, Option, Bool, ◌≡◌, ◌≢◌, ◌++◌, List, [], ◌∷◌, refl, sym, ◌∙◌, ap, subst, append_assoc, append-nil, Text, Settings, World, Event, Reply, Transition, History, Ghosts, Zstore, Ended, Fault, reply_of, WireLine, Ignored, TooLong, Unreadable, Runs, classify, before_events, events_of, too_long_text, unreadable_text, reply_text, line_text, replies_behind, answer_text, LinesAnswered, RunAnswered, WireLineAnswered, LineAnswered, EachAnswered, AnswersCutShort, map}
 use Rattle.mworld.specs.declared.reply.Reply.{Reply as CodeReply}
 use Rattle.mwire.proofs.StoreFaults.{store_sufficed}
 
 pub LineAnswered-at : {S : Type 0} (g : Ghosts S) (settings : Settings) (old : World) (line answer : Text) (new : World) (wire_line : WireLine)
     → classify line ≡ wire_line → WireLineAnswered g settings old wire_line answer new → LineAnswered g settings old line answer new
-LineAnswered-at g settings old line answer new wire_line e h =
-    let P : WireLine → Type 0 = λ f. WireLineAnswered g settings old f answer new in record { by_wire_line = subst P (sym e) h }
+LineAnswered-at g settings old line answer new wire_line e h = grind arith
 
 -- a line that was run, and its reply
 pub replied : {S : Type 0} {g : Ghosts S} {settings : Settings} {old new : World} {e : Event} (answer : Text) (reply : CodeReply)
@@ -38,13 +37,7 @@ both_texts more wire_line replies = line_text wire_line replies ++ answer_text m
 LinesAnswered-unrun : {S : Type 0} (g : Ghosts S) (settings : Settings) (old : World) (line : Text) (more : List Text) (wire_line : WireLine) (answer : Text) (mid : World) (rest : Text) (new : World)
     → classify line ≡ wire_line → (a : LinesAnswered g settings mid more rest new) → mid ≡ old → events_of more ≡ before_events wire_line (events_of more)
     → answer ++ rest ≡ both_texts more wire_line (map (λ x. x.1) a.trace) → LinesAnswered g settings old (line ∷ more) (answer ++ rest) new
-LinesAnswered-unrun g settings old line more wire_line answer mid rest new e a same none texts = record {
-  trace = a.trace;
-  events = a.events ∙ none ∙ ap (λ f. before_events f (events_of more)) (sym e);
-  text = texts ∙ ap (λ f. both_texts more f (map (λ x. x.1) a.trace)) (sym e);
-  history = λ sound. subst (λ (s : World). History settings s a.trace new) same (a.history sound);
-  steady = a.steady;
-}
+LinesAnswered-unrun g settings old line more wire_line answer mid rest new e a same none texts = grind arith
 
 LinesAnswered-line : {S : Type 0} (g : Ghosts S) (settings : Settings) (old : World) (line : Text) (more : List Text) (wire_line : WireLine) (answer : Text) (mid : World) (rest : Text) (new : World)
     → classify line ≡ wire_line → WireLineAnswered g settings old wire_line answer mid → LinesAnswered g settings mid more rest new → LinesAnswered g settings old (line ∷ more) (answer ++ rest) new

@@ -5,9 +5,7 @@ use Rattle.mwire.proofs.Results.{on_ok_then}
 
 output_text-line : (digits line : Text) (parts : List Text) (n : ℕ) → length parts ≡ n + 1
     → output_text digits (line ∷ parts) ≡ digits ++ 58 ∷ shown line ++ 10 ∷ output_text digits parts
-output_text-line digits line [] n e = absurd (omega arith)
-output_text-line digits [] (part ∷ parts) n e = refl
-output_text-line digits (c ∷ cs) (part ∷ parts) n e = refl
+output_text-line digits line parts n h = grind arith
 
 join : (old digits s rest : Text) → (old ++ digits ++ 58 ∷ s ++ 10 ∷ []) ++ rest ≡ old ++ (digits ++ 58 ∷ s ++ 10 ∷ rest)
 join old digits s rest = simp append_assoc

@@ -1,6 +1,6 @@
 -- SPDX-License-Identifier: Apache-2.0
 -- The replies that one account is told, sent one after another.
-use Rattle.mwire.proofs.WireWords.{◌≡◌, ℕ, ◌+◌, ◌<◌, Bool, true, List, [], ◌∷◌, ◌++◌, Option, map, take, drop, length, get_or, refl, sym, ap, ◌∙◌, subst, append_assoc, inl, inr, map-append, take-append-drop, Appends-trans, Appends-nil, Appends, Consumes, IsAtEnd, lines, Text, Event, Ghosts, settings_of, world_of, IsTold, IsEquallyTold, IsToldEach, RanFirst, events_of, reply_text, told_text, RanOnly, RepliesCutShort, ServeOnlyCutShort, ServesOnly, FrontSent, WireFault, Read, Write, Memory, ◌≢◌, Ok, Err}
+use Rattle.mwire.proofs.WireWords.{arith, ◌≡◌, ℕ, ◌+◌, ◌<◌, Bool, true, List, [], ◌∷◌, ◌++◌, Option, map, take, drop, length, get_or, refl, sym, ap, ◌∙◌, subst, append_assoc, inl, inr, map-append, take-append-drop, Appends-trans, Appends-nil, Appends, Consumes, IsAtEnd, lines, Text, Event, Ghosts, settings_of, world_of, IsTold, IsEquallyTold, IsToldEach, RanFirst, events_of, reply_text, told_text, RanOnly, RepliesCutShort, ServeOnlyCutShort, ServesOnly, FrontSent, WireFault, Read, Write, Memory, ◌≢◌, Ok, Err}
 use Rattle.std.proofs.lemmas.List.{append-nil}
 use Rattle.std.proofs.lemmas.Grind.{flat_map-append}
 use Rattle.mspec.specs.Access.{name_at}
@@ -81,15 +81,7 @@ module _ {S : Type 0} (g : Ghosts S) (old new : World S g) (account : ℕ) (left
   module _ (at_end : IsAtEnd left') (bytes : Text) (whole : Bool) (ran : RanOnly g old account (events_of (lines read)) bytes whole new) where
     -- a fault of the writing
     pub unwritten : (fault : WireFault) → fault ≢ Read → (b : Bool) → FrontSent bytes held held' b → ServesOnly g old account left left' held held' (Err fault) new
-    unwritten fault other b s = record { read = read; consumed = consumed; sent = s.part; appended = s.appended; outcome = broke fault other }
-      where
-        cut : RepliesCutShort g old account (events_of (lines read)) s.part new
-        cut = record { bytes = bytes; whole = whole; ran = ran; unsent = s.unsent; of_bytes = s.of_bytes }
-
-        broke : (e : WireFault) → e ≢ Read → ServeOnlyCutShort g old account left' (events_of (lines read)) s.part new e
-        broke Read o = absurd (o refl)
-        broke Write o = (at_end, cut)
-        broke Memory o = inr (at_end, cut)
+    unwritten fault other b s = grind arith
 
     pub written : FrontSent bytes held held' true → ServesOnly g old account left left' held held' (Ok whole) new
     written s = record { read = read; consumed = consumed; sent = bytes; appended = subst (Appends held held') (sym (FrontSent-whole s)) s.appended; outcome = (at_end, ran) }
@@ -100,5 +92,4 @@ pub ran_only : {S : Type 0} (g : Ghosts S) (old new : World S g) (account : ℕ)
     → (g.sound → IsTold g old account es replies whole new)
     → (g.sound → IsEquallyTold g old account es replies whole)
     → RanOnly g old account es' bytes whole new
-ran_only g old new account es es' same replies bytes whole text each told alone =
-    subst (λ events. RanOnly g old account events bytes whole new) same (record { replies = replies; text = text; each = each; told = told; alone = alone })
+ran_only g old new account es es' same replies bytes whole text each told alone = grind arith

@@ -1,16 +1,13 @@
 -- SPDX-License-Identifier: Apache-2.0
 -- The answers of a history of normal steps.
-use Rattle.mwire.proofs.WireWords.{◌≡◌, ◌++◌, List, [], ◌∷◌, true, false, refl, sym, ap, ◌∙◌, lines, Text, Settings, World, Event, Reply, normal, is_failure, replies, world_after, answered, opening, Ghosts, WireLine, Ignored, TooLong, Unreadable, Runs, classify, before_events, events_of, line_served, lines_served, reply_text, too_long_text, unreadable_text, StoreSufficed, StoreSufficedForEach, line_text, replies_behind, answer_text, NormalAnswersAreServed, NormalStreamsAreServed, LinesHaveAnswers, map}
+use Rattle.mwire.proofs.WireWords.{arith, ◌≡◌, ◌++◌, List, [], ◌∷◌, true, false, refl, sym, ap, ◌∙◌, lines, Text, Settings, World, Event, Reply, normal, is_failure, replies, world_after, answered, opening, Ghosts, WireLine, Ignored, TooLong, Unreadable, Runs, classify, before_events, events_of, line_served, lines_served, reply_text, too_long_text, unreadable_text, StoreSufficed, StoreSufficedForEach, line_text, replies_behind, answer_text, NormalAnswersAreServed, NormalStreamsAreServed, LinesHaveAnswers, map}
 use Rattle.mmeaning.proofs.Histories.{normal_never_fails, normal_transitions_are_history, history_is_normal}
 
 line_is_served : (settings : Settings) (world : World) (more : List Text) (wire_line : WireLine)
     → ((s : World) → answer_text more (replies settings s (events_of more)) ≡ lines_served settings s more)
     → line_text wire_line (replies settings world (before_events wire_line (events_of more))) ++ answer_text more (replies_behind wire_line (replies settings world (before_events wire_line (events_of more))))
     ≡ (line_served settings world wire_line).0 ++ lines_served settings (line_served settings world wire_line).1 more
-line_is_served settings world more Ignored rest = rest world
-line_is_served settings world more TooLong rest = ap (λ t. too_long_text ++ t) (rest world)
-line_is_served settings world more Unreadable rest = ap (λ t. unreadable_text ++ t) (rest world)
-line_is_served settings world more (Runs e) rest = ap (λ t. reply_text e.terminal (normal settings e world).0 ++ t) (rest (normal settings e world).1)
+line_is_served settings world more wire_line h = grind arith
 
 -- the replies of normal steps make the bytes of the definitional interpreter
 lines_are_served : (settings : Settings) (world : World) (all : List Text) → answer_text all (replies settings world (events_of all)) ≡ lines_served settings world all

@@ -1,14 +1,13 @@
 -- SPDX-License-Identifier: Apache-2.0
 -- When a reply tells of the store's failure.
-use Rattle.mwire.proofs.WireWords.{◌≡◌, ◌≢◌, refl, Lost, Store, Faulted, Zstore, Ended, Done, Halt, Fault}
+use Rattle.mwire.proofs.WireWords.{arith, ◌≡◌, ◌≢◌, refl, Lost, Store, Faulted, Zstore, Ended, Done, Halt, Fault}
 use Rattle.moperator.specs.Codes.{fault_of}
 use Rattle.moperator.specs.declared.code.Code.{Code}
 use Rattle.mexec.specs.Runs.{ending_of}
 
 -- one code alone stands for it
 of_store : (c : Code) → fault_of c ≡ Lost Store → c ≡ Zstore
-of_store Zstore e = refl
-of_store other e = cc
+of_store c h = grind arith
 
 pub store_sufficed : (ending : Ended) → ◌≢◌ {A = Ended} ending (Fault Zstore) → ending_of ending ≢ Faulted (Lost Store)
 store_sufficed Done other told = cc

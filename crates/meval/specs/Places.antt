@@ -1,16 +1,18 @@
 -- SPDX-License-Identifier: Apache-2.0
 -- References and places of the code, as the definitions have them.
-use Rattle.std.specs.Prelude.{◌≡◌, Bool, true}
+use Rattle.std.specs.Prelude.{◌≡◌, Bool, true, List}
 use Rattle.mspec.specs.Access.{Mode, may}
 use Rattle.mspec.specs.Code.{Code, M6, M7}
 use Rattle.mspec.specs.KeyBytes.{IsAccountName}
-use Rattle.mspec.specs.Node.{Text}
+use Rattle.mspec.specs.Node.{Text, Node}
 use Rattle.mspec.specs.Trees.{AreOrderSubscripts}
 use Rattle.mmeaning.specs.Calls.{Standing}
 use Rattle.mmeaning.specs.Variables as variables
 use Rattle.mkey.specs.declared.walk.Data.{Data}
 use Rattle.mgrant.specs.declared.mode.Mode as grant
 use Rattle.mgrant.specs.declared.mode.Mode.TheVariants as mode
+use Rattle.meval.specs.Evaluates.{standing_of}
+use Rattle.meval.specs.declared.eval.Eval.{Eval}
 use Rattle.meval.specs.declared.place.LocalName.{LocalName}
 use Rattle.meval.specs.declared.place.LocalName.TheVariants as local_name
 use Rattle.meval.specs.declared.place.Pending.{Pending}
@@ -28,6 +30,14 @@ abbrev pub pending_view : Pending → variables.Evaluated
 pending_view (pending.Local name values) = variables.of_local (name_view name) values
 pending_view (pending.Global node) = variables.of_global node
 pending_view (pending.Naked values) = variables.of_naked values
+
+-- the node of the global of this name of the line's account
+abbrev pub own_global : {S : Type 0} → Eval S → Text → List Text → Node
+own_global e name xs = record { account = (standing_of e).account; name = name; subscripts = xs }
+
+-- a node of the global of this name of this account
+abbrev pub IsOfGlobal : Text → Text → Node → Type 0
+IsOfGlobal account name n = (n.account ≡ account) × (n.name ≡ name)
 
 abbrev pub place_view : Place → variables.Place
 place_view (place.Local name subscripts) = variables.at_local (name_view name) subscripts

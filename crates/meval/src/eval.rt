@@ -113,6 +113,7 @@ impl<'a, S: NodeStore> Eval<'a, S> {
                 Ok(value.copy()?)
             }
             Reference::Node(name, subscript) => self.fast_node(alloc, name, subscript),
+            Reference::Global(name, subscripts) => self.fast_global(alloc, name, subscripts),
             _ => self.place_value(alloc, reference),
         }
     }

@@ -32,6 +32,25 @@ impl Model for GlobalNode {
     ghost view = { λ n. record { account = owner_text n.owner; name = n.name; subscripts = n.subscripts } };
 }
 
+// The key of the node of this account, global name and subscripts: `Zsub` where these are none that a node can have.
+pub(crate) fn key_with(
+    alloc: Global,
+    account: &[u8],
+    name: &Bytes7,
+    subscripts: &[Value],
+) -> Result<NodeKey, Code>
+    requires account { IsAccountName account.now }
+    requires name { IsName name.now }
+    ensures checked { Yields fault_of (unless Zsub (are_subscripts subscripts.now)) (λ _. tt) result }
+    ensures key { IfOk result (λ key. key ≡ record { account = account.now; name = name.now; subscripts = subscripts.now }) }
+{
+    match NodeKey::build_values(alloc, account, name, subscripts) {
+        Ok(key) => Ok(key),
+        Err(KeyFault::Sub) => Err(Code::Zsub),
+        Err(KeyFault::Memory) => Err(Code::Zmem),
+    }
+}
+
 impl GlobalNode {
     // The node of this account, global name and subscripts. Takes no memory.
     pub(crate) fn new(owner: Owner, name: Name, subscripts: Values) -> GlobalNode
@@ -97,11 +116,23 @@ impl GlobalNode {
         ensures checked { Yields fault_of (unless Zsub (are_subscripts self.now.subscripts)) (λ _. tt) result }
         ensures key { IfOk result (λ key. key ≡ self.now) }
     {
-        match NodeKey::build_values(alloc, self.account(), self.name(), self.subscripts()) {
-            Ok(key) => Ok(key),
-            Err(KeyFault::Sub) => Err(Code::Zsub),
-            Err(KeyFault::Memory) => Err(Code::Zmem),
-        }
+        key_with(alloc, self.account(), self.name(), self.subscripts())
+    }
+
+    // Whether it is a node of the global of this name of this account, and that is the name of an account.
+    pub(crate) fn is_of(&self, account: &[u8], name: &Name) -> bool
+        ensures account { IsTrue result → self.now.account ≡ account.now }
+        ensures name { IsTrue result → self.now.name ≡ name.now }
+        ensures is_account { IsTrue result → IsAccountName self.now.account }
+    {
+        self.is_of_account() && self.account() == account && self.name == *name
+    }
+
+    // It becomes the node of the same global with these subscripts.
+    pub(crate) fn set_subscripts(&mut self, values: Values)
+        ensures { self.new ≡ record self.old { subscripts = values } }
+    {
+        self.subscripts = values;
     }
 
     // The node with these in the place of the last subscript: `M1` where it has none.

@@ -4,6 +4,7 @@ ghost use Rattle.std.specs.Prelude.{◌≡◌, ◌≤◌};
 ghost use Rattle.mspec.specs.Access.{Read, Write};
 ghost use Rattle.mspec.specs.Act.{ask};
 ghost use Rattle.mspec.specs.KeyBytes.{IsAccountName};
+ghost use Rattle.mspec.specs.Names.{IsName};
 ghost use Rattle.mspec.specs.Plan.{Value, Status, Neighbour, Kill};
 ghost use Rattle.mspec.specs.Trees.{AreOrderSubscripts};
 ghost use Rattle.mkey.specs.Way.{way};
@@ -13,7 +14,6 @@ ghost use Rattle.meval.specs.Places.{IsOpen, status_view};
 ghost use Rattle.meval.specs.Stores.{store_code};
 
 use crate::eval::Eval;
-use crate::global_node::GlobalNode;
 use mglobal::{neighbour, status};
 use mkey::{Data, Direction, NodeKey};
 use mnum::Bytes7;
@@ -59,21 +59,23 @@ impl<'a, S: NodeStore> Eval<'a, S> {
         }
     }
 
-    // The subscript next to the last one of a node.
+    // The subscript next to the last one of the node of this account, global name and subscripts.
     pub(crate) fn node_neighbour(
         &mut self,
         alloc: Global,
-        node: &GlobalNode,
+        account: &[u8],
+        name: &Bytes7,
+        subscripts: &[mvalue::Value],
         direction: Direction,
     ) -> Result<Option<mvalue::Value>, Code>
-        requires account { IsAccountName node.now.account }
-        requires subscripts { AreOrderSubscripts node.now.subscripts }
-        requires allowed { IsOpen (standing_of self.old) Read (at_node node.now) }
+        requires account { IsAccountName account.now }
+        requires name { IsName name.now }
+        requires subscripts { AreOrderSubscripts subscripts.now }
+        requires allowed { IsOpen (standing_of self.old) Read (at_node (record { account = account.now; name = name.now; subscripts = subscripts.now })) }
         ensures loans { KeepsEval self.old self.new }
         ensures fewer { self.new.steps ≤ self.old.steps }
-        ensures does { Evaluates S.NodeStore (λ i. ask (Neighbour (way direction) node.now)) (λ next. next) self.old result self.new }
+        ensures does { Evaluates S.NodeStore (λ i. ask (Neighbour (way direction) (record { account = account.now; name = name.now; subscripts = subscripts.now }))) (λ next. next) self.old result self.new }
     {
-        let (account, name, subscripts) = (node.account(), node.name(), node.subscripts());
         match neighbour(self.store, alloc, account, name, subscripts, direction) {
             Ok(next) => Ok(next),
             Err(fault) => Err(code_of(fault)),

@@ -142,7 +142,8 @@ impl<'a, S: NodeStore> Eval<'a, S> {
                 Ok(next_value(alloc, next))
             }
             Walk::Node(node) => {
-                let next = self.node_neighbour(alloc, node, direction)?;
+                let (account, name, subscripts) = (node.account(), node.name(), node.subscripts());
+                let next = self.node_neighbour(alloc, account, name, subscripts, direction)?;
                 Ok(next_value(alloc, next))
             }
         }

@@ -51,7 +51,7 @@ impl<'a, S: NodeStore> Eval<'a, S> {
     }
 
     // The node is the one that was referred to last.
-    fn refer(&mut self, node: GlobalNode)
+    pub(crate) fn refer(&mut self, node: GlobalNode)
         ensures loans { KeepsEval self.old self.new }
         ensures fewer { self.new.steps ≤ self.old.steps }
         ensures same { standing_of self.new ≡ standing_of self.old }
@@ -71,7 +71,7 @@ impl<'a, S: NodeStore> Eval<'a, S> {
     }
 
     // The place of a node that is to be read or written.
-    fn node_place<'t>(
+    pub(crate) fn node_place<'t>(
         &mut self,
         alloc: Global,
         mode: Mode,

@@ -3,3 +3,4 @@ mod CommandWords
 pub mod Calls
 pub mod Targets
 pub mod Locking
+pub mod CommandLaws

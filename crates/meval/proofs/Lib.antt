@@ -9,3 +9,4 @@ pub mod Indirections
 pub mod Locks
 pub mod LocalVariables
 pub mod Chains
+pub mod EvalLaws

@@ -1,7 +1,8 @@
 // SPDX-License-Identifier: Apache-2.0
 // The short ways. Each function here does what the one that is named beside it does, but faster: delete any of them, and nothing changes but
-// time. They are for what most lines refer to: a literal, a local variable without subscripts, and one by one subscript, whose shape the tree
-// has already. A value is lent where it stands, or put in a place of the caller's.
+// time. They are for what most lines refer to: a literal, a local variable without subscripts, one by one subscript, whose shape the tree
+// has already, and a global of the account's own that the reference before was to. A value is lent where it stands, or put in a place of the
+// caller's.
 ghost use Rattle.std.specs.Prelude.{◌≡◌, ◌≤◌, ◌<◌, [], ◌∷◌, map, slice_get, unwrap_or, Ok, Some, IfErr, IfOk, IfSome, IsSome, IsTrue};
 ghost use Rattle.mgrammar.specs.Grammar as grammar;
 ghost use Rattle.mgrammar.specs.Grammar.{local, global, no_exprs, exprs, exprs_of};

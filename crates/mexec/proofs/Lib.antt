@@ -8,3 +8,4 @@ pub mod LevelRuns
 pub mod ArgumentRuns
 pub mod FrontRuns
 pub mod Texts
+pub mod ExecLaws

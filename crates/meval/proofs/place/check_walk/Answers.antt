@@ -1,6 +1,5 @@
 -- SPDX-License-Identifier: Apache-2.0
-use Rattle.meval.proofs.EvalWords.{sym, decides_order_subscripts}
-use Rattle.meval.proofs.References.{walks, no_walk, not_empty}
+use Rattle.meval.proofs.EvalLaws.{sym, decides_order_subscripts, walks, no_walk, not_empty}
 use Rattle.meval.proofs.place.check_walk.Goals as goal
 
 pub returns-then-not-order_values_ok-clause-checked : goal.returns-then-not-order_values_ok-clause-checked

@@ -1,5 +1,5 @@
 -- SPDX-License-Identifier: Apache-2.0
-use Rattle.meval.proofs.EvalWords.{◌≡◌, Some, Ok, refl, sym, ap, ◌∙◌, subst, append-nil, give_some, ReferenceTree, local, no_exprs, reference_tree, Yields, yields_gives, fault_of, Code}
+use Rattle.meval.proofs.EvalLaws.{◌≡◌, Some, Ok, refl, sym, ap, ◌∙◌, subst, append-nil, give_some, ReferenceTree, local, no_exprs, reference_tree, Yields, yields_gives, fault_of, Code, variable_is}
 use Rattle.std.proofs.Common.{Option}
 use Rattle.mspec.specs.Code.{Zsyntax}
 use Rattle.mspec.specs.Act.{Text}
@@ -7,7 +7,6 @@ use Rattle.mspec.specs.Names.{IsName}
 use Rattle.mgrammar.specs.IndirectTexts.{ref_at}
 use Rattle.mgrammar.proofs.ReadingIndirectTexts.{reads_its_reference}
 use Rattle.mtree.specs.declared.tree.Reference.TheVariants as reference
-use Rattle.meval.proofs.TreeViews.{variable_is}
 use Rattle.meval.proofs.reading_reference.read_reference.Goals as goal
 
 -- a name alone is read as the local variable without subscripts

@@ -1,7 +1,6 @@
 -- SPDX-License-Identifier: Apache-2.0
-use Rattle.meval.proofs.EvalWords.{Ok, subst, as_number, Yields, units, fault_of, Code}
+use Rattle.meval.proofs.EvalLaws.{Ok, subst, as_number, Yields, units, fault_of, Code, number_kept}
 use Rattle.mspec.specs.Act.{Text}
-use Rattle.meval.proofs.Chains.{number_kept}
 use Rattle.meval.proofs.shortcuts.fast_number_of.Goals as goal
 
 pub returns-in-Number-clause-number : goal.returns-in-Number-clause-number

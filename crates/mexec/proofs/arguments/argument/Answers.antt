@@ -1,10 +1,8 @@
 -- SPDX-License-Identifier: Apache-2.0
-use Rattle.mexec.proofs.ExecWords.{Ok, [], ◌∷◌, replicate, refl, write, with_locals, killed_except, newed, newed_except, form_of, destination_tree, expr_tree, reference_tree, condition_tree, kind_tree, locked_tree, keyword_tree, primary_tree, does_evaluated, at_done, stops, into_given, entrance_of, start_of, completion_of, position_of}
+use Rattle.mexec.proofs.ExecLaws.{Ok, [], ◌∷◌, replicate, refl, write, with_locals, killed_except, newed, newed_except, form_of, destination_tree, expr_tree, reference_tree, condition_tree, kind_tree, locked_tree, keyword_tree, primary_tree, does_evaluated, at_done, stops, into_given, entrance_of, start_of, completion_of, position_of, at_gives, at_depth, goes_on, gives_over, enters_where}
 use Rattle.mmeaning.specs.LineMeaning as meaning
 use Rattle.mmeaning.specs.Locking.{locking}
 use Rattle.mexec.specs.declared.completion.Completion.TheVariants as completion
-use Rattle.mexec.proofs.Calls.{at_gives, at_depth, goes_on}
-use Rattle.mexec.proofs.ArgumentRuns.{gives_over, enters_where}
 use Rattle.mexec.proofs.arguments.argument.Goals as goal
 
 pub returns-in-Assign-clause-does : goal.returns-in-Assign-clause-does

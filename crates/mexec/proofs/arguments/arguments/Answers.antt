@@ -1,7 +1,5 @@
 -- SPDX-License-Identifier: Apache-2.0
-use Rattle.mexec.proofs.ExecWords.{map, drop, context, arg_tree, source_args, source_position, position_of, args_left}
-use Rattle.mexec.proofs.Calls.{runs_then, runs_stopped, runs_as, runs_completion}
-use Rattle.mexec.proofs.FrontRuns.{arguments_is}
+use Rattle.mexec.proofs.ExecLaws.{map, drop, context, arg_tree, source_args, source_position, position_of, args_left, runs_then, runs_stopped, runs_as, runs_completion, arguments_is}
 use Rattle.mexec.proofs.arguments.arguments.Goals as goal
 
 pub returns-in_err-begun-clause-does : goal.returns-in_err-begun-clause-does

@@ -1,11 +1,8 @@
 -- SPDX-License-Identifier: Apache-2.0
-use Rattle.mexec.proofs.ExecWords.{◌+◌, [], map, drop, refl, arith, none_left, context, arg_tree, keeps_itself, keeps_on, over, stops, entrance_of, args_started, begun_of, completion_of, position_of}
+use Rattle.mexec.proofs.ExecLaws.{◌+◌, [], map, drop, refl, arith, none_left, context, arg_tree, keeps_itself, keeps_on, over, stops, entrance_of, args_started, begun_of, completion_of, position_of, at_gives, at_as, argument_begins, argument_stopped, passes_next}
 use Rattle.mmeaning.specs.LineMeaning as meaning
 use Rattle.mexec.specs.declared.completion.Progress.TheVariants as progress
 use Rattle.mexec.specs.declared.completion.Completion.TheVariants as completion
-use Rattle.mexec.proofs.Calls.{at_gives, at_as}
-use Rattle.mexec.proofs.ArgumentRuns.{argument_begins, argument_stopped}
-use Rattle.mexec.proofs.FrontRuns.{passes_next}
 use Rattle.mexec.proofs.arguments.arguments_begun.Goals as goal
 
 pub loop-at-init : goal.loop-at-init

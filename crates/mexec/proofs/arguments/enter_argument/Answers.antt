@@ -1,6 +1,5 @@
 -- SPDX-License-Identifier: Apache-2.0
-use Rattle.mexec.proofs.ExecWords.{map, drop, arg_tree, source_args, source_position, position_of}
-use Rattle.mexec.proofs.Calls.{runs_wanting, runs_listing}
+use Rattle.mexec.proofs.ExecLaws.{map, drop, arg_tree, source_args, source_position, position_of, runs_wanting, runs_listing}
 use Rattle.mexec.proofs.arguments.enter_argument.Goals as goal
 
 pub returns-in_err-leave-clause-does : goal.returns-in_err-leave-clause-does

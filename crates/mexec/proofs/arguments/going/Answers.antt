@@ -1,9 +1,7 @@
 -- SPDX-License-Identifier: Apache-2.0
-use Rattle.mexec.proofs.ExecWords.{refl, give, at_done, completion_of}
+use Rattle.mexec.proofs.ExecLaws.{refl, give, at_done, completion_of, at_any, at_then, at_stopped, at_gives}
 use Rattle.mmeaning.specs.LineMeaning as meaning
-use Rattle.mexec.proofs.LevelRuns.{at_any}
 use Rattle.mexec.specs.declared.completion.Completion.TheVariants as completion
-use Rattle.mexec.proofs.Calls.{at_then, at_stopped, at_gives}
 use Rattle.mexec.proofs.arguments.going.Goals as goal
 
 pub returns-in_err-applies-clause-does : goal.returns-in_err-applies-clause-does

@@ -1,7 +1,6 @@
 -- SPDX-License-Identifier: Apache-2.0
-use Rattle.mexec.proofs.ExecWords.{give, inside, expr_tree, depth_of, residual_is, at_done, completion_of}
+use Rattle.mexec.proofs.ExecLaws.{give, inside, expr_tree, depth_of, residual_is, at_done, completion_of, at_then, at_failed, at_gives, at_as, testing_is}
 use Rattle.mmeaning.specs.LineMeaning as meaning
-use Rattle.mexec.proofs.Calls.{at_then, at_failed, at_gives, at_as, testing_is}
 use Rattle.mexec.proofs.arguments.tested.Goals as goal
 
 pub returns-in_err-is_true-clause-does : goal.returns-in_err-is_true-clause-does

@@ -1,9 +1,6 @@
 -- SPDX-License-Identifier: Apache-2.0
-use Rattle.mexec.proofs.ExecWords.{ap, sym, refl, context, begin_turn, ForLoop, position_of}
+use Rattle.mexec.proofs.ExecLaws.{ap, sym, refl, context, begin_turn, ForLoop, position_of, loop_in, runs_wanting, runs_as, turning_of_none}
 use Rattle.mcommand.specs.declared.for_parameter.Course.TheVariants.{Forever}
-use Rattle.mexec.specs.Frames.{loop_in}
-use Rattle.mexec.proofs.Calls.{runs_wanting, runs_as}
-use Rattle.mexec.proofs.Loops.{turning_of_none}
 use Rattle.mexec.proofs.continuation.forever.Goals as goal
 
 pub returns-in_err-copy-clause-does : goal.returns-in_err-copy-clause-does

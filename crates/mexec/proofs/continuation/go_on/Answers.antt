@@ -1,6 +1,5 @@
 -- SPDX-License-Identifier: Apache-2.0
-use Rattle.mexec.proofs.ExecWords.{position_of, rest_tree}
-use Rattle.mexec.proofs.Calls.{runs_wanting, runs_resting}
+use Rattle.mexec.proofs.ExecLaws.{position_of, rest_tree, runs_wanting, runs_resting}
 use Rattle.mexec.proofs.continuation.go_on.Goals as goal
 
 pub returns-in_err-leave-clause-does : goal.returns-in_err-leave-clause-does

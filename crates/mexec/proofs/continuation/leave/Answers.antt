@@ -1,6 +1,5 @@
 -- SPDX-License-Identifier: Apache-2.0
-use Rattle.mexec.proofs.ExecWords.{◌≤◌, ◌<◌, length, refl, arith, none_left}
-use Rattle.mexec.proofs.Calls.{stack_push, some_item}
+use Rattle.mexec.proofs.ExecLaws.{◌≤◌, ◌<◌, length, refl, arith, none_left, stack_push, some_item}
 use Rattle.mexec.proofs.continuation.leave.Goals as goal
 
 pub returns-then-rest-len-clause-frames : goal.returns-then-rest-len-clause-frames

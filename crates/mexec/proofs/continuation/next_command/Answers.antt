@@ -1,8 +1,5 @@
 -- SPDX-License-Identifier: Apache-2.0
-use Rattle.mexec.proofs.ExecWords.{keeps_on, arith, position_of}
-use Rattle.mexec.proofs.Calls.{runs_completion, runs_wanting}
-use Rattle.mexec.proofs.Loops.{falls_within}
-use Rattle.mexec.proofs.FrontRuns.{front_runs, front_stopped}
+use Rattle.mexec.proofs.ExecLaws.{keeps_on, arith, position_of, runs_completion, runs_wanting, falls_within, front_runs, front_stopped}
 use Rattle.mexec.proofs.continuation.next_command.Goals as goal
 
 pub returns-in_err-outcome-clause-does : goal.returns-in_err-outcome-clause-does

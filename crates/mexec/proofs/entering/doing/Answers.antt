@@ -1,10 +1,6 @@
 -- SPDX-License-Identifier: Apache-2.0
-use Rattle.mexec.proofs.ExecWords.{Some, refl, ◌>>=◌, Act, entry_tree, Target, Level, leaves, deeper, target, Context, context, closed, in_level, lines_next, depth_of, position_of}
-use Rattle.mmeaning.specs.Levels.{Position}
-use Rattle.mmeaning.specs.LineMeaning.{Completion}
+use Rattle.mexec.proofs.ExecLaws.{Some, refl, ◌>>=◌, Act, entry_tree, Target, Level, leaves, deeper, target, Context, context, closed, in_level, lines_next, depth_of, position_of, Position, Completion, runs_as, runs_then, runs_stopped, at_any, at_plain, is_within, target_entered, lines_opened}
 use Rattle.mcommand.specs.Targets.{target_view}
-use Rattle.mexec.proofs.Calls.{runs_as, runs_then, runs_stopped}
-use Rattle.mexec.proofs.LevelRuns.{at_any, at_plain, is_within, target_entered, lines_opened}
 use Rattle.mexec.proofs.entering.doing.Goals as goal
 
 -- once the line is known

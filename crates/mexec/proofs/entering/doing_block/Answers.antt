@@ -1,9 +1,5 @@
 -- SPDX-License-Identifier: Apache-2.0
-use Rattle.mexec.proofs.ExecWords.{◌≡◌, Bool, ◌+◌, arith, Act, ◌>>=◌, test_is, Level, deeper, restores, Context, context, closed, in_level, lines_next, depth_of, position_of}
-use Rattle.mmeaning.specs.Levels.{Position}
-use Rattle.mmeaning.specs.LineMeaning.{Completion}
-use Rattle.mexec.proofs.Calls.{runs_then, runs_stopped, runs_wanting}
-use Rattle.mexec.proofs.LevelRuns.{at_plain, lines_opened_as}
+use Rattle.mexec.proofs.ExecLaws.{◌≡◌, Bool, ◌+◌, arith, Act, ◌>>=◌, test_is, Level, deeper, restores, Context, context, closed, in_level, lines_next, depth_of, position_of, Position, Completion, runs_then, runs_stopped, runs_wanting, at_plain, lines_opened_as}
 use Rattle.mexec.proofs.entering.doing_block.Goals as goal
 
 -- its lines

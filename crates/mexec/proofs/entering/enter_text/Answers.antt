@@ -1,8 +1,5 @@
 -- SPDX-License-Identifier: Apache-2.0
-use Rattle.mexec.proofs.ExecWords.{suc, List, arith, ◌>>=◌, Act, leaves, deeper, commands_of, line_tree, Context, context, closed, depth_of, CommandTree, position_of, text_position, tree_entered}
-use Rattle.mmeaning.specs.LineMeaning.{Completion}
-use Rattle.mexec.proofs.Calls.{runs_then, runs_stopped, runs_wanting}
-use Rattle.mexec.proofs.LevelRuns.{at_yielded, at_plain, text_opened}
+use Rattle.mexec.proofs.ExecLaws.{suc, List, arith, ◌>>=◌, Act, leaves, deeper, commands_of, line_tree, Context, context, closed, depth_of, CommandTree, position_of, text_position, tree_entered, Completion, runs_then, runs_stopped, runs_wanting, at_yielded, at_plain, text_opened}
 use Rattle.mexec.proofs.entering.enter_text.Goals as goal
 
 -- once its level is open

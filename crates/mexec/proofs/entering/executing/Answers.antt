@@ -1,7 +1,5 @@
 -- SPDX-License-Identifier: Apache-2.0
-use Rattle.mexec.proofs.ExecWords.{suc, Text, Act, ◌>>◌, a_level_free, Context, context, at_evaluated, position_of, text_entered}
-use Rattle.mmeaning.specs.LineMeaning.{Completion}
-use Rattle.mexec.proofs.Calls.{runs_then, runs_spent, runs_stopped, runs_wanting}
+use Rattle.mexec.proofs.ExecLaws.{suc, Text, Act, ◌>>◌, a_level_free, Context, context, at_evaluated, position_of, text_entered, Completion, runs_then, runs_spent, runs_stopped, runs_wanting}
 use Rattle.mexec.proofs.entering.executing.Goals as goal
 
 -- once the text is known

@@ -1,6 +1,5 @@
 -- SPDX-License-Identifier: Apache-2.0
-use Rattle.mexec.proofs.ExecWords.{sym, give, a_level_free, ended, depth_of, at_evaluated}
-use Rattle.mexec.proofs.Calls.{at_as, at_stopped}
+use Rattle.mexec.proofs.ExecLaws.{sym, give, a_level_free, ended, depth_of, at_evaluated, at_as, at_stopped}
 use Rattle.mexec.proofs.entering.one_deeper.Goals as goal
 
 pub returns-in_err-a_level_free-clause-does : goal.returns-in_err-a_level_free-clause-does

@@ -1,10 +1,8 @@
 -- SPDX-License-Identifier: Apache-2.0
-use Rattle.mexec.proofs.ExecWords.{Ok, [], not, refl, give, ask, with_locals, killed_except, newed_except, at_evaluated, does_evaluated, completion_of, stops, at_turns, at_block, outcome_of, stop_of}
+use Rattle.mexec.proofs.ExecLaws.{Ok, [], not, refl, give, ask, with_locals, killed_except, newed_except, at_evaluated, does_evaluated, completion_of, stops, at_turns, at_block, outcome_of, stop_of, at_then, at_gives, goes_on, gives_over}
 use Rattle.mspec.specs.Plan.{Release}
 use Rattle.mmeaning.specs.LineMeaning as meaning
 use Rattle.mexec.specs.declared.completion.Completion.TheVariants as completion
-use Rattle.mexec.proofs.Calls.{at_then, at_gives, goes_on}
-use Rattle.mexec.proofs.ArgumentRuns.{gives_over}
 use Rattle.mexec.proofs.front.bare.Goals as goal
 
 pub returns-in-For-clause-does : goal.returns-in-For-clause-does

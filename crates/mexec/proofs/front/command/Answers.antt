@@ -1,7 +1,6 @@
 -- SPDX-License-Identifier: Apache-2.0
-use Rattle.mexec.proofs.ExecWords.{Bool, map, cond, refl, Act, give, Context, Go_on, context, keyword_tree, arg_tree, at_done, position_of, Progress, over, effect_started, outcome_of, Stop}
+use Rattle.mexec.proofs.ExecLaws.{Bool, map, cond, refl, Act, give, Context, Go_on, context, keyword_tree, arg_tree, at_done, position_of, Progress, over, effect_started, outcome_of, Stop, at_then, at_stopped, at_gives}
 use Rattle.mtree.specs.declared.tree.Command.{Command}
-use Rattle.mexec.proofs.Calls.{at_then, at_stopped, at_gives}
 use Rattle.mexec.proofs.front.command.Goals as goal
 
 -- once it is known whether its condition holds

@@ -1,11 +1,8 @@
 -- SPDX-License-Identifier: Apache-2.0
-use Rattle.mexec.proofs.ExecWords.{[], ◌+◌, ◌<◌, ◌≤◌, length, refl, arith, none_left, context, keeps_itself, keeps_on, keeps_evaluated, commands_from, completion_of, position_of, over, stops, front, front_of, stop_of}
+use Rattle.mexec.proofs.ExecLaws.{[], ◌+◌, ◌<◌, ◌≤◌, length, refl, arith, none_left, context, keeps_itself, keeps_on, keeps_evaluated, commands_from, completion_of, position_of, over, stops, front, front_of, stop_of, at_gives, at_as, at_plain, command_begins, command_stopped, charge_stopped, passes_next, args_there}
 use Rattle.mmeaning.specs.LineMeaning as meaning
 use Rattle.mexec.specs.declared.completion.Completion.TheVariants as completion
 use Rattle.mexec.specs.declared.completion.Progress.TheVariants as progress
-use Rattle.mexec.proofs.Calls.{at_gives, at_as}
-use Rattle.mexec.proofs.LevelRuns.{at_plain}
-use Rattle.mexec.proofs.FrontRuns.{command_begins, command_stopped, charge_stopped, passes_next, args_there}
 use Rattle.mexec.proofs.front.front.Goals as goal
 
 pub loop-at-init : goal.loop-at-init

@@ -1,10 +1,8 @@
 -- SPDX-License-Identifier: Apache-2.0
-use Rattle.mexec.proofs.ExecWords.{◌<◌, suc, List, Result, Ok, arith, Text, Act, ◌>>=◌, give_some, ArgTree, FormTree, form_of, keyword_tree, primary_tree, within_indirection, Context, context, inside, given_by, View, Ghosts, Code, fault_of, Parts, DoesAt, Runs, depth_of, at_evaluated, position_of, Zsyntax, PrimaryTree, an_indirection_free, primary_value, Yields}
+use Rattle.mexec.proofs.ExecLaws.{◌<◌, suc, List, Result, Ok, arith, Text, Act, ◌>>=◌, give_some, ArgTree, FormTree, form_of, keyword_tree, primary_tree, within_indirection, Context, context, inside, given_by, View, Ghosts, Code, fault_of, Parts, DoesAt, Runs, depth_of, at_evaluated, position_of, Zsyntax, PrimaryTree, an_indirection_free, primary_value, Yields, Completion, given, runs_then, runs_spent, runs_stopped, runs_wanting, at_yielded, list_opened}
 use Rattle.mgrammar.specs.IndirectTexts.{args_of}
-use Rattle.mmeaning.specs.LineMeaning.{Completion, Position, given}
+use Rattle.mmeaning.specs.LineMeaning.{Position}
 use Rattle.mexec.specs.declared.completion.Completion as completions
-use Rattle.mexec.proofs.Calls.{runs_then, runs_spent, runs_stopped, runs_wanting}
-use Rattle.mexec.proofs.LevelRuns.{at_yielded, list_opened}
 use Rattle.mexec.proofs.indirection.giving.Goals as goal
 
 -- once the arguments are known

@@ -1,7 +1,5 @@
 -- SPDX-License-Identifier: Apache-2.0
-use Rattle.mexec.proofs.ExecWords.{set_test}
-use Rattle.mexec.proofs.Calls.{at_then}
-use Rattle.mexec.proofs.LevelRuns.{at_plain}
+use Rattle.mexec.proofs.ExecLaws.{set_test, at_then, at_plain}
 use Rattle.mexec.proofs.levels.close.Goals as goal
 
 pub returns-in-Leaves-clause-does : goal.returns-in-Leaves-clause-does

@@ -1,6 +1,5 @@
 -- SPDX-License-Identifier: Apache-2.0
-use Rattle.mexec.proofs.ExecWords.{refl, give, completion_of}
-use Rattle.mexec.proofs.Calls.{at_then, at_gives}
+use Rattle.mexec.proofs.ExecLaws.{refl, give, completion_of, at_then, at_gives}
 use Rattle.mexec.proofs.levels.ended.Goals as goal
 
 pub returns-clause-does : goal.returns-clause-does

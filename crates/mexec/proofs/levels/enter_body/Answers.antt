@@ -1,6 +1,5 @@
 -- SPDX-License-Identifier: Apache-2.0
-use Rattle.mexec.proofs.ExecWords.{refl}
-use Rattle.mexec.proofs.Calls.{stack_push}
+use Rattle.mexec.proofs.ExecLaws.{refl, stack_push}
 use Rattle.mexec.proofs.levels.enter_body.Goals as goal
 
 pub returns-in_ok-push-in-Short-clause-frames : goal.returns-in_ok-push-in-Short-clause-frames

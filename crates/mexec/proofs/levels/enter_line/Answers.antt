@@ -1,7 +1,5 @@
 -- SPDX-License-Identifier: Apache-2.0
-use Rattle.mexec.proofs.ExecWords.{get_or, [], get_or_read, position_of, closing_of}
-use Rattle.mexec.proofs.Calls.{runs_stopped}
-use Rattle.mexec.proofs.LevelRuns.{at_plain, step_lost, line_refused, line_runs}
+use Rattle.mexec.proofs.ExecLaws.{get_or, [], get_or_read, position_of, closing_of, runs_stopped, at_plain, step_lost, line_refused, line_runs}
 use Rattle.mexec.proofs.levels.enter_line.Goals as goal
 
 pub returns-in_err-charge-clause-does : goal.returns-in_err-charge-clause-does

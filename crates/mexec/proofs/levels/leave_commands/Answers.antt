@@ -1,6 +1,5 @@
 -- SPDX-License-Identifier: Apache-2.0
-use Rattle.mexec.proofs.ExecWords.{refl}
-use Rattle.mexec.proofs.Calls.{stack_push}
+use Rattle.mexec.proofs.ExecLaws.{refl, stack_push}
 use Rattle.mexec.proofs.levels.leave_commands.Goals as goal
 
 pub returns-clause-frames : goal.returns-clause-frames

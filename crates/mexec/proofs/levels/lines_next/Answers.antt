@@ -1,7 +1,5 @@
 -- SPDX-License-Identifier: Apache-2.0
-use Rattle.mexec.proofs.ExecWords.{context, position_of, closing_of}
-use Rattle.mexec.proofs.Calls.{runs_as, runs_then, runs_stopped, runs_done}
-use Rattle.mexec.proofs.LevelRuns.{lines_are, then_closed}
+use Rattle.mexec.proofs.ExecLaws.{context, position_of, closing_of, runs_as, runs_then, runs_stopped, runs_done, lines_are, then_closed}
 use Rattle.mexec.proofs.levels.lines_next.Goals as goal
 
 pub returns-in_err-next_line-clause-does : goal.returns-in_err-next_line-clause-does

@@ -1,6 +1,5 @@
 -- SPDX-License-Identifier: Apache-2.0
-use Rattle.mexec.proofs.ExecWords.{None, refl}
-use Rattle.mexec.proofs.Calls.{at_gives}
+use Rattle.mexec.proofs.ExecLaws.{None, refl, at_gives}
 use Rattle.mexec.proofs.levels.next_line.Goals as goal
 
 pub returns-in-None-clause-does : goal.returns-in-None-clause-does

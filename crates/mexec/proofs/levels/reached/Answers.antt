@@ -1,7 +1,5 @@
 -- SPDX-License-Identifier: Apache-2.0
-use Rattle.mexec.proofs.ExecWords.{None, refl, arith, none_left, keeps_evaluated}
-use Rattle.mexec.proofs.Calls.{at_gives}
-use Rattle.mexec.proofs.LevelRuns.{at_plain, passes_line, passing_failed, stops_at}
+use Rattle.mexec.proofs.ExecLaws.{None, refl, arith, none_left, keeps_evaluated, at_gives, at_plain, passes_line, passing_failed, stops_at}
 use Rattle.mexec.proofs.levels.reached.Goals as goal
 
 pub returns-then-line_dots-dots-clause-does : goal.returns-then-line_dots-dots-clause-does

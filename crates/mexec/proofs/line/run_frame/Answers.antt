@@ -1,7 +1,6 @@
 -- SPDX-License-Identifier: Apache-2.0
-use Rattle.mexec.proofs.ExecWords.{map, drop, arith, arg_tree, keeps_itself, position_of, rest_tree}
+use Rattle.mexec.proofs.ExecLaws.{map, drop, arith, arg_tree, keeps_itself, position_of, rest_tree, rest_passes, list_passes}
 use Rattle.mexec.specs.Frames.{args_before}
-use Rattle.mexec.proofs.Lines.{rest_passes, list_passes}
 use Rattle.mexec.proofs.line.run_frame.Goals as goal
 
 pub returns-in-GoOn-clause-does : goal.returns-in-GoOn-clause-does

@@ -1,7 +1,5 @@
 -- SPDX-License-Identifier: Apache-2.0
-use Rattle.mexec.proofs.ExecWords.{◌≡◌, ◌≤◌, [], Option, Some, None, Err, length, refl, arith, none_left, Zmem, commands_of, line_tree, keeps_on}
-use Rattle.mexec.proofs.Calls.{runs_wanting, stack_push}
-use Rattle.mexec.proofs.Lines.{leads_first, leads_on, leads_stopped, leads_ends}
+use Rattle.mexec.proofs.ExecLaws.{◌≡◌, ◌≤◌, [], Option, Some, None, Err, length, refl, arith, none_left, Zmem, commands_of, line_tree, keeps_on, runs_wanting, stack_push, leads_first, leads_on, leads_stopped, leads_ends}
 use Rattle.mexec.proofs.line.run_line.Goals as goal
 
 pub returns-in_err-first-clause-does : goal.returns-in_err-first-clause-does

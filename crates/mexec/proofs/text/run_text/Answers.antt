@@ -1,6 +1,5 @@
 -- SPDX-License-Identifier: Apache-2.0
-use Rattle.mexec.proofs.ExecWords.{◌∙◌, ap, Err, line_at, line_tree}
-use Rattle.mexec.proofs.Texts.{refused, done, failed, never_refused}
+use Rattle.mexec.proofs.ExecLaws.{◌∙◌, ap, Err, line_at, line_tree, refused, done, failed, never_refused}
 use Rattle.mexec.proofs.text.run_text.Goals as goal
 
 pub returns-in-Err-Syntax-clause-does : goal.returns-in-Err-Syntax-clause-does

@@ -1,9 +1,5 @@
 -- SPDX-License-Identifier: Apache-2.0
-use Rattle.mexec.proofs.ExecWords.{refl, arith, context, keeps_itself, keeps_on, keeps_evaluated, completion_of, position_of, turning}
-use Rattle.mexec.proofs.Calls.{runs_completion, runs_wanting, runs_as}
-use Rattle.mexec.proofs.LevelRuns.{at_plain}
-use Rattle.mexec.proofs.Loops.{course_runs, not_gone_on, turn_charge_failed, falls_within}
-use Rattle.mexec.proofs.FrontRuns.{turn_goes_on, turn_is_over, turn_runs, turn_stopped, turn_over}
+use Rattle.mexec.proofs.ExecLaws.{refl, arith, context, keeps_itself, keeps_on, keeps_evaluated, completion_of, position_of, turning, runs_completion, runs_wanting, runs_as, at_plain, course_runs, not_gone_on, turn_charge_failed, falls_within, turn_goes_on, turn_is_over, turn_runs, turn_stopped, turn_over}
 use Rattle.mexec.proofs.turns.after_course.Goals as goal
 
 pub turns-init : goal.turns-init

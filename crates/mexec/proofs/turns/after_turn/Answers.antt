@@ -1,7 +1,5 @@
 -- SPDX-License-Identifier: Apache-2.0
-use Rattle.mexec.proofs.ExecWords.{context, completion_of, position_of, turning}
-use Rattle.mexec.proofs.Calls.{runs_completion, runs_as}
-use Rattle.mexec.proofs.FrontRuns.{turn_goes_on, turn_is_over}
+use Rattle.mexec.proofs.ExecLaws.{context, completion_of, position_of, turning, runs_completion, runs_as, turn_goes_on, turn_is_over}
 use Rattle.mexec.proofs.turns.after_turn.Goals as goal
 
 pub returns-in-None-clause-does : goal.returns-in-None-clause-does

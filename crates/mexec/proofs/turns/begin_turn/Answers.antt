@@ -1,8 +1,5 @@
 -- SPDX-License-Identifier: Apache-2.0
-use Rattle.mexec.proofs.ExecWords.{Rests, position_of, turning}
-use Rattle.mexec.proofs.Calls.{runs_wanting, runs_top, stack_push}
-use Rattle.mexec.proofs.LevelRuns.{at_plain}
-use Rattle.mexec.proofs.Loops.{turn_begins, turn_charge_failed}
+use Rattle.mexec.proofs.ExecLaws.{Rests, position_of, turning, runs_wanting, runs_top, stack_push, at_plain, turn_begins, turn_charge_failed}
 use Rattle.mexec.proofs.turns.begin_turn.Goals as goal
 
 pub returns-in_err-charge-clause-does : goal.returns-in_err-charge-clause-does

@@ -1,8 +1,5 @@
 -- SPDX-License-Identifier: Apache-2.0
-use Rattle.mexec.proofs.ExecWords.{args_before}
-use Rattle.mexec.proofs.Calls.{runs_wanting}
-use Rattle.mexec.proofs.Indexes.{no_parameters, not_found}
-use Rattle.mexec.proofs.Loops.{further_runs, no_parameters_run}
+use Rattle.mexec.proofs.ExecLaws.{args_before, runs_wanting, no_parameters, not_found, further_runs, no_parameters_run}
 use Rattle.mexec.proofs.turns.further.Goals as goal
 
 pub returns-in_err-line-clause-does : goal.returns-in_err-line-clause-does

@@ -1,7 +1,5 @@
 -- SPDX-License-Identifier: Apache-2.0
-use Rattle.mexec.proofs.ExecWords.{true, refl, at_done}
-use Rattle.mexec.proofs.Calls.{at_gives}
-use Rattle.mexec.proofs.Indexes.{no_course, not_found}
+use Rattle.mexec.proofs.ExecLaws.{true, refl, at_done, at_gives, no_course, not_found}
 use Rattle.mexec.proofs.turns.goes_on.Goals as goal
 
 pub returns-in-None-clause-does : goal.returns-in-None-clause-does

@@ -1,9 +1,6 @@
 -- SPDX-License-Identifier: Apache-2.0
-use Rattle.mexec.proofs.ExecWords.{◌+◌, ◌≤◌, length, refl, arith, none_left, at_done, keeps_itself, keeps_on, ForLoop, commands_from, position_of}
+use Rattle.mexec.proofs.ExecLaws.{◌+◌, ◌≤◌, length, refl, arith, none_left, at_done, keeps_itself, keeps_on, ForLoop, commands_from, position_of, runs_completion, runs_wanting, keeps_at_depth, any_course, falls_failed, falls_within, parameter_runs, parameter_stopped, begun_runs}
 use Rattle.mexec.specs.declared.completion.Completion.TheVariants as completion
-use Rattle.mexec.proofs.Calls.{runs_completion, runs_wanting, keeps_at_depth}
-use Rattle.mexec.proofs.Indexes.{any_course}
-use Rattle.mexec.proofs.Loops.{falls_failed, falls_within, parameter_runs, parameter_stopped, begun_runs}
 use Rattle.mexec.proofs.turns.next_parameter.Goals as goal
 
 pub loop-next-init : goal.loop-next-init

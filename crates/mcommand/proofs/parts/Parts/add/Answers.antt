@@ -1,9 +1,8 @@
 -- SPDX-License-Identifier: Apache-2.0
-use Rattle.mcommand.proofs.CommandWords.{◌≡◌, Bool, true, Some, None, Result, Ok, Err, MatchResult, refl, sym, give, units, ℤ, Num}
+use Rattle.mcommand.proofs.CommandLaws.{◌≡◌, Bool, true, Some, None, Result, Ok, Err, MatchResult, refl, sym, give, units, ℤ, Num, does_then, does_stopped, does_gives, does_evaluated, does_yielded}
 use Rattle.mspec.specs.Number.{sum_of}
 use Rattle.mnum.specs.declared.num.Over.{Over}
 use Rattle.moperator.specs.Outcomes.{outcome_units}
-use Rattle.mcommand.proofs.Calls.{does_then, does_stopped, does_gives, does_evaluated, does_yielded}
 use Rattle.mcommand.proofs.parts.Parts.add.Goals as goal
 
 sum_units : (a b : ℤ) (r : Result Num Over) → MatchResult r (λ n. sum_of a b ≡ Some (units n)) (λ _. sum_of a b ≡ None) → outcome_units r ≡ sum_of a b

@@ -1,6 +1,5 @@
 -- SPDX-License-Identifier: Apache-2.0
-use Rattle.mcommand.proofs.CommandWords.{◌≡◌, ◌∙◌, Bool, true, false, ◌+ℤ◌, sym, refl, give, is_past, units, added}
-use Rattle.mcommand.proofs.Calls.{does_gives, does_true, does_false}
+use Rattle.mcommand.proofs.CommandLaws.{◌≡◌, ◌∙◌, Bool, true, false, ◌+ℤ◌, sym, refl, give, is_past, units, added, does_gives, does_true, does_false}
 use Rattle.mcommand.proofs.parts.Parts.add_within.Goals as goal
 
 pub returns-then-goes_past-clause-does : goal.returns-then-goes_past-clause-does

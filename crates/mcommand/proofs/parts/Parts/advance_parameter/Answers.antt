@@ -1,6 +1,5 @@
 -- SPDX-License-Identifier: Apache-2.0
-use Rattle.mcommand.proofs.CommandWords.{units, added, added_within}
-use Rattle.mcommand.proofs.Calls.{does_then, does_stopped, does_evaluated}
+use Rattle.mcommand.proofs.CommandLaws.{units, added, added_within, does_then, does_stopped, does_evaluated}
 use Rattle.mcommand.proofs.parts.Parts.advance_parameter.Goals as goal
 
 pub returns-in_err-number-in-Endless-clause-does : goal.returns-in_err-number-in-Endless-clause-does

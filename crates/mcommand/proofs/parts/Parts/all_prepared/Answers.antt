@@ -1,7 +1,6 @@
 -- SPDX-License-Identifier: Apache-2.0
-use Rattle.mcommand.proofs.CommandWords.{map, arith, refl, Vec, Global, none_left, target_tree, Prepared, prepared_view}
+use Rattle.mcommand.proofs.CommandLaws.{map, arith, refl, Vec, Global, none_left, target_tree, Prepared, prepared_view, does_gives, does_wanting, item_then, item_stopped, keeps_itself, keeps_on}
 use Rattle.std.proofs.lemmas.List.{map_push}
-use Rattle.mcommand.proofs.Calls.{does_gives, does_wanting, item_then, item_stopped, keeps_itself, keeps_on}
 use Rattle.mmeaning.specs.LineMeaning as meaning
 use Rattle.mcommand.proofs.parts.Parts.all_prepared.Goals as goal
 

@@ -1,6 +1,5 @@
 -- SPDX-License-Identifier: Apache-2.0
-use Rattle.mcommand.proofs.CommandWords.{put_at}
-use Rattle.mcommand.proofs.Calls.{does_then, does_stopped, does_evaluated}
+use Rattle.mcommand.proofs.CommandLaws.{put_at, does_then, does_stopped, does_evaluated}
 use Rattle.mcommand.proofs.parts.Parts.assign.Goals as goal
 
 pub returns-in_err-place-in-Whole-clause-does : goal.returns-in_err-place-in-Whole-clause-does

@@ -1,6 +1,5 @@
 -- SPDX-License-Identifier: Apache-2.0
-use Rattle.mcommand.proofs.CommandWords.{Bool, true, refl, Take, give, ask}
-use Rattle.mcommand.proofs.Calls.{does_then, does_gives}
+use Rattle.mcommand.proofs.CommandLaws.{Bool, true, refl, Take, give, ask, does_then, does_gives}
 use Rattle.mcommand.proofs.parts.Parts.carry.Goals as goal
 
 pub returns-in-Anew-clause-does : goal.returns-in-Anew-clause-does

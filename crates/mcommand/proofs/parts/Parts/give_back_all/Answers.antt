@@ -1,7 +1,5 @@
 -- SPDX-License-Identifier: Apache-2.0
-use Rattle.mcommand.proofs.CommandWords.{refl, none_left}
-use Rattle.mcommand.proofs.Calls.{does_gives, keeps_itself}
-use Rattle.mcommand.proofs.Locking.{does_give_back, next_given}
+use Rattle.mcommand.proofs.CommandLaws.{refl, none_left, does_gives, keeps_itself, does_give_back, next_given}
 use Rattle.mcommand.proofs.parts.Parts.give_back_all.Goals as goal
 
 pub loop-name-init : goal.loop-name-init

@@ -1,6 +1,5 @@
 -- SPDX-License-Identifier: Apache-2.0
-use Rattle.mcommand.proofs.CommandWords.{kill_at}
-use Rattle.mcommand.proofs.Calls.{does_then, does_stopped, does_evaluated}
+use Rattle.mcommand.proofs.CommandLaws.{kill_at, does_then, does_stopped, does_evaluated}
 use Rattle.mcommand.proofs.parts.Parts.killing.Goals as goal
 
 pub returns-in_err-pending-clause-does : goal.returns-in_err-pending-clause-does

@@ -1,9 +1,7 @@
 -- SPDX-License-Identifier: Apache-2.0
-use Rattle.mcommand.proofs.CommandWords.{arith, refl, sym, subst, Vec, Global, none_left, lock_name_act, reference_tree, standing_of, MayTake}
+use Rattle.mcommand.proofs.CommandLaws.{arith, refl, sym, subst, Vec, Global, none_left, lock_name_act, reference_tree, standing_of, MayTake, does_evaluated, does_gives, does_wanting, item_then, item_stopped, keeps_itself, keeps_evaluated, one_more_taken, name_is}
 use Rattle.mlock.specs.declared.name.LockName.{LockName}
-use Rattle.mcommand.proofs.Calls.{does_evaluated, does_gives, does_wanting, item_then, item_stopped, keeps_itself, keeps_evaluated}
 use Rattle.mmeaning.specs.Locking as meaning
-use Rattle.mcommand.proofs.Locking.{one_more_taken, name_is}
 use Rattle.mcommand.proofs.parts.Parts.lock_names.Goals as goal
 
 pub loop-reference-init : goal.loop-reference-init

@@ -1,7 +1,5 @@
 -- SPDX-License-Identifier: Apache-2.0
-use Rattle.mcommand.proofs.CommandWords.{condition_tree, kind_tree}
-use Rattle.mcommand.specs.LockNames.{locking_names}
-use Rattle.mcommand.proofs.Calls.{does_then, does_stopped}
+use Rattle.mcommand.proofs.CommandLaws.{condition_tree, kind_tree, locking_names, does_then, does_stopped}
 use Rattle.mcommand.proofs.parts.Parts.locking.Goals as goal
 
 pub returns-in-One-clause-does : goal.returns-in-One-clause-does

@@ -1,6 +1,5 @@
 -- SPDX-License-Identifier: Apache-2.0
-use Rattle.mcommand.proofs.CommandWords.{sym, subst, MayTake}
-use Rattle.mcommand.proofs.Calls.{does_then, does_stopped}
+use Rattle.mcommand.proofs.CommandLaws.{sym, subst, MayTake, does_then, does_stopped}
 use Rattle.mcommand.proofs.parts.Parts.locking_names.Goals as goal
 
 pub returns-in_err-timeout-clause-does : goal.returns-in_err-timeout-clause-does

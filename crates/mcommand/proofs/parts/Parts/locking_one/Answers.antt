@@ -1,8 +1,5 @@
 -- SPDX-License-Identifier: Apache-2.0
-use Rattle.mcommand.proofs.CommandWords.{[], ◌∷◌, refl, condition_tree, kind_tree, reference_tree, standing_of}
-use Rattle.mcommand.specs.LockNames.{locking_names}
-use Rattle.mcommand.proofs.Calls.{does_evaluated, does_is, does_then, does_stopped}
-use Rattle.mcommand.proofs.Locking.{one_is, one_more_taken}
+use Rattle.mcommand.proofs.CommandLaws.{[], ◌∷◌, refl, condition_tree, kind_tree, reference_tree, standing_of, locking_names, does_evaluated, does_is, does_then, does_stopped, one_is, one_more_taken}
 use Rattle.mcommand.proofs.parts.Parts.locking_one.Goals as goal
 
 pub returns-in_err-name-clause-does : goal.returns-in_err-name-clause-does

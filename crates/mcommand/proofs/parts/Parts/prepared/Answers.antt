@@ -1,6 +1,5 @@
 -- SPDX-License-Identifier: Apache-2.0
-use Rattle.mcommand.proofs.CommandWords.{refl, prepared_view}
-use Rattle.mcommand.proofs.Calls.{does_then, does_stopped, does_gives, does_evaluated}
+use Rattle.mcommand.proofs.CommandLaws.{refl, prepared_view, does_then, does_stopped, does_gives, does_evaluated}
 use Rattle.mcommand.proofs.parts.Parts.prepared.Goals as goal
 
 pub returns-in_err-pending-in-Variable-clause-does : goal.returns-in_err-pending-in-Variable-clause-does

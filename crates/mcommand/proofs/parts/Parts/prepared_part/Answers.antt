@@ -1,7 +1,6 @@
 -- SPDX-License-Identifier: Apache-2.0
-use Rattle.mcommand.proofs.CommandWords.{refl, ap, pending_view, prepared_view}
+use Rattle.mcommand.proofs.CommandLaws.{refl, ap, pending_view, prepared_view, does_then, does_stopped, does_gives, does_evaluated, does_wanting}
 use Rattle.mmeaning.specs.LineMeaning as meaning
-use Rattle.mcommand.proofs.Calls.{does_then, does_stopped, does_gives, does_evaluated, does_wanting}
 use Rattle.mcommand.proofs.parts.Parts.prepared_part.Goals as goal
 
 pub returns-in_err-pending-clause-does : goal.returns-in_err-pending-clause-does

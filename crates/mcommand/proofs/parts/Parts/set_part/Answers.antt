@@ -1,7 +1,5 @@
 -- SPDX-License-Identifier: Apache-2.0
-use Rattle.mcommand.proofs.CommandWords.{◌≡◌, Ok, Err, ◌∙◌, subst, Text, set_piece_of, Answers, place_view}
-use Rattle.mcommand.proofs.Calls.{does_then, does_stopped, does_evaluated}
-use Rattle.mcommand.proofs.Targets.{piece_put, piece_number_failed, piece_read_failed, piece_wanting, piece_assigned, piece_refused}
+use Rattle.mcommand.proofs.CommandLaws.{◌≡◌, Ok, Err, ◌∙◌, subst, Text, set_piece_of, Answers, place_view, does_then, does_stopped, does_evaluated, piece_put, piece_number_failed, piece_read_failed, piece_wanting, piece_assigned, piece_refused}
 use Rattle.mcommand.proofs.parts.Parts.set_part.Goals as goal
 
 pub returns-in_err-left-clause-does : goal.returns-in_err-left-clause-does

@@ -1,7 +1,5 @@
 -- SPDX-License-Identifier: Apache-2.0
-use Rattle.mcommand.proofs.CommandWords.{map, Vec, Global, residual_is, target_tree, expr_tree, Prepared, prepared_view}
-use Rattle.mcommand.proofs.Calls.{does_evaluated}
-use Rattle.mcommand.proofs.Targets.{all_given, all_value_failed, all_prepared_failed}
+use Rattle.mcommand.proofs.CommandLaws.{map, Vec, Global, residual_is, target_tree, expr_tree, Prepared, prepared_view, does_evaluated, all_given, all_value_failed, all_prepared_failed}
 use Rattle.mcommand.proofs.parts.Parts.setting.Goals as goal
 
 pub returns-in-One-clause-does : goal.returns-in-One-clause-does

@@ -1,7 +1,5 @@
 -- SPDX-License-Identifier: Apache-2.0
-use Rattle.mcommand.proofs.CommandWords.{residual_is, expr_tree}
-use Rattle.mcommand.proofs.Calls.{does_evaluated}
-use Rattle.mcommand.proofs.Targets.{node_assigned, node_value_failed, node_subscript_failed}
+use Rattle.mcommand.proofs.CommandLaws.{residual_is, expr_tree, does_evaluated, node_assigned, node_value_failed, node_subscript_failed}
 use Rattle.mcommand.proofs.parts.Parts.setting_node.Goals as goal
 
 pub returns-in_err-subscript-clause-does : goal.returns-in_err-subscript-clause-does

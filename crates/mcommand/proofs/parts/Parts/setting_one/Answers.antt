@@ -1,8 +1,6 @@
 -- SPDX-License-Identifier: Apache-2.0
-use Rattle.mcommand.proofs.CommandWords.{residual_is, expr_tree}
+use Rattle.mcommand.proofs.CommandLaws.{residual_is, expr_tree, does_evaluated, plain_assigned, plain_failed}
 use Rattle.meval.proofs.TreeViews.{variable_is, node_is}
-use Rattle.mcommand.proofs.Calls.{does_evaluated}
-use Rattle.mcommand.proofs.Targets.{plain_assigned, plain_failed}
 use Rattle.mcommand.proofs.parts.Parts.setting_one.Goals as goal
 
 pub returns-in_err-value-in-Variable-reference-clause-does : goal.returns-in_err-value-in-Variable-reference-clause-does

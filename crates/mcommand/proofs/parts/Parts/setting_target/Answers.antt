@@ -1,7 +1,5 @@
 -- SPDX-License-Identifier: Apache-2.0
-use Rattle.mcommand.proofs.CommandWords.{residual_is, target_tree, expr_tree}
-use Rattle.mcommand.proofs.Calls.{does_evaluated}
-use Rattle.mcommand.proofs.Targets.{one_assigned, one_value_failed, one_prepared_failed}
+use Rattle.mcommand.proofs.CommandLaws.{residual_is, target_tree, expr_tree, does_evaluated, one_assigned, one_value_failed, one_prepared_failed}
 use Rattle.mcommand.proofs.parts.Parts.setting_target.Goals as goal
 
 pub returns-in_err-prepared-clause-does : goal.returns-in_err-prepared-clause-does

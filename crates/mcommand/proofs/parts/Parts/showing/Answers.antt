@@ -1,6 +1,5 @@
 -- SPDX-License-Identifier: Apache-2.0
-use Rattle.mcommand.proofs.CommandWords.{refl}
-use Rattle.mcommand.proofs.Calls.{does_then, does_stopped, does_evaluated, does_wanting, does_write}
+use Rattle.mcommand.proofs.CommandLaws.{refl, does_then, does_stopped, does_evaluated, does_wanting, does_write}
 use Rattle.mcommand.proofs.parts.Parts.showing.Goals as goal
 
 pub returns-in_err-value-clause-does : goal.returns-in_err-value-clause-does

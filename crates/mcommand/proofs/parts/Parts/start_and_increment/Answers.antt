@@ -1,6 +1,5 @@
 -- SPDX-License-Identifier: Apache-2.0
-use Rattle.mcommand.proofs.CommandWords.{refl, units, Num}
-use Rattle.mcommand.proofs.Calls.{does_then, does_stopped, does_gives, does_evaluated}
+use Rattle.mcommand.proofs.CommandLaws.{refl, units, Num, does_then, does_stopped, does_gives, does_evaluated}
 use Rattle.mcommand.proofs.parts.Parts.start_and_increment.Goals as goal
 
 pub returns-in_err-number-clause-does : goal.returns-in_err-number-clause-does

@@ -1,6 +1,5 @@
 -- SPDX-License-Identifier: Apache-2.0
-use Rattle.mcommand.proofs.CommandWords.{option_map, give, units, course_view, begun_within}
-use Rattle.mcommand.proofs.Calls.{does_then, does_stopped, does_gives, does_evaluated}
+use Rattle.mcommand.proofs.CommandLaws.{option_map, give, units, course_view, begun_within, does_then, does_stopped, does_gives, does_evaluated}
 use Rattle.mcommand.proofs.parts.Parts.start_limited.Goals as goal
 
 pub returns-in_err-number-clause-does : goal.returns-in_err-number-clause-does

@@ -1,6 +1,5 @@
 -- SPDX-License-Identifier: Apache-2.0
-use Rattle.mcommand.proofs.CommandWords.{Some, option_map, refl, give, last_turn, course_view}
-use Rattle.mcommand.proofs.Calls.{does_then, does_stopped, does_gives, does_evaluated}
+use Rattle.mcommand.proofs.CommandLaws.{Some, option_map, refl, give, last_turn, course_view, does_then, does_stopped, does_gives, does_evaluated}
 use Rattle.mcommand.proofs.parts.Parts.start_parameter.Goals as goal
 
 pub returns-in_err-value-in-Once-clause-does : goal.returns-in_err-value-in-Once-clause-does

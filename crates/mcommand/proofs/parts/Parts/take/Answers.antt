@@ -1,7 +1,5 @@
 -- SPDX-License-Identifier: Apache-2.0
-use Rattle.mcommand.proofs.CommandWords.{refl}
-use Rattle.mcommand.proofs.Calls.{does_wanting}
-use Rattle.mcommand.proofs.Locking.{does_take}
+use Rattle.mcommand.proofs.CommandLaws.{refl, does_wanting, does_take}
 use Rattle.mcommand.proofs.parts.Parts.take.Goals as goal
 
 pub returns-in_err-all-clause-does : goal.returns-in_err-all-clause-does

@@ -1,7 +1,6 @@
 -- SPDX-License-Identifier: Apache-2.0
-use Rattle.mcommand.proofs.CommandWords.{entry_tree}
+use Rattle.mcommand.proofs.CommandLaws.{entry_tree, does_then, does_stopped, does_yielded}
 use Rattle.mcommand.specs.Targets.{target_among}
-use Rattle.mcommand.proofs.Calls.{does_then, does_stopped, does_yielded}
 use Rattle.mcommand.proofs.parts.Parts.target.Goals as goal
 
 pub returns-in_err-copy-clause-does : goal.returns-in_err-copy-clause-does

@@ -1,6 +1,5 @@
 -- SPDX-License-Identifier: Apache-2.0
-use Rattle.mcommand.proofs.CommandWords.{refl}
-use Rattle.mcommand.proofs.Calls.{does_evaluated, does_gives, does_yielded}
+use Rattle.mcommand.proofs.CommandLaws.{refl, does_evaluated, does_gives, does_yielded}
 use Rattle.mcommand.proofs.parts.Parts.tell.Goals as goal
 
 pub returns-in-Some-clause-does : goal.returns-in-Some-clause-does

@@ -1,6 +1,5 @@
 -- SPDX-License-Identifier: Apache-2.0
-use Rattle.mcommand.proofs.CommandWords.{Bool, refl, ◌>>◌, give, set_test}
-use Rattle.mcommand.proofs.Calls.{does_then, does_gives, does_evaluated, truth_then, truth_stopped}
+use Rattle.mcommand.proofs.CommandLaws.{Bool, refl, ◌>>◌, give, set_test, does_then, does_gives, does_evaluated, truth_then, truth_stopped}
 use Rattle.mcommand.proofs.parts.Parts.testing.Goals as goal
 
 pub returns-in_err-is_true-clause-does : goal.returns-in_err-is_true-clause-does

@@ -1,6 +1,5 @@
 -- SPDX-License-Identifier: Apache-2.0
-use Rattle.mcommand.proofs.CommandWords.{Some, Option, refl, Text}
-use Rattle.mcommand.proofs.Calls.{does_then, does_stopped, does_gives, does_evaluated}
+use Rattle.mcommand.proofs.CommandLaws.{Some, Option, refl, Text, does_then, does_stopped, does_gives, does_evaluated}
 use Rattle.mcommand.proofs.parts.Parts.timeout_value.Goals as goal
 
 pub returns-in_err-value-in-Some-clause-does : goal.returns-in_err-value-in-Some-clause-does

@@ -1,20 +1,10 @@
 -- SPDX-License-Identifier: Apache-2.0
-use Rattle.meval.proofs.EvalWords.{◌≡◌, ◌∙◌, ◌++◌, length, [], ◌∷◌, map, refl, sym, ap, arith, nat_tests, nil_from_length, apply, exprs_of, named_by, values, at_local, of_global, subscripts_of, with_subscripts, direction_of, residual_is, slice_get, ◌>>=◌, give, expr_tree, operand_tree, reference_tree, tail_tree, units, read_act, data_act, get_act, order_from, order_behind, pending_view, walk_view, of_local, of_naked, read_or, unwrap_or, decides_subscripts, subst, at_node, read_at, IsAccountName}
-use Rattle.mkey.specs.Way.{way}
-use Rattle.std.proofs.Common.{List, Ok}
+use Rattle.meval.proofs.EvalLaws.{◌≡◌, ◌∙◌, ◌++◌, length, [], ◌∷◌, map, refl, sym, ap, arith, nat_tests, nil_from_length, apply, exprs_of, named_by, values, at_local, of_global, subscripts_of, with_subscripts, direction_of, residual_is, slice_get, ◌>>=◌, give, expr_tree, operand_tree, reference_tree, tail_tree, units, read_act, data_act, get_act, order_from, order_behind, pending_view, walk_view, of_local, of_naked, read_or, unwrap_or, decides_subscripts, subst, at_node, read_at, IsAccountName, way, List, computed_outcome, evaluates_then, evaluates_whole, evaluates_failed, evaluates_gives, evaluates_seen, evaluates_refused, evaluates_stopped, evaluates_wanting, evaluates_yielded, never_refused, keeps_itself, keeps_on, node_evaluated, node_failed, variable_told, function_failed, got, let_through, ordered_next, ordered_stopped, walk_through, walk_refused, step_leads, operand_refused, operator_refused, leads_itself, leads_on, leads_into, of_primary, alone, in_brackets, bracket_refused, not_free, is_free, evaluates_behind, evaluates_deep, evaluates_unnamed, evaluates_entry, own_global, gives_own, node_of, owned, own_evaluated, own_failed, next_own, expr_is, operand_is, number_is, text_is, special_is, reference_is, variable_is, node_is, local_is, global_is, naked_is, indirect_is, extended_is, refer_is, referring_is, bracket_is, call_is, select_is, apply_is, matches_is, matches_not_is, charge_failed, from_tail, from_end, next_value, value_failed, values_end, next_choice, is_chosen, not_chosen, none_chosen}
+use Rattle.std.proofs.Common.{Ok}
 use Rattle.mspec.specs.Act.{Text}
 use Rattle.mtree.specs.Functions.{variable_function_tree}
 use Rattle.meval.specs.AtHand.{at_hand_tree}
 use Rattle.mvalue.specs.Texts.{kind_text}
-use Rattle.moperator.proofs.Numbers.{computed_outcome}
-use Rattle.meval.proofs.Calls.{evaluates_then, evaluates_whole, evaluates_failed, evaluates_gives, evaluates_seen, evaluates_refused, evaluates_stopped, evaluates_wanting, evaluates_yielded, never_refused, keeps_itself, keeps_on}
-use Rattle.meval.proofs.LocalVariables.{node_evaluated, node_failed, variable_told, function_failed, got, let_through, ordered_next, ordered_stopped, walk_through, walk_refused}
-use Rattle.meval.proofs.Chains.{step_leads, operand_refused, operator_refused, leads_itself, leads_on, leads_into, of_primary, alone, in_brackets, bracket_refused}
-use Rattle.meval.proofs.Indirections.{not_free, is_free, evaluates_behind, evaluates_deep, evaluates_unnamed, evaluates_entry}
-use Rattle.meval.specs.Places.{own_global}
-use Rattle.meval.proofs.References.{gives_own, node_of, owned, own_evaluated, own_failed, next_own}
-use Rattle.meval.proofs.TreeViews.{expr_is, operand_is, number_is, text_is, special_is, reference_is, variable_is, node_is, local_is, global_is, naked_is, indirect_is, extended_is, refer_is, referring_is, bracket_is, call_is, select_is, apply_is, matches_is, matches_not_is}
-use Rattle.meval.proofs.Trees.{charge_failed, from_tail, from_end, next_value, value_failed, values_end, next_choice, is_chosen, not_chosen, none_chosen}
 use Rattle.meval.proofs.eval.Eval.+eval.Goals as goal
 
 -- ---- operand

@@ -1,6 +1,5 @@
 -- SPDX-License-Identifier: Apache-2.0
-use Rattle.meval.proofs.EvalWords.{Some, None, refl}
-use Rattle.meval.proofs.Asking.{beside_found}
+use Rattle.meval.proofs.EvalLaws.{Some, None, refl, beside_found}
 use Rattle.meval.proofs.eval.Eval.beside.Goals as goal
 
 pub returns-in-None : goal.returns-in-None

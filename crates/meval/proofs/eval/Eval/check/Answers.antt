@@ -1,6 +1,5 @@
 -- SPDX-License-Identifier: Apache-2.0
-use Rattle.meval.proofs.EvalWords.{sym, and_from, decides_account_name}
-use Rattle.meval.proofs.Asking.{let_in, no_account}
+use Rattle.meval.proofs.EvalLaws.{sym, and_from, decides_account_name, let_in, no_account}
 use Rattle.meval.proofs.eval.Eval.check.Goals as goal
 
 pub returns-then-not-is_of_account-clause-does : goal.returns-then-not-is_of_account-clause-does

@@ -1,6 +1,5 @@
 -- SPDX-License-Identifier: Apache-2.0
-use Rattle.meval.proofs.EvalWords.{[], unwrap_or, give}
-use Rattle.meval.proofs.Calls.{evaluates_then, evaluates_stopped, evaluates_gives}
+use Rattle.meval.proofs.EvalLaws.{[], unwrap_or, give, evaluates_then, evaluates_stopped, evaluates_gives}
 use Rattle.meval.proofs.eval.Eval.fast_global_next.Goals as goal
 
 pub returns-in_err-next-clause-does : goal.returns-in_err-next-clause-does

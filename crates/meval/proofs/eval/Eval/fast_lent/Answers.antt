@@ -1,6 +1,5 @@
 -- SPDX-License-Identifier: Apache-2.0
-use Rattle.meval.proofs.EvalWords.{refl, [], M6, value_of, give_some}
-use Rattle.meval.proofs.Calls.{evaluates_then, evaluates_gives, evaluates_fails, asks_locals}
+use Rattle.meval.proofs.EvalLaws.{refl, [], M6, value_of, give_some, evaluates_then, evaluates_gives, evaluates_fails, asks_locals}
 use Rattle.meval.proofs.eval.Eval.fast_lent.Goals as goal
 
 pub returns-in-Some : goal.returns-in-Some

@@ -1,9 +1,6 @@
 -- SPDX-License-Identifier: Apache-2.0
-use Rattle.meval.proofs.EvalWords.{Some, ap, ◌>>◌, give, unless, set_naked, Node, are_subscripts, at_node, place_view, subst, IsAccountName}
+use Rattle.meval.proofs.EvalLaws.{Some, ap, ◌>>◌, give, unless, set_naked, Node, are_subscripts, at_node, place_view, subst, IsAccountName, own_global, evaluates_then, evaluates_stopped, evaluates_gives, evaluates_yielded, own_let_in}
 use Rattle.mspec.specs.Code as spec
-use Rattle.meval.specs.Places.{own_global}
-use Rattle.meval.proofs.Calls.{evaluates_then, evaluates_stopped, evaluates_gives, evaluates_yielded}
-use Rattle.meval.proofs.Asking.{own_let_in}
 use Rattle.meval.proofs.eval.Eval.fast_place.Goals as goal
 
 pub returns-then-not-is_own_again-clause-does : goal.returns-then-not-is_own_again-clause-does

@@ -1,7 +1,5 @@
 -- SPDX-License-Identifier: Apache-2.0
-use Rattle.meval.proofs.EvalWords.{[], ◌∷◌, sym, decides_subscripts, put_at}
-use Rattle.meval.proofs.Calls.{evaluates_then}
-use Rattle.meval.proofs.LocalVariables.{let_through}
+use Rattle.meval.proofs.EvalLaws.{[], ◌∷◌, sym, decides_subscripts, put_at, evaluates_then, let_through}
 use Rattle.meval.proofs.eval.Eval.fast_put.Goals as goal
 
 pub returns-clause-does : goal.returns-clause-does

@@ -1,7 +1,5 @@
 -- SPDX-License-Identifier: Apache-2.0
-use Rattle.meval.proofs.EvalWords.{[], ◌∷◌, refl, sym, decides_subscripts, M6, value_of, give_some, read_at}
-use Rattle.meval.proofs.Calls.{evaluates_then, evaluates_gives, evaluates_fails, asks_locals}
-use Rattle.meval.proofs.LocalVariables.{let_through}
+use Rattle.meval.proofs.EvalLaws.{[], ◌∷◌, refl, sym, decides_subscripts, M6, value_of, give_some, read_at, evaluates_then, evaluates_gives, evaluates_fails, asks_locals, let_through}
 use Rattle.meval.proofs.eval.Eval.fast_read.Goals as goal
 
 pub returns-in_ok-copy-in-Some-clause-does : goal.returns-in_ok-copy-in-Some-clause-does

@@ -1,6 +1,5 @@
 -- SPDX-License-Identifier: Apache-2.0
-use Rattle.meval.proofs.EvalWords.{value_of, give, slice_get, unwrap_or, []}
-use Rattle.meval.proofs.Calls.{evaluates_then, evaluates_gives, asks_locals}
+use Rattle.meval.proofs.EvalLaws.{value_of, give, slice_get, unwrap_or, [], evaluates_then, evaluates_gives, asks_locals}
 use Rattle.meval.proofs.eval.Eval.fast_read_or.Goals as goal
 
 pub returns-in_ok-copy-in-Some-clause-does : goal.returns-in_ok-copy-in-Some-clause-does

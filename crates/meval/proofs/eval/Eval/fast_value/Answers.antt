@@ -1,9 +1,5 @@
 -- SPDX-License-Identifier: Apache-2.0
-use Rattle.meval.proofs.EvalWords.{sym, refl, residual_is, at_hand_tree}
-use Rattle.moperator.proofs.Numbers.{computed_outcome}
-use Rattle.meval.proofs.Calls.{evaluates_then, evaluates_seen, evaluates_refused, evaluates_wanting, evaluates_yielded}
-use Rattle.meval.proofs.LocalVariables.{variable_primary}
-use Rattle.meval.proofs.Trees.{charge_failed}
+use Rattle.meval.proofs.EvalLaws.{sym, refl, residual_is, at_hand_tree, computed_outcome, evaluates_then, evaluates_seen, evaluates_refused, evaluates_wanting, evaluates_yielded, variable_primary, charge_failed}
 use Rattle.meval.proofs.eval.Eval.fast_value.Goals as goal
 
 pub returns-in_err-charge-clause-does : goal.returns-in_err-charge-clause-does

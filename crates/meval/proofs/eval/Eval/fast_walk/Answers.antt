@@ -1,10 +1,6 @@
 -- SPDX-License-Identifier: Apache-2.0
-use Rattle.meval.proofs.EvalWords.{Some, ap, ◌>>◌, give, set_naked, Node, at_node, checked, ordering, subst, IsAccountName}
-use Rattle.std.proofs.Common.{List}
+use Rattle.meval.proofs.EvalLaws.{Some, ap, ◌>>◌, give, set_naked, Node, at_node, checked, ordering, subst, IsAccountName, List, own_global, evaluates_then, evaluates_stopped, evaluates_gives, evaluates_yielded, own_let_in}
 use Rattle.mspec.specs.Act.{Text}
-use Rattle.meval.specs.Places.{own_global}
-use Rattle.meval.proofs.Calls.{evaluates_then, evaluates_stopped, evaluates_gives, evaluates_yielded}
-use Rattle.meval.proofs.Asking.{own_let_in}
 use Rattle.meval.proofs.eval.Eval.fast_walk.Goals as goal
 
 pub returns-in_err-check_walk-clause-does : goal.returns-in_err-check_walk-clause-does

@@ -1,6 +1,5 @@
 -- SPDX-License-Identifier: Apache-2.0
-use Rattle.meval.proofs.EvalWords.{refl, [], M15, ◌>>=◌, value_of, give_some, as_number}
-use Rattle.meval.proofs.Calls.{evaluates_then, evaluates_yielded, evaluates_fails, asks_locals}
+use Rattle.meval.proofs.EvalLaws.{refl, [], M15, ◌>>=◌, value_of, give_some, as_number, evaluates_then, evaluates_yielded, evaluates_fails, asks_locals}
 use Rattle.meval.proofs.eval.Eval.index.Goals as goal
 
 pub returns-in-Some-clause-does : goal.returns-in-Some-clause-does

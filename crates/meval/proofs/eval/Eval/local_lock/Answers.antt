@@ -1,7 +1,5 @@
 -- SPDX-License-Identifier: Apache-2.0
-use Rattle.meval.proofs.EvalWords.{give}
-use Rattle.meval.proofs.Calls.{evaluates_stopped, evaluates_yielded}
-use Rattle.meval.proofs.Locks.{local_name}
+use Rattle.meval.proofs.EvalLaws.{give, evaluates_stopped, evaluates_yielded, local_name}
 use Rattle.meval.proofs.eval.Eval.local_lock.Goals as goal
 
 pub returns-in_err-key-clause-does : goal.returns-in_err-key-clause-does

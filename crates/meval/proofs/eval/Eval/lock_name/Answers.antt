@@ -1,6 +1,5 @@
 -- SPDX-License-Identifier: Apache-2.0
-use Rattle.meval.proofs.EvalWords.{named_lock}
-use Rattle.meval.proofs.Calls.{evaluates_then, evaluates_stopped}
+use Rattle.meval.proofs.EvalLaws.{named_lock, evaluates_then, evaluates_stopped}
 use Rattle.meval.proofs.eval.Eval.lock_name.Goals as goal
 
 pub returns-in_err-pending-clause-does : goal.returns-in_err-pending-clause-does

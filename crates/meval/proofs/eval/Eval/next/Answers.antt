@@ -1,7 +1,5 @@
 -- SPDX-License-Identifier: Apache-2.0
-use Rattle.meval.proofs.EvalWords.{[], ap, ◌∙◌, unwrap_or, give, name_view, Option, Text, next_subscript}
-use Rattle.mkey.specs.Way.{way}
-use Rattle.meval.proofs.Calls.{evaluates_then, evaluates_stopped, evaluates_gives, asks_locals}
+use Rattle.meval.proofs.EvalLaws.{[], ap, ◌∙◌, unwrap_or, give, name_view, Option, Text, next_subscript, way, evaluates_then, evaluates_stopped, evaluates_gives, asks_locals}
 use Rattle.meval.proofs.eval.Eval.next.Goals as goal
 
 pub returns-in_ok-next-in-Local-clause-does : goal.returns-in_ok-next-in-Local-clause-does

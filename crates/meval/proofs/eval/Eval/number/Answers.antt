@@ -1,6 +1,5 @@
 -- SPDX-License-Identifier: Apache-2.0
-use Rattle.meval.proofs.EvalWords.{refl, residual_is}
-use Rattle.meval.proofs.Calls.{evaluates_seen, evaluates_refused}
+use Rattle.meval.proofs.EvalLaws.{refl, residual_is, evaluates_seen, evaluates_refused}
 use Rattle.meval.proofs.eval.Eval.number.Goals as goal
 
 pub returns-in_err-expression_number-clause-does : goal.returns-in_err-expression_number-clause-does

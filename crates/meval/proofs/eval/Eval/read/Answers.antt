@@ -1,6 +1,5 @@
 -- SPDX-License-Identifier: Apache-2.0
-use Rattle.meval.proofs.EvalWords.{refl, place_view}
-use Rattle.meval.proofs.Calls.{evaluates_then, evaluates_stopped, evaluates_gives, evaluates_fails, read_is}
+use Rattle.meval.proofs.EvalLaws.{refl, place_view, evaluates_then, evaluates_stopped, evaluates_gives, evaluates_fails, read_is}
 use Rattle.meval.proofs.eval.Eval.read.Goals as goal
 
 pub returns-in_err-value-clause-does : goal.returns-in_err-value-clause-does

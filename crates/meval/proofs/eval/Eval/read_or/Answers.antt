@@ -1,6 +1,5 @@
 -- SPDX-License-Identifier: Apache-2.0
-use Rattle.meval.proofs.EvalWords.{refl}
-use Rattle.meval.proofs.Calls.{evaluates_then, evaluates_stopped, evaluates_gives}
+use Rattle.meval.proofs.EvalLaws.{refl, evaluates_then, evaluates_stopped, evaluates_gives}
 use Rattle.meval.proofs.eval.Eval.read_or.Goals as goal
 
 pub returns-in_err-value-clause-does : goal.returns-in_err-value-clause-does

@@ -1,7 +1,5 @@
 -- SPDX-License-Identifier: Apache-2.0
-use Rattle.meval.proofs.EvalWords.{use_of, name_view, node_place}
-use Rattle.meval.proofs.Calls.{evaluates_then, evaluates_stopped, evaluates_yielded}
-use Rattle.meval.proofs.Asking.{as_local_place}
+use Rattle.meval.proofs.EvalLaws.{use_of, name_view, node_place, evaluates_then, evaluates_stopped, evaluates_yielded, as_local_place}
 use Rattle.meval.proofs.eval.Eval.resolved.Goals as goal
 
 pub returns-in-Local-clause-does : goal.returns-in-Local-clause-does

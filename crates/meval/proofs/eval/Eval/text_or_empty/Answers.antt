@@ -1,7 +1,5 @@
 -- SPDX-License-Identifier: Apache-2.0
-use Rattle.meval.proofs.Calls.{evaluates_then, evaluates_stopped, evaluates_gives, evaluates_wanting}
-use Rattle.meval.proofs.EvalWords.{standing_of, place_view}
-use Rattle.meval.proofs.Asking.{writing_reads}
+use Rattle.meval.proofs.EvalLaws.{evaluates_then, evaluates_stopped, evaluates_gives, evaluates_wanting, standing_of, place_view, writing_reads}
 use Rattle.meval.proofs.eval.Eval.text_or_empty.Goals as goal
 
 pub returns-in_err-value-clause-does : goal.returns-in_err-value-clause-does

@@ -1,6 +1,5 @@
 -- SPDX-License-Identifier: Apache-2.0
-use Rattle.mexec.proofs.ExecWords.{◌<◌, length, refl, arith, source_args}
-use Rattle.mexec.proofs.Calls.{stack_push, some_item}
+use Rattle.mexec.proofs.ExecLaws.{◌<◌, length, refl, arith, source_args, stack_push, some_item}
 use Rattle.mexec.proofs.source.Source.leave.Goals as goal
 
 pub returns-clause-frames : goal.returns-clause-frames

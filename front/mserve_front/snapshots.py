@@ -35,14 +35,6 @@ class BadSnapshot(Exception):
 
 
 @dataclass(frozen=True, slots=True)
-class Account:
-    """What an account holds: how many nodes, and a digest of their keys and texts."""
-
-    nodes: int
-    digest: str
-
-
-@dataclass(frozen=True, slots=True)
 class Manifest:
     """What a snapshot is of."""
 
@@ -61,6 +53,14 @@ class Manifest:
     def standing(self) -> Standing:
         """Where its store stands."""
         return Standing(self.journal, self.number, tuple(self.open), restored=True)
+
+
+@dataclass(frozen=True, slots=True)
+class Account:
+    """What an account holds: how many nodes, and a digest of their keys and texts."""
+
+    nodes: int
+    digest: str
 
 
 Quiet = Callable[[], AbstractAsyncContextManager[None]]

@@ -1,7 +1,7 @@
 -- SPDX-License-Identifier: Apache-2.0
 -- The events of the lines of a stream, gathered as its bytes come.
-use Rattle.mwire.proofs.WireWords.{◌≡◌, ◌++◌, ◌+◌, ◌<◌, ◌≤◌, ◌==◌, List, [], ◌∷◌, ℕ, false, refl, sym, ◌∙◌, ap, subst, Option, append_assoc, length, get_or, take, arith, Consumes-nil, Consumes-trans, Consumes, lines, lines_of_parts, strip_carriage_return, map-append, take_all, take_more, Text, Event, WireLine, Runs, classify, before_events, events_of, Gathered, HasGathered, map}
-use Rattle.mwire.proofs.Cuts.{length-strip, classify-kept, IsCut-nil, IsCut-byte, IsCut-line, lines-cut, last_part}
+use Rattle.mwire.proofs.WireWords.{◌≡◌, ◌++◌, ◌+◌, ◌<◌, ◌≤◌, ◌==◌, List, [], ◌∷◌, ℕ, false, refl, sym, ◌∙◌, ap, subst, Option, append_assoc, length, get_or, take, arith, Consumes-nil, Consumes-trans, Consumes, lines, lines_of_parts, strip_carriage_return, map-append, take_all, take_more, Text, Event, WireLine, classify, before_events, events_of, Gathered, HasGathered, map}
+use Rattle.mwire.proofs.Cuts.{length-strip, classify-kept, IsCut-nil, IsCut-byte, IsCut-line, lines-cut}
 
 before_events-append : (wire_line : WireLine) (xs ys : List Event) → before_events wire_line (xs ++ ys) ≡ before_events wire_line xs ++ ys
 before_events-append wire_line xs ys = grind arith

@@ -1,6 +1,6 @@
 -- SPDX-License-Identifier: Apache-2.0
 -- How lines are answered, one after another.
-use Rattle.mwire.proofs.WireWords.{arith, LineSent, Option, Bool, ◌≡◌, ◌≢◌, ◌++◌, List, [], ◌∷◌, refl, sym, ◌∙◌, ap, subst, append_assoc, append-nil, Text, Settings, World, Event, Reply, Transition, History, Ghosts, Zstore, Ended, Fault, reply_of, WireLine, Ignored, TooLong, Unreadable, Runs, classify, before_events, events_of, too_long_text, unreadable_text, reply_text, line_text, replies_behind, answer_text, LinesAnswered, RunAnswered, WireLineAnswered, LineAnswered, EachAnswered, AnswersCutShort, map}
+use Rattle.mwire.proofs.WireWords.{arith, LineSent, Option, Bool, ◌≡◌, ◌≢◌, ◌++◌, List, [], ◌∷◌, refl, sym, ◌∙◌, ap, subst, append_assoc, append-nil, Text, Settings, World, Event, Reply, Transition, Ghosts, Zstore, Ended, Fault, reply_of, WireLine, Ignored, TooLong, Unreadable, Runs, classify, before_events, events_of, too_long_text, unreadable_text, reply_text, line_text, replies_behind, answer_text, LinesAnswered, RunAnswered, WireLineAnswered, LineAnswered, EachAnswered, AnswersCutShort, map}
 use Rattle.mworld.specs.declared.reply.Reply.{Reply as CodeReply}
 use Rattle.mwire.proofs.StoreFaults.{store_sufficed}
 

@@ -1,6 +1,6 @@
 -- SPDX-License-Identifier: Apache-2.0
 -- The replies that one account is told, sent one after another.
-use Rattle.mwire.proofs.WireWords.{arith, ◌≡◌, ℕ, ◌+◌, ◌<◌, Bool, true, List, [], ◌∷◌, ◌++◌, Option, map, take, drop, length, get_or, refl, sym, ap, ◌∙◌, subst, append_assoc, inl, inr, map-append, take-append-drop, Appends-trans, Appends-nil, Appends, Consumes, IsAtEnd, lines, Text, Event, Ghosts, settings_of, world_of, IsTold, IsEquallyTold, IsToldEach, RanFirst, events_of, reply_text, told_text, RanOnly, RepliesCutShort, ServeOnlyCutShort, ServesOnly, FrontSent, WireFault, Read, Write, Memory, ◌≢◌, Ok, Err}
+use Rattle.mwire.proofs.WireWords.{arith, ◌≡◌, ℕ, ◌+◌, ◌<◌, Bool, true, List, [], ◌∷◌, ◌++◌, Option, map, take, drop, length, get_or, refl, sym, ap, ◌∙◌, subst, append_assoc, inl, map-append, take-append-drop, Appends-trans, Appends-nil, Appends, Consumes, IsAtEnd, lines, Text, Event, Ghosts, settings_of, world_of, IsTold, IsEquallyTold, IsToldEach, RanFirst, events_of, reply_text, told_text, RanOnly, ServeOnlyCutShort, ServesOnly, FrontSent, WireFault, Read, Write, Memory, ◌≢◌, Ok, Err}
 use Rattle.std.proofs.lemmas.List.{append-nil}
 use Rattle.std.proofs.lemmas.Grind.{flat_map-append}
 use Rattle.mspec.specs.Access.{name_at}

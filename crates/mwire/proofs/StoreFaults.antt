@@ -1,6 +1,6 @@
 -- SPDX-License-Identifier: Apache-2.0
 -- When a reply tells of the store's failure.
-use Rattle.mwire.proofs.WireWords.{arith, ◌≡◌, ◌≢◌, refl, Lost, Store, Faulted, Zstore, Ended, Done, Halt, Fault}
+use Rattle.mwire.proofs.WireWords.{arith, ◌≡◌, ◌≢◌, Lost, Store, Faulted, Zstore, Ended, Done, Halt, Fault}
 use Rattle.moperator.specs.Codes.{fault_of}
 use Rattle.moperator.specs.declared.code.Code.{Code}
 use Rattle.mexec.specs.Runs.{ending_of}

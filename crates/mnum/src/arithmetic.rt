@@ -105,11 +105,16 @@ fn signed_sum(a_negative: bool, a: u128, b_negative: bool, b: u128) -> (bool, u1
     }
 }
 
-// Puts what was computed in the place of a number.
+// Puts what was computed in the place of a number, field by field: a number that was just written so is waited for if it is moved whole.
 fn put(place: &mut Num, outcome: Result<Num, Over>) -> Result<(), Over>
     ensures { (x : Option ℤ) → MatchResult outcome (λ r. x ≡ Some (units r)) (λ _. x ≡ None) → MatchResult result (λ _. x ≡ Some (units place.new)) (λ _. x ≡ None) }
 {
-    *place = outcome?;
+    let number = outcome?;
+    *place = Num {
+        digits: number.digits,
+        places: number.places,
+        negative: number.negative,
+    };
     Ok(())
 }
 
@@ -118,7 +123,12 @@ fn put_quotient(place: &mut Num, outcome: Result<Num, ArithFault>) -> Result<(),
     ensures value { (divisor : ℤ) (x : Option ℤ) → IsOutcome divisor x outcome → Leaves divisor x place.new result }
     ensures never_over { IfErr outcome (λ e. e ≡ ArithFault.Zero) → IfErr result (λ e. e ≡ ArithFault.Zero) }
 {
-    *place = outcome?;
+    let quotient = outcome?;
+    *place = Num {
+        digits: quotient.digits,
+        places: quotient.places,
+        negative: quotient.negative,
+    };
     Ok(())
 }
 

@@ -24,7 +24,11 @@ pub fn play_texts(alloc: Global, cases: &[&str], out: &mut Vec<u8>) -> anyhow::R
 ///
 /// If an escape is none, and out of memory.
 pub fn play_routine_lines(alloc: Global, cases: &[&str], out: &mut Vec<u8>) -> anyhow::Result<()> {
-    play_each(cases, out, |case| routine_line(alloc, &bytes_of(alloc, case)?))
+    play_each(
+        cases,
+        out,
+        |case| routine_line(alloc, &bytes_of(alloc, case)?),
+    )
 }
 
 fn routine_line(alloc: Global, text: &[u8]) -> anyhow::Result<Vec<u8>> {

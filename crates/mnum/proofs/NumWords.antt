@@ -17,7 +17,7 @@ pub use Rattle.mspec.proofs.Rounding.{digits_before_is, digits_before_le, neares
 pub use Rattle.mspec.proofs.WholeTexts.{front_of_canonical, text_of_whole, value_of_digits, whole_is_canonical, zero_is_canonical}
 pub use Rattle.mspec.specs.Literal.{IsMantissa, Literal, digits_after, is_digit, spell_exponent, spell_fraction, spell_literal, with_digit}
 pub use Rattle.mspec.specs.Names.{AllAre, IsName, is_name_rest, is_name_start}
-pub use Rattle.mspec.specs.Number.{IsNumber, digits_before, floor_remainder, over_size, quotient_of, remainder_of, round, round_size, signed, whole_quotient_of}
+pub use Rattle.mspec.specs.Number.{IsNumber, digits_before, floor_remainder, over_size, quotient_of, remainder_of, round, round_size, signed, sum_of, whole_quotient_of}
 unfoldable pub use Rattle.mspec.specs.Number.{nearest, rounding_unit}
 pub use Rattle.mspec.specs.NumberLaws.{HasCanonicalForm, IsPlain, NoZeroInFront}
 pub use Rattle.mspec.specs.NumberText.{IsCanonical, after_digits, after_fraction, fraction_digits, fraction_text, front_digits, front_exponent, is_negated, is_sign, number_text, point_text, whole_text}

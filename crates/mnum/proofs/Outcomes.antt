@@ -23,3 +23,8 @@ never_over y (Err fault) some h = absurd (some h.1)
 pub mapped_none : (f : ℕ → ℤ) (x : Option ℕ) → option_map f x ≡ None → x ≡ None
 mapped_none f None h = refl
 mapped_none f (Some n) h = cc
+
+-- what a division gives of the same numbers
+pub of_same : (f : ℤ → ℤ → Option ℤ) (x y x' y' : ℤ) (r : Option ℤ) → x ≡ x' → y ≡ y' → (0 < unsigned_abs y) × (f x y ≡ r) → (0 < unsigned_abs y') × (f x' y' ≡ r)
+of_same f x y x' y' r first second given =
+    subst (λ (z : ℤ). (0 < unsigned_abs z) × (f x' z ≡ r)) second (subst (λ (z : ℤ). (0 < unsigned_abs y) × (f z y ≡ r)) first given)

@@ -1,6 +1,6 @@
 // SPDX-License-Identifier: Apache-2.0
 // The operations on numbers.
-ghost use Rattle.std.specs.Prelude.{◌≡◌, ℕ, ◌*◌, ◌^◌, ◌<◌, ◌≤◌, ◌≢◌, ◌-◌, ◌+◌, ◌/◌, ◌⊎◌, ◌+ℤ◌, neg_ℤ, Some, None, MatchResult, pos, unsigned_abs, IfErr, Option, ℤ};
+ghost use Rattle.std.specs.Prelude.{◌≡◌, ℕ, ◌*◌, ◌^◌, ◌<◌, ◌≤◌, ◌≢◌, ◌-◌, ◌+◌, ◌/◌, ◌⊎◌, ◌+ℤ◌, neg_ℤ, Some, None, MatchResult, pos, unsigned_abs, IfErr, IfSome, Option, ℤ};
 ghost use Rattle.std.specs.Ordering.{int_cmp};
 ghost use Rattle.mnum.specs.Division.{IsOutcome, Leaves};
 ghost use Rattle.mnum.specs.Floor.{floor_left};
@@ -141,6 +141,20 @@ fn signed_digits(n: &Num) -> i64
     if n.negative { -digits } else { digits }
 }
 
+// The same two numbers, with as many places each: None where one of them has no room for them. No number of 128 bits is made.
+#[inline]
+fn at_common_places(first: &Num, second: &Num) -> Option<(Num, Num)>
+    ensures { IfSome result (λ r. (r.0.places ≡ r.1.places) × (units r.0 ≡ units first.now) × (units r.1 ≡ units second.now) × (0 < second.now.digits → 0 < r.1.digits)) }
+{
+    if first.places == second.places {
+        Some((*first, *second))
+    } else if first.places < second.places {
+        Some((first.widened(second.places)?, *second))
+    } else {
+        Some((*first, second.widened(first.places)?))
+    }
+}
+
 // The number as one of its methods leaves it, which changes it where it stands.
 macro_rules! changed {
     ($number:expr, $method:ident, $other:expr) => {{
@@ -175,6 +189,27 @@ impl Num {
         self.digits as u128 * power(places - self.places)
     }
 
+    // The same number with so many places, where its digits stay below 10 ^ 18.
+    #[inline]
+    #[tactic(auto, using(crate::proofs::Sums::places_value))]
+    fn widened(&self, places: u32) -> Option<Num>
+        requires near { self.now.places ≤ places }
+        requires at_most { places ≤ 18 }
+        ensures { IfSome result (λ r. (r.places ≡ places) × (units r ≡ units self.now) × (0 < self.now.digits → 0 < r.digits)) }
+    {
+        let unit = power(places - self.places) as u64;
+        let digits = self.digits as u128 * unit as u128;
+        if digits < DIGITS_END as u128 {
+            Some(Num {
+                digits: digits as u64,
+                places,
+                negative: self.negative,
+            })
+        } else {
+            None
+        }
+    }
+
     /// The number in units of 10^-18, below 10^36 in size and of at most eighteen significant digits.
     #[inline]
     pub fn to_units(self) -> i128
@@ -191,10 +226,9 @@ impl Num {
     pub fn cmp(self, other: Num) -> Ordering
         ensures { result ≡ int_cmp (units self) (units other) }
     {
-        if self.places == other.places {
-            signed_digits(&self).cmp(&signed_digits(&other))
-        } else {
-            self.to_units().cmp(&other.to_units())
+        match at_common_places(&self, &other) {
+            Some((first, second)) => signed_digits(&first).cmp(&signed_digits(&second)),
+            None => self.to_units().cmp(&other.to_units()),
         }
     }
 
@@ -221,11 +255,12 @@ impl Num {
     pub fn add_assign(&mut self, other: &Num) -> Result<(), Over>
         ensures { MatchResult result (λ _. sum_of (units self.old) (units other.now) ≡ Some (units self.new)) (λ _. sum_of (units self.old) (units other.now) ≡ None) }
     {
-        if self.places == other.places {
-            let sum = signed_digits(self) + signed_digits(other);
+        if let Some((first, second)) = at_common_places(self, other) {
+            let sum = signed_digits(&first) + signed_digits(&second);
             let digits = sum.unsigned_abs();
             if digits < DIGITS_END {
                 self.digits = digits;
+                self.places = first.places;
                 self.negative = sum < 0;
                 return Ok(());
             }
@@ -289,10 +324,10 @@ impl Num {
         if other.digits == 0 {
             return Err(ArithFault::Zero);
         }
-        if self.places == other.places {
-            self.digits /= other.digits;
+        if let Some((first, second)) = at_common_places(self, other) {
+            self.digits = first.digits / second.digits;
             self.places = 0;
-            self.negative = self.negative != other.negative;
+            self.negative = first.negative != second.negative;
             return Ok(());
         }
         put_quotient(self, self.quot_at_places(*other))
@@ -336,14 +371,15 @@ impl Num {
         if other.digits == 0 {
             return Err(ArithFault::Zero);
         }
-        if self.places == other.places {
+        if let Some((first, second)) = at_common_places(self, other) {
             let left = floored(
-                (self.digits % other.digits) as u128,
-                other.digits as u128,
-                self.negative == other.negative,
+                (first.digits % second.digits) as u128,
+                second.digits as u128,
+                first.negative == second.negative,
             );
             self.digits = left as u64;
-            self.negative = other.negative;
+            self.places = first.places;
+            self.negative = second.negative;
             return Ok(());
         }
         put_quotient(self, self.rem_at_places(*other))

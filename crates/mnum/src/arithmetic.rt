@@ -105,16 +105,11 @@ fn signed_sum(a_negative: bool, a: u128, b_negative: bool, b: u128) -> (bool, u1
     }
 }
 
-// Puts what was computed in the place of a number, field by field: a number that was just written so is waited for if it is moved whole.
+// Puts what was computed in the place of a number.
 fn put(place: &mut Num, outcome: Result<Num, Over>) -> Result<(), Over>
     ensures { (x : Option ℤ) → MatchResult outcome (λ r. x ≡ Some (units r)) (λ _. x ≡ None) → MatchResult result (λ _. x ≡ Some (units place.new)) (λ _. x ≡ None) }
 {
-    let number = outcome?;
-    *place = Num {
-        digits: number.digits,
-        places: number.places,
-        negative: number.negative,
-    };
+    *place = outcome?;
     Ok(())
 }
 
@@ -123,12 +118,7 @@ fn put_quotient(place: &mut Num, outcome: Result<Num, ArithFault>) -> Result<(),
     ensures value { (divisor : ℤ) (x : Option ℤ) → IsOutcome divisor x outcome → Leaves divisor x place.new result }
     ensures never_over { IfErr outcome (λ e. e ≡ ArithFault.Zero) → IfErr result (λ e. e ≡ ArithFault.Zero) }
 {
-    let quotient = outcome?;
-    *place = Num {
-        digits: quotient.digits,
-        places: quotient.places,
-        negative: quotient.negative,
-    };
+    *place = outcome?;
     Ok(())
 }
 
@@ -141,7 +131,7 @@ fn signed_digits(n: &Num) -> i64
     if n.negative { -digits } else { digits }
 }
 
-// The same two numbers, with as many places each: None where one of them has no room for them. No number of 128 bits is made.
+// The same two numbers, with as many places each: None where one of them has no room for them. Nothing is divided or rounded.
 #[inline]
 fn at_common_places(first: &Num, second: &Num) -> Option<(Num, Num)>
     ensures { IfSome result (λ r. (r.0.places ≡ r.1.places) × (units r.0 ≡ units first.now) × (units r.1 ≡ units second.now) × (0 < second.now.digits → 0 < r.1.digits)) }

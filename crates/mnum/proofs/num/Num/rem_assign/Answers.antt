@@ -1,5 +1,5 @@
 -- SPDX-License-Identifier: Apache-2.0
-use Rattle.mnum.proofs.NumWords.{◌*◌, ◌^◌, ◌-◌, Some, refl, sym, ap, arith, lit≤, remainder_of, units}
+use Rattle.mnum.proofs.NumWords.{◌*◌, ◌^◌, ◌-◌, Some, refl, ap, arith, lit≤, remainder_of, units}
 use Rattle.mnum.proofs.Cuts.{returns_exact}
 use Rattle.mnum.proofs.Outcomes.{of_same}
 use Rattle.mnum.proofs.Quotients.{some_units}

@@ -81,26 +81,28 @@ unfolding size_text
 text_zero false d p e = ap (λ x. number_text (signed false x)) (ap (λ x. x * 10 ^ (18 - p)) e ∙ zero-mul (10 ^ (18 - p)))
 text_zero true d p e = ap (λ x. number_text (signed true x)) (ap (λ x. x * 10 ^ (18 - p)) e ∙ zero-mul (10 ^ (18 - p)))
 
-pub text_parts : (b : Bool) (d p : ℕ) → p ≤ 18 → 0 < d → number_text (signed b (d * 10 ^ (18 - p))) ≡ cond b (45 ∷ []) [] ++ (whole_text (d / 10 ^ p) ++ cond (eqb (d % 10 ^ p) 0) [] (46 ∷ fraction_text p (d % 10 ^ p)))
-text_parts b d p near some = sign_text b (d * 10 ^ (18 - p)) (mul-pos some (ten_pos (18 - p))) ∙ ap (λ t. cond b (45 ∷ []) [] ++ t) (size_parts d p near some)
+text_of_parts : (b : Bool) (d p whole fraction : ℕ) → p ≤ 18 → 0 < d → whole ≡ d / 10 ^ p → fraction ≡ d % 10 ^ p →
+    cond b (45 ∷ []) [] ++ (whole_text whole ++ cond (eqb fraction 0) [] (46 ∷ fraction_text p fraction)) ≡ number_text (signed b (d * 10 ^ (18 - p)))
+text_of_parts b d p whole fraction near some whole_is fraction_is =
+    let text : ℕ → ℕ → List ℕ = λ w r. cond b (45 ∷ []) [] ++ (whole_text w ++ cond (eqb r 0) [] (46 ∷ fraction_text p r)) in
+    ap (λ w. text w fraction) whole_is ∙ ap (text (d / 10 ^ p)) fraction_is ∙ ap (λ t. cond b (45 ∷ []) [] ++ t) (sym (size_parts d p near some))
+    ∙ sym (sign_text b (d * 10 ^ (18 - p)) (mul-pos some (ten_pos (18 - p))))
 
-pub text_some : (b : Bool) (d p unit : ℕ) (first second out : List ℕ) → unit ≡ 10 ^ p → p ≤ 18 → 0 < d → first ≡ cond b (45 ∷ []) [] → second ≡ first ++ whole_text (d / unit) → 0 < d % unit → out ≡ (second ++ (46 ∷ [])) ++ fraction_text p (d % unit) → out ≡ number_text (signed b (d * 10 ^ (18 - p)))
-text_some b d p unit first second out is near some f s more o =
-    o ∙ ap (λ t. (t ++ (46 ∷ [])) ++ fraction_text p (d % unit)) (s ∙ ap (λ t. t ++ whole_text (d / unit)) f)
-    ∙ append_assoc (cond b (45 ∷ []) [] ++ whole_text (d / unit)) (46 ∷ []) (fraction_text p (d % unit))
-    ∙ append_assoc (cond b (45 ∷ []) []) (whole_text (d / unit)) (46 ∷ fraction_text p (d % unit))
-    ∙ ap (λ t. cond b (45 ∷ []) [] ++ (whole_text (d / unit) ++ cond t [] (46 ∷ fraction_text p (d % unit)))) (sym (eqb_zero (d % unit) more))
-    ∙ ap (λ u. cond b (45 ∷ []) [] ++ (whole_text (d / u) ++ cond (eqb (d % u) 0) [] (46 ∷ fraction_text p (d % u)))) is
-    ∙ sym (text_parts b d p near some)
+pub text_some : (b : Bool) (d p whole fraction : ℕ) (first second out : List ℕ) → p ≤ 18 → 0 < d → whole ≡ d / 10 ^ p → fraction ≡ d % 10 ^ p → first ≡ cond b (45 ∷ []) [] → second ≡ first ++ whole_text whole → 0 < fraction → out ≡ (second ++ (46 ∷ [])) ++ fraction_text p fraction → out ≡ number_text (signed b (d * 10 ^ (18 - p)))
+text_some b d p whole fraction first second out near some whole_is fraction_is f s more o =
+    o ∙ ap (λ t. (t ++ (46 ∷ [])) ++ fraction_text p fraction) (s ∙ ap (λ t. t ++ whole_text whole) f)
+    ∙ append_assoc (cond b (45 ∷ []) [] ++ whole_text whole) (46 ∷ []) (fraction_text p fraction)
+    ∙ append_assoc (cond b (45 ∷ []) []) (whole_text whole) (46 ∷ fraction_text p fraction)
+    ∙ ap (λ t. cond b (45 ∷ []) [] ++ (whole_text whole ++ cond t [] (46 ∷ fraction_text p fraction))) (sym (eqb_zero fraction more))
+    ∙ text_of_parts b d p whole fraction near some whole_is fraction_is
 
-pub text_whole : (b : Bool) (d p unit : ℕ) (first out : List ℕ) → unit ≡ 10 ^ p → p ≤ 18 → 0 < d → first ≡ cond b (45 ∷ []) [] → out ≡ first ++ whole_text (d / unit) → d % unit ≤ 0 → out ≡ number_text (signed b (d * 10 ^ (18 - p)))
-text_whole b d p unit first out is near some f o none =
-    let zero_part : d % unit ≡ 0 = omega arith in
-    o ∙ ap (λ t. t ++ whole_text (d / unit)) f
-    ∙ ap (λ t. cond b (45 ∷ []) [] ++ t) (sym (append-nil (whole_text (d / unit))))
-    ∙ ap (λ x. cond b (45 ∷ []) [] ++ (whole_text (d / unit) ++ cond (eqb x 0) [] (46 ∷ fraction_text p x))) (sym zero_part)
-    ∙ ap (λ u. cond b (45 ∷ []) [] ++ (whole_text (d / u) ++ cond (eqb (d % u) 0) [] (46 ∷ fraction_text p (d % u)))) is
-    ∙ sym (text_parts b d p near some)
+pub text_whole : (b : Bool) (d p whole fraction : ℕ) (first out : List ℕ) → p ≤ 18 → 0 < d → whole ≡ d / 10 ^ p → fraction ≡ d % 10 ^ p → first ≡ cond b (45 ∷ []) [] → out ≡ first ++ whole_text whole → fraction ≤ 0 → out ≡ number_text (signed b (d * 10 ^ (18 - p)))
+text_whole b d p whole fraction first out near some whole_is fraction_is f o none =
+    let zero_part : fraction ≡ 0 = omega arith in
+    o ∙ ap (λ t. t ++ whole_text whole) f
+    ∙ ap (λ t. cond b (45 ∷ []) [] ++ t) (sym (append-nil (whole_text whole)))
+    ∙ ap (λ x. cond b (45 ∷ []) [] ++ (whole_text whole ++ cond (eqb x 0) [] (46 ∷ fraction_text p x))) (sym zero_part)
+    ∙ text_of_parts b d p whole fraction near some whole_is fraction_is
 
 pub decimal_short : (n : ℕ) (bs : List ℕ) → n < 10 ^ 18 → bs ≡ decimal n → length bs ≤ 18
 decimal_short n bs h e = subst (λ (t : List ℕ). length t ≤ 18) (sym e) (length-decimal-le 18 n (omega arith) h (omega arith))

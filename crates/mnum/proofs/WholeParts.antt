@@ -1,6 +1,6 @@
 -- SPDX-License-Identifier: Apache-2.0
 -- The whole part of a number, and whether it is 0.
-use Rattle.mnum.proofs.NumWords.{ℕ, zero, suc, ◌≡◌, ◌*◌, ◌-◌, ◌/◌, ◌^◌, ◌<◌, ◌≤◌, ◌+◌, Bool, true, false, not, refl, sym, ◌∙◌, ap, arith, lit<, pos, ◌-ℤ◌, ◌==◌, unsigned_abs, int_eq, w64, abs_signed, mul-div-mul_right, Decides-eqb, Decides-int_eq, same_from_decides, ints, signed, ten_pos, ten_add, mul-pos, zero-mul, div-le_self, beq, to_z, of_z}
+use Rattle.mnum.proofs.NumWords.{ℕ, zero, suc, ◌≡◌, ◌*◌, ◌-◌, ◌/◌, ◌%◌, ◌^◌, ◌<◌, ◌≤◌, ◌+◌, Bool, true, false, not, refl, sym, ◌∙◌, ap, arith, lit<, pos, ◌-ℤ◌, ◌==◌, unsigned_abs, int_eq, w64, abs_signed, mul-div-mul_right, Decides-eqb, Decides-int_eq, same_from_decides, ints, signed, ten_pos, ten_add, mul-pos, zero-mul, beq, to_z, of_z}
 use Rattle.mspec.specs.Interpretations.{whole_part, is_true}
 use Rattle.mnum.proofs.Sums.{quotient_signed}
 
@@ -24,11 +24,18 @@ whole_is s n p few =
     ∙ sym (quotient_signed s false (n * 10 ^ (18 - p)) (10 ^ 18) (lit< tt))
 
 -- what the machine keeps of a whole part, with its sign
-pub whole_kept : (n q : ℕ) → n < 10 ^ 18 → to_z w64 (n / q) ≡ signed false (n / q)
-whole_kept n q small = omega (arith, ints, div-le_self n q)
+pub whole_kept : (n : ℕ) → n < 10 ^ 18 → to_z w64 n ≡ signed false n
+whole_kept n small = omega (arith, ints)
 
-pub whole_negated : (n q : ℕ) → n < 10 ^ 18 → to_z w64 (of_z w64 (pos 0 -ℤ to_z w64 (n / q))) ≡ signed true (n / q)
-whole_negated n q small = omega (arith, ints, div-le_self n q)
+pub whole_negated : (n : ℕ) → n < 10 ^ 18 → to_z w64 (of_z w64 (pos 0 -ℤ to_z w64 n)) ≡ signed true n
+whole_negated n small = omega (arith, ints)
+
+-- where no places are counted
+pub all_whole : (d p : ℕ) → p ≡ 0 → d ≡ d / 10 ^ p
+all_whole d p none = let one : d ≡ d / 1 = omega arith in one ∙ ap (λ k. d / 10 ^ k) (sym none)
+
+pub no_fraction : (d p : ℕ) → p ≡ 0 → 0 ≡ d % 10 ^ p
+no_fraction d p none = let one : 0 ≡ d % 1 = omega arith in one ∙ ap (λ k. d % 10 ^ k) (sym none)
 
 pub truth_is : (s : Bool) (n p : ℕ) → not (n == 0) ≡ is_true (signed s (n * 10 ^ (18 - p)))
 truth_is s n p =

@@ -1,6 +1,6 @@
 // SPDX-License-Identifier: Apache-2.0
 // Numbers and whole numbers, and the truth of a number.
-ghost use Rattle.std.specs.Prelude.{◌≡◌, ◌^◌, ◌<◌, ◌*ℤ◌, pos, unsigned_abs};
+ghost use Rattle.std.specs.Prelude.{◌≡◌, ◌/◌, ◌%◌, ◌^◌, ◌<◌, ◌*ℤ◌, pos, unsigned_abs};
 ghost use Rattle.mspec.specs.Interpretations.{whole_part, is_true};
 ghost use Rattle.mnum.specs.Num.{units};
 
@@ -21,13 +21,30 @@ impl Num {
         }
     }
 
+    // The digits before the point, and those behind it. Most numbers are whole, and a division takes as long as all else of their texts.
+    #[inline]
+    #[tactic(auto, using(crate::proofs::WholeParts::all_whole, crate::proofs::WholeParts::no_fraction, std::proofs::lemmas::Nat::mod_below, mspec::proofs::Powers::ten_pos))]
+    pub(crate) fn parts(self) -> (u64, u64)
+        ensures whole { result.0 ≡ self.digits / 10 ^ self.places }
+        ensures fraction { result.1 ≡ self.digits % 10 ^ self.places }
+        ensures few_whole { result.0 < 10 ^ 18 }
+        ensures few_places { result.1 < 10 ^ self.places }
+    {
+        if self.places == 0 {
+            return (self.digits, 0);
+        }
+        let unit = power(self.places) as u64;
+        (self.digits / unit, self.digits % unit)
+    }
+
     /// The number without its fraction, which is below 10^18 in size.
     #[inline]
     pub fn to_whole(self) -> i64
         ensures value { result ≡ whole_part (units self) }
         ensures below { unsigned_abs result < 10 ^ 18 }
     {
-        let size = (self.digits / power(self.places) as u64) as i64;
+        let (whole, _) = self.parts();
+        let size = whole as i64;
         if self.negative { -size } else { size }
     }
 

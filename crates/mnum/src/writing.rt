@@ -74,9 +74,8 @@ impl Num {
             return out;
         }
         push_sign(&mut out, self.negative);
-        let unit = power(self.places) as u64;
-        push_whole(&mut out, self.digits / unit);
-        let fraction = self.digits % unit;
+        let (whole, fraction) = self.parts();
+        push_whole(&mut out, whole);
         if fraction > 0 {
             out.push(b'.');
             push_fraction(&mut out, self.places, fraction);

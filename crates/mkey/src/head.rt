@@ -42,6 +42,7 @@ impl Head {
     }
 
     // The order of the two numbers.
+    #[inline]
     pub fn order(&self, other: &Head) -> Ordering
         ensures { result ≡ nat_cmp self.now other.now }
     {
@@ -83,6 +84,7 @@ impl Half {
     }
 
     // The order of the two numbers.
+    #[inline]
     fn order(&self, other: &Half) -> Ordering
         ensures { result ≡ nat_cmp self.now other.now }
     {

@@ -1,38 +1,10 @@
 -- SPDX-License-Identifier: Apache-2.0
 -- A walk over the atoms of a pattern, of which each ends at one place only.
-use Rattle.moperator.proofs.OperatorWords.{◌≡◌, ℕ, zero, suc, ◌-◌, ◌<◌, ◌≤◌, ◌↔◌, Bool, true, false, eqb, List, [], ◌∷◌, length, get_or, map, take, drop, Some, None, Result, Ok, Err, IfOk, refl, sym, ap, subst, ◌∙◌, arith, drop-drop, length-drop, ◌||◌, Decides-eqb, take_rest, Atom, Matches, is_in, is_in_any, pattern_code, atom_of, atom_tree, IsLent, IsFirstOf, IsEnding, capped_atom, pattern_of}
+use Rattle.moperator.proofs.OperatorWords.{◌≡◌, ℕ, zero, suc, ◌-◌, ◌<◌, ◌≤◌, ◌↔◌, Bool, eqb, List, [], ◌∷◌, length, get_or, take, drop, Some, Result, Ok, Err, IfOk, refl, sym, ap, subst, ◌∙◌, arith, drop-drop, length-drop, Decides-eqb, take_rest, Atom, Matches, atom_of, atom_tree, IsLent, IsFirstOf, IsEnding, capped_atom, pattern_of}
 use Rattle.std.proofs.Common.{◌+◌, Option, Decides}
-use Rattle.mspec.specs.Pattern as plain
 use Rattle.mtree.specs.declared.tree.Atom as tree
 use Rattle.mtext.specs.declared.ending.LentAtom.{LentAtom}
-use Rattle.mtext.specs.declared.ending.Ending.{Ending}
 use Rattle.mtext.specs.declared.ending.Ending.TheVariants as ending
-
--- ---- the classes of letters
-
-swapped : (a b r : Bool) → ((a || b) || r) ≡ (b || (a || r))
-swapped true true r = refl
-swapped true false r = refl
-swapped false true r = refl
-swapped false false r = refl
-
-at_letter : (letters : List ℕ) (i x : ℕ) → i < length letters →
-    is_in_any (map pattern_code (drop i letters)) x ≡ (is_in (pattern_code (get_or letters i 0)) x || is_in_any (map pattern_code (drop (i + 1) letters)) x)
-at_letter [] i x within = absurd (omega arith)
-at_letter (c ∷ letters) zero x within = refl
-at_letter (c ∷ letters) (suc i) x within =
-    let more : suc (i + 1) ≡ suc i + 1 = omega arith in
-    at_letter letters i x (omega arith)
-    ∙ ap (λ (n : ℕ). is_in (pattern_code (get_or letters i 0)) x || is_in_any (map pattern_code (drop n (c ∷ letters))) x) more
-
-pub letter_more : (letters : List ℕ) (i x : ℕ) (old new : Bool) (code : plain.PatternCode) → i < length letters → code ≡ pattern_code (get_or letters i 0) → new ≡ (is_in code x || old) →
-    (old || is_in_any (map pattern_code (drop i letters)) x) ≡ is_in_any (map pattern_code letters) x →
-    (new || is_in_any (map pattern_code (drop (i + 1) letters)) x) ≡ is_in_any (map pattern_code letters) x
-letter_more letters i x old new code within is_code is_new known =
-    let rest = is_in_any (map pattern_code (drop (i + 1) letters)) x in
-    ap (λ (b : Bool). b || rest) (is_new ∙ ap (λ (k : plain.PatternCode). is_in k x || old) is_code)
-    ∙ swapped (is_in (pattern_code (get_or letters i 0)) x) old rest
-    ∙ ap (λ (b : Bool). old || b) (sym (at_letter letters i x within)) ∙ known
 
 -- ---- the atoms from a place on
 

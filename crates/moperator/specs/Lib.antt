@@ -3,4 +3,4 @@ pub mod Codes
 pub mod Faults
 pub mod Outcomes
 pub mod Calculations
-pub mod CappedCounts
+pub mod TreePatterns

@@ -2,13 +2,13 @@
 // Patterns.
 ghost use Rattle.std.specs.Prelude.{◌≡◌, length, map, option_map};
 ghost use Rattle.mgrammar.specs.ReadingWords.{behind_at, is_count, count_at, repeated_at, atom_at, many, pattern_at};
-ghost use Rattle.mtree.specs.Tree.{count_tree, repeated_tree, atom_tree};
+ghost use Rattle.mtree.specs.Tree.{repeated_tree, atom_tree};
 ghost use Rattle.mscan.specs.Gives.{Gives};
 
 use crate::fault::ParseFault;
 use crate::runs::{Class, past, run, text_after};
 use mnum::Bytes7;
-use mtree::{Atom, Count, Repeated};
+use mtree::{Atom, Count, Letters, Repeated};
 use std::alloc::Global;
 
 // A bound of a count has at most so many digits.
@@ -25,11 +25,11 @@ fn behind(alloc: Global, bytes: &[u8]) -> Result<(Option<Bytes7>, &[u8]), ParseF
     Ok((Some(Bytes7::from_slice(alloc, digits)?), rest))
 }
 
-fn is_count(count: &Count) -> bool
-    ensures { result ≡ is_count count.now.front count.now.behind }
+fn is_count(front: &Bytes7, behind: &Option<Bytes7>) -> bool
+    ensures { result ≡ is_count front.now behind.now }
 {
-    let front = count.front.as_bytes().len();
-    match &count.behind {
+    let front = front.as_bytes().len();
+    match behind {
         None => 0 < front && front <= MAX_DIGITS,
         Some(behind) => front <= MAX_DIGITS && behind.as_bytes().len() <= MAX_DIGITS,
     }
@@ -37,16 +37,15 @@ fn is_count(count: &Count) -> bool
 
 #[tactic(auto, unfolding(mgrammar::specs::ReadingWords::count_at))]
 fn count(alloc: Global, bytes: &[u8]) -> Result<(Count, &[u8]), ParseFault>
-    ensures { Gives (λ x. (count_tree x.0, x.1.now)) result (count_at bytes.now) }
+    ensures { Gives (λ x. (x.0, x.1.now)) result (count_at bytes.now) }
 {
     let (digits, rest) = run(Class::Digit, bytes);
     let front = Bytes7::from_slice(alloc, digits)?;
     let (behind, rest) = behind(alloc, rest)?;
-    let count = Count { front, behind };
-    if !is_count(&count) {
+    if !is_count(&front, &behind) {
         return Err(ParseFault::Syntax);
     }
-    Ok((count, rest))
+    Ok((Count::new(front, behind), rest))
 }
 
 #[tactic(auto, unfolding(mgrammar::specs::ReadingWords::repeated_at))]
@@ -61,7 +60,8 @@ fn repeated(alloc: Global, bytes: &[u8]) -> Result<(Repeated, &[u8]), ParseFault
     if letters.is_empty() {
         return Err(ParseFault::Syntax);
     }
-    Ok((Repeated::Classes(Bytes7::from_slice(alloc, letters)?), rest))
+    let letters = Letters::new(Bytes7::from_slice(alloc, letters)?);
+    Ok((Repeated::Classes(letters), rest))
 }
 
 // The next atom of a pattern, where one begins.

@@ -3,6 +3,7 @@ mod TextWords
 pub mod FoundPlaces
 pub mod PieceSteps
 pub mod CharacterOrder
+pub mod ClassKinds
 pub mod PieceSetting
 pub mod CharacterPieces
 pub mod MadeTexts

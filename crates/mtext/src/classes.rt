@@ -1,27 +1,60 @@
 // SPDX-License-Identifier: Apache-2.0
 // Classes of characters, as a set.
-ghost use Rattle.std.specs.Prelude.{◌≡◌, ℕ, true, false, ◌&&◌, ◌||◌};
+ghost use Rattle.std.specs.Prelude.{◌≡◌, ℕ, ◌<◌, true, false, ◌||◌};
 ghost use Rattle.mspec.specs.Pattern.{is_in};
 ghost use Rattle.mtext.specs.PatternPlaces.{code_of};
-ghost use Rattle.mtext.specs.ClassSets.{is_in_set};
+ghost use Rattle.mtext.specs.ClassSets.{kind_of, has_kind, is_in_set};
 
 use crate::pattern::PatternCode;
 
-/// The characters of some classes. The seven classes are joined from five that have no character in common, so a set says which
-/// of these five it has, and needs no memory.
+/// The characters of some classes. The seven classes are joined from five kinds that have no character in common, so a set has a
+/// bit for each of these, and needs no memory.
 #[derive(Clone, Copy, Debug, PartialEq, Eq, Drop)]
 pub struct Classes {
-    digits: bool,
-    uppers: bool,
-    lowers: bool,
-    controls: bool,
-    others: bool,
+    kinds: u8,
 }
 
-fn both(one: bool, other: bool) -> bool
-    ensures { result ≡ (one && other) }
+// The bits of the kinds, of which digits have the lowest.
+const DIGITS: u8 = 1;
+
+const UPPERS: u8 = 2;
+
+const LOWERS: u8 = 4;
+
+const CONTROLS: u8 = 8;
+
+const OTHERS: u8 = 16;
+
+// The place of the bit of a character's kind.
+fn kind(byte: u8) -> u8
+    ensures value { result ≡ kind_of byte }
+    ensures small { result < 5 }
 {
-    one && other
+    if byte.is_ascii_digit() {
+        return 0;
+    }
+    if byte.is_ascii_uppercase() {
+        return 1;
+    }
+    if byte.is_ascii_lowercase() {
+        return 2;
+    }
+    if byte.is_ascii_control() { 3 } else { 4 }
+}
+
+// The kinds of a class.
+fn kinds(code: PatternCode) -> u8
+    ensures { (c : ℕ) → has_kind result c ≡ is_in (code_of code) c }
+{
+    match code {
+        PatternCode::A => UPPERS | LOWERS,
+        PatternCode::C => CONTROLS,
+        PatternCode::E => DIGITS | UPPERS | LOWERS | CONTROLS | OTHERS,
+        PatternCode::L => LOWERS,
+        PatternCode::N => DIGITS,
+        PatternCode::P => OTHERS,
+        PatternCode::U => UPPERS,
+    }
 }
 
 impl Classes {
@@ -29,52 +62,16 @@ impl Classes {
     pub fn none() -> Classes
         ensures { (c : ℕ) → is_in_set result c ≡ false }
     {
-        Classes {
-            digits: false,
-            uppers: false,
-            lowers: false,
-            controls: false,
-            others: false,
-        }
+        Classes { kinds: 0 }
     }
 
     /// The characters of the set, and those of a class.
+    #[tactic(auto, using(crate::proofs::ClassKinds::joined))]
     pub fn with(self, code: PatternCode) -> Classes
         ensures { (c : ℕ) → is_in_set result c ≡ (is_in (code_of code) c || is_in_set self c) }
     {
-        match code {
-            PatternCode::A => Classes {
-                uppers: true,
-                lowers: true,
-                ..self
-            },
-            PatternCode::C => Classes {
-                controls: true,
-                ..self
-            },
-            PatternCode::E => Classes {
-                digits: true,
-                uppers: true,
-                lowers: true,
-                controls: true,
-                others: true,
-            },
-            PatternCode::L => Classes {
-                lowers: true,
-                ..self
-            },
-            PatternCode::N => Classes {
-                digits: true,
-                ..self
-            },
-            PatternCode::P => Classes {
-                others: true,
-                ..self
-            },
-            PatternCode::U => Classes {
-                uppers: true,
-                ..self
-            },
+        Classes {
+            kinds: self.kinds | kinds(code),
         }
     }
 
@@ -82,30 +79,14 @@ impl Classes {
     pub(crate) fn contains(self, byte: u8) -> bool
         ensures { result ≡ is_in_set self byte }
     {
-        if byte.is_ascii_digit() {
-            return self.digits;
-        }
-        if byte.is_ascii_uppercase() {
-            return self.uppers;
-        }
-        if byte.is_ascii_lowercase() {
-            return self.lowers;
-        }
-        if byte.is_ascii_control() {
-            return self.controls;
-        }
-        self.others && byte < 128
+        byte < 128 && self.kinds >> kind(byte) & 1 == 1
     }
 
     /// Have the two sets a character in common.
+    #[tactic(auto, using(crate::proofs::ClassKinds::apart))]
     pub(crate) fn meets(self, other: Classes) -> bool
         ensures { result ≡ false → (c : ℕ) → is_in_set other c ≡ true → is_in_set self c ≡ false }
     {
-        let digits = both(self.digits, other.digits);
-        let uppers = both(self.uppers, other.uppers);
-        let lowers = both(self.lowers, other.lowers);
-        let controls = both(self.controls, other.controls);
-        let others = both(self.others, other.others);
-        digits || uppers || lowers || controls || others
+        self.kinds & other.kinds != 0
     }
 }

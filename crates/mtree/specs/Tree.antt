@@ -3,7 +3,7 @@
 pub use Rattle.mtree.specs.Functions.{value_function_tree, variable_function_tree, function_tree}
 use Rattle.std.specs.Prelude.{Option, Box, map, option_map}
 use Rattle.mgrammar.specs.Grammar as grammar
-use Rattle.mgrammar.specs.Grammar.{SignTree, TruthTree, BinaryTree, KeywordTree, SpecialTree, CountTree, RepeatedTree, AtomTree, ExprTree, TailTree, tails_of, exprs_of, choices_of, OperandTree, PrimaryTree, ReferenceTree, TargetTree, DestinationTree, ParameterTree, EntryTree, LockKindTree, LockedTree, ArgTree, CommandTree, SpacedTree, LineTree}
+use Rattle.mgrammar.specs.Grammar.{SignTree, TruthTree, BinaryTree, KeywordTree, SpecialTree, RepeatedTree, AtomTree, ExprTree, TailTree, tails_of, exprs_of, choices_of, OperandTree, PrimaryTree, ReferenceTree, TargetTree, DestinationTree, ParameterTree, EntryTree, LockKindTree, LockedTree, ArgTree, CommandTree, SpacedTree, LineTree}
 use Rattle.mgrammar.specs.Commands.{form_of}
 use Rattle.mgrammar.specs.RoutineLine as routine
 use Rattle.mgrammar.specs.RoutineLine.{BodyTree, RoutineLineTree}
@@ -17,7 +17,6 @@ use Rattle.mtree.specs.declared.tree.Keyword.{Keyword}
 use Rattle.mtree.specs.declared.tree.Keyword.TheVariants as keyword
 use Rattle.mtree.specs.declared.tree.SpecialVariable.{SpecialVariable}
 use Rattle.mtree.specs.declared.tree.SpecialVariable.TheVariants as special_variable
-use Rattle.mtree.specs.declared.tree.Count.{Count}
 use Rattle.mtree.specs.declared.tree.Repeated.{Repeated}
 use Rattle.mtree.specs.declared.tree.Repeated.TheVariants as repeated
 use Rattle.mtree.specs.declared.tree.Atom.{Atom}
@@ -95,15 +94,12 @@ keyword_tree keyword.Halt = grammar.halt_word
 abbrev pub special_tree : SpecialVariable → SpecialTree
 special_tree special_variable.Test = grammar.test_special
 
-abbrev pub count_tree : Count → CountTree
-count_tree c = record { front = c.front; behind = c.behind }
-
 abbrev pub repeated_tree : Repeated → RepeatedTree
 repeated_tree (repeated.Classes letters) = grammar.classes letters
 repeated_tree (repeated.Copies t) = grammar.copies t
 
 abbrev pub atom_tree : Atom → AtomTree
-atom_tree a = record { count = count_tree a.count; repeated = repeated_tree a.repeated }
+atom_tree a = record { count = a.count; repeated = repeated_tree a.repeated }
 
 -- a condition, and its value
 abbrev pub ChoiceTree : Type 0

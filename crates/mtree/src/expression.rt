@@ -84,7 +84,7 @@ fn put_repeated(out: &mut Bytes7, repeated: &Repeated) -> Result<(), AllocError>
     ensures { OnOk result (out.new ≡ out.old ++ spell_repeated (repeated_tree repeated.now)) }
 {
     match repeated {
-        Repeated::Classes(letters) => put_text(out, letters),
+        Repeated::Classes(letters) => put_text(out, letters.as_text()),
         Repeated::Copies(text) => put_string(out, text),
     }
 }
@@ -92,8 +92,8 @@ fn put_repeated(out: &mut Bytes7, repeated: &Repeated) -> Result<(), AllocError>
 fn put_atom(out: &mut Bytes7, atom: &Atom) -> Result<(), AllocError>
     ensures { OnOk result (out.new ≡ out.old ++ spell_atom (atom_tree atom.now)) }
 {
-    put_text(out, &atom.count.front)?;
-    put_behind(out, &atom.count.behind)?;
+    put_text(out, atom.count.as_front())?;
+    put_behind(out, atom.count.as_behind())?;
     put_repeated(out, &atom.repeated)
 }
 

@@ -8,8 +8,10 @@
 #![tactic(auto)]
 
 mod brackets;
+mod count;
 mod expression;
 mod function_word;
+mod letters;
 mod literal;
 mod pieces;
 mod put_list;
@@ -19,12 +21,14 @@ pub mod words;
 pub mod write;
 
 pub use brackets::FunctionWord;
+pub use count::Count;
 pub use function_word::{ValueWord, VariableWord};
+pub use letters::Letters;
 pub use literal::Literal;
 pub use tree::{
-    Arg, Atom, Binary, Body, Choice, Command, Count, Destination, Entry, Expr, Function, Keyword,
-    Line, LockKind, Locked, Operand, Parameter, PieceTarget, Primary, Reference, Referring,
-    Repeated, RoutineLine, Sign, Spaced, SpecialVariable, Tail, Target, Truth, ValueFunction,
+    Arg, Atom, Binary, Body, Choice, Command, Destination, Entry, Expr, Function, Keyword, Line,
+    LockKind, Locked, Operand, Parameter, PieceTarget, Primary, Reference, Referring, Repeated,
+    RoutineLine, Sign, Spaced, SpecialVariable, Tail, Target, Truth, ValueFunction,
     VariableFunction,
 };
 pub use words::{function_of, is_piece, keyword_of, special_of};

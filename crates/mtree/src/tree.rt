@@ -1,6 +1,8 @@
 // SPDX-License-Identifier: Apache-2.0
 // The tree of a line.
+use crate::count::Count;
 use crate::function_word::{ValueWord, VariableWord};
+use crate::letters::Letters;
 use crate::literal::Literal;
 use mnum::{Bytes7, Name};
 use std::rc::Rc;
@@ -54,18 +56,11 @@ pub enum Binary {
     IsNot(Truth),
 }
 
-/// How often an atom of a pattern repeats: digits, and a point with the digits behind it, all as they are written.
-#[derive(Drop)]
-pub struct Count {
-    pub front: Bytes7,
-    pub behind: Option<Bytes7>,
-}
-
 /// What an atom of a pattern repeats.
 #[derive(Drop)]
 pub enum Repeated {
-    /// Characters of any of these classes; the letters as they are written.
-    Classes(Bytes7),
+    /// Characters of any of these classes.
+    Classes(Letters),
     /// A string, without the quotes around it.
     Copies(Bytes7),
 }

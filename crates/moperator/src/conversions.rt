@@ -13,19 +13,31 @@ ghost use Rattle.moperator.specs.declared.code.Code.TheVariants.{Zover};
 use crate::code::Code;
 use mnum::{Bytes7, Num};
 use mtext::TextFault;
-use mvalue::Value;
+use mvalue::{Kind, Value};
 
 /// The number that a value stands for. Takes no memory.
 ///
 /// # Errors
 ///
 /// `Zover` where the number is too large.
-#[inline]
+#[inline(always)]
 pub fn number_of(value: &Value) -> Result<Num, Code>
     ensures number { Yields fault_of (as_number value.now) units result }
     ensures over { IfErr result (λ code. code ≡ Zover) }
 {
-    let number = value.number()?;
+    match value.kind() {
+        Kind::Number(number) => Ok(*number),
+        Kind::Text(text) => text_number(text),
+    }
+}
+
+// The number that a text stands for. It stands apart, since most values are numbers already.
+#[inline(never)]
+fn text_number(text: &Bytes7) -> Result<Num, Code>
+    ensures number { Yields fault_of (as_number text.now) units result }
+    ensures over { IfErr result (λ code. code ≡ Zover) }
+{
+    let number = Num::from_text(text.as_bytes())?;
     Ok(number)
 }
 

@@ -5,13 +5,32 @@ use Rattle.std.specs.Iterator.{Yields as IterYields}
 use Rattle.std.specs.declared.vec.IntoIter.{IntoIter}
 use Rattle.mmeaning.proofs.Yieldings.{yielded}
 use Rattle.meval.specs.declared.eval.Eval.{Eval}
-use Rattle.meval.proofs.Calls.{moved, keeps_itself as eval_keeps_itself, keeps_on as eval_keeps_on}
+use Rattle.meval.specs.declared.depth.Depth.{Depth}
+use Rattle.meval.proofs.Calls.{moved, keeps_at_depth as eval_keeps_at_depth, keeps_itself as eval_keeps_itself, keeps_on as eval_keeps_on}
+
+-- ---- what calls keep to
+
+pub keeps_itself : {S : Type 0} (a : Parts S) → KeepsLoans a a
+keeps_itself a = record { eval = eval_keeps_itself a.eval; locks = refl; out = refl }
+
+pub keeps_on : {S : Type 0} {a b c : Parts S} → KeepsLoans a b → KeepsLoans b c → KeepsLoans a c
+keeps_on k l = record { eval = eval_keeps_on k.eval l.eval; locks = l.locks ∙ k.locks; out = l.out ∙ k.out }
+
+-- where its line stands plays no part
+pub keeps_at_depth : {S : Type 0} {a b : Parts S} (d : Depth) → KeepsLoans (record a { eval = record a.eval { depth = d } }) b → KeepsLoans a b
+keeps_at_depth d k = record { eval = eval_keeps_at_depth d k.eval; locks = k.locks; out = k.out }
+
+-- what leaves the evaluation as it is
+keeps_same : {S : Type 0} {a b : Parts S} → b.eval ≡ a.eval → b.locks.ghost_name ≡ a.locks.ghost_name → b.out.ghost_name ≡ a.out.ghost_name → KeepsLoans a b
+keeps_same {a = a} same locks out = record { eval = subst (λ e. KeepsEval a.eval e) (sym same) (eval_keeps_itself a.eval); locks = locks; out = out }
+
+-- ---- what they do
 
 pub does_then : {S A B X Y : Type 0} {g : Ghosts S} {p : Inside → Act A} (q : Inside → A → Act B) {f : X → A} {j : Y → B} {old mid new : Parts S} {x : X} {r : Result Y Code}
     → Does g p f old (Ok x) mid → Does g (λ i. q i (f x)) j mid r new → Does g (λ i. p i >>= q i) j old r new
 does_then q {f = f} {old = old} {x = x} d k = record {
-  at = λ sound. did_then (λ n. q (inside_at old.eval n)) (d.at sound) (moved (λ i. q i (f x)) d.same d.depth (k.at sound));
-  same = k.same ∙ d.same;
+  at = λ sound. did_then (λ n. q (inside_at old.eval n)) (d.at sound) (moved (λ i. q i (f x)) d.keeps.eval.same d.depth (k.at sound));
+  keeps = keeps_on d.keeps k.keeps;
   depth = k.depth ∙ d.depth;
 }
 
@@ -20,7 +39,7 @@ pub does_stopped : {S A B X Y : Type 0} {g : Ghosts S} {p : Inside → Act A} (q
     → Does g p f old (Err e) new → IsErr r × IsErrAnd r (λ x. x ≡ e) → Does g (λ i. p i >>= q i) j old r new
 does_stopped {g = g} {p = p} q {j = j} {old = old} {new = new} {e = e} {r = r} d h = subst (λ r. Does g (λ i. p i >>= q i) j old r new) (sym (residual_is r e h)) (record {
   at = λ sound. did_failed (λ n. q (inside_at old.eval n)) (d.at sound);
-  same = d.same;
+  keeps = d.keeps;
   depth = d.depth;
 })
 
@@ -31,7 +50,7 @@ does_failed q d = does_stopped q d (refl, refl)
 pub does_gives : {S A X : Type 0} {g : Ghosts S} {parts : Parts S} (a : A) (f : X → A) (x : X) → f x ≡ a → Does g (λ i. give a) f parts (Ok x) parts
 does_gives a f x same = record {
   at = λ sound. did_gives a f x same;
-  same = refl;
+  keeps = keeps_itself _;
   depth = refl;
 }
 
@@ -39,7 +58,7 @@ does_gives a f x same = record {
 pub does_evaluated : {S A X : Type 0} {g : Ghosts S} {p : Inside → Act A} {f : X → A} {old : Parts S} {e : Eval S} {r : Result X Code} → Evaluates g p f old.eval r e → Does g p f old r (record old { eval = e })
 does_evaluated {old = old} d = record {
   at = λ sound. d.at sound old.out.now.items old.locks.now;
-  same = d.same;
+  keeps = record { eval = d.keeps; locks = refl; out = refl };
   depth = d.depth;
 }
 
@@ -75,29 +94,29 @@ module _ {S T B V : Type 0} {g : Ghosts S} (all : Inside → List V → List B �
 pub does_yielded : {S A X : Type 0} {g : Ghosts S} {p : Act A} {f : X → A} {parts : Parts S} {r : Result X Code} → Yields fault_of p f r → Does g (λ i. p) f parts r parts
 does_yielded {g = g} {parts = parts} y = record {
   at = λ sound. yielded (here_of g parts) y;
-  same = refl;
+  keeps = keeps_itself _;
   depth = refl;
 }
 
 -- want of memory, by a `?` that the call returns: the store is as it was
 pub does_wanting : {S A X : Type 0} {g : Ghosts S} {old new : Parts S} (p : Inside → Act A) (f : X → A) (r : Result X Code) → IsErr r × IsErrAnd r (λ x. x ≡ Zmem)
-    → new.eval ≡ old.eval → new.locks.now ≡ old.locks.now → Does g p f old r new
-does_wanting {g = g} {old = old} {new = new} p f r h same locked = subst (λ r. Does g p f old r new) (sym (residual_is r Zmem h)) (record {
+    → new.eval ≡ old.eval → new.locks.now ≡ old.locks.now → new.locks.ghost_name ≡ old.locks.ghost_name → new.out.ghost_name ≡ old.out.ghost_name → Does g p f old r new
+does_wanting {g = g} {old = old} {new = new} p f r h same locked locks out = subst (λ r. Does g p f old r new) (sym (residual_is r Zmem h)) (record {
   at = λ sound.
       did_lost (λ n. p (inside_at old.eval n)) f Zmem tt (λ i. record { globals = g.content (sym same i).store.now; locks = sym locked i })
       (let few = ap (λ e. e.steps) same in omega (arith, few));
-  same = ap standing_of same;
+  keeps = keeps_same same locks out;
   depth = ap (λ e. e.depth) same;
 })
 
 -- a text is written
-pub does_write : {S : Type 0} {g : Ghosts S} (old new : Parts S) (x : Text) → new.out.now.items ≡ old.out.now.items ++ x → new.eval ≡ old.eval → new.locks ≡ old.locks → Does g (λ i. write x) (λ (u : Unit {0}). u) old (Ok tt) new
-does_write {g = g} old new x out same locked = record {
+pub does_write : {S : Type 0} {g : Ghosts S} (old new : Parts S) (x : Text) → new.out.now.items ≡ old.out.now.items ++ x → new.eval ≡ old.eval → new.locks ≡ old.locks → new.out.ghost_name ≡ old.out.ghost_name → Does g (λ i. write x) (λ (u : Unit {0}). u) old (Ok tt) new
+does_write {g = g} old new x out same locked lent = record {
   at = λ sound. record {
     at = λ n le i. (Gives tt (eval_here g (sym same i) (sym out i) (sym locked i).now).0, (eval_here g (sym same i) (sym out i) (sym locked i).now).1);
     fewer = let few = ap (λ e. e.steps) same in omega (arith, few);
   };
-  same = ap standing_of same;
+  keeps = keeps_same same (ap (λ locks. locks.ghost_name) locked) lent;
   depth = ap (λ e. e.depth) same;
 }
 
@@ -106,7 +125,7 @@ pub at_evaluated : {S A X : Type 0} {g : Ghosts S} {p : Inside → Act A} {f : X
     → DoesAt g (λ a n. p (inside a n (depth_of d))) f old r (record old { eval = e })
 at_evaluated {old = old} d k = record {
   at = λ sound. k.at sound old.out.now.items old.locks.now;
-  same = k.same;
+  keeps = record { eval = eval_keeps_at_depth d k.keeps; locks = refl; out = refl };
 }
 
 -- a call, at a depth of its own
@@ -114,7 +133,7 @@ pub at_done : {S A X : Type 0} {g : Ghosts S} {p : Inside → Act A} {f : X → 
     → DoesAt g (λ a n. p (inside a n (depth_of d))) f old r new
 at_done d k = record {
   at = λ sound. k.at sound;
-  same = k.same;
+  keeps = keeps_at_depth d k.keeps;
 }
 
 -- ---- truths
@@ -127,18 +146,6 @@ truth_then {g = g} e q {j = j} {old = old} {new = new} {r = r} d k = does_is (λ
 pub truth_stopped : {S B Y : Type 0} {g : Ghosts S} (e : ExprTree) (q : Bool → Act B) {j : Y → B} {old new : Parts S} {c : Code} {r : Result Y Code} → Does g (λ i. truth i e) (λ (b : Bool). b) old (Err c) new → IsErr r × IsErrAnd r (λ x. x ≡ c)
     → Does g (λ i. value i e >>= (λ x. as_truth x >>= q)) j old r new
 truth_stopped e q d h = does_is (λ i. sym (assoc (value i e) as_truth q)) (does_stopped (λ i. q) d h)
-
--- ---- loans
-
-pub keeps_itself : {S : Type 0} (a : Parts S) → KeepsLoans a a
-keeps_itself a = record { eval = eval_keeps_itself a.eval; locks = refl; out = refl }
-
-pub keeps_on : {S : Type 0} {a b c : Parts S} → KeepsLoans a b → KeepsLoans b c → KeepsLoans a c
-keeps_on k l = record { eval = eval_keeps_on k.eval l.eval; locks = l.locks ∙ k.locks; out = l.out ∙ k.out }
-
--- of an evaluation by what holds it
-pub keeps_evaluated : {S : Type 0} {a b : Parts S} {e : Eval S} → KeepsLoans a b → KeepsEval b.eval e → KeepsLoans a (record b { eval = e })
-keeps_evaluated k l = record { eval = eval_keeps_on k.eval l; locks = k.locks; out = k.out }
 
 -- ---- vectors that are used up
 

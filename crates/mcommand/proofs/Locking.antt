@@ -13,6 +13,7 @@ use Rattle.mspec.specs.Act.{give}
 use Rattle.mgrammar.specs.Grammar.{ExprTree, LockKindTree, lock_one}
 use Rattle.mcommand.specs.LockNames.{locking_names}
 use Rattle.mcommand.proofs.Calls.{does_then}
+use Rattle.meval.proofs.Calls.{keeps_itself}
 
 -- ---- names that may be taken
 
@@ -37,24 +38,24 @@ module _ {S : Type 0} {g : Ghosts S} where
   -- ---- operations
 
   -- one that changes no more than the locks
-  asked_of_locks : {X : Type 0} {old : Parts S} (l : MutBor Locks) (op : Op) (f : X → Answer op) (x : X) → ops_of (standing_of old.eval) op (here_of g old).1 ≡ (f x, (here_of g (record old { locks = l })).1)
+  asked_of_locks : {X : Type 0} {old : Parts S} (l : MutBor Locks) → l.ghost_name ≡ old.locks.ghost_name → (op : Op) (f : X → Answer op) (x : X) → ops_of (standing_of old.eval) op (here_of g old).1 ≡ (f x, (here_of g (record old { locks = l })).1)
       → Does g (λ i. ask op) f old (Ok x) (record old { locks = l })
-  asked_of_locks {old = old} l op f x e = record {
+  asked_of_locks {old = old} l lent op f x e = record {
     at = λ sound. asked op f x (here_of g (record old { locks = l })).1 e;
-    same = refl;
+    keeps = record { eval = keeps_itself _; locks = lent; out = refl };
     depth = refl;
   }
 
-  pub does_release : {old : Parts S} (l : MutBor Locks) → l.now ≡ released old.locks.now old.eval.terminal → Does g (λ i. ask Release) (λ (u : Unit {0}). u) old (Ok tt) (record old { locks = l })
-  does_release {old = old} l e = asked_of_locks l Release (λ u. u) tt (ap (λ locks. (tt, record (here_of g old).1 { locks = locks })) (sym e))
+  pub does_release : {old : Parts S} (l : MutBor Locks) → l.ghost_name ≡ old.locks.ghost_name → l.now ≡ released old.locks.now old.eval.terminal → Does g (λ i. ask Release) (λ (u : Unit {0}). u) old (Ok tt) (record old { locks = l })
+  does_release {old = old} l lent e = asked_of_locks l lent Release (λ u. u) tt (ap (λ locks. (tt, record (here_of g old).1 { locks = locks })) (sym e))
 
-  pub does_give_back : {old : Parts S} (n : LockName) (l : MutBor Locks) → l.now ≡ given_back old.locks.now old.eval.terminal n → Does g (λ i. ask (Give_back n)) (λ (u : Unit {0}). u) old (Ok tt) (record old { locks = l })
-  does_give_back {old = old} n l e = asked_of_locks l (Give_back n) (λ u. u) tt (ap (λ locks. (tt, record (here_of g old).1 { locks = locks })) (sym e))
+  pub does_give_back : {old : Parts S} (n : LockName) (l : MutBor Locks) → l.ghost_name ≡ old.locks.ghost_name → l.now ≡ given_back old.locks.now old.eval.terminal n → Does g (λ i. ask (Give_back n)) (λ (u : Unit {0}). u) old (Ok tt) (record old { locks = l })
+  does_give_back {old = old} n l lent e = asked_of_locks l lent (Give_back n) (λ u. u) tt (ap (λ locks. (tt, record (here_of g old).1 { locks = locks })) (sym e))
 
-  pub does_take : {old : Parts S} (names : List LockName) (all : Bool) (l : MutBor Locks) → MayTake (standing_of old.eval) names → taken old.locks.now old.eval.terminal names ≡ (if all then Some l.now else None) → (all ≡ false → l.now ≡ old.locks.now)
+  pub does_take : {old : Parts S} (names : List LockName) (all : Bool) (l : MutBor Locks) → l.ghost_name ≡ old.locks.ghost_name → MayTake (standing_of old.eval) names → taken old.locks.now old.eval.terminal names ≡ (if all then Some l.now else None) → (all ≡ false → l.now ≡ old.locks.now)
       → Does g (λ i. ask (Take names)) (λ (b : Bool). b) old (Ok all) (record old { locks = l })
-  does_take {old = old} names all l may e none =
-      asked_of_locks l (Take names) (λ b. b) all (take_open (standing_of old.eval) names (here_of g old).1 may ∙ ap (took (here_of g old).1) e ∙ either all none)
+  does_take {old = old} names all l lent may e none =
+      asked_of_locks l lent (Take names) (λ b. b) all (take_open (standing_of old.eval) names (here_of g old).1 may ∙ ap (took (here_of g old).1) e ∙ either all none)
     where
       either : (b : Bool) → (b ≡ false → l.now ≡ old.locks.now) → took (here_of g old).1 (if b then Some l.now else None) ≡ (b, record (here_of g old).1 { locks = l.now })
       either true same = refl

@@ -45,7 +45,7 @@ module _ {S : Type 0} {g : Ghosts S} where
 
       module _ (old : Text) {mid : Parts S} (found : Does g (λ i. read_or [] p) (λ (t : Text). t) parts (Ok old) mid) where
         pub piece_wanting : {r : Result (Unit {0}) Code} → IsErr r × IsErrAnd r (λ e. e ≡ Zmem) → Does g (λ i. piece_put d x place p) (λ (u : Unit {0}). u) parts r mid
-        piece_wanting {r = r} h = piece_read (does_then (λ i. piece_given p d x n) found (does_wanting (λ i. piece_given p d x n old) (λ u. u) r h refl refl))
+        piece_wanting {r = r} h = piece_read (does_then (λ i. piece_given p d x n) found (does_wanting (λ i. piece_given p d x n old) (λ u. u) r h refl refl refl refl))
 
         pub piece_assigned : (made : Text) (new : Parts S) (r : Result (Unit {0}) Code) → Answers (set_piece_of old d n x) (Ok made) → Does g (λ i. put_at p made) (λ (u : Unit {0}). u) mid r new → Does g (λ i. piece_put d x place p) (λ u. u) parts r new
         piece_assigned made new r made_is k = piece_read (does_then (λ i. piece_given p d x n) found (does_then (λ i. put_at p) (text_made (set_piece_of old d n x) made mid made_is) k))

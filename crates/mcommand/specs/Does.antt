@@ -13,19 +13,19 @@ use Rattle.mcommand.specs.declared.parts.Parts.{Parts}
 abbrev pub here_of : {S : Type 0} → Ghosts S → Parts S → Here
 here_of g p = eval_here g p.eval p.out.now.items p.locks.now
 
--- a call does an act
+-- a call keeps to what an evaluation does, and the locks and the output are those that were lent
+pub record KeepsLoans {S : Type 0} (old new : Parts S) : Type 0 where
+  pub eval : KeepsEval old.eval new.eval
+  pub locks : new.locks.ghost_name ≡ old.locks.ghost_name
+  pub out : new.out.ghost_name ≡ old.out.ghost_name
+
+-- it does an act
 pub record Does {S A X : Type 0} (g : Ghosts S) (p : Inside → Act A) (f : X → A) (old : Parts S) (r : Result X Code) (new : Parts S) : Type 0 where
   pub at : g.sound → Did (standing_of old.eval) g.steady fault_of (λ n. p (inside_at old.eval n)) f (here_of g old) r (here_of g new)
-  pub same : standing_of new.eval ≡ standing_of old.eval
+  pub keeps : KeepsLoans old new
   pub depth : new.eval.depth ≡ old.eval.depth
 
 -- the same of an act that is told the account and how many texts it may enter, since it brings its own depth
 pub record DoesAt {S A X : Type 0} (g : Ghosts S) (p : Text → ℕ → Act A) (f : X → A) (old : Parts S) (r : Result X Code) (new : Parts S) : Type 0 where
   pub at : g.sound → Did (standing_of old.eval) g.steady fault_of (p (standing_of old.eval).account) f (here_of g old) r (here_of g new)
-  pub same : standing_of new.eval ≡ standing_of old.eval
-
--- the references are those that were lent
-pub record KeepsLoans {S : Type 0} (old new : Parts S) : Type 0 where
-  pub eval : KeepsEval old.eval new.eval
-  pub locks : new.locks.ghost_name ≡ old.locks.ghost_name
-  pub out : new.out.ghost_name ≡ old.out.ghost_name
+  pub keeps : KeepsLoans old new

@@ -1,9 +1,9 @@
 // SPDX-License-Identifier: Apache-2.0
 // Conditions: those behind a command's word, and the arguments of IF.
-ghost use Rattle.std.specs.Prelude.{◌≡◌, ◌≤◌, option_map};
+ghost use Rattle.std.specs.Prelude.{◌≡◌, option_map};
 ghost use Rattle.mmeaning.specs.LineMeaning as meaning;
 ghost use Rattle.mtree.specs.Tree.{expr_tree, condition_tree};
-ghost use Rattle.mcommand.specs.Does.{Does, KeepsLoans};
+ghost use Rattle.mcommand.specs.Does.{Does};
 ghost use Rattle.mcommand.specs.Conditions.{tested};
 
 use crate::parts::Parts;
@@ -19,9 +19,7 @@ impl<'a, S: NodeStore> Parts<'a, S> {
     ///
     /// Those of the condition's value; `Zover` where its number is too large; `Zmem` for want of memory.
     pub fn holds(&mut self, alloc: Global, condition: &Option<Box<Expr>>) -> Result<bool, Code>
-        ensures loans { KeepsLoans self.old self.new }
-        ensures fewer { self.new.eval.steps ≤ self.old.eval.steps }
-        ensures does { Does S.NodeStore (λ i. meaning.holds i (condition_tree condition.now)) (λ holds. holds) self.old result self.new }
+        ensures { Does S.NodeStore (λ i. meaning.holds i (condition_tree condition.now)) (λ holds. holds) self.old result self.new }
     {
         match condition {
             None => Ok(true),
@@ -35,9 +33,7 @@ impl<'a, S: NodeStore> Parts<'a, S> {
     ///
     /// Those of the condition's value; `Zover` where its number is too large; `Zmem` for want of memory. `$TEST` is then as it was.
     pub fn testing(&mut self, alloc: Global, e: &Expr) -> Result<bool, Code>
-        ensures loans { KeepsLoans self.old self.new }
-        ensures fewer { self.new.eval.steps ≤ self.old.eval.steps }
-        ensures does { Does S.NodeStore (λ i. tested i (expr_tree e.now)) (λ is_true. is_true) self.old result self.new }
+        ensures { Does S.NodeStore (λ i. tested i (expr_tree e.now)) (λ is_true. is_true) self.old result self.new }
     {
         let is_true = self.eval.truth(alloc, e)?;
         self.eval.set_test(is_true);

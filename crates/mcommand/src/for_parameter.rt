@@ -1,11 +1,11 @@
 // SPDX-License-Identifier: Apache-2.0
 // A parameter of FOR: how its turns begin, and whether there is one more.
-ghost use Rattle.std.specs.Prelude.{◌≡◌, ◌≤◌, ℤ, ◌+ℤ◌, option_map};
+ghost use Rattle.std.specs.Prelude.{◌≡◌, ℤ, ◌+ℤ◌, option_map};
 ghost use Rattle.mmeaning.specs.Courses as courses;
 ghost use Rattle.mnum.specs.Num.{units};
 ghost use Rattle.mgrammar.specs.Grammar.{onward, until};
 ghost use Rattle.mtree.specs.Tree.{expr_tree, parameter_tree};
-ghost use Rattle.mcommand.specs.Does.{Does, KeepsLoans};
+ghost use Rattle.mcommand.specs.Does.{Does};
 ghost use Rattle.mcommand.specs.ForParameters.{course_view, start_and_increment, begun_within, started, advanced, added, added_within};
 
 use crate::parts::Parts;
@@ -73,9 +73,7 @@ impl<'a, S: NodeStore> Parts<'a, S> {
         e: &Expr,
         by: &Expr,
     ) -> Result<(Num, Num), Code>
-        ensures loans { KeepsLoans self.old self.new }
-        ensures fewer { self.new.eval.steps ≤ self.old.eval.steps }
-        ensures does { Does S.NodeStore (λ i. start_and_increment i (expr_tree e.now) (expr_tree by.now)) (λ numbers. (units numbers.0, units numbers.1)) self.old result self.new }
+        ensures { Does S.NodeStore (λ i. start_and_increment i (expr_tree e.now) (expr_tree by.now)) (λ numbers. (units numbers.0, units numbers.1)) self.old result self.new }
     {
         let number = self.eval.number(alloc, e)?;
         let by = self.eval.number(alloc, by)?;
@@ -90,9 +88,7 @@ impl<'a, S: NodeStore> Parts<'a, S> {
         e: &Expr,
         by: &Expr,
     ) -> Result<Option<Course>, Code>
-        ensures loans { KeepsLoans self.old self.new }
-        ensures fewer { self.new.eval.steps ≤ self.old.eval.steps }
-        ensures does { Does S.NodeStore (λ i. started i index.now (onward (expr_tree e.now) (expr_tree by.now))) (option_map course_view) self.old result self.new }
+        ensures { Does S.NodeStore (λ i. started i index.now (onward (expr_tree e.now) (expr_tree by.now))) (option_map course_view) self.old result self.new }
     {
         let (number, by) = self.start_and_increment(alloc, e, by)?;
         self.eval.set_variable(index, Value::of_number(number))?;
@@ -108,9 +104,7 @@ impl<'a, S: NodeStore> Parts<'a, S> {
         by: &Expr,
         limit: &Expr,
     ) -> Result<Option<Course>, Code>
-        ensures loans { KeepsLoans self.old self.new }
-        ensures fewer { self.new.eval.steps ≤ self.old.eval.steps }
-        ensures does { Does S.NodeStore (λ i. started i index.now (until (expr_tree e.now) (expr_tree by.now) (expr_tree limit.now))) (option_map course_view) self.old result self.new }
+        ensures { Does S.NodeStore (λ i. started i index.now (until (expr_tree e.now) (expr_tree by.now) (expr_tree limit.now))) (option_map course_view) self.old result self.new }
     {
         let (number, by) = self.start_and_increment(alloc, e, by)?;
         let limit = self.eval.number(alloc, limit)?;
@@ -130,9 +124,7 @@ impl<'a, S: NodeStore> Parts<'a, S> {
         index: &Name,
         parameter: &Parameter,
     ) -> Result<Option<Course>, Code>
-        ensures loans { KeepsLoans self.old self.new }
-        ensures fewer { self.new.eval.steps ≤ self.old.eval.steps }
-        ensures does { Does S.NodeStore (λ i. started i index.now (parameter_tree parameter.now)) (option_map course_view) self.old result self.new }
+        ensures { Does S.NodeStore (λ i. started i index.now (parameter_tree parameter.now)) (option_map course_view) self.old result self.new }
     {
         match parameter {
             Parameter::Once(e) => {
@@ -147,9 +139,7 @@ impl<'a, S: NodeStore> Parts<'a, S> {
 
     // Gives the index its number with the increment added.
     fn add(&mut self, index: &Name, number: Num, by: Num) -> Result<bool, Code>
-        ensures loans { KeepsLoans self.old self.new }
-        ensures fewer { self.new.eval.steps ≤ self.old.eval.steps }
-        ensures does { Does S.NodeStore (λ i. added index.now (units number) (units by)) (λ goes_on. goes_on) self.old result self.new }
+        ensures { Does S.NodeStore (λ i. added index.now (units number) (units by)) (λ goes_on. goes_on) self.old result self.new }
     {
         let next = computed(number.add(by))?;
         self.eval.set_variable(index, next)?;
@@ -158,9 +148,7 @@ impl<'a, S: NodeStore> Parts<'a, S> {
 
     // The same, unless that is beyond the limit.
     fn add_within(&mut self, index: &Name, number: Num, by: Num, limit: Num) -> Result<bool, Code>
-        ensures loans { KeepsLoans self.old self.new }
-        ensures fewer { self.new.eval.steps ≤ self.old.eval.steps }
-        ensures does { Does S.NodeStore (λ i. added_within index.now (units number) (units by) (units limit)) (λ goes_on. goes_on) self.old result self.new }
+        ensures { Does S.NodeStore (λ i. added_within index.now (units number) (units by) (units limit)) (λ goes_on. goes_on) self.old result self.new }
     {
         if goes_past(by, number, limit) {
             return Ok(false);
@@ -174,9 +162,7 @@ impl<'a, S: NodeStore> Parts<'a, S> {
     ///
     /// `M15` where the index is undefined; `Zover` where its number, or the sum, is too large; `Zmem` for want of memory.
     pub fn advance_parameter(&mut self, index: &Name, course: Course) -> Result<bool, Code>
-        ensures loans { KeepsLoans self.old self.new }
-        ensures fewer { self.new.eval.steps ≤ self.old.eval.steps }
-        ensures does { Does S.NodeStore (λ i. advanced index.now (course_view course)) (λ goes_on. goes_on) self.old result self.new }
+        ensures { Does S.NodeStore (λ i. advanced index.now (course_view course)) (λ goes_on. goes_on) self.old result self.new }
     {
         match course {
             Course::LastTurn => Ok(false),

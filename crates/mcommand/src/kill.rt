@@ -1,9 +1,9 @@
 // SPDX-License-Identifier: Apache-2.0
 // KILL of one variable.
-ghost use Rattle.std.specs.Prelude.{◌≡◌, ◌≤◌};
+ghost use Rattle.std.specs.Prelude.{◌≡◌};
 ghost use Rattle.mmeaning.specs.LineMeaning as meaning;
 ghost use Rattle.mtree.specs.Tree.{reference_tree};
-ghost use Rattle.mcommand.specs.Does.{Does, KeepsLoans};
+ghost use Rattle.mcommand.specs.Does.{Does};
 
 use crate::parts::Parts;
 use mgrant::Mode;
@@ -20,9 +20,7 @@ impl<'a, S: NodeStore> Parts<'a, S> {
     /// Those of its subscripts' values; `M1` for a naked reference with none before it, `Zgrant` where the account may not write the
     /// global; `Zsub` where they are no node's; `Zmem` for want of memory, and `Zstore` where the store refuses.
     pub fn killing(&mut self, alloc: Global, reference: &Reference) -> Result<(), Code>
-        ensures loans { KeepsLoans self.old self.new }
-        ensures fewer { self.new.eval.steps ≤ self.old.eval.steps }
-        ensures does { Does S.NodeStore (λ i. meaning.killing i (reference_tree reference.now)) (λ u. u) self.old result self.new }
+        ensures { Does S.NodeStore (λ i. meaning.killing i (reference_tree reference.now)) (λ u. u) self.old result self.new }
     {
         let pending = self.eval.evaluated(alloc, reference)?;
         let place = self.eval.resolved(alloc, Mode::Write, pending)?;

@@ -1,6 +1,6 @@
 // SPDX-License-Identifier: Apache-2.0
 // LOCK: its names and its timeout are evaluated first, and then the names are taken or given back.
-ghost use Rattle.std.specs.Prelude.{◌≡◌, ◌≤◌, [], map, Ok, IfOk};
+ghost use Rattle.std.specs.Prelude.{◌≡◌, [], map, Ok, IfOk};
 ghost use Rattle.mspec.specs.Act.{ask};
 ghost use Rattle.mspec.specs.Plan.{Release, Take};
 ghost use Rattle.mmeaning.specs.Expression.{optional_value};
@@ -8,7 +8,7 @@ ghost use Rattle.mgrammar.specs.Grammar.{lock_one};
 ghost use Rattle.mmeaning.specs.Locking as meaning;
 ghost use Rattle.mtree.specs.Tree.{reference_tree, condition_tree, kind_tree, locked_tree};
 ghost use Rattle.meval.specs.Evaluates.{standing_of};
-ghost use Rattle.mcommand.specs.Does.{Does, KeepsLoans};
+ghost use Rattle.mcommand.specs.Does.{Does};
 ghost use Rattle.mcommand.specs.LockNames.{MayTake, locking_names};
 
 use crate::parts::Parts;
@@ -23,8 +23,6 @@ use std::slice::from_ref;
 impl<'a, S: NodeStore> Parts<'a, S> {
     // The locks that references name: each is evaluated and checked before the next.
     fn lock_names(&mut self, alloc: Global, references: &[Reference]) -> Result<Vec<LockName>, Code>
-        ensures loans { KeepsLoans self.old self.new }
-        ensures fewer { self.new.eval.steps ≤ self.old.eval.steps }
         ensures may_take { IfOk result (λ names. MayTake (standing_of self.new.eval) names.items) }
         ensures does { Does S.NodeStore (λ i. meaning.lock_names i [] (map reference_tree references.now)) (λ names. names.items) self.old result self.new }
     {
@@ -42,9 +40,7 @@ impl<'a, S: NodeStore> Parts<'a, S> {
         alloc: Global,
         timeout: &Option<Box<Expr>>,
     ) -> Result<Option<Value>, Code>
-        ensures loans { KeepsLoans self.old self.new }
-        ensures fewer { self.new.eval.steps ≤ self.old.eval.steps }
-        ensures does { Does S.NodeStore (λ i. optional_value i (condition_tree timeout.now)) (λ value. value) self.old result self.new }
+        ensures { Does S.NodeStore (λ i. optional_value i (condition_tree timeout.now)) (λ value. value) self.old result self.new }
     {
         match timeout {
             None => Ok(None),
@@ -57,7 +53,6 @@ impl<'a, S: NodeStore> Parts<'a, S> {
 
     /// Gives back all that the terminal holds.
     pub fn release(&mut self)
-        ensures loans { KeepsLoans self.old self.new }
         ensures eval { self.new.eval ≡ self.old.eval }
         ensures does { Does S.NodeStore (λ i. ask Release) (λ u. u) self.old (Ok tt) self.new }
     {
@@ -67,7 +62,6 @@ impl<'a, S: NodeStore> Parts<'a, S> {
     // Whether the names could be taken: all of them are, or none.
     fn take(&mut self, names: &[LockName]) -> Result<bool, Code>
         requires { MayTake (standing_of self.old.eval) names.now }
-        ensures loans { KeepsLoans self.old self.new }
         ensures eval { self.new.eval ≡ self.old.eval }
         ensures does { Does S.NodeStore (λ i. ask (Take names.now)) (λ all. all) self.old result self.new }
     {
@@ -77,7 +71,6 @@ impl<'a, S: NodeStore> Parts<'a, S> {
 
     // Gives each name back once.
     fn give_back_all(&mut self, names: &[LockName])
-        ensures loans { KeepsLoans self.old self.new }
         ensures eval { self.new.eval ≡ self.old.eval }
         ensures does { Does S.NodeStore (λ i. meaning.given_back_all names.now) (λ u. u) self.old (Ok tt) self.new }
     {
@@ -89,7 +82,6 @@ impl<'a, S: NodeStore> Parts<'a, S> {
     // Whether it could be done with the names what an argument of this kind does.
     fn carry(&mut self, kind: LockKind, names: &[LockName]) -> Result<bool, Code>
         requires { MayTake (standing_of self.old.eval) names.now }
-        ensures loans { KeepsLoans self.old self.new }
         ensures eval { self.new.eval ≡ self.old.eval }
         ensures does { Does S.NodeStore (λ i. meaning.carried (kind_tree kind) names.now) (λ carried. carried) self.old result self.new }
     {
@@ -108,9 +100,7 @@ impl<'a, S: NodeStore> Parts<'a, S> {
 
     // Tells whether it could be done: with a timeout `$TEST` does, and without one it is an error where it could not.
     fn tell(&mut self, timeout: &Option<Value>, carried: bool) -> Result<(), Code>
-        ensures loans { KeepsLoans self.old self.new }
-        ensures fewer { self.new.eval.steps ≤ self.old.eval.steps }
-        ensures does { Does S.NodeStore (λ i. meaning.told timeout.now carried) (λ u. u) self.old result self.new }
+        ensures { Does S.NodeStore (λ i. meaning.told timeout.now carried) (λ u. u) self.old result self.new }
     {
         match timeout {
             Some(_) => {
@@ -138,9 +128,7 @@ impl<'a, S: NodeStore> Parts<'a, S> {
         names: &Locked,
         timeout: &Option<Box<Expr>>,
     ) -> Result<(), Code>
-        ensures loans { KeepsLoans self.old self.new }
-        ensures fewer { self.new.eval.steps ≤ self.old.eval.steps }
-        ensures does { Does S.NodeStore (λ i. meaning.locking i (kind_tree kind) (locked_tree names.now) (condition_tree timeout.now)) (λ u. u) self.old result self.new }
+        ensures { Does S.NodeStore (λ i. meaning.locking i (kind_tree kind) (locked_tree names.now) (condition_tree timeout.now)) (λ u. u) self.old result self.new }
     {
         match names {
             Locked::One(reference) => self.locking_one(alloc, kind, reference, timeout),
@@ -159,9 +147,7 @@ impl<'a, S: NodeStore> Parts<'a, S> {
         reference: &Reference,
         timeout: &Option<Box<Expr>>,
     ) -> Result<(), Code>
-        ensures loans { KeepsLoans self.old self.new }
-        ensures fewer { self.new.eval.steps ≤ self.old.eval.steps }
-        ensures does { Does S.NodeStore (λ i. meaning.locking i (kind_tree kind) (lock_one (reference_tree reference.now)) (condition_tree timeout.now)) (λ u. u) self.old result self.new }
+        ensures { Does S.NodeStore (λ i. meaning.locking i (kind_tree kind) (lock_one (reference_tree reference.now)) (condition_tree timeout.now)) (λ u. u) self.old result self.new }
     {
         let name = self.eval.lock_name(alloc, reference)?;
         self.locking_names(alloc, kind, from_ref(&name), timeout)
@@ -176,9 +162,7 @@ impl<'a, S: NodeStore> Parts<'a, S> {
         timeout: &Option<Box<Expr>>,
     ) -> Result<(), Code>
         requires { MayTake (standing_of self.old.eval) names.now }
-        ensures loans { KeepsLoans self.old self.new }
-        ensures fewer { self.new.eval.steps ≤ self.old.eval.steps }
-        ensures does { Does S.NodeStore (λ i. locking_names i (kind_tree kind) (condition_tree timeout.now) names.now) (λ u. u) self.old result self.new }
+        ensures { Does S.NodeStore (λ i. locking_names i (kind_tree kind) (condition_tree timeout.now) names.now) (λ u. u) self.old result self.new }
     {
         let timeout = self.timeout_value(alloc, timeout)?;
         let carried = self.carry(kind, names)?;

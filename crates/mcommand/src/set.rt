@@ -1,11 +1,11 @@
 // SPDX-License-Identifier: Apache-2.0
 // SET: the parts of its targets are evaluated first, then the right side, and then each target is assigned.
-ghost use Rattle.std.specs.Prelude.{◌≤◌, [], map, option_map};
+ghost use Rattle.std.specs.Prelude.{[], map, option_map};
 ghost use Rattle.mgrammar.specs.Grammar.{one, variable, local, exprs, no_exprs};
 ghost use Rattle.mmeaning.specs.LineMeaning as meaning;
 ghost use Rattle.mtree.specs.Tree.{expr_tree, piece_tree, target_tree, destination_tree};
 ghost use Rattle.meval.specs.Places.{pending_view};
-ghost use Rattle.mcommand.specs.Does.{Does, KeepsLoans};
+ghost use Rattle.mcommand.specs.Does.{Does};
 ghost use Rattle.mcommand.specs.Prepared.{prepared_view};
 
 use crate::parts::Parts;
@@ -31,9 +31,7 @@ pub(crate) enum Prepared<'t> {
 impl<'a, S: NodeStore> Parts<'a, S> {
     // The value of an expression, where there is one.
     fn optional_value(&mut self, alloc: Global, e: &Option<Expr>) -> Result<Option<Value>, Code>
-        ensures loans { KeepsLoans self.old self.new }
-        ensures fewer { self.new.eval.steps ≤ self.old.eval.steps }
-        ensures does { Does S.NodeStore (λ i. meaning.optional_value i (option_map expr_tree e.now)) (λ value. value) self.old result self.new }
+        ensures { Does S.NodeStore (λ i. meaning.optional_value i (option_map expr_tree e.now)) (λ value. value) self.old result self.new }
     {
         match e {
             None => Ok(None),
@@ -51,9 +49,7 @@ impl<'a, S: NodeStore> Parts<'a, S> {
         alloc: Global,
         part: &'t PieceTarget,
     ) -> Result<Prepared<'t>, Code>
-        ensures loans { KeepsLoans self.old self.new }
-        ensures fewer { self.new.eval.steps ≤ self.old.eval.steps }
-        ensures does { Does S.NodeStore (λ i. meaning.prepared i (piece_tree part.now)) prepared_view self.old result self.new }
+        ensures { Does S.NodeStore (λ i. meaning.prepared i (piece_tree part.now)) prepared_view self.old result self.new }
     {
         let pending = self.eval.evaluated(alloc, &part.reference)?;
         let delimiter = self.eval.eval(alloc, &part.delimiter)?;
@@ -64,9 +60,7 @@ impl<'a, S: NodeStore> Parts<'a, S> {
 
     // What a target evaluates.
     fn prepared<'t>(&mut self, alloc: Global, target: &'t Target) -> Result<Prepared<'t>, Code>
-        ensures loans { KeepsLoans self.old self.new }
-        ensures fewer { self.new.eval.steps ≤ self.old.eval.steps }
-        ensures does { Does S.NodeStore (λ i. meaning.prepared i (target_tree target.now)) prepared_view self.old result self.new }
+        ensures { Does S.NodeStore (λ i. meaning.prepared i (target_tree target.now)) prepared_view self.old result self.new }
     {
         match target {
             Target::Variable(reference) => {
@@ -78,15 +72,12 @@ impl<'a, S: NodeStore> Parts<'a, S> {
     }
 
     // What targets evaluate, one after another.
-    #[tactic(auto, using(crate::proofs::Calls::keeps_on, crate::proofs::Calls::keeps_evaluated))]
     fn all_prepared<'t>(
         &mut self,
         alloc: Global,
         targets: &'t [Target],
     ) -> Result<Vec<Prepared<'t>>, Code>
-        ensures loans { KeepsLoans self.old self.new }
-        ensures fewer { self.new.eval.steps ≤ self.old.eval.steps }
-        ensures does { Does S.NodeStore (λ i. meaning.all_prepared i [] (map target_tree targets.now)) (λ all. map prepared_view all.items) self.old result self.new }
+        ensures { Does S.NodeStore (λ i. meaning.all_prepared i [] (map target_tree targets.now)) (λ all. map prepared_view all.items) self.old result self.new }
     {
         let mut all = Vec::with_capacity(alloc, targets.len())?;
         for target in targets {
@@ -105,9 +96,7 @@ impl<'a, S: NodeStore> Parts<'a, S> {
         place: &Option<Value>,
         value: &Value,
     ) -> Result<(), Code>
-        ensures loans { KeepsLoans self.old self.new }
-        ensures fewer { self.new.eval.steps ≤ self.old.eval.steps }
-        ensures does { Does S.NodeStore (λ i. meaning.assigned value.now (meaning.part (pending_view pending.entry) delimiter.now place.now)) (λ u. u) self.old result self.new }
+        ensures { Does S.NodeStore (λ i. meaning.assigned value.now (meaning.part (pending_view pending.entry) delimiter.now place.now)) (λ u. u) self.old result self.new }
     {
         let left = self.eval.resolved(alloc, Mode::Write, pending)?;
         let place = whole_number(place)?;
@@ -119,9 +108,7 @@ impl<'a, S: NodeStore> Parts<'a, S> {
 
     // Gives a target a value.
     fn assign(&mut self, alloc: Global, value: Value, prepared: Prepared) -> Result<(), Code>
-        ensures loans { KeepsLoans self.old self.new }
-        ensures fewer { self.new.eval.steps ≤ self.old.eval.steps }
-        ensures does { Does S.NodeStore (λ i. meaning.assigned value (prepared_view prepared.entry)) (λ u. u) self.old result self.new }
+        ensures { Does S.NodeStore (λ i. meaning.assigned value (prepared_view prepared.entry)) (λ u. u) self.old result self.new }
     {
         match prepared {
             Prepared::Whole(pending) => {
@@ -135,11 +122,8 @@ impl<'a, S: NodeStore> Parts<'a, S> {
     }
 
     // Gives each target a value.
-    #[tactic(auto, using(crate::proofs::Calls::keeps_on, crate::proofs::Calls::keeps_evaluated))]
     fn assign_all(&mut self, alloc: Global, value: &Value, all: Vec<Prepared>) -> Result<(), Code>
-        ensures loans { KeepsLoans self.old self.new }
-        ensures fewer { self.new.eval.steps ≤ self.old.eval.steps }
-        ensures does { Does S.NodeStore (λ i. meaning.all_assigned value.now (map prepared_view all.entry.items)) (λ u. u) self.old result self.new }
+        ensures { Does S.NodeStore (λ i. meaning.all_assigned value.now (map prepared_view all.entry.items)) (λ u. u) self.old result self.new }
     {
         for prepared in all {
             self.assign(alloc, value.copy()?, prepared)?;
@@ -155,9 +139,7 @@ impl<'a, S: NodeStore> Parts<'a, S> {
         subscript: &Expr,
         e: &Expr,
     ) -> Result<(), Code>
-        ensures loans { KeepsLoans self.old self.new }
-        ensures fewer { self.new.eval.steps ≤ self.old.eval.steps }
-        ensures does { Does S.NodeStore (λ i. meaning.setting i (one (variable (local name.now (exprs (expr_tree subscript.now) no_exprs)))) (expr_tree e.now)) (λ u. u) self.old result self.new }
+        ensures { Does S.NodeStore (λ i. meaning.setting i (one (variable (local name.now (exprs (expr_tree subscript.now) no_exprs)))) (expr_tree e.now)) (λ u. u) self.old result self.new }
     {
         let subscript = self.eval.eval(alloc, subscript)?;
         let value = self.eval.eval(alloc, e)?;
@@ -167,9 +149,7 @@ impl<'a, S: NodeStore> Parts<'a, S> {
     // Gives one target the value of the expression behind it, whatever it evaluates and checks.
     #[inline(never)]
     fn setting_target(&mut self, alloc: Global, target: &Target, e: &Expr) -> Result<(), Code>
-        ensures loans { KeepsLoans self.old self.new }
-        ensures fewer { self.new.eval.steps ≤ self.old.eval.steps }
-        ensures does { Does S.NodeStore (λ i. meaning.setting i (one (target_tree target.now)) (expr_tree e.now)) (λ u. u) self.old result self.new }
+        ensures { Does S.NodeStore (λ i. meaning.setting i (one (target_tree target.now)) (expr_tree e.now)) (λ u. u) self.old result self.new }
     {
         let prepared = self.prepared(alloc, target)?;
         let value = self.eval.eval(alloc, e)?;
@@ -178,9 +158,7 @@ impl<'a, S: NodeStore> Parts<'a, S> {
 
     // The same, by the shape of a variable. One without subscripts has nothing to evaluate, and no check refuses it.
     fn setting_one(&mut self, alloc: Global, target: &Target, e: &Expr) -> Result<(), Code>
-        ensures loans { KeepsLoans self.old self.new }
-        ensures fewer { self.new.eval.steps ≤ self.old.eval.steps }
-        ensures does { Does S.NodeStore (λ i. meaning.setting i (one (target_tree target.now)) (expr_tree e.now)) (λ u. u) self.old result self.new }
+        ensures { Does S.NodeStore (λ i. meaning.setting i (one (target_tree target.now)) (expr_tree e.now)) (λ u. u) self.old result self.new }
     {
         let Target::Variable(reference) = target else {
             return self.setting_target(alloc, target, e);
@@ -207,9 +185,7 @@ impl<'a, S: NodeStore> Parts<'a, S> {
         destination: &Destination,
         e: &Expr,
     ) -> Result<(), Code>
-        ensures loans { KeepsLoans self.old self.new }
-        ensures fewer { self.new.eval.steps ≤ self.old.eval.steps }
-        ensures does { Does S.NodeStore (λ i. meaning.setting i (destination_tree destination.now) (expr_tree e.now)) (λ u. u) self.old result self.new }
+        ensures { Does S.NodeStore (λ i. meaning.setting i (destination_tree destination.now) (expr_tree e.now)) (λ u. u) self.old result self.new }
     {
         match destination {
             Destination::One(target) => self.setting_one(alloc, target, e),

@@ -1,12 +1,12 @@
 // SPDX-License-Identifier: Apache-2.0
 // Where DO and GOTO lead.
-ghost use Rattle.std.specs.Prelude.{◌≡◌, ◌≤◌, true, slice_get, map, position, IfOk};
+ghost use Rattle.std.specs.Prelude.{◌≡◌, true, slice_get, map, position, IfOk};
 ghost use Rattle.mmeaning.specs.Levels as levels;
 ghost use Rattle.mmeaning.specs.Yields.{Yields};
 ghost use Rattle.moperator.specs.Codes.{fault_of};
 ghost use Rattle.mgrammar.specs.RoutineLine.{label_of};
 ghost use Rattle.mtree.specs.Tree.{entry_tree};
-ghost use Rattle.mcommand.specs.Does.{Does, KeepsLoans};
+ghost use Rattle.mcommand.specs.Does.{Does};
 ghost use Rattle.mcommand.specs.Targets.{target_view, target_among};
 
 use crate::parts::Parts;
@@ -77,9 +77,7 @@ impl<'a, S: NodeStore> Parts<'a, S> {
         copy: &Rc<Vec<Bytes7>>,
         entry: &Entry,
     ) -> Result<Rc<Vec<Bytes7>>, Code>
-        ensures loans { KeepsLoans self.old self.new }
-        ensures fewer { self.new.eval.steps ≤ self.old.eval.steps }
-        ensures does { Does S.NodeStore (λ i. levels.lines_of_entry copy.now.value.items (entry_tree entry.now)) (λ lines. lines.value.items) self.old result self.new }
+        ensures { Does S.NodeStore (λ i. levels.lines_of_entry copy.now.value.items (entry_tree entry.now)) (λ lines. lines.value.items) self.old result self.new }
     {
         match entry {
             Entry::Label(_) => Ok(copy.clone()?),
@@ -101,8 +99,6 @@ impl<'a, S: NodeStore> Parts<'a, S> {
         dots: usize,
         entry: &Entry,
     ) -> Result<Target, Code>
-        ensures loans { KeepsLoans self.old self.new }
-        ensures fewer { self.new.eval.steps ≤ self.old.eval.steps }
         ensures stands { IfOk result (λ target. levels.has_dots dots (slice_get target.copy.value.items target.line) ≡ true) }
         ensures does { Does S.NodeStore (λ i. levels.target copy.now.value.items dots (entry_tree entry.now)) target_view self.old result self.new }
     {

@@ -1,10 +1,10 @@
 // SPDX-License-Identifier: Apache-2.0
 // WRITE.
-ghost use Rattle.std.specs.Prelude.{◌≡◌, ◌≤◌, replicate};
+ghost use Rattle.std.specs.Prelude.{◌≡◌, replicate};
 ghost use Rattle.mspec.specs.Act.{write};
 ghost use Rattle.mmeaning.specs.LineMeaning as meaning;
 ghost use Rattle.mtree.specs.Tree.{expr_tree};
-ghost use Rattle.mcommand.specs.Does.{Does, KeepsLoans};
+ghost use Rattle.mcommand.specs.Does.{Does};
 
 use crate::parts::Parts;
 use moperator::Code;
@@ -22,9 +22,7 @@ impl<'a, S: NodeStore> Parts<'a, S> {
     ///
     /// `Zmem` for want of memory.
     pub fn breaks(&mut self, count: usize) -> Result<(), Code>
-        ensures loans { KeepsLoans self.old self.new }
-        ensures fewer { self.new.eval.steps ≤ self.old.eval.steps }
-        ensures does { Does S.NodeStore (λ i. write (replicate count meaning.line_end)) (λ u. u) self.old result self.new }
+        ensures { Does S.NodeStore (λ i. write (replicate count meaning.line_end)) (λ u. u) self.old result self.new }
     {
         self.out.reserve(count)?;
         let length = self.out.len() + count;
@@ -38,9 +36,7 @@ impl<'a, S: NodeStore> Parts<'a, S> {
     ///
     /// Those of the expression's value; `Zmem` for want of memory.
     pub fn showing(&mut self, alloc: Global, e: &Expr) -> Result<(), Code>
-        ensures loans { KeepsLoans self.old self.new }
-        ensures fewer { self.new.eval.steps ≤ self.old.eval.steps }
-        ensures does { Does S.NodeStore (λ i. meaning.showing i (expr_tree e.now)) (λ u. u) self.old result self.new }
+        ensures { Does S.NodeStore (λ i. meaning.showing i (expr_tree e.now)) (λ u. u) self.old result self.new }
     {
         let value = self.eval.eval(alloc, e)?;
         value.write(self.out)?;

@@ -1,6 +1,6 @@
 -- SPDX-License-Identifier: Apache-2.0
 -- Calls that ask a store, and those that ask or set the session.
-use Rattle.meval.proofs.EvalWords.{◌≡◌, Bool, [], ◌∷◌, Some, Result, Ok, Err, refl, sym, ap, ◌∙◌, subst, arith, ⊎_elim, ◌&&◌, text_eq, false≢true, and_parts, and_from, or_cases, or_left, or_right, Own, Zgrant, Node, AreSubscripts, IsAccountName, is_account_name, are_subscripts, Locks, Act, ◌>>◌, give, ask, unless, naked_is, set_naked, subscripts_test, Standing, Did, ops_of, Yields, Place, at_local, at_node, replaced, beside, allowed, node_place, resolve, of_local, asked, Ghosts, fault_of, Code, Eval, Evaluates, standing_of, eval_here, use_of, IsOpen, true, false, List, Option}
+use Rattle.meval.proofs.EvalWords.{◌≡◌, Bool, [], ◌∷◌, Some, Result, Ok, Err, refl, sym, ap, ◌∙◌, subst, arith, ⊎_elim, ◌&&◌, text_eq, false≢true, and_parts, and_from, or_cases, or_left, or_right, Own, Zgrant, Node, AreSubscripts, IsAccountName, is_account_name, are_subscripts, Locks, Act, ◌>>◌, give, ask, unless, naked_is, set_naked, subscripts_test, Standing, Did, ops_of, Yields, Place, at_local, at_node, replaced, beside, allowed, node_place, resolve, of_local, asked, Ghosts, fault_of, Code, Eval, Evaluates, KeepsEval, standing_of, eval_here, use_of, IsOpen, true, false, List, Option}
 use Rattle.std.specs.List.{list_any}
 use Rattle.mspec.specs.Code as spec
 use Rattle.mspec.specs.Access.{Mode, Read, Write, Grant, allows, lets, may}
@@ -14,7 +14,7 @@ use Rattle.moperator.specs.declared.code.Code.TheVariants as code
 use Rattle.std.specs.Cmp.Lexicographic.{bytes_decides}
 use Rattle.mspec.proofs.SubscriptTests.{account_name_test}
 use Rattle.meval.specs.Places.{own_global}
-use Rattle.meval.proofs.Calls.{evaluates_then, evaluates_gives, evaluates_fails, evaluates_yielded}
+use Rattle.meval.proofs.Calls.{evaluates_then, evaluates_gives, evaluates_fails, evaluates_yielded, keeps_itself}
 
 -- ---- operations
 
@@ -22,14 +22,14 @@ abbrev pub shared : {S : Type 0} → Ghosts S → Eval S → Locks → Shared
 shared g e locks = record { globals = g.content e.store.now; locks = locks }
 
 -- an operation that was carried out
-pub asks : {S X : Type 0} {g : Ghosts S} {e new : Eval S} (op : Op) (f : X → Answer op) (x : X) → standing_of new ≡ standing_of e → new.depth ≡ e.depth
+pub asks : {S X : Type 0} {g : Ghosts S} {e new : Eval S} (op : Op) (f : X → Answer op) (x : X) → KeepsEval e new → new.depth ≡ e.depth
     → ((out : Text) (locks : Locks) → (eval_here g new out locks).0 ≡ (eval_here g e out locks).0)
     → (g.sound → (locks : Locks) → ops_of (standing_of e) op (shared g e locks) ≡ (f x, shared g new locks)) → Evaluates g (λ i. ask op) f e (Ok x) new
-asks {g = g} {e = e} {new = new} op f x same depth state answer = record {
+asks {g = g} {e = e} {new = new} op f x keeps depth state answer = record {
   at = λ sound out locks.
       subst (λ s. Did (standing_of e) g.steady fault_of (λ n. ask op) f (eval_here g e out locks) (Ok x) (s, shared g new locks)) (sym (state out locks))
       (asked op f x (shared g new locks) (answer sound locks));
-  same = same;
+  keeps = keeps;
   depth = depth;
 }
 
@@ -54,7 +54,7 @@ module _ {S : Type 0} {g : Ghosts S} where
   pub naked_told : {e : Eval S} → Evaluates g (λ i. naked_is) (λ (n : Option Node). n) e (Ok e.session.now.naked) e
   naked_told {e = e} = record {
     at = λ sound out locks. record { at = λ n le. refl; fewer = omega arith };
-    same = refl;
+    keeps = keeps_itself _;
     depth = refl;
   }
 
@@ -65,7 +65,7 @@ module _ {S : Type 0} {g : Ghosts S} where
   -- ---- who may use a global
 
   told : {e : Eval S} (m : grant.Mode) (n : Node) → Evaluates g (λ i. ask (May n.account n.name (placed.mode_of m))) (λ (b : Bool). b) e (Ok (may_use e m n)) e
-  told m n = asks (May n.account n.name (placed.mode_of m)) (λ b. b) _ refl refl (λ out locks. refl) (λ sound locks. refl)
+  told m n = asks (May n.account n.name (placed.mode_of m)) (λ b. b) _ (keeps_itself _) refl (λ out locks. refl) (λ sound locks. refl)
 
   pub let_in : {e : Eval S} (m : grant.Mode) (n : Node) → (is_account_name n.account && may_use e m n) ≡ true → Evaluates g (λ i. allowed (placed.mode_of m) n) (λ (u : Unit {0}). u) e (Ok tt) e
   let_in m n is = evaluates_then (λ i is_let. unless Zgrant (is_account_name n.account && is_let)) (told m n) (passes Zgrant _ is)

@@ -4,6 +4,20 @@ use Rattle.meval.proofs.EvalWords.{◌≡◌, ◌≢◌, ℕ, [], Result, Ok, Er
 use Rattle.std.specs.FinMap.{empty}
 use Rattle.mspec.specs.Code as spec
 
+-- ---- what calls keep to
+
+pub keeps_itself : {S : Type 0} (e : Eval S) → KeepsEval e e
+keeps_itself e = record { same = refl; session = refl; store = refl; fewer = omega arith }
+
+pub keeps_on : {S : Type 0} {a b c : Eval S} → KeepsEval a b → KeepsEval b c → KeepsEval a c
+keeps_on k l = record { same = l.same ∙ k.same; session = l.session ∙ k.session; store = l.store ∙ k.store; fewer = omega arith }
+
+-- where its text stands plays no part
+pub keeps_at_depth : {S : Type 0} {a b : Eval S} (d : Depth) → KeepsEval (record a { depth = d }) b → KeepsEval a b
+keeps_at_depth d k = record { same = k.same; session = k.session; store = k.store; fewer = k.fewer }
+
+-- ---- what they do
+
 -- a call that began where another ended, told by where that one began
 pub moved : {A X : Type 0} {b b1 : Standing} {steady : Type 0} {d d1 : Depth} (p : Inside → Act A) {f : X → A} {h h1 : Here} {r : Result X Code} → b1 ≡ b → d1 ≡ d
     → Did b1 steady fault_of (λ n. p (inside b1.account n (depth_of d1))) f h r h1 → Did b steady fault_of (λ n. p (inside b.account n (depth_of d))) f h r h1
@@ -14,8 +28,8 @@ moved {b = b} {b1 = b1} {steady = steady} {d = d} {d1 = d1} p {f = f} {h = h} {h
 pub evaluates_then : {S A B X Y : Type 0} {g : Ghosts S} {p : Inside → Act A} (q : Inside → A → Act B) {f : X → A} {j : Y → B} {old mid new : Eval S} {x : X} {r : Result Y Code}
     → Evaluates g p f old (Ok x) mid → Evaluates g (λ i. q i (f x)) j mid r new → Evaluates g (λ i. p i >>= q i) j old r new
 evaluates_then q {f = f} {old = old} {x = x} d k = record {
-  at = λ sound out locks. did_then (λ n. q (inside (standing_of old).account n (depth_of old.depth))) (d.at sound out locks) (moved (λ i. q i (f x)) d.same d.depth (k.at sound out locks));
-  same = k.same ∙ d.same;
+  at = λ sound out locks. did_then (λ n. q (inside (standing_of old).account n (depth_of old.depth))) (d.at sound out locks) (moved (λ i. q i (f x)) d.keeps.same d.depth (k.at sound out locks));
+  keeps = keeps_on d.keeps k.keeps;
   depth = k.depth ∙ d.depth;
 }
 
@@ -23,7 +37,7 @@ pub evaluates_failed : {S A B X Y : Type 0} {g : Ghosts S} {p : Inside → Act A
     → Evaluates g p f old (Err e) new → Evaluates g (λ i. p i >>= q i) j old (Err e) new
 evaluates_failed q {old = old} d = record {
   at = λ sound out locks. did_failed (λ n. q (inside (standing_of old).account n (depth_of old.depth))) (d.at sound out locks);
-  same = d.same;
+  keeps = d.keeps;
   depth = d.depth;
 }
 
@@ -36,7 +50,7 @@ evaluates_stopped {g = g} {p = p} q {j = j} {old = old} {new = new} {r = r} d h 
 pub evaluates_gives : {S A X : Type 0} {g : Ghosts S} {e : Eval S} (a : A) (f : X → A) (x : X) → f x ≡ a → Evaluates g (λ i. give a) f e (Ok x) e
 evaluates_gives a f x same = record {
   at = λ sound out locks. did_gives a f x same;
-  same = refl;
+  keeps = keeps_itself _;
   depth = refl;
 }
 
@@ -44,7 +58,7 @@ evaluates_gives a f x same = record {
 pub evaluates_wanting : {S A X : Type 0} {g : Ghosts S} {e : Eval S} (p : Inside → Act A) (f : X → A) (r : Result X Code) → IsErr r × IsErrAnd r (λ x. x ≡ Zmem) → Evaluates g p f e r e
 evaluates_wanting {g = g} {e = e} p f r h = subst (λ r. Evaluates g p f e r e) (sym (residual_is r Zmem h)) (record {
   at = λ sound out locks. did_lost (λ n. p (inside (standing_of e).account n (depth_of e.depth))) f Zmem tt refl (omega arith);
-  same = refl;
+  keeps = keeps_itself _;
   depth = refl;
 })
 
@@ -54,14 +68,14 @@ evaluates_seen {g = g} {new = new} x y is d = record {
   at = λ sound out locks.
       let did = d.at sound out locks in
       record { at = λ n le. let h = eval_here g new out locks in did.at n le ∙ ap (λ a. (Gives a h.0, h.1)) is; fewer = did.fewer };
-  same = d.same;
+  keeps = d.keeps;
   depth = d.depth;
 }
 
 pub evaluates_refused : {S A X Y : Type 0} {g : Ghosts S} {p : Inside → Act A} {f : X → A} (j : Y → A) {old new : Eval S} {e : Code} → Evaluates g p f old (Err e) new → Evaluates g p j old (Err e) new
 evaluates_refused j d = record {
   at = λ sound out locks. let did = d.at sound out locks in record { at = λ n le. did.at n le; fewer = did.fewer };
-  same = d.same;
+  keeps = d.keeps;
   depth = d.depth;
 }
 
@@ -74,7 +88,7 @@ evaluates_whole (Err e) d = evaluates_failed (λ i. give) d
 pub evaluates_yielded : {S A X : Type 0} {g : Ghosts S} {e : Eval S} {p : Act A} {f : X → A} {r : Result X Code} → Yields fault_of p f r → Evaluates g (λ i. p) f e r e
 evaluates_yielded {g = g} {e = e} y = record {
   at = λ sound out locks. yielded (eval_here g e out locks) y;
-  same = refl;
+  keeps = keeps_itself _;
   depth = refl;
 }
 
@@ -88,14 +102,6 @@ did_steadily {b = b} {steady = steady} {p = p} {f = f} {h = h} {h1 = h1} is did 
 
 pub never_refused : {S A X : Type 0} {g : Ghosts S} {p : Inside → Act A} {f : X → A} {old new : Eval S} {r : Result X Code} → (g.steady → g.sound) → Evaluates g p f old r new → g.steady → ◌≢◌ {A = Result X Code} r (Err Zstore)
 never_refused {g = g} sound does steady = did_steadily steady (does.at (sound steady) [] empty)
-
--- ---- loans
-
-pub keeps_itself : {S : Type 0} (e : Eval S) → KeepsEval e e
-keeps_itself e = record { session = refl; store = refl }
-
-pub keeps_on : {S : Type 0} {a b c : Eval S} → KeepsEval a b → KeepsEval b c → KeepsEval a c
-keeps_on k l = record { session = l.session ∙ k.session; store = l.store ∙ k.store }
 
 -- ---- places
 
@@ -112,7 +118,7 @@ asks_locals {g = g} {e = e} question f x is = record {
     at = λ n le i. let h = eval_here g e out locks in (Gives (sym is i) h.0, h.1);
     fewer = omega arith;
   };
-  same = refl;
+  keeps = keeps_itself _;
   depth = refl;
 }
 
@@ -123,6 +129,6 @@ evaluates_fails {A = A} {g = g} {e = e} f c code is = record {
     at = λ n le. let h = eval_here g e out locks in subst (λ fault. FailedBy {A = A} (standing_of e) g.steady (fail c) h fault h) (sym is) (λ i. (Fails c h.0, h.1));
     fewer = omega arith;
   };
-  same = refl;
+  keeps = keeps_itself _;
   depth = refl;
 }

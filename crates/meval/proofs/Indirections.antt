@@ -6,7 +6,7 @@ use Rattle.mgrammar.specs.IndirectTexts.{ref_at}
 use Rattle.mmeaning.specs.Expression as meaning
 use Rattle.mmeaning.proofs.Indirections.{did_fail}
 use Rattle.moperator.specs.declared.code.Code.TheVariants as code
-use Rattle.meval.proofs.Calls.{moved, evaluates_stopped, evaluates_yielded}
+use Rattle.meval.proofs.Calls.{moved, evaluates_stopped, evaluates_yielded, keeps_itself, keeps_on}
 
 -- ---- subscripts behind others
 
@@ -43,7 +43,7 @@ module _ {S Y : Type 0} {g : Ghosts S} {j : Y → Evaluated} where
   pub evaluates_deep : {mid : Eval S} (subscripts : ExprsTree) (x : Text) → is_indirection_free (depth_of mid.depth) ≡ false → Evaluates g (λ i. named_by i subscripts x) j mid (Err code.Zdepth) mid
   evaluates_deep {mid = mid} subscripts x full = record {
     at = λ sound out locks. rw full (did_fail spec.Zdepth j code.Zdepth refl);
-    same = refl;
+    keeps = keeps_itself _;
     depth = refl;
   }
 
@@ -51,7 +51,7 @@ module _ {S Y : Type 0} {g : Ghosts S} {j : Y → Evaluated} where
   free_then : {mid new : Eval S} {r : Result Y Code} (q : Inside → Act Evaluated) → is_indirection_free (depth_of mid.depth) ≡ true → Evaluates g q j mid r new → Evaluates g (λ i. an_indirection_free i.depth >> q i) j mid r new
   free_then {mid = mid} q free d = record {
     at = λ sound out locks. rw free (d.at sound out locks);
-    same = d.same;
+    keeps = d.keeps;
     depth = d.depth;
   }
 
@@ -75,10 +75,10 @@ module _ {S Y : Type 0} {g : Ghosts S} {j : Y → Evaluated} where
         at = λ sound out locks.
             let found =
             subst (λ (e : meaning.Depth). Did (standing_of old) g.steady fault_of (λ n. through (inside a n e) (tree r) subscripts) j (eval_here g mid out locks) res (eval_here g within out locks)) is
-            (moved (λ i. through i (tree r) subscripts) d.same refl (k.at sound out locks))
+            (moved (λ i. through i (tree r) subscripts) d.keeps.same refl (k.at sound out locks))
             in
             did_spent (λ n x. named_by (inside a n (depth_of old.depth)) subscripts x) (d.at sound out locks) less
             (rw free (did_then (λ n r. finds a (suc n) (indirected (depth_of old.depth)) r subscripts) (yielded (eval_here g mid out locks) named) found));
-        same = k.same ∙ d.same;
+        keeps = keeps_on d.keeps (record { same = k.keeps.same; session = k.keeps.session; store = k.keeps.store; fewer = k.keeps.fewer });
         depth = d.depth;
       }

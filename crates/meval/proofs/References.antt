@@ -2,7 +2,7 @@
 -- Nodes that references name, and what the checks let through as a walk.
 use Rattle.meval.proofs.EvalWords.{◌≡◌, ℕ, zero, suc, ◌<◌, [], ◌∷◌, length, Result, Ok, Err, subst, refl, sym, arith, ◌==◌, false≢true, ◌>>=◌, ◌>>◌, Act, give, unless, ExprsTree, Inside, values, Evaluated, Node, AreOrderSubscripts, are_order_subscripts, order_subscripts_test, of_global, checked, ordering, some_subscript, Yields, did_gives, Ghosts, fault_of, Code, Zsub, Eval, Evaluates, standing_of, pending_view, false, List, Text, evaluated, global, Direction, next_at, at_node}
 use Rattle.meval.specs.Places.{own_global}
-use Rattle.meval.proofs.Calls.{evaluates_then, evaluates_failed}
+use Rattle.meval.proofs.Calls.{evaluates_then, evaluates_failed, keeps_itself}
 use Rattle.mspec.specs.Code as spec
 use Rattle.meval.specs.declared.place.Pending.{Pending}
 
@@ -21,7 +21,7 @@ pub gives_own : {S : Type 0} {g : Ghosts S} {e : Eval S} (name : Text) (xs : Lis
     → Evaluates g (λ i. give (of_global (node_of i.account name xs))) pending_view e (Ok p) e
 gives_own {e = e} name xs p is = record {
   at = λ sound out locks. did_gives (of_global (node_of (standing_of e).account name xs)) pending_view p is;
-  same = refl;
+  keeps = keeps_itself _;
   depth = refl;
 }
 
@@ -31,7 +31,7 @@ module _ {S X : Type 0} {g : Ghosts S} {f : X → List Text} (name : Text) (es :
       → Evaluates g (λ i. evaluated i (global name es)) (λ (v : Evaluated). v) old (Ok (of_global (own_global new name (f x)))) new
   own_evaluated {new = new} x d = evaluates_then (λ i xs. give (of_global (node_of i.account name xs))) d (record {
     at = λ sound out locks. did_gives (of_global (own_global new name (f x))) (λ (v : Evaluated). v) _ refl;
-    same = refl;
+    keeps = keeps_itself _;
     depth = refl;
   })
 

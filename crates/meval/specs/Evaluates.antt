@@ -1,6 +1,6 @@
 -- SPDX-License-Identifier: Apache-2.0
 -- What a call that evaluates says: it does an act that is told where it stands.
-use Rattle.std.specs.Prelude.{◌≡◌, ℕ, Result}
+use Rattle.std.specs.Prelude.{◌≡◌, ◌≤◌, ℕ, Result}
 use Rattle.mspec.specs.Access.{name_at}
 use Rattle.mspec.specs.LockConflict.{Locks}
 use Rattle.mspec.specs.Act.{Text, Act}
@@ -28,16 +28,18 @@ eval_here g e out locks =
 abbrev pub inside_at : {S : Type 0} → Eval S → ℕ → Inside
 inside_at e n = inside (standing_of e).account n (depth_of e.depth)
 
--- an evaluation does an act, whatever the output and the locks
-pub record Evaluates {S A X : Type 0} (g : Ghosts S) (p : Inside → Act A) (f : X → A) (old : Eval S) (r : Result X Code) (new : Eval S) : Type 0 where
-  pub at : g.sound → (out : Text) (locks : Locks) → Did (standing_of old) g.steady fault_of (λ n. p (inside_at old n)) f (eval_here g old out locks) r (eval_here g new out locks)
-  pub same : standing_of new ≡ standing_of old
-  pub depth : new.depth ≡ old.depth
-
--- the references are those that were lent
+-- an evaluation keeps to this: it stands where it stood, the references are those that were lent, and no step comes back
 pub record KeepsEval {S : Type 0} (old new : Eval S) : Type 0 where
+  pub same : standing_of new ≡ standing_of old
   pub session : new.session.ghost_name ≡ old.session.ghost_name
   pub store : new.store.ghost_name ≡ old.store.ghost_name
+  pub fewer : new.steps ≤ old.steps
+
+-- it does an act, whatever the output and the locks
+pub record Evaluates {S A X : Type 0} (g : Ghosts S) (p : Inside → Act A) (f : X → A) (old : Eval S) (r : Result X Code) (new : Eval S) : Type 0 where
+  pub at : g.sound → (out : Text) (locks : Locks) → Did (standing_of old) g.steady fault_of (λ n. p (inside_at old n)) f (eval_here g old out locks) r (eval_here g new out locks)
+  pub keeps : KeepsEval old new
+  pub depth : new.depth ≡ old.depth
 
 -- what an act does from one evaluation on, another one does from another
 pub record Leads {S : Type 0} (g : Ghosts S) (p : Inside → Act Text) (old : Eval S) (q : Inside → Act Text) (mid : Eval S) : Type 0 where

@@ -60,8 +60,6 @@ impl<'a, S: NodeStore> Eval<'a, S> {
     ///
     /// `Zsteps` where none is left.
     pub fn charge(&mut self) -> Result<(), Code>
-        ensures loans { KeepsEval self.old self.new }
-        ensures fewer { self.new.steps ≤ self.old.steps }
         ensures spent { IfOk result (λ _. self.new.steps < self.old.steps) }
         ensures session { self.new.session ≡ self.old.session }
         ensures refused { IsErr result → self.new ≡ self.old }
@@ -82,8 +80,6 @@ impl<'a, S: NodeStore> Eval<'a, S> {
     /// Those of `eval`.
     #[cycle(eval)]
     pub fn primary(&mut self, alloc: Global, primary: &Primary) -> Result<Value, Code>
-        ensures loans { KeepsEval self.old self.new }
-        ensures fewer { self.new.steps ≤ self.old.steps }
         ensures spent { IfOk result (λ _. self.new.steps < self.old.steps) }
         ensures does { Evaluates S.NodeStore (λ i. meaning.primary_value i (primary_tree primary.now)) (λ v. v) self.old result self.new }
     {
@@ -103,9 +99,7 @@ impl<'a, S: NodeStore> Eval<'a, S> {
     // The value of a variable.
     #[cycle(eval)]
     fn variable(&mut self, alloc: Global, reference: &Reference) -> Result<Value, Code>
-        ensures loans { KeepsEval self.old self.new }
-        ensures fewer { self.new.steps ≤ self.old.steps }
-        ensures does { Evaluates S.NodeStore (λ i. acts.variable_value i (reference_tree reference.now)) (λ v. v) self.old result self.new }
+        ensures { Evaluates S.NodeStore (λ i. acts.variable_value i (reference_tree reference.now)) (λ v. v) self.old result self.new }
     {
         match reference {
             Reference::Variable(name) => {
@@ -123,9 +117,7 @@ impl<'a, S: NodeStore> Eval<'a, S> {
     #[cycle(eval)]
     #[inline(never)]
     fn place_value(&mut self, alloc: Global, reference: &Reference) -> Result<Value, Code>
-        ensures loans { KeepsEval self.old self.new }
-        ensures fewer { self.new.steps ≤ self.old.steps }
-        ensures does { Evaluates S.NodeStore (λ i. acts.variable_value i (reference_tree reference.now)) (λ v. v) self.old result self.new }
+        ensures { Evaluates S.NodeStore (λ i. acts.variable_value i (reference_tree reference.now)) (λ v. v) self.old result self.new }
     {
         let pending = self.evaluated(alloc, reference)?;
         let place = self.resolved(alloc, Mode::Read, pending)?;
@@ -136,9 +128,7 @@ impl<'a, S: NodeStore> Eval<'a, S> {
     #[cycle(eval)]
     #[inline(never)]
     fn called(&mut self, alloc: Global, word: &ValueWord, arguments: &[Expr]) -> Result<Value, Code>
-        ensures loans { KeepsEval self.old self.new }
-        ensures fewer { self.new.steps ≤ self.old.steps }
-        ensures does { Evaluates S.NodeStore (λ i. acts.call_act i word.now (exprs_of (map expr_tree arguments.now))) (λ v. v) self.old result self.new }
+        ensures { Evaluates S.NodeStore (λ i. acts.call_act i word.now (exprs_of (map expr_tree arguments.now))) (λ v. v) self.old result self.new }
     {
         let values = self.values(alloc, arguments)?;
         call(alloc, word, values.as_slice())
@@ -155,9 +145,7 @@ impl<'a, S: NodeStore> Eval<'a, S> {
         alloc: Global,
         reference: &'t Reference,
     ) -> Result<Pending<'t>, Code>
-        ensures loans { KeepsEval self.old self.new }
-        ensures fewer { self.new.steps ≤ self.old.steps }
-        ensures does { Evaluates S.NodeStore (λ i. meaning.evaluated i (reference_tree reference.now)) pending_view self.old result self.new }
+        ensures { Evaluates S.NodeStore (λ i. meaning.evaluated i (reference_tree reference.now)) pending_view self.old result self.new }
     {
         match reference {
             Reference::Variable(name) => {
@@ -191,9 +179,7 @@ impl<'a, S: NodeStore> Eval<'a, S> {
         name: &Name,
         subscripts: &[Expr],
     ) -> Result<Pending<'u>, Code>
-        ensures loans { KeepsEval self.old self.new }
-        ensures fewer { self.new.steps ≤ self.old.steps }
-        ensures does { Evaluates S.NodeStore (λ i. meaning.evaluated i (global name.now (exprs_of (map expr_tree subscripts.now)))) pending_view self.old result self.new }
+        ensures { Evaluates S.NodeStore (λ i. meaning.evaluated i (global name.now (exprs_of (map expr_tree subscripts.now)))) pending_view self.old result self.new }
     {
         let values = self.values(alloc, subscripts)?;
         let node = self.own_node(alloc, name, values)?;
@@ -209,9 +195,7 @@ impl<'a, S: NodeStore> Eval<'a, S> {
         name: &Name,
         subscripts: &[Expr],
     ) -> Result<Pending<'u>, Code>
-        ensures loans { KeepsEval self.old self.new }
-        ensures fewer { self.new.steps ≤ self.old.steps }
-        ensures does { Evaluates S.NodeStore (λ i. meaning.evaluated i (extended (expr_tree environment.now) name.now (exprs_of (map expr_tree subscripts.now)))) pending_view self.old result self.new }
+        ensures { Evaluates S.NodeStore (λ i. meaning.evaluated i (extended (expr_tree environment.now) name.now (exprs_of (map expr_tree subscripts.now)))) pending_view self.old result self.new }
     {
         let owner = self.eval(alloc, environment)?;
         let account = Owner::of_value(alloc, owner)?;
@@ -229,9 +213,7 @@ impl<'a, S: NodeStore> Eval<'a, S> {
         operand: &Primary,
         subscripts: &[Expr],
     ) -> Result<Pending<'u>, Code>
-        ensures loans { KeepsEval self.old self.new }
-        ensures fewer { self.new.steps ≤ self.old.steps }
-        ensures does { Evaluates S.NodeStore (λ i. meaning.evaluated i (indirect (primary_tree operand.now) (exprs_of (map expr_tree subscripts.now)))) pending_view self.old result self.new }
+        ensures { Evaluates S.NodeStore (λ i. meaning.evaluated i (indirect (primary_tree operand.now) (exprs_of (map expr_tree subscripts.now)))) pending_view self.old result self.new }
     {
         let value = self.primary(alloc, operand)?;
         let depth = self.depth;
@@ -254,9 +236,7 @@ impl<'a, S: NodeStore> Eval<'a, S> {
         reference: Reference,
         subscripts: &[Expr],
     ) -> Result<Pending<'u>, Code>
-        ensures loans { KeepsEval self.old self.new }
-        ensures fewer { self.new.steps ≤ self.old.steps }
-        ensures does { Evaluates S.NodeStore (λ i. meaning.through i (reference_tree reference) (exprs_of (map expr_tree subscripts.now))) pending_view self.old result self.new }
+        ensures { Evaluates S.NodeStore (λ i. meaning.through i (reference_tree reference) (exprs_of (map expr_tree subscripts.now))) pending_view self.old result self.new }
     {
         match reference {
             Reference::Variable(name) => self.fast_through(alloc, name, subscripts),
@@ -272,9 +252,7 @@ impl<'a, S: NodeStore> Eval<'a, S> {
         reference: &Reference,
         subscripts: &[Expr],
     ) -> Result<Pending<'u>, Code>
-        ensures loans { KeepsEval self.old self.new }
-        ensures fewer { self.new.steps ≤ self.old.steps }
-        ensures does { Evaluates S.NodeStore (λ i. meaning.through i (reference_tree reference.now) (exprs_of (map expr_tree subscripts.now))) pending_view self.old result self.new }
+        ensures { Evaluates S.NodeStore (λ i. meaning.through i (reference_tree reference.now) (exprs_of (map expr_tree subscripts.now))) pending_view self.old result self.new }
     {
         let front = self.evaluated(alloc, reference)?;
         let values = self.values(alloc, subscripts)?;
@@ -284,9 +262,7 @@ impl<'a, S: NodeStore> Eval<'a, S> {
     // The values of expressions.
     #[cycle(eval)]
     pub(crate) fn values(&mut self, alloc: Global, exprs: &[Expr]) -> Result<Values, Code>
-        ensures loans { KeepsEval self.old self.new }
-        ensures fewer { self.new.steps ≤ self.old.steps }
-        ensures does { Evaluates S.NodeStore (λ i. meaning.values i [] (exprs_of (map expr_tree exprs.now))) (λ values. values) self.old result self.new }
+        ensures { Evaluates S.NodeStore (λ i. meaning.values i [] (exprs_of (map expr_tree exprs.now))) (λ values. values) self.old result self.new }
     {
         if let [e] = exprs {
             let value = self.eval(alloc, e)?;
@@ -304,9 +280,7 @@ impl<'a, S: NodeStore> Eval<'a, S> {
     #[cycle(eval)]
     #[inline(never)]
     fn chosen(&mut self, alloc: Global, choices: &[Choice]) -> Result<Value, Code>
-        ensures loans { KeepsEval self.old self.new }
-        ensures fewer { self.new.steps ≤ self.old.steps }
-        ensures does { Evaluates S.NodeStore (λ i. meaning.chosen i (choices_of (map choice_tree choices.now))) (λ v. v) self.old result self.new }
+        ensures { Evaluates S.NodeStore (λ i. meaning.chosen i (choices_of (map choice_tree choices.now))) (λ v. v) self.old result self.new }
     {
         for choice in choices {
             let condition = self.eval(alloc, &choice.condition)?;
@@ -320,8 +294,6 @@ impl<'a, S: NodeStore> Eval<'a, S> {
     // A primary, and then the signs in front of it.
     #[cycle(eval)]
     fn operand(&mut self, alloc: Global, operand: &Operand) -> Result<Value, Code>
-        ensures loans { KeepsEval self.old self.new }
-        ensures fewer { self.new.steps ≤ self.old.steps }
         ensures spent { IfOk result (λ _. self.new.steps < self.old.steps) }
         ensures does { Evaluates S.NodeStore (λ i. meaning.operand_value i (operand_tree operand.now)) (λ v. v) self.old result self.new }
     {
@@ -340,8 +312,6 @@ impl<'a, S: NodeStore> Eval<'a, S> {
         operand: &Operand,
         place: &mut Value,
     ) -> Result<(), Code>
-        ensures loans { KeepsEval self.old self.new }
-        ensures fewer { self.new.steps ≤ self.old.steps }
         ensures spent { IfOk result (λ _. self.new.steps < self.old.steps) }
         ensures does { Evaluates S.NodeStore (λ i. meaning.operand_value i (operand_tree operand.now)) (λ _. place.new) self.old result self.new }
     {
@@ -356,9 +326,7 @@ impl<'a, S: NodeStore> Eval<'a, S> {
     // then moved at once is waited for.
     #[cycle(eval)]
     fn tail(&mut self, alloc: Global, left: &mut Value, tail: &Tail) -> Result<(), Code>
-        ensures loans { KeepsEval self.old self.new }
-        ensures fewer { self.new.steps ≤ self.old.steps }
-        ensures does { Evaluates S.NodeStore (λ i. meaning.tail_value i left.old (tail_tree tail.now)) (λ _. left.new) self.old result self.new }
+        ensures { Evaluates S.NodeStore (λ i. meaning.tail_value i left.old (tail_tree tail.now)) (λ _. left.new) self.old result self.new }
     {
         match tail {
             Tail::Apply(operator, operand) => {
@@ -382,9 +350,7 @@ impl<'a, S: NodeStore> Eval<'a, S> {
     // What is done with the value to the left, one step after another.
     #[cycle(eval)]
     fn with_tails(&mut self, alloc: Global, value: &mut Value, tails: &[Tail]) -> Result<(), Code>
-        ensures loans { KeepsEval self.old self.new }
-        ensures fewer { self.new.steps ≤ self.old.steps }
-        ensures does { Evaluates S.NodeStore (λ i. meaning.tails_value i value.old (tails_of (map tail_tree tails.now))) (λ _. value.new) self.old result self.new }
+        ensures { Evaluates S.NodeStore (λ i. meaning.tails_value i value.old (tails_of (map tail_tree tails.now))) (λ _. value.new) self.old result self.new }
     {
         for tail in tails {
             self.tail(alloc, value, tail)?;
@@ -400,8 +366,6 @@ impl<'a, S: NodeStore> Eval<'a, S> {
         operand: &Operand,
         place: &mut Num,
     ) -> Result<(), Code>
-        ensures loans { KeepsEval self.old self.new }
-        ensures fewer { self.new.steps ≤ self.old.steps }
         ensures spent { IfOk result (λ _. self.new.steps < self.old.steps) }
         ensures does { Evaluates S.NodeStore (λ i. acts.operand_number i (operand_tree operand.now)) (λ _. units place.new) self.old result self.new }
     {
@@ -420,8 +384,6 @@ impl<'a, S: NodeStore> Eval<'a, S> {
         operand: &Operand,
         place: &mut Num,
     ) -> Result<(), Code>
-        ensures loans { KeepsEval self.old self.new }
-        ensures fewer { self.new.steps ≤ self.old.steps }
         ensures spent { IfOk result (λ _. self.new.steps < self.old.steps) }
         ensures does { Evaluates S.NodeStore (λ i. acts.operand_number i (operand_tree operand.now)) (λ _. units place.new) self.old result self.new }
     {
@@ -438,8 +400,7 @@ impl<'a, S: NodeStore> Eval<'a, S> {
     // number stays in its place.
     #[cycle(eval)]
     fn chain(&mut self, alloc: Global, left: &mut Num, tails: &[Tail]) -> Result<usize, Code>
-        ensures loans { KeepsEval self.old self.new }
-        ensures fewer { self.new.steps ≤ self.old.steps }
+        ensures keeps { KeepsEval self.old self.new }
         ensures within { IfOk result (λ count. count ≤ length tails.now) }
         ensures leads { IfOk result (λ count. Leads S.NodeStore (λ i. meaning.tails_value i (number_text (units left.old)) (tails_of (map tail_tree tails.now))) self.old (λ i. meaning.tails_value i (number_text (units left.new)) (tails_of (map tail_tree (drop count tails.now)))) self.new) }
         ensures stops { IfErr result (λ code. Evaluates S.NodeStore (λ i. meaning.tails_value i (number_text (units left.old)) (tails_of (map tail_tree tails.now))) (λ (v : Text). v) self.old (Err code) self.new) }
@@ -461,9 +422,7 @@ impl<'a, S: NodeStore> Eval<'a, S> {
     // What is done with the value to the left, which stays a number as long as operators of arithmetic come.
     #[cycle(eval)]
     fn with_rest(&mut self, alloc: Global, value: &mut Value, tails: &[Tail]) -> Result<(), Code>
-        ensures loans { KeepsEval self.old self.new }
-        ensures fewer { self.new.steps ≤ self.old.steps }
-        ensures does { Evaluates S.NodeStore (λ i. meaning.tails_value i value.old (tails_of (map tail_tree tails.now))) (λ _. value.new) self.old result self.new }
+        ensures { Evaluates S.NodeStore (λ i. meaning.tails_value i value.old (tails_of (map tail_tree tails.now))) (λ _. value.new) self.old result self.new }
     {
         let Kind::Number(number) = value.kind() else {
             return self.with_tails(alloc, value, tails);
@@ -482,8 +441,6 @@ impl<'a, S: NodeStore> Eval<'a, S> {
         e: &Expr,
         place: &mut Value,
     ) -> Result<(), Code>
-        ensures loans { KeepsEval self.old self.new }
-        ensures fewer { self.new.steps ≤ self.old.steps }
         ensures spent { IfOk result (λ _. self.new.steps < self.old.steps) }
         ensures does { Evaluates S.NodeStore (λ i. meaning.value i (expr_tree e.now)) (λ _. place.new) self.old result self.new }
     {
@@ -502,8 +459,6 @@ impl<'a, S: NodeStore> Eval<'a, S> {
     /// steps are then those that were left where the evaluation ended.
     #[cycle(eval)]
     pub fn eval(&mut self, alloc: Global, e: &Expr) -> Result<Value, Code>
-        ensures loans { KeepsEval self.old self.new }
-        ensures fewer { self.new.steps ≤ self.old.steps }
         ensures spent { IfOk result (λ _. self.new.steps < self.old.steps) }
         ensures does { Evaluates S.NodeStore (λ i. meaning.value i (expr_tree e.now)) (λ v. v) self.old result self.new }
         ensures steady { S.steady → result ≢ Err Zstore }
@@ -516,8 +471,6 @@ impl<'a, S: NodeStore> Eval<'a, S> {
     // The number of an expression's value, put in a place.
     #[cycle(eval)]
     fn expression_number(&mut self, alloc: Global, e: &Expr, place: &mut Num) -> Result<(), Code>
-        ensures loans { KeepsEval self.old self.new }
-        ensures fewer { self.new.steps ≤ self.old.steps }
         ensures spent { IfOk result (λ _. self.new.steps < self.old.steps) }
         ensures does { Evaluates S.NodeStore (λ i. line.number_of i (expr_tree e.now)) (λ _. units place.new) self.old result self.new }
     {
@@ -536,8 +489,6 @@ impl<'a, S: NodeStore> Eval<'a, S> {
     ///
     /// Those of the value; `Zover` where its number is too large.
     pub fn number(&mut self, alloc: Global, e: &Expr) -> Result<Num, Code>
-        ensures loans { KeepsEval self.old self.new }
-        ensures fewer { self.new.steps ≤ self.old.steps }
         ensures spent { IfOk result (λ _. self.new.steps < self.old.steps) }
         ensures does { Evaluates S.NodeStore (λ i. line.number_of i (expr_tree e.now)) units self.old result self.new }
     {
@@ -552,8 +503,6 @@ impl<'a, S: NodeStore> Eval<'a, S> {
     ///
     /// Those of the value; `Zover` where its number is too large.
     pub fn truth(&mut self, alloc: Global, e: &Expr) -> Result<bool, Code>
-        ensures loans { KeepsEval self.old self.new }
-        ensures fewer { self.new.steps ≤ self.old.steps }
         ensures spent { IfOk result (λ _. self.new.steps < self.old.steps) }
         ensures does { Evaluates S.NodeStore (λ i. acts.truth i (expr_tree e.now)) (λ is_true. is_true) self.old result self.new }
     {

@@ -1,6 +1,6 @@
 // SPDX-License-Identifier: Apache-2.0
 // What is asked of globals, each by one operation.
-ghost use Rattle.std.specs.Prelude.{◌≡◌, ◌≤◌};
+ghost use Rattle.std.specs.Prelude.{◌≡◌};
 ghost use Rattle.mspec.specs.Access.{Read, Write};
 ghost use Rattle.mspec.specs.Act.{ask};
 ghost use Rattle.mspec.specs.KeyBytes.{IsAccountName};
@@ -9,7 +9,7 @@ ghost use Rattle.mspec.specs.Plan.{Value, Status, Neighbour, Kill};
 ghost use Rattle.mspec.specs.Trees.{AreOrderSubscripts};
 ghost use Rattle.mkey.specs.Way.{way};
 ghost use Rattle.mmeaning.specs.Variables.{at_node, put_at};
-ghost use Rattle.meval.specs.Evaluates.{Evaluates, KeepsEval, standing_of};
+ghost use Rattle.meval.specs.Evaluates.{Evaluates, standing_of};
 ghost use Rattle.meval.specs.Places.{IsOpen, status_view};
 ghost use Rattle.meval.specs.Stores.{store_code};
 
@@ -36,9 +36,7 @@ impl<'a, S: NodeStore> Eval<'a, S> {
     // The text at a node, where there is one.
     pub(crate) fn node_text(&mut self, key: &NodeKey) -> Result<Option<Bytes7>, Code>
         requires { IsOpen (standing_of self.old) Read (at_node key.now) }
-        ensures loans { KeepsEval self.old self.new }
-        ensures fewer { self.new.steps ≤ self.old.steps }
-        ensures does { Evaluates S.NodeStore (λ i. ask (Value key.now)) (λ text. text) self.old result self.new }
+        ensures { Evaluates S.NodeStore (λ i. ask (Value key.now)) (λ text. text) self.old result self.new }
     {
         match self.store.get(key) {
             Ok(text) => Ok(text),
@@ -49,9 +47,7 @@ impl<'a, S: NodeStore> Eval<'a, S> {
     // Whether a node has a text, and whether one below it has one.
     pub(crate) fn node_status(&mut self, alloc: Global, key: &NodeKey) -> Result<Data, Code>
         requires { IsOpen (standing_of self.old) Read (at_node key.now) }
-        ensures loans { KeepsEval self.old self.new }
-        ensures fewer { self.new.steps ≤ self.old.steps }
-        ensures does { Evaluates S.NodeStore (λ i. ask (Status key.now)) status_view self.old result self.new }
+        ensures { Evaluates S.NodeStore (λ i. ask (Status key.now)) status_view self.old result self.new }
     {
         match status(self.store, alloc, key) {
             Ok(data) => Ok(data),
@@ -72,9 +68,7 @@ impl<'a, S: NodeStore> Eval<'a, S> {
         requires name { IsName name.now }
         requires subscripts { AreOrderSubscripts subscripts.now }
         requires allowed { IsOpen (standing_of self.old) Read (at_node (record { account = account.now; name = name.now; subscripts = subscripts.now })) }
-        ensures loans { KeepsEval self.old self.new }
-        ensures fewer { self.new.steps ≤ self.old.steps }
-        ensures does { Evaluates S.NodeStore (λ i. ask (Neighbour (way direction) (record { account = account.now; name = name.now; subscripts = subscripts.now }))) (λ next. next) self.old result self.new }
+        ensures { Evaluates S.NodeStore (λ i. ask (Neighbour (way direction) (record { account = account.now; name = name.now; subscripts = subscripts.now }))) (λ next. next) self.old result self.new }
     {
         match neighbour(self.store, alloc, account, name, subscripts, direction) {
             Ok(next) => Ok(next),
@@ -85,9 +79,7 @@ impl<'a, S: NodeStore> Eval<'a, S> {
     // Gives a node a text. What stands below it stays.
     pub(crate) fn put_node(&mut self, key: &NodeKey, text: &Bytes7) -> Result<(), Code>
         requires { IsOpen (standing_of self.old) Write (at_node key.now) }
-        ensures loans { KeepsEval self.old self.new }
-        ensures fewer { self.new.steps ≤ self.old.steps }
-        ensures does { Evaluates S.NodeStore (λ i. put_at (at_node key.now) text.now) (λ u. u) self.old result self.new }
+        ensures { Evaluates S.NodeStore (λ i. put_at (at_node key.now) text.now) (λ u. u) self.old result self.new }
     {
         if text.as_bytes().len() > MAX_TEXT {
             return Err(Code::Zlong);
@@ -101,9 +93,7 @@ impl<'a, S: NodeStore> Eval<'a, S> {
     // Takes the text of a node, and of what stands below it, away.
     pub(crate) fn kill_node(&mut self, key: &NodeKey) -> Result<(), Code>
         requires { IsOpen (standing_of self.old) Write (at_node key.now) }
-        ensures loans { KeepsEval self.old self.new }
-        ensures fewer { self.new.steps ≤ self.old.steps }
-        ensures does { Evaluates S.NodeStore (λ i. ask (Kill key.now)) (λ u. u) self.old result self.new }
+        ensures { Evaluates S.NodeStore (λ i. ask (Kill key.now)) (λ u. u) self.old result self.new }
     {
         match self.store.kill(key) {
             Ok(()) => Ok(()),

@@ -1,11 +1,11 @@
 // SPDX-License-Identifier: Apache-2.0
 // The locks that references name.
-ghost use Rattle.std.specs.Prelude.{◌≡◌, ◌≤◌, true, IfOk};
+ghost use Rattle.std.specs.Prelude.{◌≡◌, true, IfOk};
 ghost use Rattle.mmeaning.specs.Variables as variables;
 ghost use Rattle.mmeaning.specs.Shared.{may_lock};
 ghost use Rattle.mtree.specs.Tree.{reference_tree};
 ghost use Rattle.meval.specs.Acts as acts;
-ghost use Rattle.meval.specs.Evaluates.{Evaluates, KeepsEval, standing_of};
+ghost use Rattle.meval.specs.Evaluates.{Evaluates, standing_of};
 ghost use Rattle.meval.specs.Places.{pending_view};
 
 use crate::eval::Eval;
@@ -29,8 +29,6 @@ impl<'a, S: NodeStore> Eval<'a, S> {
     /// there are more than 15 subscripts, or one is empty or has more than 255 characters, and `Zsyntax` for a naked reference, which a
     /// text may give; `Zmem` if memory is refused, and if the account is none of the settings', which no world hands in.
     pub fn lock_name(&mut self, alloc: Global, reference: &Reference) -> Result<LockName, Code>
-        ensures loans { KeepsEval self.old self.new }
-        ensures fewer { self.new.steps ≤ self.old.steps }
         ensures open { IfOk result (λ name. may_lock (standing_of self.new).settings (standing_of self.new).account name ≡ true) }
         ensures does { Evaluates S.NodeStore (λ i. acts.lock_name_act i (reference_tree reference.now)) (λ name. name) self.old result self.new }
     {

@@ -1,10 +1,10 @@
 // SPDX-License-Identifier: Apache-2.0
 // What is asked of places that the checks let through.
-ghost use Rattle.std.specs.Prelude.{◌≤◌, [], slice_get, unwrap_or};
+ghost use Rattle.std.specs.Prelude.{[], slice_get, unwrap_or};
 ghost use Rattle.mkey.specs.Way.{way};
 ghost use Rattle.mmeaning.specs.Variables as variables;
 ghost use Rattle.mspec.specs.Access.{Read, Write};
-ghost use Rattle.meval.specs.Evaluates.{Evaluates, KeepsEval, standing_of};
+ghost use Rattle.meval.specs.Evaluates.{Evaluates, standing_of};
 ghost use Rattle.meval.specs.Acts as acts;
 ghost use Rattle.meval.specs.Places.{pending_view, place_view, walk_view, status_view, IsOpen, IsWalk};
 
@@ -25,9 +25,7 @@ impl<'a, S: NodeStore> Eval<'a, S> {
     #[tactic(auto, unfolding(mspec::specs::Act::value_of))]
     pub(crate) fn found(&mut self, place: &Place) -> Result<Option<Value>, Code>
         requires { IsOpen (standing_of self.old) Read (place_view place.now) }
-        ensures loans { KeepsEval self.old self.new }
-        ensures fewer { self.new.steps ≤ self.old.steps }
-        ensures does { Evaluates S.NodeStore (λ i. variables.found_at (place_view place.now)) (λ found. found) self.old result self.new }
+        ensures { Evaluates S.NodeStore (λ i. variables.found_at (place_view place.now)) (λ found. found) self.old result self.new }
     {
         match place {
             Place::Local(name, subscripts) => {
@@ -47,9 +45,7 @@ impl<'a, S: NodeStore> Eval<'a, S> {
     // The value of a place.
     pub(crate) fn read(&mut self, place: &Place) -> Result<Value, Code>
         requires { IsOpen (standing_of self.old) Read (place_view place.now) }
-        ensures loans { KeepsEval self.old self.new }
-        ensures fewer { self.new.steps ≤ self.old.steps }
-        ensures does { Evaluates S.NodeStore (λ i. variables.read_at (place_view place.now)) (λ v. v) self.old result self.new }
+        ensures { Evaluates S.NodeStore (λ i. variables.read_at (place_view place.now)) (λ v. v) self.old result self.new }
     {
         match self.found(place)? {
             Some(value) => Ok(value),
@@ -64,9 +60,7 @@ impl<'a, S: NodeStore> Eval<'a, S> {
     /// `Zmem` for want of memory, and `Zstore` where the store refuses.
     pub fn text_or_empty(&mut self, alloc: Global, place: &Place) -> Result<Bytes7, Code>
         requires { IsOpen (standing_of self.old) Write (place_view place.now) }
-        ensures loans { KeepsEval self.old self.new }
-        ensures fewer { self.new.steps ≤ self.old.steps }
-        ensures does { Evaluates S.NodeStore (λ i. variables.read_or [] (place_view place.now)) (λ text. text) self.old result self.new }
+        ensures { Evaluates S.NodeStore (λ i. variables.read_or [] (place_view place.now)) (λ text. text) self.old result self.new }
     {
         match self.found(place)? {
             Some(value) => Ok(value.into_text(alloc)?),
@@ -82,9 +76,7 @@ impl<'a, S: NodeStore> Eval<'a, S> {
         others: Values,
     ) -> Result<Value, Code>
         requires { IsOpen (standing_of self.old) Read (place_view place.now) }
-        ensures loans { KeepsEval self.old self.new }
-        ensures fewer { self.new.steps ≤ self.old.steps }
-        ensures does { Evaluates S.NodeStore (λ i. variables.read_or (unwrap_or (slice_get others 0) []) (place_view place.now)) (λ v. v) self.old result self.new }
+        ensures { Evaluates S.NodeStore (λ i. variables.read_or (unwrap_or (slice_get others 0) []) (place_view place.now)) (λ v. v) self.old result self.new }
     {
         match self.found(place)? {
             Some(value) => Ok(value),
@@ -95,9 +87,7 @@ impl<'a, S: NodeStore> Eval<'a, S> {
     // Whether a place has a text, and whether one below it has one.
     pub(crate) fn status(&mut self, alloc: Global, place: &Place) -> Result<Data, Code>
         requires { IsOpen (standing_of self.old) Read (place_view place.now) }
-        ensures loans { KeepsEval self.old self.new }
-        ensures fewer { self.new.steps ≤ self.old.steps }
-        ensures does { Evaluates S.NodeStore (λ i. variables.status_at (place_view place.now)) status_view self.old result self.new }
+        ensures { Evaluates S.NodeStore (λ i. variables.status_at (place_view place.now)) status_view self.old result self.new }
     {
         match place {
             Place::Local(name, subscripts) => {
@@ -111,9 +101,7 @@ impl<'a, S: NodeStore> Eval<'a, S> {
 
     // What $DATA gives of a variable.
     pub(crate) fn data(&mut self, alloc: Global, pending: Pending) -> Result<Value, Code>
-        ensures loans { KeepsEval self.old self.new }
-        ensures fewer { self.new.steps ≤ self.old.steps }
-        ensures does { Evaluates S.NodeStore (λ i. acts.data_act (pending_view pending.entry)) (λ v. v) self.old result self.new }
+        ensures { Evaluates S.NodeStore (λ i. acts.data_act (pending_view pending.entry)) (λ v. v) self.old result self.new }
     {
         let place = self.resolved(alloc, Mode::Read, pending)?;
         let data = self.status(alloc, &place)?;
@@ -129,9 +117,7 @@ impl<'a, S: NodeStore> Eval<'a, S> {
     ) -> Result<Value, Code>
         requires walk { IsWalk walk.now }
         requires allowed { IsOpen (standing_of self.old) Read (walk_view walk.now) }
-        ensures loans { KeepsEval self.old self.new }
-        ensures fewer { self.new.steps ≤ self.old.steps }
-        ensures does { Evaluates S.NodeStore (λ i. variables.next_at (way direction) (walk_view walk.now)) (λ v. v) self.old result self.new }
+        ensures { Evaluates S.NodeStore (λ i. variables.next_at (way direction) (walk_view walk.now)) (λ v. v) self.old result self.new }
     {
         match walk {
             Walk::Local(name, values) => {

@@ -1,12 +1,12 @@
 // SPDX-License-Identifier: Apache-2.0
 // Levels of execution, and the lines of routines that run in them.
-ghost use Rattle.std.specs.Prelude.{◌≡◌, ◌≤◌, ◌<◌, Ok, IfOk, IfErr};
+ghost use Rattle.std.specs.Prelude.{◌≡◌, ◌<◌, Ok, IfOk, IfErr};
 ghost use Rattle.mspec.specs.Act.{with_locals, level_begun, ask};
 ghost use Rattle.mspec.specs.Limits.{max_levels};
 ghost use Rattle.mspec.specs.Plan.{Routine};
 ghost use Rattle.mspec.specs.Scopes.{without_level};
 ghost use Rattle.mmeaning.specs.Levels.{a_level_free};
-ghost use Rattle.meval.specs.Evaluates.{Evaluates, KeepsEval};
+ghost use Rattle.meval.specs.Evaluates.{Evaluates};
 ghost use Rattle.moperator.specs.declared.code.Code.TheVariants.{Zdepth};
 
 use crate::eval::Eval;
@@ -45,9 +45,7 @@ impl<'a, S: NodeStore> Eval<'a, S> {
     /// `Zmem` for want of memory; all variables are then as they were.
     #[tactic(auto, unfolding(mspec::specs::Act::level_begun))]
     pub fn open_level(&mut self) -> Result<(), Code>
-        ensures loans { KeepsEval self.old self.new }
-        ensures fewer { self.new.steps ≤ self.old.steps }
-        ensures does { Evaluates S.NodeStore (λ i. with_locals level_begun) (λ u. u) self.old result self.new }
+        ensures { Evaluates S.NodeStore (λ i. with_locals level_begun) (λ u. u) self.old result self.new }
     {
         self.session.locals.enter()?;
         Ok(())
@@ -55,9 +53,7 @@ impl<'a, S: NodeStore> Eval<'a, S> {
 
     /// Closes the level opened last; does nothing where none is open. Takes no memory.
     pub fn close_level(&mut self)
-        ensures loans { KeepsEval self.old self.new }
-        ensures fewer { self.new.steps ≤ self.old.steps }
-        ensures does { Evaluates S.NodeStore (λ i. with_locals without_level) (λ u. u) self.old (Ok tt) self.new }
+        ensures { Evaluates S.NodeStore (λ i. with_locals without_level) (λ u. u) self.old (Ok tt) self.new }
     {
         self.session.locals.leave();
     }
@@ -68,9 +64,7 @@ impl<'a, S: NodeStore> Eval<'a, S> {
     ///
     /// `Zmem` if memory is refused, and if the account is none of the settings', which no world hands in; `Zstore` if the store refuses.
     pub fn routine(&mut self, alloc: Global, name: &Name) -> Result<Rc<Vec<Bytes7>>, Code>
-        ensures loans { KeepsEval self.old self.new }
-        ensures fewer { self.new.steps ≤ self.old.steps }
-        ensures does { Evaluates S.NodeStore (λ i. ask (Routine name.now)) (λ lines. lines.value.items) self.old result self.new }
+        ensures { Evaluates S.NodeStore (λ i. ask (Routine name.now)) (λ lines. lines.value.items) self.old result self.new }
     {
         let account = Bytes7::from_slice(alloc, self.settings.name_of(self.account))?;
         if !is_account_name(&account) {

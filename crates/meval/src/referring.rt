@@ -1,6 +1,6 @@
 // SPDX-License-Identifier: Apache-2.0
 // $DATA, $GET and $ORDER of a variable. Each of them stands apart from the others: a function clears the room of all its cases at each call.
-ghost use Rattle.std.specs.Prelude.{◌≤◌, [], map};
+ghost use Rattle.std.specs.Prelude.{[], map};
 ghost use Rattle.mgrammar.specs.Grammar.{exprs_of};
 ghost use Rattle.mgrammar.specs.Functions.{function_of};
 ghost use Rattle.mkey.specs.Way.{way};
@@ -8,7 +8,7 @@ ghost use Rattle.mmeaning.specs.Expression as meaning;
 ghost use Rattle.mmeaning.specs.Variables as variables;
 ghost use Rattle.mtree.specs.Tree.{expr_tree, reference_tree};
 ghost use Rattle.mtree.specs.declared.tree.Referring.{out-Referring};
-ghost use Rattle.meval.specs.Evaluates.{Evaluates, KeepsEval};
+ghost use Rattle.meval.specs.Evaluates.{Evaluates};
 ghost use Rattle.meval.specs.Acts as acts;
 
 use crate::eval::Eval;
@@ -25,9 +25,7 @@ impl<'a, S: NodeStore> Eval<'a, S> {
     // The value of a function of a variable.
     #[cycle(eval)]
     pub(crate) fn referring(&mut self, alloc: Global, referring: &Referring) -> Result<Value, Code>
-        ensures loans { KeepsEval self.old self.new }
-        ensures fewer { self.new.steps ≤ self.old.steps }
-        ensures does { Evaluates S.NodeStore (λ i. variables.referring (function_of (out-Referring referring.now).word) (meaning.evaluated i (reference_tree (out-Referring referring.now).reference)) (meaning.values i [] (exprs_of (map expr_tree (out-Referring referring.now).more.items)))) (λ v. v) self.old result self.new }
+        ensures { Evaluates S.NodeStore (λ i. variables.referring (function_of (out-Referring referring.now).word) (meaning.evaluated i (reference_tree (out-Referring referring.now).reference)) (meaning.values i [] (exprs_of (map expr_tree (out-Referring referring.now).more.items)))) (λ v. v) self.old result self.new }
     {
         let function = referring.word.function();
         if let Reference::Node(name, subscript) = &referring.reference {
@@ -44,9 +42,7 @@ impl<'a, S: NodeStore> Eval<'a, S> {
     #[cycle(eval)]
     #[inline(never)]
     fn data_of(&mut self, alloc: Global, reference: &Reference) -> Result<Value, Code>
-        ensures loans { KeepsEval self.old self.new }
-        ensures fewer { self.new.steps ≤ self.old.steps }
-        ensures does { Evaluates S.NodeStore (λ i. acts.data_of i (reference_tree reference.now)) (λ v. v) self.old result self.new }
+        ensures { Evaluates S.NodeStore (λ i. acts.data_of i (reference_tree reference.now)) (λ v. v) self.old result self.new }
     {
         let pending = self.evaluated(alloc, reference)?;
         self.data(alloc, pending)
@@ -56,9 +52,7 @@ impl<'a, S: NodeStore> Eval<'a, S> {
     #[cycle(eval)]
     #[inline(never)]
     fn get_of(&mut self, alloc: Global, reference: &Reference, more: &[Expr]) -> Result<Value, Code>
-        ensures loans { KeepsEval self.old self.new }
-        ensures fewer { self.new.steps ≤ self.old.steps }
-        ensures does { Evaluates S.NodeStore (λ i. acts.get_of i (reference_tree reference.now) (exprs_of (map expr_tree more.now))) (λ v. v) self.old result self.new }
+        ensures { Evaluates S.NodeStore (λ i. acts.get_of i (reference_tree reference.now) (exprs_of (map expr_tree more.now))) (λ v. v) self.old result self.new }
     {
         if let Reference::Global(name, subscripts) = reference {
             return self.fast_global_get(alloc, name, subscripts, more);
@@ -78,9 +72,7 @@ impl<'a, S: NodeStore> Eval<'a, S> {
         reference: &Reference,
         more: &[Expr],
     ) -> Result<Value, Code>
-        ensures loans { KeepsEval self.old self.new }
-        ensures fewer { self.new.steps ≤ self.old.steps }
-        ensures does { Evaluates S.NodeStore (λ i. acts.order_of i (reference_tree reference.now) (exprs_of (map expr_tree more.now))) (λ v. v) self.old result self.new }
+        ensures { Evaluates S.NodeStore (λ i. acts.order_of i (reference_tree reference.now) (exprs_of (map expr_tree more.now))) (λ v. v) self.old result self.new }
     {
         if let Reference::Global(name, subscripts) = reference {
             return self.fast_global_order(alloc, name, subscripts, more);
@@ -94,9 +86,7 @@ impl<'a, S: NodeStore> Eval<'a, S> {
     // The direction of $ORDER, by the first of the arguments behind the variable.
     #[cycle(eval)]
     pub(crate) fn direction(&mut self, alloc: Global, more: &[Expr]) -> Result<Direction, Code>
-        ensures loans { KeepsEval self.old self.new }
-        ensures fewer { self.new.steps ≤ self.old.steps }
-        ensures does { Evaluates S.NodeStore (λ i. acts.direction_act i (exprs_of (map expr_tree more.now))) way self.old result self.new }
+        ensures { Evaluates S.NodeStore (λ i. acts.direction_act i (exprs_of (map expr_tree more.now))) way self.old result self.new }
     {
         if more.is_empty() {
             return Ok(Direction::Forward);

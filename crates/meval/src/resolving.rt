@@ -1,12 +1,12 @@
 // SPDX-License-Identifier: Apache-2.0
 // From what a reference evaluates to the place that it names, by the checks in their order.
-ghost use Rattle.std.specs.Prelude.{◌≡◌, ◌≤◌, IfOk, Ok, Some};
+ghost use Rattle.std.specs.Prelude.{◌≡◌, IfOk, Ok, Some};
 ghost use Rattle.mspec.specs.Access.{Read};
 ghost use Rattle.mspec.specs.Act.{set_naked, give};
 ghost use Rattle.mspec.specs.KeyBytes.{IsAccountName};
 ghost use Rattle.mgrant.specs.Placed.{mode_of};
 ghost use Rattle.mmeaning.specs.Variables as variables;
-ghost use Rattle.meval.specs.Evaluates.{Evaluates, KeepsEval, standing_of};
+ghost use Rattle.meval.specs.Evaluates.{Evaluates, standing_of};
 ghost use Rattle.meval.specs.Places.{pending_view, place_view, walk_view, use_of, IsWalk, IsOpen};
 
 use crate::eval::Eval;
@@ -52,8 +52,6 @@ impl<'a, S: NodeStore> Eval<'a, S> {
 
     // The node is the one that was referred to last.
     pub(crate) fn refer(&mut self, node: GlobalNode)
-        ensures loans { KeepsEval self.old self.new }
-        ensures fewer { self.new.steps ≤ self.old.steps }
         ensures same { standing_of self.new ≡ standing_of self.old }
         ensures does { Evaluates S.NodeStore (λ i. set_naked (Some node)) (λ u. u) self.old (Ok tt) self.new }
     {
@@ -77,8 +75,6 @@ impl<'a, S: NodeStore> Eval<'a, S> {
         mode: Mode,
         node: GlobalNode,
     ) -> Result<Place<'t>, Code>
-        ensures loans { KeepsEval self.old self.new }
-        ensures fewer { self.new.steps ≤ self.old.steps }
         ensures allowed { IfOk result (λ place. IsOpen (standing_of self.new) (mode_of mode) (place_view place)) }
         ensures does { Evaluates S.NodeStore (λ i. variables.node_place (use_of mode) node) place_view self.old result self.new }
     {
@@ -101,8 +97,6 @@ impl<'a, S: NodeStore> Eval<'a, S> {
         mode: Mode,
         pending: Pending<'t>,
     ) -> Result<Place<'t>, Code>
-        ensures loans { KeepsEval self.old self.new }
-        ensures fewer { self.new.steps ≤ self.old.steps }
         ensures allowed { IfOk result (λ place. IsOpen (standing_of self.new) (mode_of mode) (place_view place)) }
         ensures does { Evaluates S.NodeStore (λ i. variables.resolve (use_of mode) (pending_view pending.entry)) place_view self.old result self.new }
     {
@@ -119,8 +113,6 @@ impl<'a, S: NodeStore> Eval<'a, S> {
     // The place of a node of which $ORDER is asked. What stands behind the reference may refer to another, so the walk keeps a node of
     // its own.
     fn node_walk<'t>(&mut self, alloc: Global, node: GlobalNode) -> Result<Walk<'t>, Code>
-        ensures loans { KeepsEval self.old self.new }
-        ensures fewer { self.new.steps ≤ self.old.steps }
         ensures allowed { IfOk result (λ walk. IsOpen (standing_of self.new) Read (walk_view walk)) }
         ensures walk { IfOk result IsWalk }
         ensures does { Evaluates S.NodeStore (λ i. variables.node_place variables.ordering node) walk_view self.old result self.new }
@@ -138,8 +130,6 @@ impl<'a, S: NodeStore> Eval<'a, S> {
         alloc: Global,
         pending: Pending<'t>,
     ) -> Result<Walk<'t>, Code>
-        ensures loans { KeepsEval self.old self.new }
-        ensures fewer { self.new.steps ≤ self.old.steps }
         ensures allowed { IfOk result (λ walk. IsOpen (standing_of self.new) Read (walk_view walk)) }
         ensures walk { IfOk result IsWalk }
         ensures does { Evaluates S.NodeStore (λ i. variables.resolve variables.ordering (pending_view pending.entry)) walk_view self.old result self.new }

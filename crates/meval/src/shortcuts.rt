@@ -3,7 +3,7 @@
 // time. They are for what most lines refer to: a literal, a local variable without subscripts, one by one subscript, whose shape the tree
 // has already, and a global of the account's own that the reference before was to. A value is lent where it stands, or put in a place of the
 // caller's.
-ghost use Rattle.std.specs.Prelude.{◌≡◌, ◌≤◌, ◌<◌, [], ◌∷◌, map, slice_get, unwrap_or, Ok, Some, IfErr, IfOk, IfSome, IsSome, IsTrue};
+ghost use Rattle.std.specs.Prelude.{◌≡◌, ◌<◌, [], ◌∷◌, map, slice_get, unwrap_or, Ok, Some, IfErr, IfOk, IfSome, IsSome, IsTrue};
 ghost use Rattle.mgrammar.specs.Grammar as grammar;
 ghost use Rattle.mgrammar.specs.Grammar.{local, global, no_exprs, exprs, exprs_of};
 ghost use Rattle.mmeaning.specs.Expression as meaning;
@@ -20,7 +20,7 @@ ghost use Rattle.mspec.specs.Trees.{AreOrderSubscripts};
 ghost use Rattle.mkey.specs.Way.{way};
 ghost use Rattle.mtree.specs.Tree.{expr_tree, operand_tree};
 ghost use Rattle.mtree.specs.Functions.{variable_function_tree};
-ghost use Rattle.meval.specs.Evaluates.{Evaluates, KeepsEval, standing_of};
+ghost use Rattle.meval.specs.Evaluates.{Evaluates, standing_of};
 ghost use Rattle.meval.specs.Acts as acts;
 ghost use Rattle.meval.specs.Places.{pending_view, place_view, own_global, IsOfGlobal, IsOpen};
 ghost use Rattle.meval.specs.AtHand.{at_hand_tree};
@@ -97,8 +97,6 @@ impl<'a, S: NodeStore> Eval<'a, S> {
 
     // `primary`, of what has its value at hand.
     pub(crate) fn fast_value(&mut self, at_hand: AtHand, place: &mut Value) -> Result<(), Code>
-        ensures loans { KeepsEval self.old self.new }
-        ensures fewer { self.new.steps ≤ self.old.steps }
         ensures spent { IfOk result (λ _. self.new.steps < self.old.steps) }
         ensures does { Evaluates S.NodeStore (λ i. meaning.primary_value i (at_hand_tree at_hand.entry)) (λ _. place.new) self.old result self.new }
     {
@@ -118,8 +116,6 @@ impl<'a, S: NodeStore> Eval<'a, S> {
 
     // `other_number`, of what has its value at hand.
     pub(crate) fn fast_number(&mut self, at_hand: AtHand, place: &mut Num) -> Result<(), Code>
-        ensures loans { KeepsEval self.old self.new }
-        ensures fewer { self.new.steps ≤ self.old.steps }
         ensures spent { IfOk result (λ _. self.new.steps < self.old.steps) }
         ensures does { Evaluates S.NodeStore (λ i. acts.primary_number i (at_hand_tree at_hand.entry)) (λ _. units place.new) self.old result self.new }
     {
@@ -148,9 +144,7 @@ impl<'a, S: NodeStore> Eval<'a, S> {
         name: Name,
         subscripts: &[Expr],
     ) -> Result<Pending<'u>, Code>
-        ensures loans { KeepsEval self.old self.new }
-        ensures fewer { self.new.steps ≤ self.old.steps }
-        ensures does { Evaluates S.NodeStore (λ i. meaning.through i (local name no_exprs) (exprs_of (map expr_tree subscripts.now))) pending_view self.old result self.new }
+        ensures { Evaluates S.NodeStore (λ i. meaning.through i (local name no_exprs) (exprs_of (map expr_tree subscripts.now))) pending_view self.old result self.new }
     {
         let values = self.values(alloc, subscripts)?;
         Ok(Pending::Local(LocalName::Own(name), values))
@@ -165,9 +159,7 @@ impl<'a, S: NodeStore> Eval<'a, S> {
         name: &Name,
         subscript: &Expr,
     ) -> Result<Value, Code>
-        ensures loans { KeepsEval self.old self.new }
-        ensures fewer { self.new.steps ≤ self.old.steps }
-        ensures does { Evaluates S.NodeStore (λ i. acts.variable_value i (local name.now (exprs (expr_tree subscript.now) no_exprs))) (λ v. v) self.old result self.new }
+        ensures { Evaluates S.NodeStore (λ i. acts.variable_value i (local name.now (exprs (expr_tree subscript.now) no_exprs))) (λ v. v) self.old result self.new }
     {
         let mut value = Value::of_whole(0);
         self.eval_into(alloc, subscript, &mut value)?;
@@ -176,9 +168,7 @@ impl<'a, S: NodeStore> Eval<'a, S> {
 
     // `resolved` and `read`, of a local variable by this subscript.
     fn fast_read(&mut self, name: &Name, subscript: &Value) -> Result<Value, Code>
-        ensures loans { KeepsEval self.old self.new }
-        ensures fewer { self.new.steps ≤ self.old.steps }
-        ensures does { Evaluates S.NodeStore (λ i. acts.read_act (variables.of_local name.now (subscript.now ∷ []))) (λ v. v) self.old result self.new }
+        ensures { Evaluates S.NodeStore (λ i. acts.read_act (variables.of_local name.now (subscript.now ∷ []))) (λ v. v) self.old result self.new }
     {
         let subscripts = from_ref(subscript);
         if !values_ok(subscripts) {
@@ -199,9 +189,7 @@ impl<'a, S: NodeStore> Eval<'a, S> {
         name: &Name,
         subscripts: &[Expr],
     ) -> Result<Value, Code>
-        ensures loans { KeepsEval self.old self.new }
-        ensures fewer { self.new.steps ≤ self.old.steps }
-        ensures does { Evaluates S.NodeStore (λ i. acts.variable_value i (global name.now (exprs_of (map expr_tree subscripts.now)))) (λ v. v) self.old result self.new }
+        ensures { Evaluates S.NodeStore (λ i. acts.variable_value i (global name.now (exprs_of (map expr_tree subscripts.now)))) (λ v. v) self.old result self.new }
     {
         let values = self.values(alloc, subscripts)?;
         let place = self.fast_place(alloc, name, values)?;
@@ -216,8 +204,6 @@ impl<'a, S: NodeStore> Eval<'a, S> {
         name: &Name,
         values: Values,
     ) -> Result<Place<'t>, Code>
-        ensures loans { KeepsEval self.old self.new }
-        ensures fewer { self.new.steps ≤ self.old.steps }
         ensures allowed { IfOk result (λ place. IsOpen (standing_of self.new) Read (place_view place)) }
         ensures does { Evaluates S.NodeStore (λ i. variables.node_place variables.reading (own_global self.old name.now values)) place_view self.old result self.new }
     {
@@ -247,8 +233,6 @@ impl<'a, S: NodeStore> Eval<'a, S> {
     fn fast_refer(&mut self, own: &[u8], name: &Name, values: Values)
         requires some { IsSome self.old.session.now.naked }
         requires last { IfSome self.old.session.now.naked (IsOfGlobal own.now name.now) }
-        ensures loans { KeepsEval self.old self.new }
-        ensures fewer { self.new.steps ≤ self.old.steps }
         ensures same { standing_of self.new ≡ standing_of self.old }
         ensures does { Evaluates S.NodeStore (λ i. set_naked (Some (record { account = own.now; name = name.now; subscripts = values }))) (λ u. u) self.old (Ok tt) self.new }
     {
@@ -268,9 +252,7 @@ impl<'a, S: NodeStore> Eval<'a, S> {
         subscripts: &[Expr],
         more: &[Expr],
     ) -> Result<Value, Code>
-        ensures loans { KeepsEval self.old self.new }
-        ensures fewer { self.new.steps ≤ self.old.steps }
-        ensures does { Evaluates S.NodeStore (λ i. acts.get_of i (global name.now (exprs_of (map expr_tree subscripts.now))) (exprs_of (map expr_tree more.now))) (λ v. v) self.old result self.new }
+        ensures { Evaluates S.NodeStore (λ i. acts.get_of i (global name.now (exprs_of (map expr_tree subscripts.now))) (exprs_of (map expr_tree more.now))) (λ v. v) self.old result self.new }
     {
         let values = self.values(alloc, subscripts)?;
         let place = self.fast_place(alloc, name, values)?;
@@ -288,9 +270,7 @@ impl<'a, S: NodeStore> Eval<'a, S> {
         subscripts: &[Expr],
         more: &[Expr],
     ) -> Result<Value, Code>
-        ensures loans { KeepsEval self.old self.new }
-        ensures fewer { self.new.steps ≤ self.old.steps }
-        ensures does { Evaluates S.NodeStore (λ i. acts.order_of i (global name.now (exprs_of (map expr_tree subscripts.now))) (exprs_of (map expr_tree more.now))) (λ v. v) self.old result self.new }
+        ensures { Evaluates S.NodeStore (λ i. acts.order_of i (global name.now (exprs_of (map expr_tree subscripts.now))) (exprs_of (map expr_tree more.now))) (λ v. v) self.old result self.new }
     {
         let values = self.values(alloc, subscripts)?;
         let walk = self.fast_walk(alloc, name, values)?;
@@ -300,8 +280,6 @@ impl<'a, S: NodeStore> Eval<'a, S> {
 
     // `own_node` and `node_walk`, the same way: gives the subscripts of the walk.
     fn fast_walk(&mut self, alloc: Global, name: &Name, values: Values) -> Result<Values, Code>
-        ensures loans { KeepsEval self.old self.new }
-        ensures fewer { self.new.steps ≤ self.old.steps }
         ensures account { IfOk result (λ _. IsAccountName (standing_of self.old).account) }
         ensures walk { IfOk result AreOrderSubscripts }
         ensures does { Evaluates S.NodeStore (λ i. variables.node_place variables.ordering (own_global self.old name.now values)) (λ walk. variables.at_node (own_global self.old name.now walk)) self.old result self.new }
@@ -330,9 +308,7 @@ impl<'a, S: NodeStore> Eval<'a, S> {
     ) -> Result<Value, Code>
         requires account { IsAccountName (standing_of self.old).account }
         requires subscripts { AreOrderSubscripts subscripts.now }
-        ensures loans { KeepsEval self.old self.new }
-        ensures fewer { self.new.steps ≤ self.old.steps }
-        ensures does { Evaluates S.NodeStore (λ i. variables.next_at (way direction) (variables.at_node (own_global self.old name.now subscripts.now))) (λ v. v) self.old result self.new }
+        ensures { Evaluates S.NodeStore (λ i. variables.next_at (way direction) (variables.at_node (own_global self.old name.now subscripts.now))) (λ v. v) self.old result self.new }
     {
         let own = self.settings.name_of(self.account);
         let next = self.node_neighbour(alloc, own, name.as_bytes7(), subscripts, direction)?;
@@ -350,9 +326,7 @@ impl<'a, S: NodeStore> Eval<'a, S> {
         subscript: &Expr,
         more: &[Expr],
     ) -> Result<Value, Code>
-        ensures loans { KeepsEval self.old self.new }
-        ensures fewer { self.new.steps ≤ self.old.steps }
-        ensures does { Evaluates S.NodeStore (λ i. variables.variable_function_value (variable_function_tree function) (meaning.evaluated i (local name.now (exprs (expr_tree subscript.now) no_exprs))) (meaning.values i [] (exprs_of (map expr_tree more.now)))) (λ v. v) self.old result self.new }
+        ensures { Evaluates S.NodeStore (λ i. variables.variable_function_value (variable_function_tree function) (meaning.evaluated i (local name.now (exprs (expr_tree subscript.now) no_exprs))) (meaning.values i [] (exprs_of (map expr_tree more.now)))) (λ v. v) self.old result self.new }
     {
         let mut value = Value::of_whole(0);
         self.eval_into(alloc, subscript, &mut value)?;
@@ -366,9 +340,7 @@ impl<'a, S: NodeStore> Eval<'a, S> {
     // `data`, of a local variable by this subscript.
     #[inline(never)]
     fn fast_data(&mut self, name: &Name, subscript: &Value) -> Result<Value, Code>
-        ensures loans { KeepsEval self.old self.new }
-        ensures fewer { self.new.steps ≤ self.old.steps }
-        ensures does { Evaluates S.NodeStore (λ i. acts.data_act (variables.of_local name.now (subscript.now ∷ []))) (λ v. v) self.old result self.new }
+        ensures { Evaluates S.NodeStore (λ i. acts.data_act (variables.of_local name.now (subscript.now ∷ []))) (λ v. v) self.old result self.new }
     {
         let subscripts = from_ref(subscript);
         if !values_ok(subscripts) {
@@ -388,9 +360,7 @@ impl<'a, S: NodeStore> Eval<'a, S> {
         subscript: &Value,
         more: &[Expr],
     ) -> Result<Value, Code>
-        ensures loans { KeepsEval self.old self.new }
-        ensures fewer { self.new.steps ≤ self.old.steps }
-        ensures does { Evaluates S.NodeStore (λ i. acts.get_act (exprs_of (map expr_tree more.now)) i (variables.of_local name.now (subscript.now ∷ []))) (λ v. v) self.old result self.new }
+        ensures { Evaluates S.NodeStore (λ i. acts.get_act (exprs_of (map expr_tree more.now)) i (variables.of_local name.now (subscript.now ∷ []))) (λ v. v) self.old result self.new }
     {
         let subscripts = from_ref(subscript);
         if !values_ok(subscripts) {
@@ -409,9 +379,7 @@ impl<'a, S: NodeStore> Eval<'a, S> {
         others: Values,
     ) -> Result<Value, Code>
         requires { AreSubscripts subscripts.now }
-        ensures loans { KeepsEval self.old self.new }
-        ensures fewer { self.new.steps ≤ self.old.steps }
-        ensures does { Evaluates S.NodeStore (λ i. variables.read_or (unwrap_or (slice_get others 0) []) (variables.at_local name.now subscripts.now)) (λ v. v) self.old result self.new }
+        ensures { Evaluates S.NodeStore (λ i. variables.read_or (unwrap_or (slice_get others 0) []) (variables.at_local name.now subscripts.now)) (λ v. v) self.old result self.new }
     {
         match self.session.locals.get(name, subscripts)? {
             Some(value) => Ok(value.copy()?),
@@ -429,9 +397,7 @@ impl<'a, S: NodeStore> Eval<'a, S> {
         subscript: &Value,
         more: &[Expr],
     ) -> Result<Value, Code>
-        ensures loans { KeepsEval self.old self.new }
-        ensures fewer { self.new.steps ≤ self.old.steps }
-        ensures does { Evaluates S.NodeStore (λ i. acts.order_behind (exprs_of (map expr_tree more.now)) i (variables.of_local name.now (subscript.now ∷ []))) (λ v. v) self.old result self.new }
+        ensures { Evaluates S.NodeStore (λ i. acts.order_behind (exprs_of (map expr_tree more.now)) i (variables.of_local name.now (subscript.now ∷ []))) (λ v. v) self.old result self.new }
     {
         let subscripts = from_ref(subscript);
         check_walk(subscripts)?;
@@ -448,9 +414,7 @@ impl<'a, S: NodeStore> Eval<'a, S> {
         direction: Direction,
     ) -> Result<Value, Code>
         requires { AreOrderSubscripts subscripts.now }
-        ensures loans { KeepsEval self.old self.new }
-        ensures fewer { self.new.steps ≤ self.old.steps }
-        ensures does { Evaluates S.NodeStore (λ i. variables.next_at (way direction) (variables.at_local name.now subscripts.now)) (λ v. v) self.old result self.new }
+        ensures { Evaluates S.NodeStore (λ i. variables.next_at (way direction) (variables.at_local name.now subscripts.now)) (λ v. v) self.old result self.new }
     {
         let next = self.session.locals.order(name, subscripts, direction)?;
         Ok(next_value(alloc, next))
@@ -462,9 +426,7 @@ impl<'a, S: NodeStore> Eval<'a, S> {
     ///
     /// `Zsub` where the subscript is empty or has more than 255 characters; `Zmem` for want of memory. The variable is then as it was.
     pub fn fast_put(&mut self, name: &Name, subscript: &Value, value: Value) -> Result<(), Code>
-        ensures loans { KeepsEval self.old self.new }
-        ensures fewer { self.new.steps ≤ self.old.steps }
-        ensures does { Evaluates S.NodeStore (λ i. acts.put_act (variables.of_local name.now (subscript.now ∷ [])) value) (λ u. u) self.old result self.new }
+        ensures { Evaluates S.NodeStore (λ i. acts.put_act (variables.of_local name.now (subscript.now ∷ [])) value) (λ u. u) self.old result self.new }
     {
         let subscripts = from_ref(subscript);
         if !values_ok(subscripts) {

@@ -1,6 +1,6 @@
 // SPDX-License-Identifier: Apache-2.0
 // What commands ask of the session of an evaluation, and change in it.
-ghost use Rattle.std.specs.Prelude.{◌≡◌, ◌≤◌, [], ◌∷◌, Ok, IfOk};
+ghost use Rattle.std.specs.Prelude.{◌≡◌, [], ◌∷◌, Ok, IfOk};
 ghost use Rattle.mgrammar.specs.Grammar.{special_of};
 ghost use Rattle.mspec.specs.Act.{with_locals, test_is, set_test};
 ghost use Rattle.mspec.specs.Scopes.{killed_except, newed, newed_except};
@@ -9,7 +9,7 @@ ghost use Rattle.mmeaning.specs.LineMeaning as line;
 ghost use Rattle.mnum.specs.Num.{units};
 ghost use Rattle.mspec.specs.Access.{Write};
 ghost use Rattle.mspec.specs.KeyBytes.{AreSubscripts};
-ghost use Rattle.meval.specs.Evaluates.{Evaluates, KeepsEval, standing_of};
+ghost use Rattle.meval.specs.Evaluates.{Evaluates, standing_of};
 ghost use Rattle.meval.specs.Places.{place_view, IsOpen};
 
 use crate::eval::Eval;
@@ -44,9 +44,7 @@ impl<'a, S: NodeStore> Eval<'a, S> {
         value: Value,
     ) -> Result<(), Code>
         requires { AreSubscripts subscripts.now }
-        ensures loans { KeepsEval self.old self.new }
-        ensures fewer { self.new.steps ≤ self.old.steps }
-        ensures does { Evaluates S.NodeStore (λ i. variables.put_at (variables.at_local name.now subscripts.now) value) (λ u. u) self.old result self.new }
+        ensures { Evaluates S.NodeStore (λ i. variables.put_at (variables.at_local name.now subscripts.now) value) (λ u. u) self.old result self.new }
     {
         self.session.locals.set(name, subscripts, value)?;
         Ok(())
@@ -60,9 +58,7 @@ impl<'a, S: NodeStore> Eval<'a, S> {
     /// more than 4,095 characters.
     pub fn put(&mut self, alloc: Global, place: &Place, value: Value) -> Result<(), Code>
         requires { IsOpen (standing_of self.old) Write (place_view place.now) }
-        ensures loans { KeepsEval self.old self.new }
-        ensures fewer { self.new.steps ≤ self.old.steps }
-        ensures does { Evaluates S.NodeStore (λ i. variables.put_at (place_view place.now) value) (λ u. u) self.old result self.new }
+        ensures { Evaluates S.NodeStore (λ i. variables.put_at (place_view place.now) value) (λ u. u) self.old result self.new }
     {
         match place {
             Place::Local(name, subscripts) => {
@@ -82,9 +78,7 @@ impl<'a, S: NodeStore> Eval<'a, S> {
     /// `Zmem` for want of memory, and `Zstore` where the store refuses; the variable is then as it was.
     pub fn kill(&mut self, place: &Place) -> Result<(), Code>
         requires { IsOpen (standing_of self.old) Write (place_view place.now) }
-        ensures loans { KeepsEval self.old self.new }
-        ensures fewer { self.new.steps ≤ self.old.steps }
-        ensures does { Evaluates S.NodeStore (λ i. variables.kill_at (place_view place.now)) (λ u. u) self.old result self.new }
+        ensures { Evaluates S.NodeStore (λ i. variables.kill_at (place_view place.now)) (λ u. u) self.old result self.new }
     {
         match place {
             Place::Local(name, subscripts) => {
@@ -98,9 +92,7 @@ impl<'a, S: NodeStore> Eval<'a, S> {
 
     /// Takes the texts of all local variables away that can be seen, but those of these names. Takes no memory.
     pub fn kill_others(&mut self, names: &[Name])
-        ensures loans { KeepsEval self.old self.new }
-        ensures fewer { self.new.steps ≤ self.old.steps }
-        ensures does { Evaluates S.NodeStore (λ i. with_locals (killed_except names.now)) (λ u. u) self.old (Ok tt) self.new }
+        ensures { Evaluates S.NodeStore (λ i. with_locals (killed_except names.now)) (λ u. u) self.old (Ok tt) self.new }
     {
         self.session.locals.kill_except(names);
     }
@@ -111,9 +103,7 @@ impl<'a, S: NodeStore> Eval<'a, S> {
     ///
     /// `Zmem` for want of memory; all variables are then as they were.
     pub fn hide_one(&mut self, name: &Name) -> Result<(), Code>
-        ensures loans { KeepsEval self.old self.new }
-        ensures fewer { self.new.steps ≤ self.old.steps }
-        ensures does { Evaluates S.NodeStore (λ i. with_locals (newed (name.now ∷ []))) (λ u. u) self.old result self.new }
+        ensures { Evaluates S.NodeStore (λ i. with_locals (newed (name.now ∷ []))) (λ u. u) self.old result self.new }
     {
         self.session.locals.new_vars(from_ref(name))?;
         Ok(())
@@ -125,9 +115,7 @@ impl<'a, S: NodeStore> Eval<'a, S> {
     ///
     /// `Zmem` for want of memory; all variables are then as they were.
     pub fn hide_others(&mut self, alloc: Global, names: &[Name]) -> Result<(), Code>
-        ensures loans { KeepsEval self.old self.new }
-        ensures fewer { self.new.steps ≤ self.old.steps }
-        ensures does { Evaluates S.NodeStore (λ i. with_locals (newed_except names.now)) (λ u. u) self.old result self.new }
+        ensures { Evaluates S.NodeStore (λ i. with_locals (newed_except names.now)) (λ u. u) self.old result self.new }
     {
         let spared = copied(alloc, names)?;
         self.session.locals.new_except(spared)?;
@@ -141,9 +129,7 @@ impl<'a, S: NodeStore> Eval<'a, S> {
     /// `M15` where the index is undefined, `Zover` where its number is too large.
     #[inline(always)]
     pub fn index(&mut self, name: &Name) -> Result<Num, Code>
-        ensures loans { KeepsEval self.old self.new }
-        ensures fewer { self.new.steps ≤ self.old.steps }
-        ensures does { Evaluates S.NodeStore (λ i. line.index_number name.now) units self.old result self.new }
+        ensures { Evaluates S.NodeStore (λ i. line.index_number name.now) units self.old result self.new }
     {
         match self.session.locals.own(name) {
             Some(value) => fast_number_of(value),
@@ -158,9 +144,7 @@ impl<'a, S: NodeStore> Eval<'a, S> {
     /// `Zmem` for want of memory; the variable is then as it was.
     #[tactic(auto, unfolding(mspec::specs::Act::assigned_to))]
     pub fn set_variable(&mut self, name: &Name, value: Value) -> Result<(), Code>
-        ensures loans { KeepsEval self.old self.new }
-        ensures fewer { self.new.steps ≤ self.old.steps }
-        ensures does { Evaluates S.NodeStore (λ i. variables.put_at (variables.at_local name.now []) value) (λ u. u) self.old result self.new }
+        ensures { Evaluates S.NodeStore (λ i. variables.put_at (variables.at_local name.now []) value) (λ u. u) self.old result self.new }
     {
         self.session.locals.set_own(name, value)?;
         Ok(())
@@ -168,9 +152,7 @@ impl<'a, S: NodeStore> Eval<'a, S> {
 
     // The value of a special variable.
     pub(crate) fn special(&mut self, word: &Bytes7) -> Result<Value, Code>
-        ensures loans { KeepsEval self.old self.new }
-        ensures fewer { self.new.steps ≤ self.old.steps }
-        ensures does { Evaluates S.NodeStore (λ i. variables.special_value (special_of word.now)) (λ v. v) self.old result self.new }
+        ensures { Evaluates S.NodeStore (λ i. variables.special_value (special_of word.now)) (λ v. v) self.old result self.new }
     {
         match special_of(word.as_bytes()) {
             Some(SpecialVariable::Test) => Ok(Value::of_truth(self.session.test)),
@@ -187,9 +169,7 @@ impl<'a, S: NodeStore> Eval<'a, S> {
 
     /// Sets `$TEST`. Takes no memory.
     pub fn set_test(&mut self, test: bool)
-        ensures loans { KeepsEval self.old self.new }
-        ensures fewer { self.new.steps ≤ self.old.steps }
-        ensures does { Evaluates S.NodeStore (λ i. set_test test) (λ u. u) self.old (Ok tt) self.new }
+        ensures { Evaluates S.NodeStore (λ i. set_test test) (λ u. u) self.old (Ok tt) self.new }
     {
         self.session.test = test;
     }

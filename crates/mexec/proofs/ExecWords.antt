@@ -3,7 +3,7 @@
 pub use Rattle.std.proofs.Common.{Bool, Err, List, None, Ok, Option, Result, Some, [], ap, arith, cond, drop, eqb-true, false, get_or, is_some, le-ltb, length, lt-ltb, map, not, refl, replicate, slice_get, subst, suc, sym, true, unwrap_or, zero, ℕ, ℤ, ◌*◌, ◌++◌, ◌+ℤ◌, ◌+◌, ◌-◌, ◌<◌, ◌∙◌, ◌∷◌, ◌≡◌, ◌≢◌, ◌≤◌}
 pub use Rattle.std.proofs.lemmas.List.{drop-drop, drop_more, get_or-drop, get_or_read}
 pub use Rattle.std.specs.Result.{IfOk, IsErr, IsErrAnd}
-pub use Rattle.mcommand.proofs.Calls.{at_done, at_evaluated, does_evaluated, keeps_evaluated, keeps_itself, keeps_on}
+pub use Rattle.mcommand.proofs.Calls.{at_done, at_evaluated, does_evaluated, keeps_at_depth, keeps_itself, keeps_on}
 pub use Rattle.mcommand.specs.Does.{Does, DoesAt, KeepsLoans, here_of}
 pub use Rattle.mcommand.specs.ForParameters.{added, advanced, course_view}
 pub use Rattle.mcommand.specs.declared.parts.Parts.{Parts}

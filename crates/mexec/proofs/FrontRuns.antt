@@ -146,16 +146,16 @@ charge_stopped {g = g} p l k {old = old} {new = new} {r = r} less c h =
 
 module _ {S : Type 0} {g : Ghosts S} (p : Position) (l : Line) where
   -- a line up to where it stops, and then what is left of it
-  pub front_runs : (from : ℕ) {at : ℕ} {o : the_progress.Progress the_stop.Stop} {fs fs' : List View} {old mid new : Parts S} {r : Result Completion Code} → DoesAt g (λ a n. front (context a n p) (commands_from l from)) (front_of l) old (Ok (o, at)) mid → mid.eval.steps ≤ old.eval.steps
+  pub front_runs : (from : ℕ) {at : ℕ} {o : the_progress.Progress the_stop.Stop} {fs fs' : List View} {old mid new : Parts S} {r : Result Completion Code} → DoesAt g (λ a n. front (context a n p) (commands_from l from)) (front_of l) old (Ok (o, at)) mid
       → Runs g (λ a n. line_left (context a n p) (front_of l (o, at)).0 (commands_from l at)) fs mid r fs' new
       → Runs g (λ a n. commands (context a n p) (commands_from l from)) fs old r fs' new
-  front_runs from does few k =
-      runs_as (λ a n. commands_is (context a n p) (commands_from l from)) (runs_then (λ a n w. line_left (context a n p) w.0 w.1) does few k)
+  front_runs from does k =
+      runs_as (λ a n. commands_is (context a n p) (commands_from l from)) (runs_then (λ a n w. line_left (context a n p) w.0 w.1) does k)
 
-  pub front_stopped : (from : ℕ) {fs fs' : List View} {old new : Parts S} {r : Result Completion Code} {e : Code} → DoesAt g (λ a n. front (context a n p) (commands_from l from)) (front_of l) old (Err e) new → new.eval.steps ≤ old.eval.steps
+  pub front_stopped : (from : ℕ) {fs fs' : List View} {old new : Parts S} {r : Result Completion Code} {e : Code} → DoesAt g (λ a n. front (context a n p) (commands_from l from)) (front_of l) old (Err e) new
       → IsErr r × IsErrAnd r (λ x. x ≡ e) → Runs g (λ a n. commands (context a n p) (commands_from l from)) fs old r fs' new
-  front_stopped from does few h =
-      runs_as (λ a n. commands_is (context a n p) (commands_from l from)) (runs_stopped (λ a n w. line_left (context a n p) w.0 w.1) does few h)
+  front_stopped from does h =
+      runs_as (λ a n. commands_is (context a n p) (commands_from l from)) (runs_stopped (λ a n w. line_left (context a n p) w.0 w.1) does h)
 
   -- a line that is over
   pub front_over : (from : ℕ) {at : ℕ} {s : Completion} {old mid : Parts S} → DoesAt g (λ a n. front (context a n p) (commands_from l from)) (front_of l) old (Ok (progress.Over s, at)) mid
@@ -165,19 +165,19 @@ module _ {S : Type 0} {g : Ghosts S} (p : Position) (l : Line) where
 
 -- ---- a turn more of a FOR
 
-module _ {S X : Type 0} {g : Ghosts S} {f : X → Unit {0}} {u : X} {fs fs' : List View} (t : ForLoop) {old mid next : Parts S} (gone : DoesAt g (λ a n. advanced (turning t).index (course_view t.course)) (λ (b : Bool). b) old (Ok true) mid) (few : mid.eval.steps ≤ old.eval.steps)
+module _ {S X : Type 0} {g : Ghosts S} {f : X → Unit {0}} {u : X} {fs fs' : List View} (t : ForLoop) {old mid next : Parts S} (gone : DoesAt g (λ a n. advanced (turning t).index (course_view t.course)) (λ (b : Bool). b) old (Ok true) mid)
     (c : DoesAt g (λ a n. charge) f mid (Ok u) next) (less : next.eval.steps < mid.eval.steps) where
   -- its body up to where it stops, and then what is left of that
-  pub turn_runs : {at : ℕ} {o : the_progress.Progress the_stop.Stop} {last new : Parts S} {r : Result Completion Code} → DoesAt g (λ a n. front (context a n (position_of t.body.position.value)) (rest_tree t.body)) (front_of t.body.line.value) next (Ok (o, at)) last → last.eval.steps ≤ next.eval.steps
+  pub turn_runs : {at : ℕ} {o : the_progress.Progress the_stop.Stop} {last new : Parts S} {r : Result Completion Code} → DoesAt g (λ a n. front (context a n (position_of t.body.position.value)) (rest_tree t.body)) (front_of t.body.line.value) next (Ok (o, at)) last
       → Runs g (λ a n. line_left (context a n (position_of t.body.position.value)) (front_of t.body.line.value (o, at)).0 (commands_from t.body.line.value at)) (Turns (position_of t.body.position.value) (turning t) ∷ fs) last r fs' new
       → Runs g (λ a n. meaning.after_course (context a n (position_of t.body.position.value)) (turning t) (course_view t.course)) fs old r fs' new
-  turn_runs does fewer k = course_runs t gone few (turn_begins (position_of t.body.position.value) (turning t) c less (front_runs (position_of t.body.position.value) t.body.line.value t.body.at does fewer k))
+  turn_runs does k = course_runs t gone (turn_begins (position_of t.body.position.value) (turning t) c less (front_runs (position_of t.body.position.value) t.body.line.value t.body.at does k))
 
-  pub turn_stopped : {new : Parts S} {r : Result Completion Code} {e : Code} → DoesAt g (λ a n. front (context a n (position_of t.body.position.value)) (rest_tree t.body)) (front_of t.body.line.value) next (Err e) new → new.eval.steps ≤ next.eval.steps → IsErr r × IsErrAnd r (λ x. x ≡ e)
+  pub turn_stopped : {new : Parts S} {r : Result Completion Code} {e : Code} → DoesAt g (λ a n. front (context a n (position_of t.body.position.value)) (rest_tree t.body)) (front_of t.body.line.value) next (Err e) new → IsErr r × IsErrAnd r (λ x. x ≡ e)
       → Runs g (λ a n. meaning.after_course (context a n (position_of t.body.position.value)) (turning t) (course_view t.course)) fs old r fs' new
-  turn_stopped does fewer h = course_runs t gone few (turn_begins (position_of t.body.position.value) (turning t) c less (front_stopped (position_of t.body.position.value) t.body.line.value t.body.at does fewer h))
+  turn_stopped does h = course_runs t gone (turn_begins (position_of t.body.position.value) (turning t) c less (front_stopped (position_of t.body.position.value) t.body.line.value t.body.at does h))
 
   -- one that is over
-  pub turn_over : {at : ℕ} {s : Completion} {last new : Parts S} {r : Result Completion Code} → DoesAt g (λ a n. front (context a n (position_of t.body.position.value)) (rest_tree t.body)) (front_of t.body.line.value) next (Ok (progress.Over s, at)) last → last.eval.steps ≤ next.eval.steps
+  pub turn_over : {at : ℕ} {s : Completion} {last new : Parts S} {r : Result Completion Code} → DoesAt g (λ a n. front (context a n (position_of t.body.position.value)) (rest_tree t.body)) (front_of t.body.line.value) next (Ok (progress.Over s, at)) last
       → Runs g (λ a n. meaning.after_turn (context a n (position_of t.body.position.value)) (turning t) (completion_of s)) fs last r fs' new → Runs g (λ a n. meaning.after_course (context a n (position_of t.body.position.value)) (turning t) (course_view t.course)) fs old r fs' new
-  turn_over does fewer k = course_runs t gone few (turn_done (position_of t.body.position.value) (turning t) c less (front_over (position_of t.body.position.value) t.body.line.value t.body.at does) fewer k)
+  turn_over does k = course_runs t gone (turn_done (position_of t.body.position.value) (turning t) c less (front_over (position_of t.body.position.value) t.body.line.value t.body.at does) k)

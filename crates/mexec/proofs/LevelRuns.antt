@@ -7,6 +7,7 @@ use Rattle.mmeaning.proofs.Yieldings.{yielded}
 use Rattle.meval.specs.declared.eval.Eval.{Eval}
 use Rattle.mexec.specs.declared.completion.Completion as completions
 use Rattle.mexec.specs.declared.completion.Completion.TheVariants as completion
+use Rattle.mcommand.proofs.Calls.{keeps_itself}
 use Rattle.mexec.proofs.Calls.{at_then, at_stopped, at_gives, runs_then, runs_spent, runs_stopped, runs_wanting, runs_as, runs_frame, runs_top, runs_completion}
 
 -- ---- lists
@@ -105,14 +106,14 @@ module _ {S : Type 0} {g : Ghosts S} where
   pub at_yielded : {A X : Type 0} {p : Act A} {f : X → A} {parts : Parts S} {r : Result X Code} → Yields fault_of p f r → DoesAt g (λ a n. p) f parts r parts
   at_yielded {parts = parts} y = record {
     at = λ sound. yielded (here_of g parts) y;
-    same = refl;
+    keeps = keeps_itself _;
   }
 
   pub at_any : {A X : Type 0} {p : Act A} {f : X → A} {old new : Parts S} {r : Result X Code} → Does g (λ i. p) f old r new → DoesAt g (λ a n. p) f old r new
-  at_any k = record { at = λ sound. k.at sound; same = k.same }
+  at_any k = record { at = λ sound. k.at sound; keeps = k.keeps }
 
   pub at_plain : {A X : Type 0} {p : Act A} {f : X → A} {old : Parts S} {e : Eval S} {r : Result X Code} → Evaluates g (λ i. p) f old.eval r e → DoesAt g (λ a n. p) f old r (record old { eval = e })
-  at_plain {old = old} k = record { at = λ sound. k.at sound old.out.now.items old.locks.now; same = k.same }
+  at_plain {old = old} k = record { at = λ sound. k.at sound old.out.now.items old.locks.now; keeps = record { eval = k.keeps; locks = refl; out = refl } }
 
   -- the commands of a text that is entered stand on top of its level
   pub text_runs : {fs : List View} {parts : Parts S} (p : Position) (c : Closing) (cs : List CommandTree)
@@ -146,18 +147,18 @@ module _ {S : Type 0} {g : Ghosts S} where
     module _ {X : Type 0} {f : X → Unit {0}} {u : X} {fs : List View} {old mid : Parts S} (d : DoesAt g (λ a n. charge) f old (Ok u) mid) (less : mid.eval.steps < old.eval.steps) where
       -- want of memory behind its step
       pub step_lost : {fs' : List View} (r : Result completions.Completion Code) → IsErr r × IsErrAnd r (λ x. x ≡ Zmem) → Runs g (λ a n. entering (context a n p) c k text) fs old r fs' mid
-      step_lost r h = runs_then (λ a n _. step_spent p c k text a n) d (omega (arith, less)) (runs_wanting (λ a n. step_spent p c k text a n) r h)
+      step_lost r h = runs_then (λ a n _. step_spent p c k text a n) d (runs_wanting (λ a n. step_spent p c k text a n) r h)
 
       -- it has no tree
       pub line_refused : {Y : Type 0} {view : Y → RoutineLineTree} {e : Code} {fs' : List View} {r : Result completions.Completion Code} → Yields fault_of (give_some Zsyntax (routine_line_at text)) view (Err e) → IsErr r × IsErrAnd r (λ x. x ≡ e)
           → Runs g (λ a n. entering (context a n p) c k text) fs old r fs' mid
-      line_refused y h = runs_then (λ a n _. step_spent p c k text a n) d (omega (arith, less)) (runs_as (λ a n. read_is p c k text a n) (runs_stopped (λ a n. line_read p c k text a n) (at_yielded y) (omega arith) h))
+      line_refused y h = runs_then (λ a n _. step_spent p c k text a n) d (runs_as (λ a n. read_is p c k text a n) (runs_stopped (λ a n. line_read p c k text a n) (at_yielded y) h))
 
       pub line_runs : {Y : Type 0} {view : Y → RoutineLineTree} {l : Y} → Yields fault_of (give_some Zsyntax (routine_line_at text)) view (Ok l)
           → Runs g (λ a n. entering (context a n p) c k text) fs old (Ok completion.GoOn) (on_body (at_next p (k + 1)) c (view l).body fs) mid
       line_runs {view = view} {l = l} y =
           runs_spent (λ a n _. step_spent p c k text a n) d less
-          (runs_as (λ a n. read_is p c k text a (suc n)) (runs_then (λ a n. line_read p c k text a (suc n)) (at_yielded y) (omega arith) (body_runs (at_next p (k + 1)) c (view l).body)))
+          (runs_as (λ a n. read_is p c k text a (suc n)) (runs_then (λ a n. line_read p c k text a (suc n)) (at_yielded y) (body_runs (at_next p (k + 1)) c (view l).body)))
 
   -- ---- levels that are opened
 

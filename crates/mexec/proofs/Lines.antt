@@ -1,6 +1,6 @@
 -- SPDX-License-Identifier: Apache-2.0
 -- Lines, frame by frame.
-use Rattle.mexec.proofs.ExecWords.{◌≡◌, ℕ, ◌≤◌, List, [], ◌∷◌, Result, Ok, Err, refl, sym, ◌∙◌, subst, arith, IsErr, IsErrAnd, Text, Act, ArgTree, CommandTree, stays, top_level, run_within, context, commands, arguments, Standing, Here, Follows, FailedBy, View, Rests, Lists, Levels, left, frame, Enough, MovedAs, MovedOn, residual_is, follows_itself, follows_on, failed_after, Ghosts, fault_of, Code, standing_of, Parts, DoesAt, here_of, Runs, Leads, completion_of, Completion}
+use Rattle.mexec.proofs.ExecWords.{◌≡◌, ℕ, ◌≤◌, List, [], ◌∷◌, Result, Ok, Err, refl, sym, ◌∙◌, subst, arith, IsErr, IsErrAnd, Text, Act, ArgTree, CommandTree, stays, top_level, run_within, context, commands, arguments, Standing, Here, Follows, FailedBy, View, Rests, Lists, Levels, left, frame, Enough, MovedAs, MovedOn, residual_is, follows_itself, follows_on, failed_after, Ghosts, fault_of, Code, standing_of, Parts, DoesAt, here_of, Runs, Leads, completion_of, keeps_itself, keeps_on, Completion}
 use Rattle.mmeaning.specs.LineMeaning as meaning
 use Rattle.mmeaning.proofs.LevelMoves.{line_begins}
 use Rattle.mexec.specs.declared.completion.Completion.TheVariants as completion
@@ -11,8 +11,7 @@ module _ {S : Type 0} {g : Ghosts S} where
   pub leads_first : (cs : List CommandTree) (parts : Parts S) → Leads g (λ a n. run_within a n cs) parts (Rests top_level cs ∷ Levels top_level stays ∷ []) meaning.Go_on parts
   leads_first cs parts = record {
     at = λ sound n le. (n ∷ n ∷ [], (le, (le, tt)), begins (standing_of parts.eval) n (here_of g parts));
-    fewer = omega arith;
-    same = refl;
+    keeps = keeps_itself parts;
   }
     where
       begins : (b : Standing) (n : ℕ) (h : Here) → Follows b (run_within b.account n cs) h (left b.account (Rests top_level cs ∷ Levels top_level stays ∷ []) (n ∷ n ∷ []) meaning.Go_on) h
@@ -24,19 +23,15 @@ module _ {S : Type 0} {g : Ghosts S} where
         → MovedAs {X = Completion} (standing_of old.eval) g.steady fault_of completion_of (left (standing_of old.eval).account (f ∷ fs) (m ∷ ms) s) (here_of g mid) r fs' (here_of g new)
     moved {fs' = fs'} {r = r} k sound m ms le e =
         let here =
-        subst (λ b. MovedOn b g.steady fault_of completion_of (frame b.account m f s) (left b.account fs ms) (here_of g mid) r fs' (here_of g new)) d.same (k.at sound m ms le e)
+        subst (λ b. MovedOn b g.steady fault_of completion_of (frame b.account m f s) (left b.account fs ms) (here_of g mid) r fs' (here_of g new)) d.keeps.eval.same (k.at sound m ms le e)
         in
         here.done
 
     pub leads_on : {fs' : List View} {s' : Completion} → Runs g (λ a n. frame a n f s) fs mid (Ok s') fs' new → Leads g p old fs' (completion_of s') new
-    leads_on {fs' = fs'} {s' = s'} k =
-        let fewer = d.fewer in
-        let few = k.fewer in
-        record {
-          at = λ sound n le. go sound n (d.at sound n le);
-          fewer = omega (arith, fewer, few);
-          same = k.same ∙ d.same;
-        }
+    leads_on {fs' = fs'} {s' = s'} k = record {
+      at = λ sound n le. go sound n (d.at sound n le);
+      keeps = keeps_on d.keeps k.keeps;
+    }
       where
         go : g.sound → (n : ℕ)
             → (ns : List ℕ) × Enough mid.eval.steps (f ∷ fs) ns × Follows (standing_of old.eval) (p (standing_of old.eval).account n) (here_of g old) (left (standing_of old.eval).account (f ∷ fs) ns s) (here_of g mid)
@@ -49,14 +44,14 @@ module _ {S : Type 0} {g : Ghosts S} where
 
     pub leads_stopped : {fs' : List View} {e : Code} {r : Result Completion Code} → Runs g (λ a n. frame a n f s) fs mid (Err e) fs' new → IsErr r × IsErrAnd r (λ x. x ≡ e) → DoesAt g p completion_of old r new
     leads_stopped {e = e} {r = r} k h =
-        let fewer = d.fewer in
-        let few = k.fewer in
+        let keeps = keeps_on d.keeps k.keeps in
+        let few = keeps.eval.fewer in
         subst (λ r. DoesAt g p completion_of old r new) (sym (residual_is r e h)) (record {
           at = λ sound. record {
             at = λ n le. go sound n (d.at sound n le);
-            fewer = omega (arith, fewer, few);
+            fewer = few;
           };
-          same = k.same ∙ d.same;
+          keeps = keeps;
         })
       where
         go : (sound : g.sound) (n : ℕ)
@@ -71,9 +66,9 @@ module _ {S : Type 0} {g : Ghosts S} where
   leads_ends p s d = record {
     at = λ sound. record {
       at = λ n le. let here = d.at sound n le in let follows = here.2 in follows.whole;
-      fewer = d.fewer;
+      fewer = d.keeps.eval.fewer;
     };
-    same = d.same;
+    keeps = d.keeps;
   }
 
   -- a completion that passes the rest of a line

@@ -72,14 +72,14 @@ module _ {S X : Type 0} {g : Ghosts S} {f : X → Unit {0}} {u : X} {old mid : P
   turn_begins k = runs_spent (λ a n _. (context a n d).texts.turn d t) c less (runs_frame (frames.Turns d t) k)
 
   -- the same at once
-  pub turn_done : {s : Completion} {fs fs' : List View} {next new : Parts S} {r : Result Completion Code} → DoesAt g (λ a n. meaning.commands (context a n d) t.body) completion_of mid (Ok s) next → next.eval.steps ≤ mid.eval.steps
+  pub turn_done : {s : Completion} {fs fs' : List View} {next new : Parts S} {r : Result Completion Code} → DoesAt g (λ a n. meaning.commands (context a n d) t.body) completion_of mid (Ok s) next
       → Runs g (λ a n. meaning.after_turn (context a n d) t (completion_of s)) fs next r fs' new → Runs g (λ a n. begin_turn (context a n d) t) fs old r fs' new
-  turn_done does few k = runs_spent (λ a n _. (context a n d).texts.turn d t) c less (runs_then (λ a n s. meaning.after_turn (context a n d) t s) does few k)
+  turn_done does k = runs_spent (λ a n _. (context a n d).texts.turn d t) c less (runs_then (λ a n s. meaning.after_turn (context a n d) t s) does k)
 
 -- and where there is no step for it
-pub turn_charge_failed : {S X : Type 0} {g : Ghosts S} {f : X → Unit {0}} {fs fs' : List View} {old new : Parts S} {r : Result Completion Code} {e : Code} (d : Position) (t : Turning) → DoesAt g (λ a n. charge) f old (Err e) new → new.eval.steps ≤ old.eval.steps
+pub turn_charge_failed : {S X : Type 0} {g : Ghosts S} {f : X → Unit {0}} {fs fs' : List View} {old new : Parts S} {r : Result Completion Code} {e : Code} (d : Position) (t : Turning) → DoesAt g (λ a n. charge) f old (Err e) new
     → IsErr r × IsErrAnd r (λ x. x ≡ e) → Runs g (λ a n. begin_turn (context a n d) t) fs old r fs' new
-turn_charge_failed d t c few h = runs_stopped (λ a n _. (context a n d).texts.turn d t) c few h
+turn_charge_failed d t c h = runs_stopped (λ a n _. (context a n d).texts.turn d t) c h
 
 -- where a call fails, nothing falls
 pub falls_failed : {X E : Type 0} (P : X → Type 0) (r : Result X E) → IsErr r → IfOk r P
@@ -112,13 +112,13 @@ module _ {S : Type 0} {g : Ghosts S} (d : Position) (index : Text) (body : List 
       (runs_as (λ a n. next_is (context a n d) index body (parameter_tree p) (map parameter_tree (drop (k + 1) ps))) runs)
 
   -- a parameter is begun, and then the turns go on
-  pub parameter_runs : {X : Type 0} {view : X → Option Course} {o : X} {old mid new : Parts S} {r : Result Completion Code} → DoesAt g (λ a n. started (inside a n d.depth) index (parameter_tree p)) view old (Ok o) mid → mid.eval.steps ≤ old.eval.steps
+  pub parameter_runs : {X : Type 0} {view : X → Option Course} {o : X} {old mid new : Parts S} {r : Result Completion Code} → DoesAt g (λ a n. started (inside a n d.depth) index (parameter_tree p)) view old (Ok o) mid
       → Runs g (λ a n. begun (context a n d) index body (map parameter_tree (drop (k + 1) ps)) (view o)) fs mid r fs' new → Runs g (λ a n. next_parameter (context a n d) index body (map parameter_tree (drop k ps))) fs old r fs' new
-  parameter_runs does few then_runs = from_parameter (runs_then (λ a n. begun (context a n d) index body (map parameter_tree (drop (k + 1) ps))) does few then_runs)
+  parameter_runs does then_runs = from_parameter (runs_then (λ a n. begun (context a n d) index body (map parameter_tree (drop (k + 1) ps))) does then_runs)
 
-  pub parameter_stopped : {X : Type 0} {view : X → Option Course} {old new : Parts S} {r : Result Completion Code} {e : Code} → DoesAt g (λ a n. started (inside a n d.depth) index (parameter_tree p)) view old (Err e) new → new.eval.steps ≤ old.eval.steps → IsErr r × IsErrAnd r (λ x. x ≡ e)
+  pub parameter_stopped : {X : Type 0} {view : X → Option Course} {old new : Parts S} {r : Result Completion Code} {e : Code} → DoesAt g (λ a n. started (inside a n d.depth) index (parameter_tree p)) view old (Err e) new → IsErr r × IsErrAnd r (λ x. x ≡ e)
       → Runs g (λ a n. next_parameter (context a n d) index body (map parameter_tree (drop k ps))) fs old r fs' new
-  parameter_stopped does few h = from_parameter (runs_stopped (λ a n. begun (context a n d) index body (map parameter_tree (drop (k + 1) ps))) does few h)
+  parameter_stopped does h = from_parameter (runs_stopped (λ a n. begun (context a n d) index body (map parameter_tree (drop (k + 1) ps))) does h)
 
 -- a turn of turns as the frames have them
 pub begun_runs : {S : Type 0} {g : Ghosts S} {fs fs' : List View} {old new : Parts S} {r : Result Completion Code} (t : ForLoop) (index : Text) (parameters : List Parameter) → loop_before t.body.line.value t.body.at ≡ (index, parameters)
@@ -138,10 +138,10 @@ pub no_parameters_run : {S : Type 0} {g : Ghosts S} {fs : List View} {old : Part
 no_parameters_run t e = runs_as (λ a n. ap (λ u. next_parameter (context a n (position_of t.body.position.value)) u.index u.body u.parameters) (turning_of_none t e)) (runs_completion completion.Skips)
 
 module _ {S : Type 0} {g : Ghosts S} (t : ForLoop) {fs fs' : List View} where
-  pub course_runs : {b : Bool} {old mid new : Parts S} {r : Result Completion Code} → DoesAt g (λ a n. advanced (turning t).index (course_view t.course)) (λ (b : Bool). b) old (Ok b) mid → mid.eval.steps ≤ old.eval.steps
+  pub course_runs : {b : Bool} {old mid new : Parts S} {r : Result Completion Code} → DoesAt g (λ a n. advanced (turning t).index (course_view t.course)) (λ (b : Bool). b) old (Ok b) mid
       → Runs g (λ a n. gone_on (context a n (position_of t.body.position.value)) (turning t) b) fs mid r fs' new → Runs g (λ a n. after_course (context a n (position_of t.body.position.value)) (turning t) (course_view t.course)) fs old r fs' new
-  course_runs does few k = runs_as (λ a n. course_is (context a n (position_of t.body.position.value)) (turning t) (course_view t.course)) (runs_then (λ a n. gone_on (context a n (position_of t.body.position.value)) (turning t)) does few k)
+  course_runs does k = runs_as (λ a n. course_is (context a n (position_of t.body.position.value)) (turning t) (course_view t.course)) (runs_then (λ a n. gone_on (context a n (position_of t.body.position.value)) (turning t)) does k)
 
-  pub not_gone_on : {old new : Parts S} {r : Result Completion Code} {c : Code} → DoesAt g (λ a n. advanced (turning t).index (course_view t.course)) (λ (b : Bool). b) old (Err c) new → new.eval.steps ≤ old.eval.steps → IsErr r × IsErrAnd r (λ x. x ≡ c)
+  pub not_gone_on : {old new : Parts S} {r : Result Completion Code} {c : Code} → DoesAt g (λ a n. advanced (turning t).index (course_view t.course)) (λ (b : Bool). b) old (Err c) new → IsErr r × IsErrAnd r (λ x. x ≡ c)
       → Runs g (λ a n. after_course (context a n (position_of t.body.position.value)) (turning t) (course_view t.course)) fs old r fs' new
-  not_gone_on does few h = runs_as (λ a n. course_is (context a n (position_of t.body.position.value)) (turning t) (course_view t.course)) (runs_stopped (λ a n. gone_on (context a n (position_of t.body.position.value)) (turning t)) does few h)
+  not_gone_on does h = runs_as (λ a n. course_is (context a n (position_of t.body.position.value)) (turning t) (course_view t.course)) (runs_stopped (λ a n. gone_on (context a n (position_of t.body.position.value)) (turning t)) does h)

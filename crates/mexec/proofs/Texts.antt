@@ -1,6 +1,6 @@
 -- SPDX-License-Identifier: Apache-2.0
 -- A text by its tree.
-use Rattle.mexec.proofs.ExecWords.{◌≡◌, ◌≢◌, ◌≤◌, Option, Some, None, Ok, Err, refl, sym, subst, arith, Act, LineTree, commands_of, run, run_within, Standing, Here, Gave, Ghosts, Code, Zstore, standing_of, Parts, DoesAt, here_of, completion_of, Completion}
+use Rattle.mexec.proofs.ExecWords.{◌≡◌, ◌≢◌, ◌≤◌, Option, Some, None, Ok, Err, refl, sym, subst, arith, Act, LineTree, commands_of, run, run_within, Standing, Here, Gave, Ghosts, Code, Zstore, standing_of, Parts, DoesAt, here_of, completion_of, keeps_itself, Completion}
 use Rattle.mmeaning.specs.LineMeaning as meaning
 use Rattle.mmeaning.specs.Transition as transition
 use Rattle.mmeaning.specs.Transition.{Ending, Faulted}
@@ -21,22 +21,22 @@ ends_by b steady p h e s h' is gave = (completion_of s, sym is, gave)
 
 module _ {S : Type 0} {g : Ghosts S} where
   pub refused : (o : Option LineTree) (parts : Parts S) → o ≡ None → RunsText g o parts (Fault Zsyntax) parts
-  refused o parts e = subst (λ o. RunsText g o parts (Fault Zsyntax) parts) (sym e) (record { at = λ sound. refl; fewer = omega arith })
+  refused o parts e = subst (λ o. RunsText g o parts (Fault Zsyntax) parts) (sym e) (record { at = λ sound. refl; keeps = keeps_itself parts })
 
   pub done : (o : Option LineTree) (l : LineTree) (old new : Parts S) (e : Ended) (s : Completion) → o ≡ Some l → ending_of e ≡ transition.ending_of (completion_of s) → DoesAt g (λ a n. run_within a n (commands_of l)) completion_of old (Ok s) new
-      → new.eval.steps ≤ old.eval.steps → RunsText g o old e new
-  done o l old new e s some is d few = subst (λ o. RunsText g o old e new) (sym some) (record {
+      → RunsText g o old e new
+  done o l old new e s some is d = subst (λ o. RunsText g o old e new) (sym some) (record {
     at = λ sound.
         let b = standing_of old.eval in
         let did = d.at sound in
         ends_by b g.steady (run b.account l) (here_of g old) e s (here_of g new) is (did.at old.eval.steps (omega arith));
-    fewer = few;
+    keeps = d.keeps;
   })
 
-  pub failed : (o : Option LineTree) (l : LineTree) (old new : Parts S) (c : Code) → o ≡ Some l → DoesAt g (λ a n. run_within a n (commands_of l)) completion_of old (Err c) new → new.eval.steps ≤ old.eval.steps → RunsText g o old (Fault c) new
-  failed o l old new c some d few = subst (λ o. RunsText g o old (Fault c) new) (sym some) (record {
+  pub failed : (o : Option LineTree) (l : LineTree) (old new : Parts S) (c : Code) → o ≡ Some l → DoesAt g (λ a n. run_within a n (commands_of l)) completion_of old (Err c) new → RunsText g o old (Fault c) new
+  failed o l old new c some d = subst (λ o. RunsText g o old (Fault c) new) (sym some) (record {
     at = λ sound. let did = d.at sound in did.at old.eval.steps (omega arith);
-    fewer = few;
+    keeps = d.keeps;
   })
 
   pub never_refused : {o : Option LineTree} {old new : Parts S} {e : Ended} → (g.steady → g.sound) → RunsText g o old e new → g.steady → ◌≢◌ {A = Ended} e (Fault Zstore)

@@ -16,7 +16,7 @@ use Rattle.moperator.specs.Codes.{fault_of}
 use Rattle.moperator.specs.declared.code.Code.{Code}
 use Rattle.meval.specs.Evaluates.{standing_of, depth_of}
 use Rattle.mcommand.specs.declared.parts.Parts.{Parts}
-use Rattle.mcommand.specs.Does.{here_of}
+use Rattle.mcommand.specs.Does.{KeepsLoans, here_of}
 use Rattle.mcommand.specs.Targets.{target_view}
 use Rattle.mcommand.specs.ForParameters.{course_view}
 pub use Rattle.mexec.specs.Loops.{loop_in, args_of, args_before, loop_before}
@@ -101,13 +101,11 @@ resting p (c ∷ cs) fs = Rests p (c ∷ cs) ∷ fs
 pub record Runs {S : Type 0} (g : Ghosts S) (p : Text → ℕ → Act meaning.Completion) (fs : List View) (old : Parts S) (r : Result Completion Code) (fs' : List View) (new : Parts S) : Type 0 where
   pub at : g.sound → (n : ℕ) (ns : List ℕ) → old.eval.steps ≤ n → Enough old.eval.steps fs ns →
       MovedOn (standing_of old.eval) g.steady fault_of completion_of (p (standing_of old.eval).account n) (left (standing_of old.eval).account fs ns) (here_of g old) r fs' (here_of g new)
-  pub fewer : new.eval.steps ≤ old.eval.steps
-  pub same : standing_of new.eval ≡ standing_of old.eval
+  pub keeps : KeepsLoans old new
 
 -- what the frames have to do with a completion is what is left of an act
 pub record Leads {S : Type 0} (g : Ghosts S) (p : Text → ℕ → Act meaning.Completion) (old : Parts S) (fs : List View) (s : meaning.Completion) (new : Parts S) : Type 0 where
   pub at : g.sound → (n : ℕ) → old.eval.steps ≤ n →
       (ns : List ℕ) × Enough new.eval.steps fs ns ×
       Follows (standing_of old.eval) (p (standing_of old.eval).account n) (here_of g old) (left (standing_of old.eval).account fs ns s) (here_of g new)
-  pub fewer : new.eval.steps ≤ old.eval.steps
-  pub same : standing_of new.eval ≡ standing_of old.eval
+  pub keeps : KeepsLoans old new

@@ -1,6 +1,6 @@
 -- SPDX-License-Identifier: Apache-2.0
 -- What a call that carries out a text says of the text's meaning.
-use Rattle.std.specs.Prelude.{◌≡◌, ◌≤◌, Option}
+use Rattle.std.specs.Prelude.{◌≡◌, Option}
 use Rattle.mspec.specs.Act.{Act}
 use Rattle.mgrammar.specs.Grammar.{LineTree}
 use Rattle.mmeaning.specs.LineMeaning.{Completion}
@@ -11,7 +11,7 @@ use Rattle.mstore.specs.declared.store.NodeStore.{Ghosts}
 use Rattle.moperator.specs.Codes.{fault_of}
 use Rattle.meval.specs.Evaluates.{standing_of}
 use Rattle.mcommand.specs.declared.parts.Parts.{Parts}
-use Rattle.mcommand.specs.Does.{here_of}
+use Rattle.mcommand.specs.Does.{KeepsLoans, here_of}
 use Rattle.mexec.specs.declared.text.Ended.{Ended}
 use Rattle.mexec.specs.declared.text.Ended.TheVariants as ended
 
@@ -32,4 +32,4 @@ EndsBy b steady p h (ended.Fault c) h' = FailedBy b steady p h (fault_of c) h'
 -- the text with this tree is carried out: the call ends as it does
 pub record RunsText {S : Type 0} (g : Ghosts S) (tree : Option LineTree) (old : Parts S) (ended : Ended) (new : Parts S) : Type 0 where
   pub at : g.sound → EndsBy (standing_of old.eval) g.steady (text_run (standing_of old.eval).account tree) (here_of g old) ended (here_of g new)
-  pub fewer : new.eval.steps ≤ old.eval.steps
+  pub keeps : KeepsLoans old new

@@ -11,7 +11,7 @@ pub use Rattle.mmeaning.specs.Frames.{Levels, Lists, frame}
 pub use Rattle.mmeaning.specs.Levels.{commands_of, stays}
 pub use Rattle.mmeaning.specs.LineMeaning.{context}
 pub use Rattle.mmeaning.specs.Yields.{Yields}
-pub use Rattle.mcommand.specs.Does.{DoesAt, KeepsLoans}
+pub use Rattle.mcommand.specs.Does.{DoesAt}
 pub use Rattle.meval.specs.Evaluates.{depth_of}
 pub use Rattle.moperator.specs.Codes.{fault_of}
 pub use Rattle.mtree.specs.Tree.{arg_tree, command_tree, condition_tree, entry_tree, expr_tree, keyword_tree, line_tree, primary_tree, routine_line_tree}

@@ -1,9 +1,9 @@
 // SPDX-License-Identifier: Apache-2.0
 // The arguments of a command, one after another.
-ghost use Rattle.std.specs.Prelude.{◌≡◌, ◌≤◌, map, drop};
+ghost use Rattle.std.specs.Prelude.{◌≡◌, map, drop};
 ghost use Rattle.mmeaning.specs.LineMeaning as meaning;
-ghost use Rattle.mexec.specs.Words.{DoesAt, KeepsLoans, arg_tree, condition_tree, context, depth_of, entry_tree, expr_tree, inside};
-ghost use Rattle.mexec.specs.Falls.{Moves};
+ghost use Rattle.mexec.specs.Words.{DoesAt, arg_tree, condition_tree, context, depth_of, entry_tree, expr_tree, inside};
+ghost use Rattle.mexec.specs.Falls.{Falls};
 ghost use Rattle.mexec.specs.Frames.{Runs, completion_of, went, source_args, source_position, position_of, stack};
 ghost use Rattle.mexec.specs.Progress.{ends};
 ghost use Rattle.mexec.specs.Fronts.{args_started, begun_of};
@@ -58,9 +58,7 @@ fn going<S: NodeStore>(
     entry: &Entry,
     condition: &Option<Box<Expr>>,
 ) -> Result<Completion, Code>
-    ensures loans { KeepsLoans parts.old parts.new }
-    ensures fewer { parts.new.eval.steps ≤ parts.old.eval.steps }
-    ensures does { DoesAt S.NodeStore (λ a n. meaning.where_holds (context a n (position_of position.now)) (condition_tree condition.now) (meaning.going (context a n (position_of position.now)) (entry_tree entry.now))) completion_of parts.old result parts.new }
+    ensures { DoesAt S.NodeStore (λ a n. meaning.where_holds (context a n (position_of position.now)) (condition_tree condition.now) (meaning.going (context a n (position_of position.now)) (entry_tree entry.now))) completion_of parts.old result parts.new }
 {
     parts.eval.depth = position.depth;
     let applies = parts.holds(alloc, condition)?;
@@ -79,9 +77,7 @@ fn tested<S: NodeStore>(
     position: &Position,
     e: &Expr,
 ) -> Result<Completion, Code>
-    ensures loans { KeepsLoans parts.old parts.new }
-    ensures fewer { parts.new.eval.steps ≤ parts.old.eval.steps }
-    ensures does { DoesAt S.NodeStore (λ a n. meaning.testing (inside a n (depth_of position.now.depth)) (expr_tree e.now)) completion_of parts.old result parts.new }
+    ensures { DoesAt S.NodeStore (λ a n. meaning.testing (inside a n (depth_of position.now.depth)) (expr_tree e.now)) completion_of parts.old result parts.new }
 {
     parts.eval.depth = position.depth;
     let is_true = parts.testing(alloc, e)?;
@@ -95,9 +91,7 @@ fn argument<'t, S: NodeStore>(
     position: &Position,
     arg: &'t Arg,
 ) -> Result<Progress<Entrance<'t>>, Code>
-    ensures loans { KeepsLoans parts.old parts.new }
-    ensures fewer { parts.new.eval.steps ≤ parts.old.eval.steps }
-    ensures does { DoesAt S.NodeStore (λ a n. started (context a n (position_of position.now)) (arg_tree arg.now)) start_of parts.old result parts.new }
+    ensures { DoesAt S.NodeStore (λ a n. started (context a n (position_of position.now)) (arg_tree arg.now)) start_of parts.old result parts.new }
 {
     parts.eval.depth = position.depth;
     match arg {
@@ -133,9 +127,7 @@ pub(crate) fn arguments_begun<'t, S: NodeStore>(
     args: &'t [Arg],
     from: usize,
 ) -> Result<(Progress<Entrance<'t>>, usize), Code>
-    ensures loans { KeepsLoans parts.old parts.new }
-    ensures fewer { parts.new.eval.steps ≤ parts.old.eval.steps }
-    ensures does { DoesAt S.NodeStore (λ a n. args_started (context a n (position_of position.now)) (map arg_tree (drop from args.now))) (begun_of args.now) parts.old result parts.new }
+    ensures { DoesAt S.NodeStore (λ a n. args_started (context a n (position_of position.now)) (map arg_tree (drop from args.now))) (begun_of args.now) parts.old result parts.new }
 {
     let mut at = from;
     while at < args.len() {
@@ -159,7 +151,7 @@ pub(crate) fn enter_argument<S: NodeStore>(
     argument: usize,
     scratch: &mut Scratch,
 ) -> Result<Completion, Code>
-    ensures moves { Moves parts.old scratch.old result parts.new scratch.new }
+    ensures falls { Falls parts.old scratch.old result parts.new scratch.new }
     ensures does { Runs S.NodeStore (λ a n. entered_then (context a n (position_of (source_position source.entry))) (entrance_of entrance.entry) (map arg_tree (drop argument (source_args source.entry)))) (stack scratch.old.frames.items) parts.old result (stack scratch.new.frames.items) parts.new }
 {
     source.leave(argument, scratch)?;
@@ -181,7 +173,7 @@ pub(crate) fn arguments<S: NodeStore>(
     from: usize,
     scratch: &mut Scratch,
 ) -> Result<Completion, Code>
-    ensures moves { Moves parts.old scratch.old result parts.new scratch.new }
+    ensures falls { Falls parts.old scratch.old result parts.new scratch.new }
     ensures does { Runs S.NodeStore (λ a n. meaning.arguments (context a n (position_of (source_position source.entry))) (map arg_tree (drop from (source_args source.entry)))) (stack scratch.old.frames.items) parts.old result (stack scratch.new.frames.items) parts.new }
 {
     let (begun, argument) = arguments_begun(alloc, parts, source.position(), source.all(), from)?;

@@ -3,8 +3,7 @@
 ghost use Rattle.std.specs.Prelude.{◌≡◌, ◌≤◌, ◌+◌, ◌*◌, [], length, IfOk, OnOk};
 ghost use Rattle.mmeaning.specs.LineMeaning as meaning;
 ghost use Rattle.mmeaning.specs.LineMeaning.{context};
-ghost use Rattle.mcommand.specs.Does.{KeepsLoans};
-ghost use Rattle.mexec.specs.Falls.{Moves};
+ghost use Rattle.mexec.specs.Falls.{Falls};
 ghost use Rattle.mexec.specs.Frames.{Runs, args_before, rest_tree, resting, stack, position_of};
 ghost use Rattle.mexec.specs.Fronts.{StopsIn, resumed, stop_of};
 
@@ -29,7 +28,7 @@ fn forever<S: NodeStore>(
     scratch: &mut Scratch,
 ) -> Result<Completion, Code>
     requires { args_before behind.now.line.value behind.now.at ≡ [] }
-    ensures moves { Moves parts.old scratch.old result parts.new scratch.new }
+    ensures falls { Falls parts.old scratch.old result parts.new scratch.new }
     ensures does { Runs S.NodeStore (λ a n. meaning.turns_forever (context a n (position_of behind.now.position.value)) (rest_tree behind.now)) (stack scratch.old.frames.items) parts.old result (stack scratch.new.frames.items) parts.new }
 {
     let turns = ForLoop {
@@ -62,7 +61,6 @@ pub(crate) fn go_on<S: NodeStore>(
     scratch: &mut Scratch,
 ) -> Result<Completion, Code>
     requires { StopsIn (args_before behind.now.line.value behind.now.at) stop }
-    ensures loans { KeepsLoans parts.old parts.new }
     ensures falls { IfOk result (λ _. 6 * parts.new.eval.steps + length scratch.new.frames.items ≤ 6 * parts.old.eval.steps + length scratch.old.frames.items + 1) }
     ensures does { Runs S.NodeStore (λ a n. resumed (context a n (position_of behind.now.position.value)) (stop_of (args_before behind.now.line.value behind.now.at) stop.entry) (rest_tree behind.now)) (stack scratch.old.frames.items) parts.old result (stack scratch.new.frames.items) parts.new }
 {
@@ -92,7 +90,7 @@ pub(crate) fn next_command<S: NodeStore>(
     rest: Continuation,
     scratch: &mut Scratch,
 ) -> Result<Completion, Code>
-    ensures moves { Moves parts.old scratch.old result parts.new scratch.new }
+    ensures falls { Falls parts.old scratch.old result parts.new scratch.new }
     ensures does { Runs S.NodeStore (λ a n. meaning.commands (context a n (position_of rest.position.value)) (rest_tree rest)) (stack scratch.old.frames.items) parts.old result (stack scratch.new.frames.items) parts.new }
 {
     let (outcome, at) = front(alloc, parts, &rest.position, &rest.line, rest.at)?;

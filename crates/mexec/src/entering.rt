@@ -7,8 +7,8 @@ ghost use Rattle.mmeaning.specs.LineMeaning.{context};
 ghost use Rattle.mmeaning.specs.Frames.{Rests, Levels};
 ghost use Rattle.mtree.specs.Tree.{entry_tree, expr_tree};
 ghost use Rattle.meval.specs.Evaluates.{depth_of};
-ghost use Rattle.mcommand.specs.Does.{DoesAt, KeepsLoans};
-ghost use Rattle.mexec.specs.Falls.{Moves, MovesFurther};
+ghost use Rattle.mcommand.specs.Does.{DoesAt};
+ghost use Rattle.mexec.specs.Falls.{Falls, FallsFurther};
 ghost use Rattle.mexec.specs.Frames.{Runs, stack, position_of, commands_from};
 ghost use Rattle.mexec.specs.Entering.{text_entered, text_position};
 
@@ -28,8 +28,6 @@ use std::rc::Rc;
 
 // One level more, where one is free.
 fn one_deeper<S: NodeStore>(parts: &mut Parts<S>, depth: Depth) -> Result<Depth, Code>
-    ensures loans { KeepsLoans parts.old parts.new }
-    ensures fewer { parts.new.eval.steps ≤ parts.old.eval.steps }
     ensures deeper { IfOk result (λ there. depth_of there ≡ record { levels = (depth_of depth).levels + 1; indirections = (depth_of depth).indirections }) }
     ensures does { DoesAt S.NodeStore (λ a n. a_level_free (depth_of depth)) (λ there. tt) parts.old result parts.new }
 {
@@ -49,7 +47,7 @@ pub(crate) fn doing<S: NodeStore>(
     entry: &Entry,
     scratch: &mut Scratch,
 ) -> Result<Completion, Code>
-    ensures moves { MovesFurther parts.old scratch.old result parts.new scratch.new }
+    ensures falls { FallsFurther parts.old scratch.old result parts.new scratch.new }
     ensures does { Runs S.NodeStore (λ a n. meaning.doing (context a n (position_of position.now)) (entry_tree entry.now)) (stack scratch.old.frames.items) parts.old result (stack scratch.new.frames.items) parts.new }
 {
     let depth = one_deeper(parts, position.depth)?;
@@ -72,7 +70,7 @@ pub(crate) fn doing_block<S: NodeStore>(
     position: &Position,
     scratch: &mut Scratch,
 ) -> Result<Completion, Code>
-    ensures moves { Moves parts.old scratch.old result parts.new scratch.new }
+    ensures falls { Falls parts.old scratch.old result parts.new scratch.new }
     ensures does { Runs S.NodeStore (λ a n. meaning.doing_block (context a n (position_of position.now))) (stack scratch.old.frames.items) parts.old result (stack scratch.new.frames.items) parts.new }
 {
     let depth = one_deeper(parts, position.depth)?;
@@ -118,7 +116,6 @@ fn enter_text<S: NodeStore>(
     scratch: &mut Scratch,
 ) -> Result<Completion, Code>
     requires { depth_of depth ≡ record { levels = (depth_of position.now.depth).levels + 1; indirections = (depth_of position.now.depth).indirections } }
-    ensures loans { KeepsLoans parts.old parts.new }
     ensures falls { IfOk result (λ _. 6 * parts.new.eval.steps + length scratch.new.frames.items ≤ 6 * parts.old.eval.steps + length scratch.old.frames.items + 2) }
     ensures does { Runs S.NodeStore (λ a n. text_entered (context a (suc n) (position_of position.now)) text.now) (stack scratch.old.frames.items) parts.old result (stack scratch.new.frames.items) parts.new }
 {
@@ -136,7 +133,7 @@ pub(crate) fn executing<S: NodeStore>(
     e: &Expr,
     scratch: &mut Scratch,
 ) -> Result<Completion, Code>
-    ensures moves { MovesFurther parts.old scratch.old result parts.new scratch.new }
+    ensures falls { FallsFurther parts.old scratch.old result parts.new scratch.new }
     ensures does { Runs S.NodeStore (λ a n. meaning.executing (context a n (position_of position.now)) (expr_tree e.now)) (stack scratch.old.frames.items) parts.old result (stack scratch.new.frames.items) parts.new }
 {
     parts.eval.depth = position.depth;

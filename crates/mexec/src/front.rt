@@ -1,8 +1,8 @@
 // SPDX-License-Identifier: Apache-2.0
 // The commands of a line, one after another, as far as they need no frame.
-ghost use Rattle.std.specs.Prelude.{◌≡◌, ◌≤◌, ◌<◌, [], map, IfOk};
+ghost use Rattle.std.specs.Prelude.{◌≡◌, ◌<◌, [], map, IfOk};
 ghost use Rattle.mmeaning.specs.LineMeaning as meaning;
-ghost use Rattle.mexec.specs.Words.{DoesAt, KeepsLoans, arg_tree, command_tree, context, keyword_tree};
+ghost use Rattle.mexec.specs.Words.{DoesAt, arg_tree, command_tree, context, keyword_tree};
 ghost use Rattle.mexec.specs.Frames.{commands_from, position_of};
 ghost use Rattle.mexec.specs.Loops.{args_before};
 ghost use Rattle.mexec.specs.Fronts as fronts;
@@ -50,8 +50,6 @@ fn bare<'t, S: NodeStore>(
     parts: &mut Parts<S>,
     keyword: Keyword,
 ) -> Result<Progress<Stop<'t>>, Code>
-    ensures loans { KeepsLoans parts.old parts.new }
-    ensures fewer { parts.new.eval.steps ≤ parts.old.eval.steps }
     ensures turns { IfOk result (λ outcome. IfStops outcome (StopsIn [])) }
     ensures does { (p : meaning.Position) → DoesAt S.NodeStore (λ a n. word_started (context a n p) (keyword_tree keyword)) (outcome_of []) parts.old result parts.new }
 {
@@ -86,8 +84,6 @@ fn effect<'t, S: NodeStore>(
     keyword: Keyword,
     args: &'t [Arg],
 ) -> Result<Progress<Stop<'t>>, Code>
-    ensures loans { KeepsLoans parts.old parts.new }
-    ensures fewer { parts.new.eval.steps ≤ parts.old.eval.steps }
     ensures stops { IfOk result (λ outcome. IfStops outcome (StopsIn args.now)) }
     ensures does { DoesAt S.NodeStore (λ a n. effect_started (context a n (position_of position.now)) (keyword_tree keyword) (map arg_tree args.now)) (outcome_of args.now) parts.old result parts.new }
 {
@@ -109,8 +105,6 @@ fn command<'t, S: NodeStore>(
     position: &Position,
     command: &'t Command,
 ) -> Result<Progress<Stop<'t>>, Code>
-    ensures loans { KeepsLoans parts.old parts.new }
-    ensures fewer { parts.new.eval.steps ≤ parts.old.eval.steps }
     ensures stops { IfOk result (λ outcome. IfStops outcome (StopsIn command.now.args.items)) }
     ensures does { DoesAt S.NodeStore (λ a n. command_started (context a n (position_of position.now)) (command_tree command.now)) (outcome_of command.now.args.items) parts.old result parts.new }
 {
@@ -131,8 +125,6 @@ pub(crate) fn front<'t, S: NodeStore>(
     line: &'t Line,
     from: usize,
 ) -> Result<(Progress<Stop<'t>>, usize), Code>
-    ensures loans { KeepsLoans parts.old parts.new }
-    ensures fewer { parts.new.eval.steps ≤ parts.old.eval.steps }
     ensures spent { IfOk result (λ x. IfStops x.0 (λ _. parts.new.eval.steps < parts.old.eval.steps)) }
     ensures stops { IfOk result (λ x. IfStops x.0 (StopsIn (args_before line.now x.1))) }
     ensures does { DoesAt S.NodeStore (λ a n. fronts.front (context a n (position_of position.now)) (commands_from line.now from)) (front_of line.now) parts.old result parts.new }

@@ -3,7 +3,7 @@
 ghost use Rattle.std.specs.Prelude.{◌≡◌, ◌≤◌, ◌+◌, ◌∷◌, map, length, IfOk, OnOk};
 ghost use Rattle.mexec.specs.Words.{Lists, Yields, an_indirection_free, arg_tree, context, depth_of, fault_of, form_of, indirected, keyword_tree, primary_tree};
 ghost use Rattle.mmeaning.specs.LineMeaning as meaning;
-ghost use Rattle.mexec.specs.Falls.{MovesFurther};
+ghost use Rattle.mexec.specs.Falls.{FallsFurther};
 ghost use Rattle.mexec.specs.Frames.{Runs, position_of, stack};
 ghost use Rattle.mexec.specs.Entering.{so_deep};
 
@@ -63,7 +63,7 @@ pub(crate) fn giving<S: NodeStore>(
     operand: &Primary,
     scratch: &mut Scratch,
 ) -> Result<Completion, Code>
-    ensures moves { MovesFurther parts.old scratch.old result parts.new scratch.new }
+    ensures falls { FallsFurther parts.old scratch.old result parts.new scratch.new }
     ensures does { Runs S.NodeStore (λ a n. meaning.given (context a n (position_of position.now)) (form_of (keyword_tree keyword)) (primary_tree operand.now)) (stack scratch.old.frames.items) parts.old result (stack scratch.new.frames.items) parts.new }
 {
     parts.eval.depth = position.depth;

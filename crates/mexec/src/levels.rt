@@ -7,8 +7,8 @@ ghost use Rattle.mmeaning.specs.Frames.{frame, Levels, Rests};
 ghost use Rattle.mmeaning.specs.LineMeaning.{context, Go_on};
 ghost use Rattle.mtree.specs.Tree.{body_tree};
 ghost use Rattle.mcommand.specs.Targets.{target_view};
-ghost use Rattle.mcommand.specs.Does.{DoesAt, KeepsLoans};
-ghost use Rattle.mexec.specs.Falls.{Moves, MovesFurther};
+ghost use Rattle.mcommand.specs.Does.{DoesAt};
+ghost use Rattle.mexec.specs.Falls.{Falls, FallsFurther};
 ghost use Rattle.mexec.specs.Frames.{Runs, stack, completion_of, position_of, closing_of, commands_from};
 ghost use Rattle.mexec.specs.Entering.{reached as first_reached, next_reached, entering, at_next, at_target, on_body};
 
@@ -27,9 +27,7 @@ use std::rc::Rc;
 
 // Closes a level.
 fn close<S: NodeStore>(parts: &mut Parts<S>, closing: Closing)
-    ensures loans { KeepsLoans parts.old parts.new }
-    ensures fewer { parts.new.eval.steps ≤ parts.old.eval.steps }
-    ensures does { DoesAt S.NodeStore (λ a n. levels.closing (closing_of closing)) (λ u. u) parts.old (Ok tt) parts.new }
+    ensures { DoesAt S.NodeStore (λ a n. levels.closing (closing_of closing)) (λ u. u) parts.old (Ok tt) parts.new }
 {
     match closing {
         Closing::Stays => {}
@@ -47,9 +45,7 @@ fn ended<S: NodeStore>(
     closing: Closing,
     completion: Completion,
 ) -> Result<Completion, Code>
-    ensures loans { KeepsLoans parts.old parts.new }
-    ensures fewer { parts.new.eval.steps ≤ parts.old.eval.steps }
-    ensures does { DoesAt S.NodeStore (λ a n. meaning.closed (closing_of closing) (completion_of completion)) completion_of parts.old result parts.new }
+    ensures { DoesAt S.NodeStore (λ a n. meaning.closed (closing_of closing) (completion_of completion)) completion_of parts.old result parts.new }
 {
     close(parts, closing);
     Ok(completion)
@@ -70,8 +66,6 @@ fn reached<S: NodeStore>(
     dots: usize,
     from: usize,
 ) -> Result<Option<usize>, Code>
-    ensures loans { KeepsLoans parts.old parts.new }
-    ensures fewer { parts.new.eval.steps ≤ parts.old.eval.steps }
     ensures within { IfOk result (λ found. IfSome found (λ at. at < length lines.now)) }
     ensures does { DoesAt S.NodeStore (λ a n. first_reached dots from (drop from lines.now)) (λ found. found) parts.old result parts.new }
 {
@@ -89,8 +83,6 @@ fn reached<S: NodeStore>(
 
 // The place of the line that is entered next; none where the level ends.
 fn next_line<S: NodeStore>(parts: &mut Parts<S>, level: &Level) -> Result<Option<usize>, Code>
-    ensures loans { KeepsLoans parts.old parts.new }
-    ensures fewer { parts.new.eval.steps ≤ parts.old.eval.steps }
     ensures within { IfOk result (λ found. IfSome found (λ at. at < length level.now.copy.value.items)) }
     ensures does { DoesAt S.NodeStore (λ a n. next_reached level.now.dots level.now.copy.value.items level.now.next) (λ found. found) parts.old result parts.new }
 {
@@ -169,7 +161,7 @@ pub(crate) fn enter_line<S: NodeStore>(
     scratch: &mut Scratch,
 ) -> Result<Completion, Code>
     requires { at < length position.now.level.copy.value.items }
-    ensures moves { MovesFurther parts.old scratch.old result parts.new scratch.new }
+    ensures falls { FallsFurther parts.old scratch.old result parts.new scratch.new }
     ensures does { Runs S.NodeStore (λ a n. entering (context a n (position_of position.now)) (closing_of closing) at (get_or position.now.level.copy.value.items at [])) (stack scratch.old.frames.items) parts.old result (stack scratch.new.frames.items) parts.new }
 {
     parts.eval.charge()?;
@@ -187,7 +179,7 @@ pub(crate) fn lines_next<S: NodeStore>(
     closing: Closing,
     scratch: &mut Scratch,
 ) -> Result<Completion, Code>
-    ensures moves { Moves parts.old scratch.old result parts.new scratch.new }
+    ensures falls { Falls parts.old scratch.old result parts.new scratch.new }
     ensures does { Runs S.NodeStore (λ a n. frame a n (Levels (position_of position.now) (closing_of closing)) Go_on) (stack scratch.old.frames.items) parts.old result (stack scratch.new.frames.items) parts.new }
 {
     match next_line(parts, &position.level)? {
@@ -205,7 +197,7 @@ fn go_to<S: NodeStore>(
     target: Target,
     scratch: &mut Scratch,
 ) -> Result<Completion, Code>
-    ensures moves { Moves parts.old scratch.old result parts.new scratch.new }
+    ensures falls { Falls parts.old scratch.old result parts.new scratch.new }
     ensures does { Runs S.NodeStore (λ a n. frame a n (Levels (at_target (position_of position.now) (target_view target)) (closing_of closing)) Go_on) (stack scratch.old.frames.items) parts.old result (stack scratch.new.frames.items) parts.new }
 {
     let there = Position {
@@ -228,7 +220,7 @@ pub(crate) fn after_level<S: NodeStore>(
     completion: Completion,
     scratch: &mut Scratch,
 ) -> Result<Completion, Code>
-    ensures moves { Moves parts.old scratch.old result parts.new scratch.new }
+    ensures falls { Falls parts.old scratch.old result parts.new scratch.new }
     ensures does { Runs S.NodeStore (λ a n. frame a n (Levels (position_of position.now) (closing_of closing)) (completion_of completion)) (stack scratch.old.frames.items) parts.old result (stack scratch.new.frames.items) parts.new }
 {
     match completion {

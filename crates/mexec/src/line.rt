@@ -1,9 +1,9 @@
 // SPDX-License-Identifier: Apache-2.0
 // A line, from its first command to its end.
-ghost use Rattle.std.specs.Prelude.{◌≡◌, ◌≤◌, [], ◌∷◌, IfOk, OnOk};
-ghost use Rattle.mexec.specs.Words.{DoesAt, KeepsLoans, Levels, commands_of, frame, line_tree, stays};
+ghost use Rattle.std.specs.Prelude.{◌≡◌, [], ◌∷◌, IfOk, OnOk};
+ghost use Rattle.mexec.specs.Words.{DoesAt, Levels, commands_of, frame, line_tree, stays};
 ghost use Rattle.mmeaning.specs.LineMeaning as meaning;
-ghost use Rattle.mexec.specs.Falls.{Moves};
+ghost use Rattle.mexec.specs.Falls.{Falls};
 ghost use Rattle.mexec.specs.Frames.{Runs, view, stack, completion_of, position_of};
 
 use crate::arguments::arguments;
@@ -29,7 +29,7 @@ fn run_frame<S: NodeStore>(
     completion: Completion,
     scratch: &mut Scratch,
 ) -> Result<Completion, Code>
-    ensures moves { Moves parts.old scratch.old result parts.new scratch.new }
+    ensures falls { Falls parts.old scratch.old result parts.new scratch.new }
     ensures does { Runs S.NodeStore (λ a n. frame a n (view top) (completion_of completion)) (stack scratch.old.frames.items) parts.old result (stack scratch.new.frames.items) parts.new }
 {
     match top {
@@ -80,9 +80,7 @@ pub(crate) fn run_line<S: NodeStore>(
     line: Rc<Line>,
     scratch: &mut Scratch,
 ) -> Result<Completion, Code>
-    ensures loans { KeepsLoans parts.old parts.new }
-    ensures fewer { parts.new.eval.steps ≤ parts.old.eval.steps }
-    ensures does { DoesAt S.NodeStore (λ a n. meaning.run_within a n (commands_of (line_tree line.value))) completion_of parts.old result parts.new }
+    ensures { DoesAt S.NodeStore (λ a n. meaning.run_within a n (commands_of (line_tree line.value))) completion_of parts.old result parts.new }
 {
     let first = begin(line, scratch)?;
     let mut completion = next_command(alloc, parts, first, scratch)?;

@@ -4,7 +4,6 @@ ghost use Rattle.std.specs.Prelude.{◌≡◌, ◌≢◌};
 ghost use Rattle.mmeaning.specs.Transition as meaning;
 ghost use Rattle.mgrammar.specs.Reading.{line_at};
 ghost use Rattle.moperator.specs.declared.code.Code.TheVariants.{Zstore};
-ghost use Rattle.mcommand.specs.Does.{KeepsLoans};
 ghost use Rattle.mexec.specs.Frames.{completion_of};
 ghost use Rattle.mexec.specs.Runs.{RunsText, ending_of};
 
@@ -48,7 +47,6 @@ pub fn run_text<S: NodeStore>(
     scratch: &mut Scratch,
     text: &[u8],
 ) -> Ended
-    ensures loans { KeepsLoans parts.old parts.new }
     ensures does { RunsText S.NodeStore (line_at text.now) parts.old result parts.new }
     ensures steady { S.steady → result ≢ Ended.Fault Zstore }
 {

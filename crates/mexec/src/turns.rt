@@ -4,11 +4,11 @@ ghost use Rattle.std.specs.Prelude.{◌≡◌, ◌≤◌, ◌+◌, ◌∷◌, dr
 ghost use Rattle.mmeaning.specs.LineMeaning as meaning;
 ghost use Rattle.mmeaning.specs.LineMeaning.{context};
 ghost use Rattle.mtree.specs.Tree.{parameter_tree};
-ghost use Rattle.mcommand.specs.Does.{DoesAt, KeepsLoans};
+ghost use Rattle.mcommand.specs.Does.{DoesAt};
 ghost use Rattle.mcommand.specs.ForParameters.{course_view, advanced};
 ghost use Rattle.mmeaning.specs.Frames.{Turns};
 ghost use Rattle.mexec.specs.Fronts as fronts;
-ghost use Rattle.mexec.specs.Falls.{Moves};
+ghost use Rattle.mexec.specs.Falls.{Falls};
 ghost use Rattle.mexec.specs.Frames.{Runs, commands_from, turning, stack, completion_of, position_of};
 ghost use Rattle.mexec.specs.Loops.{has_index, loop_before as the_loop_before};
 
@@ -45,7 +45,7 @@ pub(crate) fn begin_turn<S: NodeStore>(
     turns: Box<ForLoop>,
     scratch: &mut Scratch,
 ) -> Result<Completion, Code>
-    ensures moves { Moves parts.old scratch.old result parts.new scratch.new }
+    ensures falls { Falls parts.old scratch.old result parts.new scratch.new }
     ensures does { Runs S.NodeStore (λ a n. meaning.begin_turn (context a n (position_of turns.value.body.position.value)) (turning turns.value)) (stack scratch.old.frames.items) parts.old result (stack scratch.new.frames.items) parts.new }
 {
     parts.eval.charge()?;
@@ -66,7 +66,7 @@ pub(crate) fn next_parameter<S: NodeStore>(
 ) -> Result<Completion, Code>
     requires found { the_loop_before turns.body.line.value turns.body.at ≡ (index.now, parameters.now) }
     requires indexed { has_index turns.body.line.value turns.body.at ≡ true }
-    ensures moves { Moves parts.old scratch.old result parts.new scratch.new }
+    ensures falls { Falls parts.old scratch.old result parts.new scratch.new }
     ensures does { Runs S.NodeStore (λ a n. meaning.next_parameter (context a n (position_of turns.body.position.value)) index.now (commands_from turns.body.line.value turns.body.at) (map parameter_tree (drop turns.parameter parameters.now))) (stack scratch.old.frames.items) parts.old result (stack scratch.new.frames.items) parts.new }
 {
     let mut next = turns.parameter;
@@ -95,7 +95,7 @@ fn further<S: NodeStore>(
     turns: ForLoop,
     scratch: &mut Scratch,
 ) -> Result<Completion, Code>
-    ensures moves { Moves parts.old scratch.old result parts.new scratch.new }
+    ensures falls { Falls parts.old scratch.old result parts.new scratch.new }
     ensures does { Runs S.NodeStore (λ a n. meaning.next_parameter (context a n (position_of turns.body.position.value)) (turning turns).index (turning turns).body (turning turns).parameters) (stack scratch.old.frames.items) parts.old result (stack scratch.new.frames.items) parts.new }
 {
     let line = turns.body.line.clone()?;
@@ -109,9 +109,7 @@ fn further<S: NodeStore>(
 
 // Whether there is one turn more of this course of these turns. Without an index they have no end.
 fn goes_on<S: NodeStore>(parts: &mut Parts<S>, turns: &ForLoop) -> Result<bool, Code>
-    ensures loans { KeepsLoans parts.old parts.new }
-    ensures fewer { parts.new.eval.steps ≤ parts.old.eval.steps }
-    ensures does { DoesAt S.NodeStore (λ a n. advanced (turning turns.now).index (course_view turns.now.course)) (λ goes_on. goes_on) parts.old result parts.new }
+    ensures { DoesAt S.NodeStore (λ a n. advanced (turning turns.now).index (course_view turns.now.course)) (λ goes_on. goes_on) parts.old result parts.new }
 {
     match loop_before(&turns.body.line, turns.body.at) {
         None => Ok(true),
@@ -148,7 +146,7 @@ fn after_course<S: NodeStore>(
     turns: Box<ForLoop>,
     scratch: &mut Scratch,
 ) -> Result<Completion, Code>
-    ensures moves { Moves parts.old scratch.old result parts.new scratch.new }
+    ensures falls { Falls parts.old scratch.old result parts.new scratch.new }
     ensures does { Runs S.NodeStore (λ a n. meaning.after_course (context a n (position_of turns.value.body.position.value)) (turning turns.value) (course_view turns.value.course)) (stack scratch.old.frames.items) parts.old result (stack scratch.new.frames.items) parts.new }
 {
     let body = turns.body.copy()?;
@@ -181,7 +179,7 @@ pub(crate) fn after_turn<S: NodeStore>(
     completion: Completion,
     scratch: &mut Scratch,
 ) -> Result<Completion, Code>
-    ensures moves { Moves parts.old scratch.old result parts.new scratch.new }
+    ensures falls { Falls parts.old scratch.old result parts.new scratch.new }
     ensures does { Runs S.NodeStore (λ a n. meaning.after_turn (context a n (position_of turns.value.body.position.value)) (turning turns.value) (completion_of completion)) (stack scratch.old.frames.items) parts.old result (stack scratch.new.frames.items) parts.new }
 {
     match turn_ends(completion) {

@@ -5,20 +5,20 @@ use Rattle.mexec.proofs.arguments.arguments.Goals as goal
 pub returns-in_err-begun-clause-does : goal.returns-in_err-begun-clause-does
 returns-in_err-begun-clause-does g c =
     let s = c.args.source in
-    let does = rw (c.position.ensures, c.all.ensures) at c.in_err-begun.ensures.does in
+    let does = rw (c.position.ensures, c.all.ensures) at c.in_err-begun.ensures in
     runs_as (λ a n. arguments_is (context a n (position_of (source_position s))) (map arg_tree (drop c.args.from (source_args s))))
-    (runs_stopped (λ a n w. args_left (context a n (position_of (source_position s))) w.0 w.1) does c.in_err-begun.ensures.fewer c.from_residual.ensures)
+    (runs_stopped (λ a n w. args_left (context a n (position_of (source_position s))) w.0 w.1) does c.from_residual.ensures)
 
 pub returns-in-Over-clause-does : goal.returns-in-Over-clause-does
 returns-in-Over-clause-does g c =
     let s = c.args.source in
-    let does = rw (c.position.ensures, c.all.ensures, c.in-Over.is) at c.in_ok-begun.ensures.does in
+    let does = rw (c.position.ensures, c.all.ensures, c.in-Over.is) at c.in_ok-begun.ensures in
     runs_as (λ a n. arguments_is (context a n (position_of (source_position s))) (map arg_tree (drop c.args.from (source_args s))))
-    (runs_then (λ a n w. args_left (context a n (position_of (source_position s))) w.0 w.1) does c.in_ok-begun.ensures.fewer (runs_completion c.in-Over.completion))
+    (runs_then (λ a n w. args_left (context a n (position_of (source_position s))) w.0 w.1) does (runs_completion c.in-Over.completion))
 
 pub returns-in-Stops-clause-does : goal.returns-in-Stops-clause-does
 returns-in-Stops-clause-does g c =
     let s = c.args.source in
-    let does = rw (c.position.ensures, c.all.ensures, c.in-Stops.is) at c.in_ok-begun.ensures.does in
+    let does = rw (c.position.ensures, c.all.ensures, c.in-Stops.is) at c.in_ok-begun.ensures in
     runs_as (λ a n. arguments_is (context a n (position_of (source_position s))) (map arg_tree (drop c.args.from (source_args s))))
-    (runs_then (λ a n w. args_left (context a n (position_of (source_position s))) w.0 w.1) does c.in_ok-begun.ensures.fewer c.enter_argument.ensures.does)
+    (runs_then (λ a n w. args_left (context a n (position_of (source_position s))) w.0 w.1) does c.enter_argument.ensures.does)

@@ -12,11 +12,11 @@ pub returns-in-Do-clause-does : goal.returns-in-Do-clause-does
 returns-in-Do-clause-does g c p = rw c.in-Do.is (at_gives (stops at_block) (outcome_of []) _ refl)
 
 pub returns-in-Kill-clause-does : goal.returns-in-Kill-clause-does
-returns-in-Kill-clause-does g c p = rw (c.in-Kill.is, c.over-in-Kill.ensures) (gives_over (stop_of []) (Ok completion.GoOn) (goes_on (λ i. with_locals (killed_except [])) c.args.parts.now.eval.depth (Ok tt) (does_evaluated c.kill_others.ensures.does)))
+returns-in-Kill-clause-does g c p = rw (c.in-Kill.is, c.over-in-Kill.ensures) (gives_over (stop_of []) (Ok completion.GoOn) (goes_on (λ i. with_locals (killed_except [])) c.args.parts.now.eval.depth (Ok tt) (does_evaluated c.kill_others.ensures)))
 
 pub returns-in-New-clause-does : goal.returns-in-New-clause-does
 returns-in-New-clause-does g c p =
-    rw (c.in-New.is, c.over-in-New.ensures, c.went_on.ensures) (gives_over (stop_of []) _ (goes_on (λ i. with_locals (newed_except [])) c.args.parts.now.eval.depth c.hide_others.result (does_evaluated c.hide_others.ensures.does)))
+    rw (c.in-New.is, c.over-in-New.ensures, c.went_on.ensures) (gives_over (stop_of []) _ (goes_on (λ i. with_locals (newed_except [])) c.args.parts.now.eval.depth c.hide_others.result (does_evaluated c.hide_others.ensures)))
 
 pub returns-in-If-clause-does : goal.returns-in-If-clause-does
 returns-in-If-clause-does g c p =

@@ -9,11 +9,11 @@ applied x command b = cond b (effect_started x (keyword_tree command.keyword) (m
 
 pub returns-in_err-applies-clause-does : goal.returns-in_err-applies-clause-does
 returns-in_err-applies-clause-does g c =
-    at_stopped (λ a n. applied (context a n (position_of c.args.position.now)) c.args.command.now) (at_done c.args.position.now.depth c.in_err-applies.ensures.does) c.from_residual.ensures
+    at_stopped (λ a n. applied (context a n (position_of c.args.position.now)) c.args.command.now) (at_done c.args.position.now.depth c.in_err-applies.ensures) c.from_residual.ensures
 
 pub returns-then-applies-clause-does : goal.returns-then-applies-clause-does
 returns-then-applies-clause-does g c =
-    let applies = rw c.if-applies.true at c.in_ok-applies.ensures.does in
+    let applies = rw c.if-applies.true at c.in_ok-applies.ensures in
     let effect = rw c.deref.ensures.value at c.effect.ensures.does in
     at_then (λ a n. applied (context a n (position_of c.args.position.now)) c.args.command.now) (at_done c.args.position.now.depth applies) effect
 
@@ -22,5 +22,5 @@ returns-then-applies-clause-stops g c = rw c.deref.ensures.value at c.effect.ens
 
 pub returns-else-applies-clause-does : goal.returns-else-applies-clause-does
 returns-else-applies-clause-does g c =
-    let applies = rw c.if-applies.false at c.in_ok-applies.ensures.does in
+    let applies = rw c.if-applies.false at c.in_ok-applies.ensures in
     at_then (λ a n. applied (context a n (position_of c.args.position.now)) c.args.command.now) (at_done c.args.position.now.depth applies) (at_gives (over Go_on) (outcome_of c.args.command.now.args.items) _ refl)

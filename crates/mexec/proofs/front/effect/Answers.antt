@@ -41,7 +41,7 @@ pub returns-in_default-clause-does : goal.returns-in_default-clause-does
 returns-in_default-clause-does g c =
     let first = rw c.in-Some.is at c.first.ensures.value in
     let some = first_some c.args.args.now c.in-Some.first.now (sym first) in
-    let does = rw some.1 at c.arguments_begun.ensures.does in
+    let does = rw some.1 at c.arguments_begun.ensures in
     rw (c.stopped.ensures, some.1)
     (at_as (λ a n. other_started (context a n (position_of c.args.position.now)) (keyword_tree c.args.keyword) c.in-Some.first.now (map arg_tree some.0) c.in_default.not-Loop)
     (gives_stop (c.in-Some.first.now ∷ some.0) c.arguments_begun.result does))

@@ -1,5 +1,5 @@
 -- SPDX-License-Identifier: Apache-2.0
-use Rattle.mexec.proofs.ExecLaws.{[], ◌+◌, ◌<◌, ◌≤◌, length, refl, arith, none_left, context, keeps_itself, keeps_on, keeps_evaluated, commands_from, completion_of, position_of, over, stops, front, front_of, stop_of, at_gives, at_as, at_plain, command_begins, command_stopped, charge_stopped, passes_next, args_there}
+use Rattle.mexec.proofs.ExecLaws.{[], ◌+◌, ◌<◌, ◌≤◌, length, refl, arith, none_left, context, commands_from, completion_of, position_of, over, stops, front, front_of, stop_of, at_gives, at_as, at_plain, command_begins, command_stopped, charge_stopped, passes_next, args_there}
 use Rattle.mmeaning.specs.LineMeaning as meaning
 use Rattle.mexec.specs.declared.completion.Completion.TheVariants as completion
 use Rattle.mexec.specs.declared.completion.Progress.TheVariants as progress
@@ -7,7 +7,6 @@ use Rattle.mexec.proofs.front.front.Goals as goal
 
 pub loop-at-init : goal.loop-at-init
 loop-at-init g c = record {
-  loans = keeps_itself c.args.parts.now;
   fewer = omega arith;
   leads = λ r p k. k;
 }
@@ -41,7 +40,6 @@ loop-at-preserved g c =
     let less : c.loop-at.at < length v.items = omega (arith, test, v.ok) in
     let does = rw (c.in-Over.is, c.in-GoOn.is) at c.in_ok-completion.ensures.does in
     record {
-      loans = keeps_on (keeps_evaluated c.loop-at.invariant.loans c.in_ok-charge.ensures.loans) c.in_ok-completion.ensures.loans;
       fewer = omega arith;
       leads = λ r q k.
           c.loop-at.invariant.leads r q
@@ -65,7 +63,7 @@ pub returns-in-Stops-clause-spent : goal.returns-in-Stops-clause-spent
 returns-in-Stops-clause-spent g c =
     let before = c.loop-at.invariant.fewer in
     let spent = c.in_ok-charge.ensures.spent in
-    let done = c.in_ok-completion.ensures.fewer in
+    let done = c.in_ok-completion.ensures.does.keeps.eval.fewer in
     omega (arith, before, spent, done)
 
 pub returns-in-Stops-clause-stops : goal.returns-in-Stops-clause-stops

@@ -17,19 +17,19 @@ read x f text = give_some Zsyntax (args_of f text) >>= listed x
 read_then : {S X : Type 0} {g : Ghosts S} {there : X → Unit {0}} {d : X} {fs fs' : List View} {old mid new : Parts S} {r : Result completions.Completion Code} (p : Position) (f : FormTree) (o : PrimaryTree) (text : Text)
     → DoesAt g (λ a n. primary_value (inside a n p.depth) o) (λ (v : Text). v) old (Ok text) mid → mid.eval.steps < old.eval.steps → Yields fault_of (an_indirection_free p.depth) there (Ok d)
     → Runs g (λ a n. read (context a (suc n) p) f text) fs mid r fs' new → Runs g (λ a n. given (context a n p) f o) fs old r fs' new
-read_then p f o text does less free k = runs_spent (λ a n. given_by (context a n p) f) does less (runs_then (λ a n _. read (context a (suc n) p) f text) (at_yielded free) (omega arith) k)
+read_then p f o text does less free k = runs_spent (λ a n. given_by (context a n p) f) does less (runs_then (λ a n _. read (context a (suc n) p) f text) (at_yielded free) k)
 
 pub returns-in_err-text-clause-does : goal.returns-in_err-text-clause-does
 returns-in_err-text-clause-does g c =
     let f = form_of (keyword_tree c.args.keyword) in
-    runs_stopped (λ a n. given_by (context a n (position_of c.args.position.now)) f) (at_evaluated c.args.position.now.depth c.in_err-text.ensures.does) c.in_err-text.ensures.fewer c.from_residual.ensures
+    runs_stopped (λ a n. given_by (context a n (position_of c.args.position.now)) f) (at_evaluated c.args.position.now.depth c.in_err-text.ensures.does) c.from_residual.ensures
 
 pub returns-in_err-depth-clause-does : goal.returns-in_err-depth-clause-does
 returns-in_err-depth-clause-does g c =
     let p = position_of c.args.position.now in
     let f = form_of (keyword_tree c.args.keyword) in
-    runs_then (λ a n. given_by (context a n p) f) (at_evaluated c.args.position.now.depth c.in_ok-text.ensures.does) c.in_ok-text.ensures.fewer
-    (runs_stopped (λ a n _. read (context a n p) f c.in_ok-text.text) (at_yielded c.in_err-depth.ensures.does) (omega arith) c.from_residual-in_err-depth.ensures)
+    runs_then (λ a n. given_by (context a n p) f) (at_evaluated c.args.position.now.depth c.in_ok-text.ensures.does)
+    (runs_stopped (λ a n _. read (context a n p) f c.in_ok-text.text) (at_yielded c.in_err-depth.ensures.does) c.from_residual-in_err-depth.ensures)
 
 pub returns-in_err-text-2-clause-does : goal.returns-in_err-text-2-clause-does
 returns-in_err-text-2-clause-does g c =
@@ -41,14 +41,14 @@ returns-in_err-args-clause-does g c =
     let p = position_of c.args.position.now in
     let tree = rw (c.as_bytes.ensures.bytes, c.in_ok-text-2.ensures) at c.in_err-args.ensures in
     read_then p (form_of (keyword_tree c.args.keyword)) (primary_tree c.args.operand.now) c.in_ok-text.text (at_evaluated c.args.position.now.depth c.in_ok-text.ensures.does) c.in_ok-text.ensures.spent c.in_ok-depth.ensures.does
-    (runs_stopped (λ a n. listed (context a (suc n) p)) (at_yielded tree) (omega arith) c.from_residual-in_err-args.ensures)
+    (runs_stopped (λ a n. listed (context a (suc n) p)) (at_yielded tree) c.from_residual-in_err-args.ensures)
 
 pub returns-in_err-leave_given-clause-does : goal.returns-in_err-leave_given-clause-does
 returns-in_err-leave_given-clause-does g c =
     let p = position_of c.args.position.now in
     let tree = rw (c.as_bytes.ensures.bytes, c.in_ok-text-2.ensures) at c.in_ok-args.ensures in
     read_then p (form_of (keyword_tree c.args.keyword)) (primary_tree c.args.operand.now) c.in_ok-text.text (at_evaluated c.args.position.now.depth c.in_ok-text.ensures.does) c.in_ok-text.ensures.spent c.in_ok-depth.ensures.does
-    (runs_then (λ a n. listed (context a (suc n) p)) (at_yielded tree) (omega arith) (runs_wanting _ _ c.from_residual-in_err-leave_given.ensures))
+    (runs_then (λ a n. listed (context a (suc n) p)) (at_yielded tree) (runs_wanting _ _ c.from_residual-in_err-leave_given.ensures))
 
 pub returns-clause-does : goal.returns-clause-does
 returns-clause-does g c =
@@ -56,4 +56,4 @@ returns-clause-does g c =
     let tree = rw (c.as_bytes.ensures.bytes, c.in_ok-text-2.ensures) at c.in_ok-args.ensures in
     rw c.in_ok-leave_given.ensures.frames
     (read_then p (form_of (keyword_tree c.args.keyword)) (primary_tree c.args.operand.now) c.in_ok-text.text (at_evaluated c.args.position.now.depth c.in_ok-text.ensures.does) c.in_ok-text.ensures.spent c.in_ok-depth.ensures.does
-    (runs_then (λ a n. listed (context a (suc n) p)) (at_yielded tree) (omega arith) (list_opened p (depth_of c.in_ok-depth.depth) c.in_ok-depth.ensures.deeper _)))
+    (runs_then (λ a n. listed (context a (suc n) p)) (at_yielded tree) (list_opened p (depth_of c.in_ok-depth.depth) c.in_ok-depth.ensures.deeper _)))

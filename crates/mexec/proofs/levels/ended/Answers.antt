@@ -2,5 +2,5 @@
 use Rattle.mexec.proofs.ExecLaws.{refl, give, completion_of, at_then, at_gives}
 use Rattle.mexec.proofs.levels.ended.Goals as goal
 
-pub returns-clause-does : goal.returns-clause-does
-returns-clause-does g c = at_then (λ a n _. give (completion_of c.args.completion)) c.close.ensures.does (at_gives _ completion_of c.args.completion refl)
+pub returns : goal.returns
+returns g c = at_then (λ a n _. give (completion_of c.args.completion)) c.close.ensures (at_gives _ completion_of c.args.completion refl)

@@ -3,7 +3,7 @@ use Rattle.mexec.proofs.ExecLaws.{get_or, [], get_or_read, position_of, closing_
 use Rattle.mexec.proofs.levels.enter_line.Goals as goal
 
 pub returns-in_err-charge-clause-does : goal.returns-in_err-charge-clause-does
-returns-in_err-charge-clause-does g c = runs_stopped _ (at_plain c.in_err-charge.ensures.does) c.in_err-charge.ensures.fewer c.from_residual.ensures
+returns-in_err-charge-clause-does g c = runs_stopped _ (at_plain c.in_err-charge.ensures.does) c.from_residual.ensures
 
 pub returns-in_err-line-clause-does : goal.returns-in_err-line-clause-does
 returns-in_err-line-clause-does g c =

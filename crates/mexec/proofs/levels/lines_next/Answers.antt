@@ -6,18 +6,18 @@ pub returns-in_err-next_line-clause-does : goal.returns-in_err-next_line-clause-
 returns-in_err-next_line-clause-does g c =
     let p = position_of c.args.position.now in
     let closing = closing_of c.args.closing in
-    runs_as (λ a n. lines_are a n p closing) (runs_stopped (λ a n. then_closed (context a n p) closing) c.in_err-next_line.ensures.does c.in_err-next_line.ensures.fewer c.from_residual.ensures)
+    runs_as (λ a n. lines_are a n p closing) (runs_stopped (λ a n. then_closed (context a n p) closing) c.in_err-next_line.ensures.does c.from_residual.ensures)
 
 pub returns-in-None-clause-does : goal.returns-in-None-clause-does
 returns-in-None-clause-does g c =
     let p = position_of c.args.position.now in
     let closing = closing_of c.args.closing in
     let found = rw c.in-None.is at c.in_ok-next_line.ensures.does in
-    runs_as (λ a n. lines_are a n p closing) (runs_then (λ a n. then_closed (context a n p) closing) found c.in_ok-next_line.ensures.fewer (runs_done c.ended.result c.ended.ensures.does c.ended.ensures.fewer))
+    runs_as (λ a n. lines_are a n p closing) (runs_then (λ a n. then_closed (context a n p) closing) found (runs_done c.ended.result c.ended.ensures))
 
 pub returns-in-Some-clause-does : goal.returns-in-Some-clause-does
 returns-in-Some-clause-does g c =
     let p = position_of c.args.position.now in
     let closing = closing_of c.args.closing in
     let found = rw c.in-Some.is at c.in_ok-next_line.ensures.does in
-    runs_as (λ a n. lines_are a n p closing) (runs_then (λ a n. then_closed (context a n p) closing) found c.in_ok-next_line.ensures.fewer c.enter_line.ensures.does)
+    runs_as (λ a n. lines_are a n p closing) (runs_then (λ a n. then_closed (context a n p) closing) found c.enter_line.ensures.does)

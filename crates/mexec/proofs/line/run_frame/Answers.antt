@@ -1,5 +1,5 @@
 -- SPDX-License-Identifier: Apache-2.0
-use Rattle.mexec.proofs.ExecLaws.{map, drop, arith, arg_tree, keeps_itself, position_of, rest_tree, rest_passes, list_passes}
+use Rattle.mexec.proofs.ExecLaws.{map, drop, arith, arg_tree, position_of, rest_tree, rest_passes, list_passes}
 use Rattle.mexec.specs.Frames.{args_before}
 use Rattle.mexec.proofs.line.run_frame.Goals as goal
 
@@ -8,7 +8,7 @@ returns-in-GoOn-clause-does g c = rw (c.in-Continuation.is, c.in-GoOn.is) c.next
 
 pub returns-in-Continuation : goal.returns-in-Continuation
 returns-in-Continuation g c = record {
-  moves = record { loans = keeps_itself c.args.parts.now; falls = omega arith };
+  falls = omega arith;
   does = rw c.in-Continuation.is (rest_passes (position_of c.in-Continuation.rest.position.value) (rest_tree c.in-Continuation.rest) c.args.completion c.in_default.not-GoOn);
 }
 
@@ -19,7 +19,7 @@ pub returns-in-PendingArguments : goal.returns-in-PendingArguments
 returns-in-PendingArguments g c =
     let l = c.in-PendingArguments.list in
     record {
-      moves = record { loans = keeps_itself c.args.parts.now; falls = omega arith };
+      falls = omega arith;
       does = rw c.in-PendingArguments.is (list_passes (position_of l.behind.position.value) (map arg_tree (drop l.argument (args_before l.behind.line.value l.behind.at))) c.args.completion c.in_default-completion.not-GoOn);
     }
 
@@ -30,7 +30,7 @@ pub returns-in-IndirectArguments : goal.returns-in-IndirectArguments
 returns-in-IndirectArguments g c =
     let given = c.in-IndirectArguments.given.value in
     record {
-      moves = record { loans = keeps_itself c.args.parts.now; falls = omega arith };
+      falls = omega arith;
       does = rw c.in-IndirectArguments.is (list_passes (position_of given.position) (map arg_tree (drop c.in-IndirectArguments.argument given.args.items)) c.args.completion c.in_default-completion-2.not-GoOn);
     }
 

@@ -8,13 +8,13 @@ returns-in-Err-Syntax-clause-does g c =
 
 pub returns-in-Err-clause-does : goal.returns-in-Err-clause-does
 returns-in-Err-clause-does g c =
-    failed (line_at c.args.text.now) (line_tree c.in-Ok.line.value) _ _ _ c.in-Ok.ensures.tree c.in-Err.ensures.does c.in-Err.ensures.fewer
+    failed (line_at c.args.text.now) (line_tree c.in-Ok.line.value) _ _ _ c.in-Ok.ensures.tree c.in-Err.ensures
 
 pub returns-in-Err-clause-steady : goal.returns-in-Err-clause-steady
 returns-in-Err-clause-steady g c =
     never_refused g.met.S.NodeStore.steady_is_sound
-    (failed (line_at c.args.text.now) (line_tree c.in-Ok.line.value) _ _ _ c.in-Ok.ensures.tree c.in-Err.ensures.does c.in-Err.ensures.fewer)
+    (failed (line_at c.args.text.now) (line_tree c.in-Ok.line.value) _ _ _ c.in-Ok.ensures.tree c.in-Err.ensures)
 
 pub returns-in-Ok-run_line-clause-does : goal.returns-in-Ok-run_line-clause-does
 returns-in-Ok-run_line-clause-does g c =
-    done (line_at c.args.text.now) (line_tree c.in-Ok.line.value) _ _ _ c.in-Ok-run_line.completion c.in-Ok.ensures.tree c.ending.ensures c.in-Ok-run_line.ensures.does c.in-Ok-run_line.ensures.fewer
+    done (line_at c.args.text.now) (line_tree c.in-Ok.line.value) _ _ _ c.in-Ok-run_line.completion c.in-Ok.ensures.tree c.ending.ensures c.in-Ok-run_line.ensures

@@ -5,7 +5,7 @@ use Rattle.mexec.proofs.turns.begin_turn.Goals as goal
 pub returns-in_err-charge-clause-does : goal.returns-in_err-charge-clause-does
 returns-in_err-charge-clause-does g c =
     let t = c.args.turns.value in
-    turn_charge_failed (position_of t.body.position.value) (turning t) (at_plain c.in_err-charge.ensures.does) c.in_err-charge.ensures.fewer c.from_residual.ensures
+    turn_charge_failed (position_of t.body.position.value) (turning t) (at_plain c.in_err-charge.ensures.does) c.from_residual.ensures
 
 pub returns-in_err-body-clause-does : goal.returns-in_err-body-clause-does
 returns-in_err-body-clause-does g c =

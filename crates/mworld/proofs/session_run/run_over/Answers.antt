@@ -9,10 +9,10 @@ returns-in_default-clause-ran g c = not_run refl refl refl
 pub returns-clause-ran : goal.returns-clause-ran
 unfolding level_begun
 returns-clause-ran g c =
-    let loans = c.run_text-ending.ensures.loans in
-    let session = sym loans.eval.session in
-    let store = sym loans.eval.store in
-    let locks = sym loans.locks in
-    let out = sym loans.out in
+    let keeps = c.run_text-ending.ensures.does.keeps in
+    let session = sym keeps.eval.session in
+    let store = sym keeps.eval.store in
+    let locks = sym keeps.locks in
+    let out = sym keeps.out in
     ran_over c.run_text-ending.ensures.does c.steps_of-steps.ensures c.taken-out.ensures
     (ap (λ locals. record { locals = locals; naked = c.args.session.now.naked; test = c.args.session.now.test }) c.in-Ok.ensures.ok) (search rules) (search rules) (search rules) (search rules)

@@ -9,17 +9,17 @@ sum_units : (a b : ℤ) (r : Result Num Over) → MatchResult r (λ n. sum_of a 
 sum_units a b (Ok n) e = sym e
 sum_units a b (Err over) e = sym e
 
-pub returns-in_err-next-clause-does : goal.returns-in_err-next-clause-does
-returns-in_err-next-clause-does g c =
+pub returns-in_err-next : goal.returns-in_err-next
+returns-in_err-next g c =
     let next = rw (sum_units (units c.args.number) (units c.args.by) c.add.result c.add.ensures) at c.in_err-next.ensures.value in
     does_stopped _ (does_yielded next) c.from_residual.ensures
 
-pub returns-in_err-set_variable-clause-does : goal.returns-in_err-set_variable-clause-does
-returns-in_err-set_variable-clause-does g c =
+pub returns-in_err-set_variable : goal.returns-in_err-set_variable
+returns-in_err-set_variable g c =
     let next = rw (sum_units (units c.args.number) (units c.args.by) c.add.result c.add.ensures) at c.in_ok-next.ensures.value in
-    does_then _ (does_yielded next) (does_stopped (λ i _. give true) (does_evaluated c.in_err-set_variable.ensures.does) c.from_residual-in_err-set_variable.ensures)
+    does_then _ (does_yielded next) (does_stopped (λ i _. give true) (does_evaluated c.in_err-set_variable.ensures) c.from_residual-in_err-set_variable.ensures)
 
-pub returns-clause-does : goal.returns-clause-does
-returns-clause-does g c =
+pub returns : goal.returns
+returns g c =
     let next = rw (sum_units (units c.args.number) (units c.args.by) c.add.result c.add.ensures) at c.in_ok-next.ensures.value in
-    does_then _ (does_yielded next) (does_then (λ i _. give true) (does_evaluated c.in_ok-set_variable.ensures.does) (does_gives true (λ (b : Bool). b) true refl))
+    does_then _ (does_yielded next) (does_then (λ i _. give true) (does_evaluated c.in_ok-set_variable.ensures) (does_gives true (λ (b : Bool). b) true refl))

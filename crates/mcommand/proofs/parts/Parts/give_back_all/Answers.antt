@@ -1,19 +1,17 @@
 -- SPDX-License-Identifier: Apache-2.0
-use Rattle.mcommand.proofs.CommandLaws.{refl, none_left, does_gives, keeps_itself, does_give_back, next_given}
+use Rattle.mcommand.proofs.CommandLaws.{refl, none_left, does_gives, does_give_back, next_given}
 use Rattle.mcommand.proofs.parts.Parts.give_back_all.Goals as goal
 
 pub loop-name-init : goal.loop-name-init
 loop-name-init g c = record {
-  loans = keeps_itself c.args.self.now;
   eval = refl;
   leads = λ p k. k;
 }
 
 pub loop-name-preserved : goal.loop-name-preserved
 loop-name-preserved g c = record {
-  loans = let k = c.loop-name.invariant.loans in record { eval = k.eval; locks = k.locks; out = k.out };
   eval = c.loop-name.invariant.eval;
-  leads = λ p k. c.loop-name.invariant.leads p (next_given c.args.names.now c.loop-name.name-index c.name-item.result c.loop-name-test.true c.name-item.is (does_give_back _ _ c.give_back.ensures) k);
+  leads = λ p k. c.loop-name.invariant.leads p (next_given c.args.names.now c.loop-name.name-index c.name-item.result c.loop-name-test.true c.name-item.is (does_give_back _ _ refl c.give_back.ensures) k);
 }
 
 pub returns-clause-does : goal.returns-clause-does

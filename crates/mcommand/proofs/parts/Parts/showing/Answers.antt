@@ -2,11 +2,11 @@
 use Rattle.mcommand.proofs.CommandLaws.{refl, does_then, does_stopped, does_evaluated, does_wanting, does_write}
 use Rattle.mcommand.proofs.parts.Parts.showing.Goals as goal
 
-pub returns-in_err-value-clause-does : goal.returns-in_err-value-clause-does
-returns-in_err-value-clause-does g c = does_stopped _ (does_evaluated c.in_err-value.ensures.does) c.from_residual.ensures
+pub returns-in_err-value : goal.returns-in_err-value
+returns-in_err-value g c = does_stopped _ (does_evaluated c.in_err-value.ensures.does) c.from_residual.ensures
 
-pub returns-in_err-write-clause-does : goal.returns-in_err-write-clause-does
-returns-in_err-write-clause-does g c = does_then _ (does_evaluated c.in_ok-value.ensures.does) (does_wanting _ _ _ c.from_residual-in_err-write.ensures refl refl)
+pub returns-in_err-write : goal.returns-in_err-write
+returns-in_err-write g c = does_then _ (does_evaluated c.in_ok-value.ensures.does) (does_wanting _ _ _ c.from_residual-in_err-write.ensures refl refl refl refl)
 
-pub returns-clause-does : goal.returns-clause-does
-returns-clause-does g c = does_then _ (does_evaluated c.in_ok-value.ensures.does) (does_write _ _ _ c.in_ok-write.ensures refl refl)
+pub returns : goal.returns
+returns g c = does_then _ (does_evaluated c.in_ok-value.ensures.does) (does_write _ _ _ c.in_ok-write.ensures refl refl refl)

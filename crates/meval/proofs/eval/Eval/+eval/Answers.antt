@@ -57,444 +57,444 @@ primary-returns-in-Bracket-clause-does g t c =
 
 pub primary-returns-in-Call-clause-does : goal.primary-returns-in-Call-clause-does
 primary-returns-in-Call-clause-does g t c =
-    let k = rw c.deref-in-Call.ensures.value at c.called.ensures.does in
+    let k = rw c.deref-in-Call.ensures.value at c.called.ensures in
     rw (c.in-Call.is, call_is c.in-Call.word c.in-Call.arguments) (evaluates_then _ c.in_ok-charge.ensures.does k)
 
 pub primary-returns-in-Select-clause-does : goal.primary-returns-in-Select-clause-does
 primary-returns-in-Select-clause-does g t c =
-    let k = rw c.deref-in-Select.ensures.value at c.chosen.ensures.does in
+    let k = rw c.deref-in-Select.ensures.value at c.chosen.ensures in
     rw (c.in-Select.is, select_is c.in-Select.field-0 c.in-Select.choices) (evaluates_then _ c.in_ok-charge.ensures.does k)
 
 pub primary-returns-in-Special-clause-does : goal.primary-returns-in-Special-clause-does
-primary-returns-in-Special-clause-does g t c = rw (c.in-Special.is, special_is c.in-Special.word) (evaluates_then _ c.in_ok-charge.ensures.does c.special.ensures.does)
+primary-returns-in-Special-clause-does g t c = rw (c.in-Special.is, special_is c.in-Special.word) (evaluates_then _ c.in_ok-charge.ensures.does c.special.ensures)
 
 pub primary-returns-in-Reference-clause-does : goal.primary-returns-in-Reference-clause-does
-primary-returns-in-Reference-clause-does g t c = rw (c.in-Reference.is, reference_is c.in-Reference.reference) (evaluates_then _ c.in_ok-charge.ensures.does c.variable.ensures.does)
+primary-returns-in-Reference-clause-does g t c = rw (c.in-Reference.is, reference_is c.in-Reference.reference) (evaluates_then _ c.in_ok-charge.ensures.does c.variable.ensures)
 
 pub primary-returns-in-Refer-clause-does : goal.primary-returns-in-Refer-clause-does
 primary-returns-in-Refer-clause-does g t c =
-    let k = rw c.deref-in-Refer.ensures at c.referring.ensures.does in
+    let k = rw c.deref-in-Refer.ensures at c.referring.ensures in
     rw (c.in-Refer.is, refer_is c.in-Refer.referring, referring_is c.in-Refer.referring.value) (evaluates_then _ c.in_ok-charge.ensures.does k)
 
 -- ---- variables and functions of values
 
-pub variable-returns-in_err-value-in-Variable-clause-does : goal.variable-returns-in_err-value-in-Variable-clause-does
-variable-returns-in_err-value-in-Variable-clause-does g t c =
+pub variable-returns-in_err-value-in-Variable : goal.variable-returns-in_err-value-in-Variable
+variable-returns-in_err-value-in-Variable g t c =
     let name = c.in-Variable.name in
     rw (residual_is _ _ c.from_residual.ensures, c.in-Variable.is, variable_is name) (variable_told name (evaluates_refused _ c.in_err-value-in-Variable.ensures))
 
-pub variable-returns-in_err-copy-in-Variable-clause-does : goal.variable-returns-in_err-copy-in-Variable-clause-does
-variable-returns-in_err-copy-in-Variable-clause-does g t c = evaluates_wanting _ _ _ c.from_residual-in_err-copy-in-Variable.ensures
+pub variable-returns-in_err-copy-in-Variable : goal.variable-returns-in_err-copy-in-Variable
+variable-returns-in_err-copy-in-Variable g t c = evaluates_wanting _ _ _ c.from_residual-in_err-copy-in-Variable.ensures
 
-pub variable-returns-in_ok-copy-in-Variable-clause-does : goal.variable-returns-in_ok-copy-in-Variable-clause-does
-variable-returns-in_ok-copy-in-Variable-clause-does g t c =
+pub variable-returns-in_ok-copy-in-Variable : goal.variable-returns-in_ok-copy-in-Variable
+variable-returns-in_ok-copy-in-Variable g t c =
     let name = c.in-Variable.name in
     rw (c.in-Variable.is, variable_is name) (variable_told name (evaluates_seen c.in_ok-value-in-Variable.value _ (sym c.in_ok-copy-in-Variable.ensures) c.in_ok-value-in-Variable.ensures))
 
-pub variable-returns-in-Node-clause-does : goal.variable-returns-in-Node-clause-does
-variable-returns-in-Node-clause-does g t c =
-    let k = rw c.deref.ensures at c.fast_node.ensures.does in
+pub variable-returns-in-Node : goal.variable-returns-in-Node
+variable-returns-in-Node g t c =
+    let k = rw c.deref.ensures at c.fast_node.ensures in
     rw (c.in-Node.is, node_is c.in-Node.name c.in-Node.subscript) k
 
-pub fast_node-returns-in_err-eval_into-clause-does : goal.fast_node-returns-in_err-eval_into-clause-does
-fast_node-returns-in_err-eval_into-clause-does g t c =
+pub fast_node-returns-in_err-eval_into : goal.fast_node-returns-in_err-eval_into
+fast_node-returns-in_err-eval_into g t c =
     evaluates_stopped (λ i v. read_act v) (node_failed c.args.name.now (expr_tree c.args.subscript.now) _ c.in_err-eval_into.ensures.does) c.from_residual.ensures
 
-pub fast_node-returns-clause-does : goal.fast_node-returns-clause-does
-fast_node-returns-clause-does g t c =
-    evaluates_then (λ i v. read_act v) (node_evaluated c.args.name.now (expr_tree c.args.subscript.now) _ c.in_ok-eval_into.ensures.does) c.fast_read.ensures.does
+pub fast_node-returns : goal.fast_node-returns
+fast_node-returns g t c =
+    evaluates_then (λ i v. read_act v) (node_evaluated c.args.name.now (expr_tree c.args.subscript.now) _ c.in_ok-eval_into.ensures.does) c.fast_read.ensures
 
-pub variable-returns-in-Global-clause-does : goal.variable-returns-in-Global-clause-does
-variable-returns-in-Global-clause-does g t c =
-    let k = rw c.deref-in-Global.ensures.value at c.fast_global.ensures.does in
+pub variable-returns-in-Global : goal.variable-returns-in-Global
+variable-returns-in-Global g t c =
+    let k = rw c.deref-in-Global.ensures.value at c.fast_global.ensures in
     rw (c.in-Global.is, global_is c.in-Global.name c.in-Global.subscripts) k
 
-pub fast_global-returns-in_err-values-clause-does : goal.fast_global-returns-in_err-values-clause-does
-fast_global-returns-in_err-values-clause-does g t c =
-    evaluates_stopped (λ i v. read_act v) (own_failed c.args.name.now _ _ c.in_err-values.ensures.does) c.from_residual.ensures
+pub fast_global-returns-in_err-values : goal.fast_global-returns-in_err-values
+fast_global-returns-in_err-values g t c =
+    evaluates_stopped (λ i v. read_act v) (own_failed c.args.name.now _ _ c.in_err-values.ensures) c.from_residual.ensures
 
-pub fast_global-returns-in_err-place-clause-does : goal.fast_global-returns-in_err-place-clause-does
-fast_global-returns-in_err-place-clause-does g t c =
-    evaluates_then (λ i v. read_act v) (own_evaluated c.args.name.now _ _ c.in_ok-values.ensures.does)
+pub fast_global-returns-in_err-place : goal.fast_global-returns-in_err-place
+fast_global-returns-in_err-place g t c =
+    evaluates_then (λ i v. read_act v) (own_evaluated c.args.name.now _ _ c.in_ok-values.ensures)
     (evaluates_stopped (λ i p. read_at p) c.in_err-place.ensures.does c.from_residual-in_err-place.ensures)
 
-pub fast_global-returns-clause-does : goal.fast_global-returns-clause-does
-fast_global-returns-clause-does g t c =
-    evaluates_then (λ i v. read_act v) (own_evaluated c.args.name.now _ _ c.in_ok-values.ensures.does)
-    (evaluates_then (λ i p. read_at p) c.in_ok-place.ensures.does c.read.ensures.does)
+pub fast_global-returns : goal.fast_global-returns
+fast_global-returns g t c =
+    evaluates_then (λ i v. read_act v) (own_evaluated c.args.name.now _ _ c.in_ok-values.ensures)
+    (evaluates_then (λ i p. read_at p) c.in_ok-place.ensures.does c.read.ensures)
 
-pub place_value-returns-in_err-pending-clause-does : goal.place_value-returns-in_err-pending-clause-does
-place_value-returns-in_err-pending-clause-does g t c = evaluates_stopped _ c.in_err-pending.ensures.does c.from_residual.ensures
+pub place_value-returns-in_err-pending : goal.place_value-returns-in_err-pending
+place_value-returns-in_err-pending g t c = evaluates_stopped _ c.in_err-pending.ensures c.from_residual.ensures
 
-pub place_value-returns-in_err-place-clause-does : goal.place_value-returns-in_err-place-clause-does
-place_value-returns-in_err-place-clause-does g t c = evaluates_then _ c.in_ok-pending.ensures.does (evaluates_stopped _ c.in_err-place.ensures.does c.from_residual-in_err-place.ensures)
+pub place_value-returns-in_err-place : goal.place_value-returns-in_err-place
+place_value-returns-in_err-place g t c = evaluates_then _ c.in_ok-pending.ensures (evaluates_stopped _ c.in_err-place.ensures.does c.from_residual-in_err-place.ensures)
 
-pub place_value-returns-clause-does : goal.place_value-returns-clause-does
-place_value-returns-clause-does g t c = evaluates_then _ c.in_ok-pending.ensures.does (evaluates_then _ c.in_ok-place.ensures.does c.read.ensures.does)
+pub place_value-returns : goal.place_value-returns
+place_value-returns g t c = evaluates_then _ c.in_ok-pending.ensures (evaluates_then _ c.in_ok-place.ensures.does c.read.ensures)
 
-pub called-returns-in_err-values-clause-does : goal.called-returns-in_err-values-clause-does
-called-returns-in_err-values-clause-does g t c = evaluates_stopped _ c.in_err-values.ensures.does c.from_residual.ensures
+pub called-returns-in_err-values : goal.called-returns-in_err-values
+called-returns-in_err-values g t c = evaluates_stopped _ c.in_err-values.ensures c.from_residual.ensures
 
-pub called-returns-clause-does : goal.called-returns-clause-does
-called-returns-clause-does g t c =
+pub called-returns : goal.called-returns
+called-returns g t c =
     let called = rw c.as_slice.ensures at c.call.ensures.value in
-    evaluates_then _ c.in_ok-values.ensures.does (evaluates_yielded called)
+    evaluates_then _ c.in_ok-values.ensures (evaluates_yielded called)
 
 -- ---- references
 
-pub evaluated-returns-in-Variable-clause-does : goal.evaluated-returns-in-Variable-clause-does
-evaluated-returns-in-Variable-clause-does g t c =
+pub evaluated-returns-in-Variable : goal.evaluated-returns-in-Variable
+evaluated-returns-in-Variable g t c =
     let name = c.in-Variable.name in
     rw (c.in-Variable.is, variable_is name) (evaluates_gives (of_local name []) pending_view _ (ap (of_local name) c.none.ensures))
 
-pub evaluated-returns-in_err-value-in-Node-clause-does : goal.evaluated-returns-in_err-value-in-Node-clause-does
-evaluated-returns-in_err-value-in-Node-clause-does g t c =
+pub evaluated-returns-in_err-value-in-Node : goal.evaluated-returns-in_err-value-in-Node
+evaluated-returns-in_err-value-in-Node g t c =
     let v = c.in-Node in
     let k = rw c.deref.ensures at c.in_err-value-in-Node.ensures.does in
     rw (residual_is _ _ c.from_residual.ensures, v.is, node_is v.name v.subscript) (evaluates_refused pending_view (node_failed v.name (expr_tree v.subscript.value) _ k))
 
-pub evaluated-returns-in_ok-value-in-Node-clause-does : goal.evaluated-returns-in_ok-value-in-Node-clause-does
-evaluated-returns-in_ok-value-in-Node-clause-does g t c =
+pub evaluated-returns-in_ok-value-in-Node : goal.evaluated-returns-in_ok-value-in-Node
+evaluated-returns-in_ok-value-in-Node g t c =
     let v = c.in-Node in
     let k = rw c.deref.ensures at c.in_ok-value-in-Node.ensures.does in
     rw (v.is, node_is v.name v.subscript) (evaluates_seen _ _ (ap (of_local v.name) (sym c.one.ensures)) (node_evaluated v.name (expr_tree v.subscript.value) _ k))
 
-pub evaluated-returns-in_err-values-in-Local-clause-does : goal.evaluated-returns-in_err-values-in-Local-clause-does
-evaluated-returns-in_err-values-in-Local-clause-does g t c =
+pub evaluated-returns-in_err-values-in-Local : goal.evaluated-returns-in_err-values-in-Local
+evaluated-returns-in_err-values-in-Local g t c =
     let v = c.in-Local in
-    let k = rw c.deref-in-Local.ensures.value at c.in_err-values-in-Local.ensures.does in
+    let k = rw c.deref-in-Local.ensures.value at c.in_err-values-in-Local.ensures in
     rw (v.is, local_is v.name v.subscripts) (evaluates_stopped (λ i xs. give (of_local v.name xs)) k c.from_residual-in_err-values-in-Local.ensures)
 
-pub evaluated-returns-in_ok-values-in-Local-clause-does : goal.evaluated-returns-in_ok-values-in-Local-clause-does
-evaluated-returns-in_ok-values-in-Local-clause-does g t c =
+pub evaluated-returns-in_ok-values-in-Local : goal.evaluated-returns-in_ok-values-in-Local
+evaluated-returns-in_ok-values-in-Local g t c =
     let v = c.in-Local in
-    let k = rw c.deref-in-Local.ensures.value at c.in_ok-values-in-Local.ensures.does in
+    let k = rw c.deref-in-Local.ensures.value at c.in_ok-values-in-Local.ensures in
     rw (v.is, local_is v.name v.subscripts) (evaluates_then (λ i xs. give (of_local v.name xs)) k (evaluates_gives _ pending_view _ refl))
 
-pub evaluated-returns-in-Global-clause-does : goal.evaluated-returns-in-Global-clause-does
-evaluated-returns-in-Global-clause-does g t c =
-    let k = rw c.deref-in-Global.ensures.value at c.global.ensures.does in
+pub evaluated-returns-in-Global : goal.evaluated-returns-in-Global
+evaluated-returns-in-Global g t c =
+    let k = rw c.deref-in-Global.ensures.value at c.global.ensures in
     rw (c.in-Global.is, global_is c.in-Global.name c.in-Global.subscripts) k
 
-pub evaluated-returns-in_err-values-in-Naked-clause-does : goal.evaluated-returns-in_err-values-in-Naked-clause-does
-evaluated-returns-in_err-values-in-Naked-clause-does g t c =
-    let k = rw c.deref-in-Naked.ensures.value at c.in_err-values-in-Naked.ensures.does in
+pub evaluated-returns-in_err-values-in-Naked : goal.evaluated-returns-in_err-values-in-Naked
+evaluated-returns-in_err-values-in-Naked g t c =
+    let k = rw c.deref-in-Naked.ensures.value at c.in_err-values-in-Naked.ensures in
     rw (c.in-Naked.is, naked_is c.in-Naked.subscripts) (evaluates_stopped (λ i xs. give (of_naked xs)) k c.from_residual-in_err-values-in-Naked.ensures)
 
-pub evaluated-returns-in_ok-values-in-Naked-clause-does : goal.evaluated-returns-in_ok-values-in-Naked-clause-does
-evaluated-returns-in_ok-values-in-Naked-clause-does g t c =
-    let k = rw c.deref-in-Naked.ensures.value at c.in_ok-values-in-Naked.ensures.does in
+pub evaluated-returns-in_ok-values-in-Naked : goal.evaluated-returns-in_ok-values-in-Naked
+evaluated-returns-in_ok-values-in-Naked g t c =
+    let k = rw c.deref-in-Naked.ensures.value at c.in_ok-values-in-Naked.ensures in
     rw (c.in-Naked.is, naked_is c.in-Naked.subscripts) (evaluates_then (λ i xs. give (of_naked xs)) k (evaluates_gives _ pending_view _ refl))
 
-pub evaluated-returns-in-Indirect-clause-does : goal.evaluated-returns-in-Indirect-clause-does
-evaluated-returns-in-Indirect-clause-does g t c =
-    let k = rw (c.deref-in-Indirect.ensures, c.deref-in-Indirect-2.ensures.value) at c.named.ensures.does in
+pub evaluated-returns-in-Indirect : goal.evaluated-returns-in-Indirect
+evaluated-returns-in-Indirect g t c =
+    let k = rw (c.deref-in-Indirect.ensures, c.deref-in-Indirect-2.ensures.value) at c.named.ensures in
     rw (c.in-Indirect.is, indirect_is c.in-Indirect.operand c.in-Indirect.subscripts) k
 
-pub evaluated-returns-in-Extended-clause-does : goal.evaluated-returns-in-Extended-clause-does
-evaluated-returns-in-Extended-clause-does g t c =
+pub evaluated-returns-in-Extended : goal.evaluated-returns-in-Extended
+evaluated-returns-in-Extended g t c =
     let v = c.in-Extended in
-    let k = rw (c.deref-in-Extended.ensures, c.deref-in-Extended-2.ensures.value) at c.extended.ensures.does in
+    let k = rw (c.deref-in-Extended.ensures, c.deref-in-Extended-2.ensures.value) at c.extended.ensures in
     rw (v.is, extended_is v.environment v.name v.subscripts) k
 
-pub global-returns-in_err-values-clause-does : goal.global-returns-in_err-values-clause-does
-global-returns-in_err-values-clause-does g t c =
-    evaluates_stopped (λ i xs. give (of_global (node_of i.account c.args.name.now xs))) c.in_err-values.ensures.does c.from_residual.ensures
+pub global-returns-in_err-values : goal.global-returns-in_err-values
+global-returns-in_err-values g t c =
+    evaluates_stopped (λ i xs. give (of_global (node_of i.account c.args.name.now xs))) c.in_err-values.ensures c.from_residual.ensures
 
-pub global-returns-in_err-node-clause-does : goal.global-returns-in_err-node-clause-does
-global-returns-in_err-node-clause-does g t c =
-    evaluates_then (λ i xs. give (of_global (node_of i.account c.args.name.now xs))) c.in_ok-values.ensures.does (evaluates_wanting _ _ _ c.from_residual-in_err-node.ensures)
+pub global-returns-in_err-node : goal.global-returns-in_err-node
+global-returns-in_err-node g t c =
+    evaluates_then (λ i xs. give (of_global (node_of i.account c.args.name.now xs))) c.in_ok-values.ensures (evaluates_wanting _ _ _ c.from_residual-in_err-node.ensures)
 
-pub global-returns-clause-does : goal.global-returns-clause-does
-global-returns-clause-does g t c =
-    evaluates_then (λ i xs. give (of_global (node_of i.account c.args.name.now xs))) c.in_ok-values.ensures.does (gives_own c.args.name.now _ _ (ap of_global c.in_ok-node.ensures))
+pub global-returns : goal.global-returns
+global-returns g t c =
+    evaluates_then (λ i xs. give (of_global (node_of i.account c.args.name.now xs))) c.in_ok-values.ensures (gives_own c.args.name.now _ _ (ap of_global c.in_ok-node.ensures))
 
 -- ---- environments
 
-pub extended-returns-in_err-owner-clause-does : goal.extended-returns-in_err-owner-clause-does
-extended-returns-in_err-owner-clause-does g t c =
+pub extended-returns-in_err-owner : goal.extended-returns-in_err-owner
+extended-returns-in_err-owner g t c =
     evaluates_stopped (owned c.args.name.now _) c.in_err-owner.ensures.does c.from_residual.ensures
 
-pub extended-returns-in_err-account-clause-does : goal.extended-returns-in_err-account-clause-does
-extended-returns-in_err-account-clause-does g t c =
+pub extended-returns-in_err-account : goal.extended-returns-in_err-account
+extended-returns-in_err-account g t c =
     evaluates_then (owned c.args.name.now _) c.in_ok-owner.ensures.does (evaluates_wanting _ _ _ c.from_residual-in_err-account.ensures)
 
-pub extended-returns-in_err-subscripts-clause-does : goal.extended-returns-in_err-subscripts-clause-does
-extended-returns-in_err-subscripts-clause-does g t c =
+pub extended-returns-in_err-subscripts : goal.extended-returns-in_err-subscripts
+extended-returns-in_err-subscripts g t c =
     evaluates_then (owned c.args.name.now _) c.in_ok-owner.ensures.does
-    (evaluates_stopped (λ i xs. give (of_global (node_of c.in_ok-owner.owner c.args.name.now xs))) c.in_err-subscripts.ensures.does c.from_residual-in_err-subscripts.ensures)
+    (evaluates_stopped (λ i xs. give (of_global (node_of c.in_ok-owner.owner c.args.name.now xs))) c.in_err-subscripts.ensures c.from_residual-in_err-subscripts.ensures)
 
-pub extended-returns-in_err-copy-clause-does : goal.extended-returns-in_err-copy-clause-does
-extended-returns-in_err-copy-clause-does g t c =
+pub extended-returns-in_err-copy : goal.extended-returns-in_err-copy
+extended-returns-in_err-copy g t c =
     evaluates_then (owned c.args.name.now _) c.in_ok-owner.ensures.does
-    (evaluates_then (λ i xs. give (of_global (node_of c.in_ok-owner.owner c.args.name.now xs))) c.in_ok-subscripts.ensures.does (evaluates_wanting _ _ _ c.from_residual-in_err-copy.ensures))
+    (evaluates_then (λ i xs. give (of_global (node_of c.in_ok-owner.owner c.args.name.now xs))) c.in_ok-subscripts.ensures (evaluates_wanting _ _ _ c.from_residual-in_err-copy.ensures))
 
-pub extended-returns-clause-does : goal.extended-returns-clause-does
-extended-returns-clause-does g t c =
+pub extended-returns : goal.extended-returns
+extended-returns g t c =
     let is = rw (c.in_ok-account.ensures, c.in_ok-copy.ensures) at c.new-node.ensures in
     evaluates_then (owned c.args.name.now _) c.in_ok-owner.ensures.does
-    (evaluates_then (λ i xs. give (of_global (node_of c.in_ok-owner.owner c.args.name.now xs))) c.in_ok-subscripts.ensures.does (evaluates_gives _ pending_view _ (ap of_global is)))
+    (evaluates_then (λ i xs. give (of_global (node_of c.in_ok-owner.owner c.args.name.now xs))) c.in_ok-subscripts.ensures (evaluates_gives _ pending_view _ (ap of_global is)))
 
 -- ---- indirection
 
-pub named-returns-in_err-value-clause-does : goal.named-returns-in_err-value-clause-does
-named-returns-in_err-value-clause-does g t c =
+pub named-returns-in_err-value : goal.named-returns-in_err-value
+named-returns-in_err-value g t c =
     evaluates_stopped (λ i x. named_by i _ x) c.in_err-value.ensures.does c.from_residual.ensures
 
-pub named-returns-in_default-clause-does : goal.named-returns-in_default-clause-does
-named-returns-in_default-clause-does g t c =
+pub named-returns-in_default : goal.named-returns-in_default
+named-returns-in_default g t c =
     let full = not_free _ _ c.in_default.is c.indirected.ensures.free in
     evaluates_then (λ i x. named_by i _ x) c.in_ok-value.ensures.does (evaluates_deep _ _ full)
 
-pub named-returns-in_err-text-clause-does : goal.named-returns-in_err-text-clause-does
-named-returns-in_err-text-clause-does g t c =
+pub named-returns-in_err-text : goal.named-returns-in_err-text
+named-returns-in_err-text g t c =
     evaluates_then (λ i x. named_by i _ x) c.in_ok-value.ensures.does (evaluates_wanting _ _ _ c.from_residual-in_err-text.ensures)
 
-pub named-returns-in_err-reference-clause-does : goal.named-returns-in_err-reference-clause-does
-named-returns-in_err-reference-clause-does g t c =
+pub named-returns-in_err-reference : goal.named-returns-in_err-reference
+named-returns-in_err-reference g t c =
     let free = is_free _ _ c.in-Some.is c.indirected.ensures.free in
     let none = rw c.in_ok-text.ensures at c.in_err-reference.ensures in
     evaluates_then (λ i x. named_by i _ x) c.in_ok-value.ensures.does (evaluates_unnamed _ _ free none c.from_residual-in_err-reference.ensures)
 
-pub named-returns-clause-does : goal.named-returns-clause-does
-named-returns-clause-does g t c =
+pub named-returns : goal.named-returns
+named-returns g t c =
     let free = is_free _ _ c.in-Some.is c.indirected.ensures.free in
     let deeper = rw c.in-Some.is at c.indirected.ensures.deeper in
     let named = rw c.in_ok-text.ensures at c.in_ok-reference.ensures in
-    evaluates_entry _ _ _ reference_tree _ _ c.in_ok-value.ensures.does c.in_ok-value.ensures.spent free deeper named c.through_given-result.ensures.does
+    evaluates_entry _ _ _ reference_tree _ _ c.in_ok-value.ensures.does c.in_ok-value.ensures.spent free deeper named c.through_given-result.ensures
 
-pub through_given-returns-in-Variable-clause-does : goal.through_given-returns-in-Variable-clause-does
-through_given-returns-in-Variable-clause-does g t c = rw (c.in-Variable.is, variable_is c.in-Variable.name) c.fast_through.ensures.does
+pub through_given-returns-in-Variable : goal.through_given-returns-in-Variable
+through_given-returns-in-Variable g t c = rw (c.in-Variable.is, variable_is c.in-Variable.name) c.fast_through.ensures
 
-pub fast_through-returns-in_err-values-clause-does : goal.fast_through-returns-in_err-values-clause-does
-fast_through-returns-in_err-values-clause-does g t c =
-    evaluates_stopped (λ i xs. give (of_local c.args.name xs)) c.in_err-values.ensures.does c.from_residual.ensures
+pub fast_through-returns-in_err-values : goal.fast_through-returns-in_err-values
+fast_through-returns-in_err-values g t c =
+    evaluates_stopped (λ i xs. give (of_local c.args.name xs)) c.in_err-values.ensures c.from_residual.ensures
 
-pub fast_through-returns-clause-does : goal.fast_through-returns-clause-does
-fast_through-returns-clause-does g t c =
-    evaluates_then (λ i xs. give (of_local c.args.name xs)) c.in_ok-values.ensures.does (evaluates_gives _ pending_view _ refl)
+pub fast_through-returns : goal.fast_through-returns
+fast_through-returns g t c =
+    evaluates_then (λ i xs. give (of_local c.args.name xs)) c.in_ok-values.ensures (evaluates_gives _ pending_view _ refl)
 
-pub through-returns-in_err-front-clause-does : goal.through-returns-in_err-front-clause-does
-through-returns-in_err-front-clause-does g t c =
-    evaluates_stopped (λ i v. values i (subscripts_of v) _ >>= (λ xs. give (with_subscripts xs v))) c.in_err-front.ensures.does c.from_residual.ensures
+pub through-returns-in_err-front : goal.through-returns-in_err-front
+through-returns-in_err-front g t c =
+    evaluates_stopped (λ i v. values i (subscripts_of v) _ >>= (λ xs. give (with_subscripts xs v))) c.in_err-front.ensures c.from_residual.ensures
 
-pub through-returns-in_err-values-clause-does : goal.through-returns-in_err-values-clause-does
-through-returns-in_err-values-clause-does g t c =
+pub through-returns-in_err-values : goal.through-returns-in_err-values
+through-returns-in_err-values g t c =
     let v = pending_view c.in_ok-front.front in
-    evaluates_then (λ i v. values i (subscripts_of v) _ >>= (λ xs. give (with_subscripts xs v))) c.in_ok-front.ensures.does
-    (evaluates_behind _ v (evaluates_stopped (λ i ys. give (with_subscripts (subscripts_of v ++ ys) v)) c.in_err-values.ensures.does c.from_residual-in_err-values.ensures))
+    evaluates_then (λ i v. values i (subscripts_of v) _ >>= (λ xs. give (with_subscripts xs v))) c.in_ok-front.ensures
+    (evaluates_behind _ v (evaluates_stopped (λ i ys. give (with_subscripts (subscripts_of v ++ ys) v)) c.in_err-values.ensures c.from_residual-in_err-values.ensures))
 
-pub through-returns-in_err-extended-clause-does : goal.through-returns-in_err-extended-clause-does
-through-returns-in_err-extended-clause-does g t c =
+pub through-returns-in_err-extended : goal.through-returns-in_err-extended
+through-returns-in_err-extended g t c =
     let v = pending_view c.in_ok-front.front in
-    evaluates_then (λ i v. values i (subscripts_of v) _ >>= (λ xs. give (with_subscripts xs v))) c.in_ok-front.ensures.does
+    evaluates_then (λ i v. values i (subscripts_of v) _ >>= (λ xs. give (with_subscripts xs v))) c.in_ok-front.ensures
     (evaluates_behind _ v
-    (evaluates_then (λ i ys. give (with_subscripts (subscripts_of v ++ ys) v)) c.in_ok-values.ensures.does (evaluates_wanting _ _ _ c.from_residual-in_err-extended.ensures)))
+    (evaluates_then (λ i ys. give (with_subscripts (subscripts_of v ++ ys) v)) c.in_ok-values.ensures (evaluates_wanting _ _ _ c.from_residual-in_err-extended.ensures)))
 
-pub through-returns-clause-does : goal.through-returns-clause-does
-through-returns-clause-does g t c =
+pub through-returns : goal.through-returns
+through-returns g t c =
     let v = pending_view c.in_ok-front.front in
-    evaluates_then (λ i v. values i (subscripts_of v) _ >>= (λ xs. give (with_subscripts xs v))) c.in_ok-front.ensures.does
-    (evaluates_behind _ v (evaluates_then (λ i ys. give (with_subscripts (subscripts_of v ++ ys) v)) c.in_ok-values.ensures.does (evaluates_gives _ pending_view _ c.in_ok-extended.ensures)))
+    evaluates_then (λ i v. values i (subscripts_of v) _ >>= (λ xs. give (with_subscripts xs v))) c.in_ok-front.ensures
+    (evaluates_behind _ v (evaluates_then (λ i ys. give (with_subscripts (subscripts_of v ++ ys) v)) c.in_ok-values.ensures (evaluates_gives _ pending_view _ c.in_ok-extended.ensures)))
 
 -- ---- functions of a variable
 
-pub referring-returns-in-Node-clause-does : goal.referring-returns-in-Node-clause-does
-referring-returns-in-Node-clause-does g t c =
-    let k = rw (c.deref.ensures, c.deref-in-Node.ensures.value) at c.fast_referring.ensures.does in
+pub referring-returns-in-Node : goal.referring-returns-in-Node
+referring-returns-in-Node g t c =
+    let k = rw (c.deref.ensures, c.deref-in-Node.ensures.value) at c.fast_referring.ensures in
     rw (c.function-function.ensures.1, c.in-Node.is, node_is c.in-Node.name c.in-Node.subscript) k
 
-pub fast_referring-returns-in_err-eval_into-clause-does : goal.fast_referring-returns-in_err-eval_into-clause-does
-fast_referring-returns-in_err-eval_into-clause-does g t c =
+pub fast_referring-returns-in_err-eval_into : goal.fast_referring-returns-in_err-eval_into
+fast_referring-returns-in_err-eval_into g t c =
     rw (residual_is _ _ c.from_residual.ensures)
     (function_failed (variable_function_tree c.args.function) _ (node_failed c.args.name.now (expr_tree c.args.subscript.now) _ c.in_err-eval_into.ensures.does))
 
-pub fast_referring-returns-in-Data-clause-does : goal.fast_referring-returns-in-Data-clause-does
-fast_referring-returns-in-Data-clause-does g t c =
-    rw c.in-Data.is (evaluates_then (λ i v. data_act v) (node_evaluated c.args.name.now (expr_tree c.args.subscript.now) _ c.in_ok-eval_into.ensures.does) c.fast_data.ensures.does)
+pub fast_referring-returns-in-Data : goal.fast_referring-returns-in-Data
+fast_referring-returns-in-Data g t c =
+    rw c.in-Data.is (evaluates_then (λ i v. data_act v) (node_evaluated c.args.name.now (expr_tree c.args.subscript.now) _ c.in_ok-eval_into.ensures.does) c.fast_data.ensures)
 
-pub fast_referring-returns-in-Get-clause-does : goal.fast_referring-returns-in-Get-clause-does
-fast_referring-returns-in-Get-clause-does g t c =
-    rw c.in-Get.is (evaluates_then (get_act _) (node_evaluated c.args.name.now (expr_tree c.args.subscript.now) _ c.in_ok-eval_into.ensures.does) c.fast_get.ensures.does)
+pub fast_referring-returns-in-Get : goal.fast_referring-returns-in-Get
+fast_referring-returns-in-Get g t c =
+    rw c.in-Get.is (evaluates_then (get_act _) (node_evaluated c.args.name.now (expr_tree c.args.subscript.now) _ c.in_ok-eval_into.ensures.does) c.fast_get.ensures)
 
-pub fast_referring-returns-clause-does : goal.fast_referring-returns-clause-does
-fast_referring-returns-clause-does g t c =
-    rw c.in-Order.is (evaluates_then (order_behind _) (node_evaluated c.args.name.now (expr_tree c.args.subscript.now) _ c.in_ok-eval_into.ensures.does) c.fast_order.ensures.does)
+pub fast_referring-returns : goal.fast_referring-returns
+fast_referring-returns g t c =
+    rw c.in-Order.is (evaluates_then (order_behind _) (node_evaluated c.args.name.now (expr_tree c.args.subscript.now) _ c.in_ok-eval_into.ensures.does) c.fast_order.ensures)
 
-pub fast_get-returns-in_err-more-clause-does : goal.fast_get-returns-in_err-more-clause-does
-fast_get-returns-in_err-more-clause-does g t c =
+pub fast_get-returns-in_err-more : goal.fast_get-returns-in_err-more
+fast_get-returns-in_err-more g t c =
     let passed = sym (rw (c.if-not-values_ok.false, c.from_ref-subscripts.ensures.value) at (decides_subscripts _ _ c.values_ok.ensures)) in
     evaluates_then (got _) (let_through c.args.name.now (c.args.subscript.now ∷ []) passed)
-    (evaluates_stopped (λ i xs. read_or (unwrap_or (slice_get xs 0) []) (at_local c.args.name.now (c.args.subscript.now ∷ []))) c.in_err-more.ensures.does c.from_residual.ensures)
+    (evaluates_stopped (λ i xs. read_or (unwrap_or (slice_get xs 0) []) (at_local c.args.name.now (c.args.subscript.now ∷ []))) c.in_err-more.ensures c.from_residual.ensures)
 
-pub fast_get-returns-clause-does : goal.fast_get-returns-clause-does
-fast_get-returns-clause-does g t c =
+pub fast_get-returns : goal.fast_get-returns
+fast_get-returns g t c =
     let passed = sym (rw (c.if-not-values_ok.false, c.from_ref-subscripts.ensures.value) at (decides_subscripts _ _ c.values_ok.ensures)) in
-    let read = rw c.from_ref-subscripts.ensures.value at c.fast_read_or.ensures.does in
+    let read = rw c.from_ref-subscripts.ensures.value at c.fast_read_or.ensures in
     evaluates_then (got _) (let_through c.args.name.now (c.args.subscript.now ∷ []) passed)
-    (evaluates_then (λ i xs. read_or (unwrap_or (slice_get xs 0) []) (at_local c.args.name.now (c.args.subscript.now ∷ []))) c.in_ok-more.ensures.does read)
+    (evaluates_then (λ i xs. read_or (unwrap_or (slice_get xs 0) []) (at_local c.args.name.now (c.args.subscript.now ∷ []))) c.in_ok-more.ensures read)
 
-pub referring-returns-in-Data-clause-does : goal.referring-returns-in-Data-clause-does
-referring-returns-in-Data-clause-does g t c =
+pub referring-returns-in-Data : goal.referring-returns-in-Data
+referring-returns-in-Data g t c =
     let is = rw c.in-Data.is at c.function-function.ensures in
-    rw is.1 c.data_of.ensures.does
+    rw is.1 c.data_of.ensures
 
-pub referring-returns-in-Get-clause-does : goal.referring-returns-in-Get-clause-does
-referring-returns-in-Get-clause-does g t c =
+pub referring-returns-in-Get : goal.referring-returns-in-Get
+referring-returns-in-Get g t c =
     let is = rw c.in-Get.is at c.function-function.ensures in
-    let k = rw c.deref-in-Get.ensures.value at c.get_of.ensures.does in
+    let k = rw c.deref-in-Get.ensures.value at c.get_of.ensures in
     rw is.1 k
 
-pub referring-returns-in-Order-clause-does : goal.referring-returns-in-Order-clause-does
-referring-returns-in-Order-clause-does g t c =
+pub referring-returns-in-Order : goal.referring-returns-in-Order
+referring-returns-in-Order g t c =
     let is = rw c.in-Order.is at c.function-function.ensures in
-    let k = rw c.deref-in-Order.ensures.value at c.order_of.ensures.does in
+    let k = rw c.deref-in-Order.ensures.value at c.order_of.ensures in
     rw is.1 k
 
-pub data_of-returns-in_err-pending-clause-does : goal.data_of-returns-in_err-pending-clause-does
-data_of-returns-in_err-pending-clause-does g t c = evaluates_stopped _ c.in_err-pending.ensures.does c.from_residual.ensures
+pub data_of-returns-in_err-pending : goal.data_of-returns-in_err-pending
+data_of-returns-in_err-pending g t c = evaluates_stopped _ c.in_err-pending.ensures c.from_residual.ensures
 
-pub data_of-returns-clause-does : goal.data_of-returns-clause-does
-data_of-returns-clause-does g t c = evaluates_then _ c.in_ok-pending.ensures.does c.data.ensures.does
+pub data_of-returns : goal.data_of-returns
+data_of-returns g t c = evaluates_then _ c.in_ok-pending.ensures c.data.ensures
 
-pub get_of-returns-in-Global-clause-does : goal.get_of-returns-in-Global-clause-does
-get_of-returns-in-Global-clause-does g t c =
-    let k = rw c.deref.ensures.value at c.fast_global_get.ensures.does in
+pub get_of-returns-in-Global : goal.get_of-returns-in-Global
+get_of-returns-in-Global g t c =
+    let k = rw c.deref.ensures.value at c.fast_global_get.ensures in
     rw (c.in-Global.is, global_is c.in-Global.name c.in-Global.subscripts) k
 
-pub fast_global_get-returns-in_err-values-clause-does : goal.fast_global_get-returns-in_err-values-clause-does
-fast_global_get-returns-in_err-values-clause-does g t c =
-    evaluates_stopped (get_act (exprs_of (map expr_tree c.args.more.now))) (own_failed c.args.name.now _ _ c.in_err-values.ensures.does) c.from_residual.ensures
+pub fast_global_get-returns-in_err-values : goal.fast_global_get-returns-in_err-values
+fast_global_get-returns-in_err-values g t c =
+    evaluates_stopped (get_act (exprs_of (map expr_tree c.args.more.now))) (own_failed c.args.name.now _ _ c.in_err-values.ensures) c.from_residual.ensures
 
-pub fast_global_get-returns-in_err-place-clause-does : goal.fast_global_get-returns-in_err-place-clause-does
-fast_global_get-returns-in_err-place-clause-does g t c =
-    evaluates_then (get_act _) (own_evaluated c.args.name.now _ _ c.in_ok-values.ensures.does) (evaluates_stopped (got _) c.in_err-place.ensures.does c.from_residual-in_err-place.ensures)
+pub fast_global_get-returns-in_err-place : goal.fast_global_get-returns-in_err-place
+fast_global_get-returns-in_err-place g t c =
+    evaluates_then (get_act _) (own_evaluated c.args.name.now _ _ c.in_ok-values.ensures) (evaluates_stopped (got _) c.in_err-place.ensures.does c.from_residual-in_err-place.ensures)
 
-pub fast_global_get-returns-in_err-more-clause-does : goal.fast_global_get-returns-in_err-more-clause-does
-fast_global_get-returns-in_err-more-clause-does g t c =
-    evaluates_then (get_act _) (own_evaluated c.args.name.now _ _ c.in_ok-values.ensures.does)
-    (evaluates_then (got _) c.in_ok-place.ensures.does (evaluates_stopped _ c.in_err-more.ensures.does c.from_residual-in_err-more.ensures))
+pub fast_global_get-returns-in_err-more : goal.fast_global_get-returns-in_err-more
+fast_global_get-returns-in_err-more g t c =
+    evaluates_then (get_act _) (own_evaluated c.args.name.now _ _ c.in_ok-values.ensures)
+    (evaluates_then (got _) c.in_ok-place.ensures.does (evaluates_stopped _ c.in_err-more.ensures c.from_residual-in_err-more.ensures))
 
-pub fast_global_get-returns-clause-does : goal.fast_global_get-returns-clause-does
-fast_global_get-returns-clause-does g t c =
-    evaluates_then (get_act _) (own_evaluated c.args.name.now _ _ c.in_ok-values.ensures.does)
-    (evaluates_then (got _) c.in_ok-place.ensures.does (evaluates_then _ c.in_ok-more.ensures.does c.read_or.ensures.does))
+pub fast_global_get-returns : goal.fast_global_get-returns
+fast_global_get-returns g t c =
+    evaluates_then (get_act _) (own_evaluated c.args.name.now _ _ c.in_ok-values.ensures)
+    (evaluates_then (got _) c.in_ok-place.ensures.does (evaluates_then _ c.in_ok-more.ensures c.read_or.ensures))
 
-pub get_of-returns-in_err-pending-clause-does : goal.get_of-returns-in_err-pending-clause-does
-get_of-returns-in_err-pending-clause-does g t c = evaluates_stopped _ c.in_err-pending.ensures.does c.from_residual.ensures
+pub get_of-returns-in_err-pending : goal.get_of-returns-in_err-pending
+get_of-returns-in_err-pending g t c = evaluates_stopped _ c.in_err-pending.ensures c.from_residual.ensures
 
-pub get_of-returns-in_err-place-clause-does : goal.get_of-returns-in_err-place-clause-does
-get_of-returns-in_err-place-clause-does g t c = evaluates_then _ c.in_ok-pending.ensures.does (evaluates_stopped _ c.in_err-place.ensures.does c.from_residual-in_err-place.ensures)
+pub get_of-returns-in_err-place : goal.get_of-returns-in_err-place
+get_of-returns-in_err-place g t c = evaluates_then _ c.in_ok-pending.ensures (evaluates_stopped _ c.in_err-place.ensures.does c.from_residual-in_err-place.ensures)
 
-pub get_of-returns-in_err-more-clause-does : goal.get_of-returns-in_err-more-clause-does
-get_of-returns-in_err-more-clause-does g t c =
-    evaluates_then _ c.in_ok-pending.ensures.does (evaluates_then _ c.in_ok-place.ensures.does (evaluates_stopped _ c.in_err-more.ensures.does c.from_residual-in_err-more.ensures))
+pub get_of-returns-in_err-more : goal.get_of-returns-in_err-more
+get_of-returns-in_err-more g t c =
+    evaluates_then _ c.in_ok-pending.ensures (evaluates_then _ c.in_ok-place.ensures.does (evaluates_stopped _ c.in_err-more.ensures c.from_residual-in_err-more.ensures))
 
-pub get_of-returns-clause-does : goal.get_of-returns-clause-does
-get_of-returns-clause-does g t c =
-    evaluates_then _ c.in_ok-pending.ensures.does (evaluates_then _ c.in_ok-place.ensures.does (evaluates_then _ c.in_ok-more.ensures.does c.read_or.ensures.does))
+pub get_of-returns : goal.get_of-returns
+get_of-returns g t c =
+    evaluates_then _ c.in_ok-pending.ensures (evaluates_then _ c.in_ok-place.ensures.does (evaluates_then _ c.in_ok-more.ensures c.read_or.ensures))
 
-pub direction-returns-in_err-values-clause-does : goal.direction-returns-in_err-values-clause-does
-direction-returns-in_err-values-clause-does g t c = evaluates_stopped (λ i xs. direction_of (slice_get xs 0)) c.in_err-values.ensures.does c.from_residual.ensures
+pub direction-returns-in_err-values : goal.direction-returns-in_err-values
+direction-returns-in_err-values g t c = evaluates_stopped (λ i xs. direction_of (slice_get xs 0)) c.in_err-values.ensures c.from_residual.ensures
 
-pub direction-returns-clause-does : goal.direction-returns-clause-does
-direction-returns-clause-does g t c =
+pub direction-returns : goal.direction-returns
+direction-returns g t c =
     let told = rw c.as_slice.ensures at c.direction.ensures in
-    evaluates_then (λ i xs. direction_of (slice_get xs 0)) c.in_ok-values.ensures.does (evaluates_yielded told)
+    evaluates_then (λ i xs. direction_of (slice_get xs 0)) c.in_ok-values.ensures (evaluates_yielded told)
 
-pub fast_order-returns-in_err-check_walk-clause-does : goal.fast_order-returns-in_err-check_walk-clause-does
-fast_order-returns-in_err-check_walk-clause-does g t c =
+pub fast_order-returns-in_err-check_walk : goal.fast_order-returns-in_err-check_walk
+fast_order-returns-in_err-check_walk g t c =
     let more = exprs_of (map expr_tree c.args.more.now) in
     let name = c.args.name.now in
     let refused = rw c.from_ref-subscripts.ensures.value at c.in_err-check_walk.ensures.checked in
     walk_refused more name (c.args.subscript.now ∷ []) (evaluates_stopped (λ i _. give (at_local name (c.args.subscript.now ∷ [])) >>= order_from more i) (evaluates_yielded refused) c.from_residual.ensures)
 
-pub fast_order-returns-in_err-direction-clause-does : goal.fast_order-returns-in_err-direction-clause-does
-fast_order-returns-in_err-direction-clause-does g t c =
+pub fast_order-returns-in_err-direction : goal.fast_order-returns-in_err-direction
+fast_order-returns-in_err-direction g t c =
     let passed = rw c.from_ref-subscripts.ensures.value at c.in_ok-check_walk.ensures.checked in
-    evaluates_then (order_from _) (walk_through c.args.name.now (c.args.subscript.now ∷ []) passed) (ordered_stopped _ (at_local c.args.name.now (c.args.subscript.now ∷ [])) c.in_err-direction.ensures.does c.from_residual-in_err-direction.ensures)
+    evaluates_then (order_from _) (walk_through c.args.name.now (c.args.subscript.now ∷ []) passed) (ordered_stopped _ (at_local c.args.name.now (c.args.subscript.now ∷ [])) c.in_err-direction.ensures c.from_residual-in_err-direction.ensures)
 
-pub fast_order-returns-clause-does : goal.fast_order-returns-clause-does
-fast_order-returns-clause-does g t c =
+pub fast_order-returns : goal.fast_order-returns
+fast_order-returns g t c =
     let passed = rw c.from_ref-subscripts.ensures.value at c.in_ok-check_walk.ensures.checked in
-    let next = rw c.from_ref-subscripts.ensures.value at c.fast_next.ensures.does in
-    evaluates_then (order_from _) (walk_through c.args.name.now (c.args.subscript.now ∷ []) passed) (ordered_next _ (at_local c.args.name.now (c.args.subscript.now ∷ [])) c.in_ok-direction.direction c.in_ok-direction.ensures.does next)
+    let next = rw c.from_ref-subscripts.ensures.value at c.fast_next.ensures in
+    evaluates_then (order_from _) (walk_through c.args.name.now (c.args.subscript.now ∷ []) passed) (ordered_next _ (at_local c.args.name.now (c.args.subscript.now ∷ [])) c.in_ok-direction.direction c.in_ok-direction.ensures next)
 
-pub order_of-returns-in-Global-clause-does : goal.order_of-returns-in-Global-clause-does
-order_of-returns-in-Global-clause-does g t c =
-    let k = rw c.deref.ensures.value at c.fast_global_order.ensures.does in
+pub order_of-returns-in-Global : goal.order_of-returns-in-Global
+order_of-returns-in-Global g t c =
+    let k = rw c.deref.ensures.value at c.fast_global_order.ensures in
     rw (c.in-Global.is, global_is c.in-Global.name c.in-Global.subscripts) k
 
-pub fast_global_order-returns-in_err-values-clause-does : goal.fast_global_order-returns-in_err-values-clause-does
-fast_global_order-returns-in_err-values-clause-does g t c =
-    evaluates_stopped (order_behind (exprs_of (map expr_tree c.args.more.now))) (own_failed c.args.name.now _ _ c.in_err-values.ensures.does) c.from_residual.ensures
+pub fast_global_order-returns-in_err-values : goal.fast_global_order-returns-in_err-values
+fast_global_order-returns-in_err-values g t c =
+    evaluates_stopped (order_behind (exprs_of (map expr_tree c.args.more.now))) (own_failed c.args.name.now _ _ c.in_err-values.ensures) c.from_residual.ensures
 
-pub fast_global_order-returns-in_err-walk-clause-does : goal.fast_global_order-returns-in_err-walk-clause-does
-fast_global_order-returns-in_err-walk-clause-does g t c =
-    evaluates_then (order_behind _) (own_evaluated c.args.name.now _ _ c.in_ok-values.ensures.does) (evaluates_stopped (order_from _) c.in_err-walk.ensures.does c.from_residual-in_err-walk.ensures)
+pub fast_global_order-returns-in_err-walk : goal.fast_global_order-returns-in_err-walk
+fast_global_order-returns-in_err-walk g t c =
+    evaluates_then (order_behind _) (own_evaluated c.args.name.now _ _ c.in_ok-values.ensures) (evaluates_stopped (order_from _) c.in_err-walk.ensures.does c.from_residual-in_err-walk.ensures)
 
-pub fast_global_order-returns-in_err-direction-clause-does : goal.fast_global_order-returns-in_err-direction-clause-does
-fast_global_order-returns-in_err-direction-clause-does g t c =
-    evaluates_then (order_behind _) (own_evaluated c.args.name.now _ _ c.in_ok-values.ensures.does)
+pub fast_global_order-returns-in_err-direction : goal.fast_global_order-returns-in_err-direction
+fast_global_order-returns-in_err-direction g t c =
+    evaluates_then (order_behind _) (own_evaluated c.args.name.now _ _ c.in_ok-values.ensures)
     (evaluates_then (order_from _) c.in_ok-walk.ensures.does
-    (ordered_stopped _ (at_node (own_global c.values.new.self c.args.name.now c.in_ok-walk.walk)) c.in_err-direction.ensures.does c.from_residual-in_err-direction.ensures))
+    (ordered_stopped _ (at_node (own_global c.values.new.self c.args.name.now c.in_ok-walk.walk)) c.in_err-direction.ensures c.from_residual-in_err-direction.ensures))
 
 pub fast_global_order-fast_global_next-requires-clause-account : goal.fast_global_order-fast_global_next-requires-clause-account
 fast_global_order-fast_global_next-requires-clause-account g t c =
-    subst (λ b. IsAccountName b.account) (sym (c.in_ok-direction.ensures.does.same ∙ c.in_ok-walk.ensures.does.same)) c.in_ok-walk.ensures.account
+    subst (λ b. IsAccountName b.account) (sym (c.in_ok-direction.ensures.keeps.same ∙ c.in_ok-walk.ensures.does.keeps.same)) c.in_ok-walk.ensures.account
 
-pub fast_global_order-returns-clause-does : goal.fast_global_order-returns-clause-does
-fast_global_order-returns-clause-does g t c =
-    let asked = rw c.as_slice.ensures at c.fast_global_next.ensures.does in
-    let next = next_own c.values.new.self (way c.in_ok-direction.direction) c.args.name.now c.in_ok-walk.walk (c.in_ok-direction.ensures.does.same ∙ c.in_ok-walk.ensures.does.same) asked in
-    evaluates_then (order_behind _) (own_evaluated c.args.name.now _ _ c.in_ok-values.ensures.does)
+pub fast_global_order-returns : goal.fast_global_order-returns
+fast_global_order-returns g t c =
+    let asked = rw c.as_slice.ensures at c.fast_global_next.ensures in
+    let next = next_own c.values.new.self (way c.in_ok-direction.direction) c.args.name.now c.in_ok-walk.walk (c.in_ok-direction.ensures.keeps.same ∙ c.in_ok-walk.ensures.does.keeps.same) asked in
+    evaluates_then (order_behind _) (own_evaluated c.args.name.now _ _ c.in_ok-values.ensures)
     (evaluates_then (order_from _) c.in_ok-walk.ensures.does
-    (ordered_next _ (at_node (own_global c.values.new.self c.args.name.now c.in_ok-walk.walk)) c.in_ok-direction.direction c.in_ok-direction.ensures.does next))
+    (ordered_next _ (at_node (own_global c.values.new.self c.args.name.now c.in_ok-walk.walk)) c.in_ok-direction.direction c.in_ok-direction.ensures next))
 
-pub order_of-returns-in_err-pending-clause-does : goal.order_of-returns-in_err-pending-clause-does
-order_of-returns-in_err-pending-clause-does g t c = evaluates_stopped (order_behind (exprs_of (map expr_tree c.args.more.now))) c.in_err-pending.ensures.does c.from_residual.ensures
+pub order_of-returns-in_err-pending : goal.order_of-returns-in_err-pending
+order_of-returns-in_err-pending g t c = evaluates_stopped (order_behind (exprs_of (map expr_tree c.args.more.now))) c.in_err-pending.ensures c.from_residual.ensures
 
-pub order_of-returns-in_err-walk-clause-does : goal.order_of-returns-in_err-walk-clause-does
-order_of-returns-in_err-walk-clause-does g t c =
-    evaluates_then (order_behind _) c.in_ok-pending.ensures.does (evaluates_stopped (order_from _) c.in_err-walk.ensures.does c.from_residual-in_err-walk.ensures)
+pub order_of-returns-in_err-walk : goal.order_of-returns-in_err-walk
+order_of-returns-in_err-walk g t c =
+    evaluates_then (order_behind _) c.in_ok-pending.ensures (evaluates_stopped (order_from _) c.in_err-walk.ensures.does c.from_residual-in_err-walk.ensures)
 
-pub order_of-returns-in_err-direction-clause-does : goal.order_of-returns-in_err-direction-clause-does
-order_of-returns-in_err-direction-clause-does g t c =
-    evaluates_then (order_behind _) c.in_ok-pending.ensures.does
-    (evaluates_then (order_from _) c.in_ok-walk.ensures.does (ordered_stopped _ (walk_view c.in_ok-walk.walk) c.in_err-direction.ensures.does c.from_residual-in_err-direction.ensures))
+pub order_of-returns-in_err-direction : goal.order_of-returns-in_err-direction
+order_of-returns-in_err-direction g t c =
+    evaluates_then (order_behind _) c.in_ok-pending.ensures
+    (evaluates_then (order_from _) c.in_ok-walk.ensures.does (ordered_stopped _ (walk_view c.in_ok-walk.walk) c.in_err-direction.ensures c.from_residual-in_err-direction.ensures))
 
-pub order_of-returns-clause-does : goal.order_of-returns-clause-does
-order_of-returns-clause-does g t c =
-    evaluates_then (order_behind _) c.in_ok-pending.ensures.does
-    (evaluates_then (order_from _) c.in_ok-walk.ensures.does (ordered_next _ (walk_view c.in_ok-walk.walk) c.in_ok-direction.direction c.in_ok-direction.ensures.does c.next.ensures.does))
+pub order_of-returns : goal.order_of-returns
+order_of-returns g t c =
+    evaluates_then (order_behind _) c.in_ok-pending.ensures
+    (evaluates_then (order_from _) c.in_ok-walk.ensures.does (ordered_next _ (walk_view c.in_ok-walk.walk) c.in_ok-direction.direction c.in_ok-direction.ensures c.next.ensures))
 
 -- ---- steps
 
-pub tail-returns-in_err-operand_into-in-Apply-clause-does : goal.tail-returns-in_err-operand_into-in-Apply-clause-does
-tail-returns-in_err-operand_into-in-Apply-clause-does g t c =
+pub tail-returns-in_err-operand_into-in-Apply : goal.tail-returns-in_err-operand_into-in-Apply
+tail-returns-in_err-operand_into-in-Apply g t c =
     rw (c.in-Apply.is, apply_is c.in-Apply.operator c.in-Apply.operand) (evaluates_stopped _ c.in_err-operand_into-in-Apply.ensures.does c.from_residual.ensures)
 
-pub tail-returns-in_ok-operand_into-in-Apply-clause-does : goal.tail-returns-in_ok-operand_into-in-Apply-clause-does
-tail-returns-in_ok-operand_into-in-Apply-clause-does g t c =
+pub tail-returns-in_ok-operand_into-in-Apply : goal.tail-returns-in_ok-operand_into-in-Apply
+tail-returns-in_ok-operand_into-in-Apply g t c =
     rw (c.in-Apply.is, apply_is c.in-Apply.operator c.in-Apply.operand) (evaluates_then _ c.in_ok-operand_into-in-Apply.ensures.does (evaluates_yielded c.binary.ensures.value))
 
-pub tail-returns-in_err-matches-in-Matches-clause-does : goal.tail-returns-in_err-matches-in-Matches-clause-does
-tail-returns-in_err-matches-in-Matches-clause-does g t c =
+pub tail-returns-in_err-matches-in-Matches : goal.tail-returns-in_err-matches-in-Matches
+tail-returns-in_err-matches-in-Matches g t c =
     let k = rw c.deref.ensures.value at c.in_err-matches-in-Matches.ensures.value in
     rw (c.in-Matches.is, matches_is c.in-Matches.atoms) (evaluates_stopped _ (evaluates_yielded k) c.from_residual-in_err-matches-in-Matches.ensures)
 
-pub tail-returns-in_ok-matches-in-Matches-clause-does : goal.tail-returns-in_ok-matches-in-Matches-clause-does
-tail-returns-in_ok-matches-in-Matches-clause-does g t c =
+pub tail-returns-in_ok-matches-in-Matches : goal.tail-returns-in_ok-matches-in-Matches
+tail-returns-in_ok-matches-in-Matches g t c =
     let k = rw c.deref.ensures.value at c.in_ok-matches-in-Matches.ensures.value in
     rw (c.in-Matches.is, matches_is c.in-Matches.atoms) (evaluates_then _ (evaluates_yielded k) (evaluates_gives _ _ _ c.of_truth.ensures))
 
-pub tail-returns-in_err-matches-in-MatchesNot-clause-does : goal.tail-returns-in_err-matches-in-MatchesNot-clause-does
-tail-returns-in_err-matches-in-MatchesNot-clause-does g t c =
+pub tail-returns-in_err-matches-in-MatchesNot : goal.tail-returns-in_err-matches-in-MatchesNot
+tail-returns-in_err-matches-in-MatchesNot g t c =
     let k = rw c.deref-in-MatchesNot.ensures.value at c.in_err-matches-in-MatchesNot.ensures.value in
     rw (c.in-MatchesNot.is, matches_not_is c.in-MatchesNot.atoms) (evaluates_stopped _ (evaluates_yielded k) c.from_residual-in_err-matches-in-MatchesNot.ensures)
 
-pub tail-returns-in_ok-matches-in-MatchesNot-clause-does : goal.tail-returns-in_ok-matches-in-MatchesNot-clause-does
-tail-returns-in_ok-matches-in-MatchesNot-clause-does g t c =
+pub tail-returns-in_ok-matches-in-MatchesNot : goal.tail-returns-in_ok-matches-in-MatchesNot
+tail-returns-in_ok-matches-in-MatchesNot g t c =
     let k = rw c.deref-in-MatchesNot.ensures.value at c.in_ok-matches-in-MatchesNot.ensures.value in
     rw (c.in-MatchesNot.is, matches_not_is c.in-MatchesNot.atoms) (evaluates_then _ (evaluates_yielded k) (evaluates_gives _ _ _ c.of_truth-in-MatchesNot.ensures))
 
@@ -512,7 +512,7 @@ eval_into-returns-then-is_empty-clause-does g t c =
 
 pub eval_into-returns-clause-does : goal.eval_into-returns-clause-does
 eval_into-returns-clause-does g t c =
-    let rest = rw c.deref.ensures.value at c.with_rest.ensures.does in
+    let rest = rw c.deref.ensures.value at c.with_rest.ensures in
     rw (expr_is c.args.e.now) (evaluates_then _ c.in_ok-operand_into.ensures.does rest)
 
 pub eval-returns-in_err-eval_into-clause-does : goal.eval-returns-in_err-eval_into-clause-does
@@ -566,30 +566,28 @@ other_number-returns-clause-does g t c = evaluates_then _ c.in_ok-value.ensures.
 
 -- ---- a chain
 
-pub with_rest-returns-in_err-count-clause-does : goal.with_rest-returns-in_err-count-clause-does
-with_rest-returns-in_err-count-clause-does g t c =
+pub with_rest-returns-in_err-count : goal.with_rest-returns-in_err-count
+with_rest-returns-in_err-count g t c =
     let same = ap kind_text (sym c.in-Number.is) ∙ c.kind.ensures in
     let stops = rw same at c.in_err-count.ensures.stops in
     rw (residual_is _ _ c.from_residual.ensures) (evaluates_refused _ stops)
 
-pub with_rest-returns-clause-does : goal.with_rest-returns-clause-does
-with_rest-returns-clause-does g t c =
+pub with_rest-returns : goal.with_rest-returns
+with_rest-returns g t c =
     let same = ap kind_text (sym c.in-Number.is) ∙ c.kind.ensures in
     let leads = rw same at c.in_ok-count.ensures.leads in
-    let rest = rw (c.of_number.ensures, c.tails_behind.ensures) at c.with_tails-2.ensures.does in
+    let rest = rw (c.of_number.ensures, c.tails_behind.ensures) at c.with_tails-2.ensures in
     leads_into leads rest
 
 pub chain-loop-i-init : goal.chain-loop-i-init
 chain-loop-i-init g t c = record {
-  loans = keeps_itself c.args.self.now;
-  fewer = omega arith;
+  keeps = keeps_itself c.args.self.now;
   leads = leads_itself _ c.args.self.now;
 }
 
 pub chain-loop-i-preserved : goal.chain-loop-i-preserved
 chain-loop-i-preserved g t c = record {
-  loans = keeps_on c.loop-i.invariant.loans c.in_ok-operand_number.ensures.loans;
-  fewer = omega arith;
+  keeps = keeps_on c.loop-i.invariant.keeps c.in_ok-operand_number.ensures.does.keeps;
   leads =
       leads_on c.loop-i.invariant.leads
       (step_leads c.args.tails.now c.loop-i.i c.index-tails-i.result c.in-Some.operator c.loop-i.left (operand_tree c.in-Apply.operand) (units c.operand_number.new.place) c.calculate.new.left (omega arith) c.index-tails-i.is
@@ -620,60 +618,56 @@ chain-returns-clause-leads g t c =
 
 pub with_tails-loop-tail-init : goal.with_tails-loop-tail-init
 with_tails-loop-tail-init g t c = record {
-  loans = keeps_itself c.args.self.now;
   fewer = omega arith;
   leads = λ f r e k. k;
 }
 
-pub with_tails-returns-in_err-tail-clause-does : goal.with_tails-returns-in_err-tail-clause-does
-with_tails-returns-in_err-tail-clause-does g t c =
+pub with_tails-returns-in_err-tail : goal.with_tails-returns-in_err-tail
+with_tails-returns-in_err-tail g t c =
     rw (residual_is _ _ c.from_residual.ensures)
-    (c.loop-tail.invariant.leads _ _ _ (from_tail _ c.args.tails.now c.loop-tail.tail-index c.tail-item.result c.loop-tail.value _ c.loop-tail-test.true c.tail-item.is (evaluates_failed _ c.in_err-tail.ensures.does)))
+    (c.loop-tail.invariant.leads _ _ _ (from_tail _ c.args.tails.now c.loop-tail.tail-index c.tail-item.result c.loop-tail.value _ c.loop-tail-test.true c.tail-item.is (evaluates_failed _ c.in_err-tail.ensures)))
 
 pub with_tails-loop-tail-preserved : goal.with_tails-loop-tail-preserved
 with_tails-loop-tail-preserved g t c = record {
-  loans = keeps_on c.loop-tail.invariant.loans c.in_ok-tail.ensures.loans;
   fewer = omega arith;
   leads = λ f r e k.
       c.loop-tail.invariant.leads f r e
-      (from_tail f c.args.tails.now c.loop-tail.tail-index c.tail-item.result c.loop-tail.value r c.loop-tail-test.true c.tail-item.is (evaluates_then _ c.in_ok-tail.ensures.does k));
+      (from_tail f c.args.tails.now c.loop-tail.tail-index c.tail-item.result c.loop-tail.value r c.loop-tail-test.true c.tail-item.is (evaluates_then _ c.in_ok-tail.ensures k));
 }
 
-pub with_tails-returns-clause-does : goal.with_tails-returns-clause-does
-with_tails-returns-clause-does g t c = c.loop-tail.invariant.leads _ _ _ (from_end (λ (u : Unit {0}). c.loop-tail.value) c.args.tails.now c.loop-tail.tail-index tt c.loop-tail-test.false)
+pub with_tails-returns : goal.with_tails-returns
+with_tails-returns g t c = c.loop-tail.invariant.leads _ _ _ (from_end (λ (u : Unit {0}). c.loop-tail.value) c.args.tails.now c.loop-tail.tail-index tt c.loop-tail-test.false)
 
 -- ---- arguments
 
-pub values-returns-in_err-value-clause-does : goal.values-returns-in_err-value-clause-does
-values-returns-in_err-value-clause-does g t c =
+pub values-returns-in_err-value : goal.values-returns-in_err-value
+values-returns-in_err-value g t c =
     rw (residual_is _ _ c.from_residual.ensures) (value_failed (λ (v : List Text). v) c.args.exprs.now 0 c.e-item.result [] _ (omega (arith, c.in-len1.len_at_least)) c.e-item.is c.in_err-value.ensures.does)
 
-pub values-returns-in-len1-clause-does : goal.values-returns-in-len1-clause-does
-values-returns-in-len1-clause-does g t c =
+pub values-returns-in-len1 : goal.values-returns-in-len1
+values-returns-in-len1 g t c =
     let end = values_end (λ (v : List Text). v) c.args.exprs.now 1 (c.in_ok-value.value ∷ []) (omega (arith, c.in-len1.len_below)) in
     rw c.one.ensures (next_value (λ (v : List Text). v) c.args.exprs.now 0 c.e-item.result [] _ _ (omega (arith, c.in-len1.len_at_least)) c.e-item.is c.in_ok-value.ensures.does end)
 
 pub values-loop-e-init : goal.values-loop-e-init
 values-loop-e-init g t c = record {
-  loans = keeps_itself c.args.self.now;
   fewer = omega arith;
   leads = λ r e k. rw c.in_ok-values.ensures.items at k;
 }
 
-pub values-returns-in_err-value-2-clause-does : goal.values-returns-in_err-value-2-clause-does
-values-returns-in_err-value-2-clause-does g t c =
+pub values-returns-in_err-value-2 : goal.values-returns-in_err-value-2
+values-returns-in_err-value-2 g t c =
     rw (residual_is _ _ c.from_residual-in_err-value-2.ensures)
     (c.loop-e.invariant.leads _ _ (value_failed (λ (v : List Text). v) c.args.exprs.now c.loop-e.e-index c.e-item-in-loop-e.result _ _ c.loop-e-test.true c.e-item-in-loop-e.is c.in_err-value-2.ensures.does))
 
-pub values-returns-in_err-push-clause-does : goal.values-returns-in_err-push-clause-does
-values-returns-in_err-push-clause-does g t c =
+pub values-returns-in_err-push : goal.values-returns-in_err-push
+values-returns-in_err-push g t c =
     c.loop-e.invariant.leads _ _
     (next_value (λ (v : List Text). v) c.args.exprs.now c.loop-e.e-index c.e-item-in-loop-e.result _ _ _ c.loop-e-test.true c.e-item-in-loop-e.is c.in_ok-value-2.ensures.does
     (evaluates_wanting _ _ _ c.from_residual-in_err-push.ensures))
 
 pub values-loop-e-preserved : goal.values-loop-e-preserved
 values-loop-e-preserved g t c = record {
-  loans = keeps_on c.loop-e.invariant.loans c.in_ok-value-2.ensures.loans;
   fewer = omega arith;
   leads = λ r e k.
       let k = rw c.in_ok-push.ensures.items at k in
@@ -681,32 +675,31 @@ values-loop-e-preserved g t c = record {
       (next_value (λ (v : List Text). v) c.args.exprs.now c.loop-e.e-index c.e-item-in-loop-e.result _ _ r c.loop-e-test.true c.e-item-in-loop-e.is c.in_ok-value-2.ensures.does k);
 }
 
-pub values-returns-clause-does : goal.values-returns-clause-does
-values-returns-clause-does g t c = rw c.of_vec.ensures (c.loop-e.invariant.leads _ _ (values_end (λ (v : List Text). v) c.args.exprs.now c.loop-e.e-index c.loop-e.values.items c.loop-e-test.false))
+pub values-returns : goal.values-returns
+values-returns g t c = rw c.of_vec.ensures (c.loop-e.invariant.leads _ _ (values_end (λ (v : List Text). v) c.args.exprs.now c.loop-e.e-index c.loop-e.values.items c.loop-e-test.false))
 
 -- ---- choices
 
 pub chosen-loop-choice-init : goal.chosen-loop-choice-init
 chosen-loop-choice-init g t c = record {
-  loans = keeps_itself c.args.self.now;
   fewer = omega arith;
   leads = λ r e k. k;
 }
 
-pub chosen-returns-in_err-condition-clause-does : goal.chosen-returns-in_err-condition-clause-does
-chosen-returns-in_err-condition-clause-does g t c =
+pub chosen-returns-in_err-condition : goal.chosen-returns-in_err-condition
+chosen-returns-in_err-condition g t c =
     rw (residual_is _ _ c.from_residual.ensures)
     (c.loop-choice.invariant.leads _ _ (next_choice c.args.choices.now c.loop-choice.choice-index c.choice-item.result _ c.loop-choice-test.true c.choice-item.is (evaluates_failed _ c.in_err-condition.ensures.does)))
 
-pub chosen-returns-in_err-truth_of-clause-does : goal.chosen-returns-in_err-truth_of-clause-does
-chosen-returns-in_err-truth_of-clause-does g t c =
+pub chosen-returns-in_err-truth_of : goal.chosen-returns-in_err-truth_of
+chosen-returns-in_err-truth_of g t c =
     rw (residual_is _ _ c.from_residual-in_err-truth_of.ensures)
     (c.loop-choice.invariant.leads _ _
     (next_choice c.args.choices.now c.loop-choice.choice-index c.choice-item.result _ c.loop-choice-test.true c.choice-item.is
     (evaluates_then _ c.in_ok-condition.ensures.does (evaluates_failed _ (evaluates_yielded c.in_err-truth_of.ensures.truth)))))
 
-pub chosen-returns-then-branch-clause-does : goal.chosen-returns-then-branch-clause-does
-chosen-returns-then-branch-clause-does g t c =
+pub chosen-returns-then-branch : goal.chosen-returns-then-branch
+chosen-returns-then-branch g t c =
     c.loop-choice.invariant.leads _ _
     (next_choice c.args.choices.now c.loop-choice.choice-index c.choice-item.result _ c.loop-choice-test.true c.choice-item.is
     (evaluates_then _ c.in_ok-condition.ensures.does
@@ -714,7 +707,6 @@ chosen-returns-then-branch-clause-does g t c =
 
 pub chosen-loop-choice-preserved : goal.chosen-loop-choice-preserved
 chosen-loop-choice-preserved g t c = record {
-  loans = keeps_on c.loop-choice.invariant.loans c.in_ok-condition.ensures.loans;
   fewer = omega arith;
   leads = λ r e k.
       c.loop-choice.invariant.leads r e
@@ -722,5 +714,5 @@ chosen-loop-choice-preserved g t c = record {
       (evaluates_then _ c.in_ok-condition.ensures.does (evaluates_then _ (evaluates_yielded c.in_ok-truth_of.ensures.truth) (not_chosen c.in_ok-truth_of.field-0 _ _ c.if-branch.false k))));
 }
 
-pub chosen-returns-clause-does : goal.chosen-returns-clause-does
-chosen-returns-clause-does g t c = c.loop-choice.invariant.leads _ _ (none_chosen c.args.choices.now c.loop-choice.choice-index c.loop-choice-test.false)
+pub chosen-returns : goal.chosen-returns
+chosen-returns g t c = c.loop-choice.invariant.leads _ _ (none_chosen c.args.choices.now c.loop-choice.choice-index c.loop-choice-test.false)

@@ -117,7 +117,6 @@ decreases-referring g l = 16 * l.self.now.steps + 9
 
 abbrev pub invariant-chosen-loop-choice : goal.invariant-chosen-loop-choice
 invariant-chosen-loop-choice g l = record {
-  loans : KeepsEval l.fn.self l.self;
   fewer : l.self.steps ≤ l.fn.self.steps;
   leads : (r : Result Text Code) (e : Eval _) → Evaluates g.S.NodeStore (λ a. meaning.chosen a (choices_of (map choice_tree (drop l.choice-index l.choices)))) (λ (v : Text). v) l.self r e
       → Evaluates g.S.NodeStore (λ a. meaning.chosen a (choices_of (map choice_tree l.choices))) (λ (v : Text). v) l.fn.self r e;
@@ -125,7 +124,6 @@ invariant-chosen-loop-choice g l = record {
 
 abbrev pub invariant-with_tails-loop-tail : goal.invariant-with_tails-loop-tail
 invariant-with_tails-loop-tail g l = record {
-  loans : KeepsEval l.fn.self l.self;
   fewer : l.self.steps ≤ l.fn.self.steps;
   leads : (f : Unit {0} → Text) (r : Result (Unit {0}) Code) (e : Eval _) → Evaluates g.S.NodeStore (λ a. meaning.tails_value a l.value (tails_of (map tail_tree (drop l.tail-index l.tails)))) f l.self r e
       → Evaluates g.S.NodeStore (λ a. meaning.tails_value a l.fn.value (tails_of (map tail_tree l.tails))) f l.fn.self r e;
@@ -133,7 +131,6 @@ invariant-with_tails-loop-tail g l = record {
 
 abbrev pub invariant-values-loop-e : goal.invariant-values-loop-e
 invariant-values-loop-e g l = record {
-  loans : KeepsEval l.fn.self l.self;
   fewer : l.self.steps ≤ l.fn.self.steps;
   leads : (r : Result (List Text) Code) (e : Eval _) → Evaluates g.S.NodeStore (λ a. meaning.values a l.values.items (exprs_of (map expr_tree (drop l.e-index l.exprs)))) (λ (v : List Text). v) l.self r e
       → Evaluates g.S.NodeStore (λ a. meaning.values a [] (exprs_of (map expr_tree l.exprs))) (λ (v : List Text). v) l.fn.self r e;
@@ -141,7 +138,6 @@ invariant-values-loop-e g l = record {
 
 abbrev pub invariant-chain-loop-i : goal.invariant-chain-loop-i
 invariant-chain-loop-i g l = record {
-  loans : KeepsEval l.fn.self l.self;
-  fewer : l.self.steps ≤ l.fn.self.steps;
+  keeps : KeepsEval l.fn.self l.self;
   leads : Leads g.S.NodeStore (λ a. meaning.tails_value a (number_text (units l.fn.left)) (tails_of (map tail_tree l.tails))) l.fn.self (λ a. meaning.tails_value a (number_text (units l.left)) (tails_of (map tail_tree (drop l.i l.tails)))) l.self;
 }

@@ -2,8 +2,8 @@
 use Rattle.meval.proofs.EvalLaws.{[], ◌∷◌, sym, decides_subscripts, give, ◌>>=◌, ap₂, pos, is_value, is_above, whole_text, data_number, status_at, status_view, evaluates_then, evaluates_gives, asks_locals, let_through}
 use Rattle.meval.proofs.eval.Eval.fast_data.Goals as goal
 
-pub returns-clause-does : goal.returns-clause-does
-returns-clause-does g c =
+pub returns : goal.returns
+returns g c =
     let name = c.args.name.now in
     let xs = c.args.subscript.now ∷ [] in
     let passed = sym (rw (c.if-not-values_ok.false, c.from_ref-subscripts.ensures.value) at (decides_subscripts _ _ c.values_ok.ensures)) in

@@ -1,5 +1,5 @@
 -- SPDX-License-Identifier: Apache-2.0
 use Rattle.meval.proofs.eval.Eval.kill.Goals as goal
 
-pub returns-in-Node-clause-does : goal.returns-in-Node-clause-does
-returns-in-Node-clause-does g c = rw c.in-Node.is c.kill_node.ensures.does
+pub returns-in-Node : goal.returns-in-Node
+returns-in-Node g c = rw c.in-Node.is c.kill_node.ensures

@@ -39,9 +39,6 @@ left_known o left y =
 read_again : (n : Num) → Yields {E = Code} fault_of (as_number (number_text (units n))) (λ (u : Unit {0}). units n) (Ok tt)
 read_again n = subst (λ (x : Option ℤ). Yields {E = Code} fault_of (give_some Zover x) (λ (u : Unit {0}). units n) (Ok tt)) (sym (number_again n)) (yields_gives (units n) (λ (u : Unit {0}). units n) tt refl)
 
-pub number_kept : (n : Num) → Yields {E = Code} fault_of (as_number (number_text (units n))) units (Ok n)
-number_kept n = subst (λ (x : Option ℤ). Yields {E = Code} fault_of (give_some Zover x) units (Ok n)) (sym (number_again n)) (yields_gives (units n) units n refl)
-
 module _ {S : Type 0} {g : Ghosts S} where
   -- an operator of arithmetic behind a number evaluates its operand as a number
   as_tail : {X : Type 0} {f : X → Text} {old new : Eval S} {r : Result X Code} (o : Arithmetic) (left : Num) (right : OperandTree)

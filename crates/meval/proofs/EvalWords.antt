@@ -41,7 +41,8 @@ pub use Rattle.mtree.specs.declared.tree.Expr.{Expr}
 pub use Rattle.mtree.specs.declared.tree.Tail.{Tail}
 pub use Rattle.meval.specs.Acts.{data_act, direction_act, get_act, operand_number, order_behind, order_from, primary_number, read_act}
 pub use Rattle.meval.specs.Evaluates.{Evaluates, KeepsEval, Leads, depth_of, eval_here, standing_of}
-pub use Rattle.meval.specs.Places.{IsOpen, name_view, pending_view, place_view, status_view, undefined_at, use_of, walk_view}
+pub use Rattle.meval.specs.Held.{name_view}
+pub use Rattle.meval.specs.Places.{IsOpen, pending_view, place_view, status_view, undefined_at, use_of, walk_view}
 pub use Rattle.meval.specs.declared.depth.Depth.{Depth}
 pub use Rattle.meval.specs.declared.eval.Eval.{Eval}
 pub use Rattle.meval.specs.AtHand.{at_hand_tree}

@@ -1,8 +1,6 @@
 -- SPDX-License-Identifier: Apache-2.0
 -- Nodes that references name, and what the checks let through as a walk.
 use Rattle.meval.proofs.EvalWords.{◌≡◌, ℕ, zero, suc, ◌<◌, [], ◌∷◌, length, Result, Ok, Err, subst, refl, sym, arith, ◌==◌, false≢true, ◌>>=◌, ◌>>◌, Act, give, unless, ExprsTree, Inside, values, Evaluated, Node, AreOrderSubscripts, are_order_subscripts, order_subscripts_test, of_global, checked, ordering, some_subscript, Yields, did_gives, Ghosts, fault_of, Code, Zsub, Eval, Evaluates, standing_of, pending_view, false, List, Text, evaluated, global, Direction, next_at, at_node}
-use Rattle.meval.specs.Places.{own_global}
-use Rattle.meval.proofs.Calls.{evaluates_then, evaluates_failed, keeps_itself}
 use Rattle.mspec.specs.Code as spec
 use Rattle.meval.specs.declared.place.Pending.{Pending}
 
@@ -24,24 +22,6 @@ gives_own {e = e} name xs p is = record {
   keeps = keeps_itself _;
   depth = refl;
 }
-
--- a global of the line's account: its subscripts are evaluated
-module _ {S X : Type 0} {g : Ghosts S} {f : X → List Text} (name : Text) (es : ExprsTree) where
-  pub own_evaluated : {old new : Eval S} (x : X) → Evaluates g (λ i. values i [] es) f old (Ok x) new
-      → Evaluates g (λ i. evaluated i (global name es)) (λ (v : Evaluated). v) old (Ok (of_global (own_global new name (f x)))) new
-  own_evaluated {new = new} x d = evaluates_then (λ i xs. give (of_global (node_of i.account name xs))) d (record {
-    at = λ sound out locks. did_gives (of_global (own_global new name (f x))) (λ (v : Evaluated). v) _ refl;
-    keeps = keeps_itself _;
-    depth = refl;
-  })
-
-  pub own_failed : {old new : Eval S} (c : Code) → Evaluates g (λ i. values i [] es) f old (Err c) new → Evaluates g (λ i. evaluated i (global name es)) (λ (v : Evaluated). v) old (Err c) new
-  own_failed c d = evaluates_failed (λ i xs. give (of_global (node_of i.account name xs))) d
-
--- what is asked of it later, told by where its place was found
-pub next_own : {S : Type 0} {g : Ghosts S} {mid new : Eval S} {r : Result Text Code} (e : Eval S) (d : Direction) (name : Text) (xs : List Text) → standing_of mid ≡ standing_of e
-    → Evaluates g (λ i. next_at d (at_node (own_global mid name xs))) (λ (t : Text). t) mid r new → Evaluates g (λ i. next_at d (at_node (own_global e name xs))) (λ (t : Text). t) mid r new
-next_own {g = g} {mid = mid} {new = new} {r = r} e d name xs same k = subst (λ b. Evaluates g (λ i. next_at d (at_node (node_of b.account name xs))) (λ (t : Text). t) mid r new) same k
 
 -- ---- walks
 

@@ -11,10 +11,7 @@ use Rattle.mmeaning.specs.Variables as variables
 use Rattle.mkey.specs.declared.walk.Data.{Data}
 use Rattle.mgrant.specs.declared.mode.Mode as grant
 use Rattle.mgrant.specs.declared.mode.Mode.TheVariants as mode
-use Rattle.meval.specs.Evaluates.{standing_of}
-use Rattle.meval.specs.declared.eval.Eval.{Eval}
-use Rattle.meval.specs.declared.place.LocalName.{LocalName}
-use Rattle.meval.specs.declared.place.LocalName.TheVariants as local_name
+use Rattle.meval.specs.Held.{name_view}
 use Rattle.meval.specs.declared.place.Pending.{Pending}
 use Rattle.meval.specs.declared.place.Pending.TheVariants as pending
 use Rattle.meval.specs.declared.place.Place.{Place}
@@ -22,22 +19,10 @@ use Rattle.meval.specs.declared.place.Place.TheVariants as place
 use Rattle.meval.specs.declared.place.Walk.{Walk}
 use Rattle.meval.specs.declared.place.Walk.TheVariants as walk
 
-abbrev pub name_view : LocalName → Text
-name_view (local_name.Lent name) = name.now
-name_view (local_name.Own name) = name
-
 abbrev pub pending_view : Pending → variables.Evaluated
 pending_view (pending.Local name values) = variables.of_local (name_view name) values
 pending_view (pending.Global node) = variables.of_global node
 pending_view (pending.Naked values) = variables.of_naked values
-
--- the node of the global of this name of the line's account
-abbrev pub own_global : {S : Type 0} → Eval S → Text → List Text → Node
-own_global e name xs = record { account = (standing_of e).account; name = name; subscripts = xs }
-
--- a node of the global of this name of this account
-abbrev pub IsOfGlobal : Text → Text → Node → Type 0
-IsOfGlobal account name n = (n.account ≡ account) × (n.name ≡ name)
 
 abbrev pub place_view : Place → variables.Place
 place_view (place.Local name subscripts) = variables.at_local (name_view name) subscripts

@@ -14,17 +14,18 @@ ghost use Rattle.meval.specs.Acts as acts;
 ghost use Rattle.meval.specs.Places.{pending_view};
 
 use crate::depth::Depth;
-use crate::global_node::GlobalNode;
+use crate::global_reference::GlobalReference;
 use crate::owner::Owner;
-use crate::place::{LocalName, Pending, bracketed};
+use crate::place::{Pending, bracketed};
 use crate::reading_reference::read_reference;
 use crate::session::Session;
-use crate::shortcuts::{at_hand, fast_number_of};
+use crate::shortcuts::at_hand;
 use crate::value_list::Values;
+use crate::variable_name::VariableName;
 use mgrant::{AccountId, Mode, Settings};
 use mnum::{Name, Num};
 use moperator::{
-    Code, arithmetic_of, binary, calculate, call, computed, matching, truth_of, unaries,
+    Code, arithmetic_of, binary, calculate, call, computed, matching, number_of, truth_of, unaries,
 };
 use mstore::NodeStore;
 use mtree::{Choice, Expr, Operand, Primary, Reference, Tail, ValueWord};
@@ -107,7 +108,6 @@ impl<'a, S: NodeStore> Eval<'a, S> {
                 Ok(value.copy()?)
             }
             Reference::Node(name, subscript) => self.fast_node(alloc, name, subscript),
-            Reference::Global(name, subscripts) => self.fast_global(alloc, name, subscripts),
             _ => self.place_value(alloc, reference),
         }
     }
@@ -149,15 +149,15 @@ impl<'a, S: NodeStore> Eval<'a, S> {
     {
         match reference {
             Reference::Variable(name) => {
-                Ok(Pending::Local(LocalName::Lent(name), Values::none(alloc)))
+                Ok(Pending::Local(VariableName::Lent(name), Values::none(alloc)))
             }
             Reference::Node(name, subscript) => {
                 let value = self.eval(alloc, subscript)?;
-                Ok(Pending::Local(LocalName::Lent(name), Values::one(value)))
+                Ok(Pending::Local(VariableName::Lent(name), Values::one(value)))
             }
             Reference::Local(name, subscripts) => {
                 let values = self.values(alloc, subscripts)?;
-                Ok(Pending::Local(LocalName::Lent(name), values))
+                Ok(Pending::Local(VariableName::Lent(name), values))
             }
             Reference::Global(name, subscripts) => self.global(alloc, name, subscripts),
             Reference::Naked(subscripts) => {
@@ -173,34 +173,34 @@ impl<'a, S: NodeStore> Eval<'a, S> {
 
     // What a global of the account's own has to evaluate.
     #[cycle(eval)]
-    fn global<'u>(
+    fn global<'t>(
         &mut self,
         alloc: Global,
-        name: &Name,
+        name: &'t Name,
         subscripts: &[Expr],
-    ) -> Result<Pending<'u>, Code>
+    ) -> Result<Pending<'t>, Code>
         ensures { Evaluates S.NodeStore (λ i. meaning.evaluated i (global name.now (exprs_of (map expr_tree subscripts.now)))) pending_view self.old result self.new }
     {
         let values = self.values(alloc, subscripts)?;
-        let node = self.own_node(alloc, name, values)?;
+        let node = self.own_node(alloc, VariableName::Lent(name), values)?;
         Ok(Pending::Global(node))
     }
 
     // What a global of an environment has to evaluate: the account, and then its subscripts.
     #[cycle(eval)]
-    fn extended<'u>(
+    fn extended<'t>(
         &mut self,
         alloc: Global,
         environment: &Expr,
-        name: &Name,
+        name: &'t Name,
         subscripts: &[Expr],
-    ) -> Result<Pending<'u>, Code>
+    ) -> Result<Pending<'t>, Code>
         ensures { Evaluates S.NodeStore (λ i. meaning.evaluated i (extended (expr_tree environment.now) name.now (exprs_of (map expr_tree subscripts.now)))) pending_view self.old result self.new }
     {
         let owner = self.eval(alloc, environment)?;
         let account = Owner::of_value(alloc, owner)?;
         let subscripts = self.values(alloc, subscripts)?;
-        let node = GlobalNode::new(account, name.copy()?, subscripts);
+        let node = GlobalReference::new(account, VariableName::Lent(name), subscripts);
         Ok(Pending::Global(node))
     }
 
@@ -392,7 +392,7 @@ impl<'a, S: NodeStore> Eval<'a, S> {
             return self.expression_number(alloc, inner, place);
         }
         let value = self.operand(alloc, operand)?;
-        *place = fast_number_of(&value)?;
+        *place = number_of(&value)?;
         Ok(())
     }
 
@@ -479,7 +479,7 @@ impl<'a, S: NodeStore> Eval<'a, S> {
         }
         let mut value = Value::of_whole(0);
         self.eval_into(alloc, e, &mut value)?;
-        *place = fast_number_of(&value)?;
+        *place = number_of(&value)?;
         Ok(())
     }
 

@@ -5,6 +5,7 @@
 mod depth;
 mod eval;
 mod global_node;
+mod global_reference;
 mod globals;
 mod lock_names;
 mod lookups;
@@ -17,12 +18,15 @@ mod resolving;
 mod session;
 mod shortcuts;
 mod value_list;
+mod variable_name;
 mod variables;
 mod walk;
 
 pub use depth::Depth;
 pub use eval::Eval;
 pub use global_node::GlobalNode;
-pub use place::{LocalName, Pending, Place, Subscripts};
+pub use global_reference::GlobalReference;
+pub use place::{Pending, Place, Subscripts};
 pub use session::Session;
 pub use value_list::Values;
+pub use variable_name::VariableName;

@@ -5,16 +5,17 @@ ghost use Rattle.mmeaning.specs.Variables as variables;
 ghost use Rattle.mmeaning.specs.Shared.{may_lock};
 ghost use Rattle.mtree.specs.Tree.{reference_tree};
 ghost use Rattle.meval.specs.Acts as acts;
-ghost use Rattle.meval.specs.Evaluates.{Evaluates, standing_of};
+ghost use Rattle.meval.specs.Evaluates.{Evaluates, KeepsEval, standing_of};
+ghost use Rattle.meval.specs.Held.{name_view};
 ghost use Rattle.meval.specs.Places.{pending_view};
 
 use crate::eval::Eval;
-use crate::global_node::GlobalNode;
+use crate::global_reference::GlobalReference;
 use crate::place::Pending;
 use crate::value_list::Values;
+use crate::variable_name::VariableName;
 use mgrant::Mode;
 use mlock::LockName;
-use mnum::Name;
 use moperator::Code;
 use mstore::NodeStore;
 use mtree::Reference;
@@ -42,16 +43,21 @@ impl<'a, S: NodeStore> Eval<'a, S> {
         ensures does { Evaluates S.NodeStore (λ i. variables.named_lock i.account (pending_view pending.entry)) (λ name. name) self.now result self.now }
     {
         match pending {
-            Pending::Local(name, values) => self.local_lock(alloc, name.as_name(), values),
+            Pending::Local(name, values) => self.local_lock(alloc, name, values),
             Pending::Global(node) => self.global_lock(alloc, &node),
             Pending::Naked(_) => Err(Code::Zsyntax),
         }
     }
 
     // The lock of a name without `^`, which is the account's own.
-    fn local_lock(&self, alloc: Global, name: &Name, values: Values) -> Result<LockName, Code>
+    fn local_lock(
+        &self,
+        alloc: Global,
+        name: VariableName,
+        values: Values,
+    ) -> Result<LockName, Code>
         ensures open { IfOk result (λ name. may_lock (standing_of self.now).settings (standing_of self.now).account name ≡ true) }
-        ensures does { Evaluates S.NodeStore (λ i. variables.named_lock i.account (variables.of_local name.now values)) (λ name. name) self.now result self.now }
+        ensures does { Evaluates S.NodeStore (λ i. variables.named_lock i.account (variables.of_local (name_view name.entry) values)) (λ name. name) self.now result self.now }
     {
         let node = self.own_node(alloc, name, values)?;
         if !node.is_of_account() {
@@ -63,7 +69,7 @@ impl<'a, S: NodeStore> Eval<'a, S> {
     }
 
     // The lock of a global, which whoever may write it may take.
-    fn global_lock(&self, alloc: Global, node: &GlobalNode) -> Result<LockName, Code>
+    fn global_lock(&self, alloc: Global, node: &GlobalReference) -> Result<LockName, Code>
         ensures open { IfOk result (λ name. may_lock (standing_of self.now).settings (standing_of self.now).account name ≡ true) }
         ensures does { Evaluates S.NodeStore (λ i. variables.named_lock i.account (variables.of_global node.now)) (λ name. name) self.now result self.now }
     {

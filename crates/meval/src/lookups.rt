@@ -128,7 +128,11 @@ impl<'a, S: NodeStore> Eval<'a, S> {
                 Ok(next_value(alloc, next))
             }
             Walk::Node(node) => {
-                let (account, name, subscripts) = (node.account(), node.name(), node.subscripts());
+                let (account, name, subscripts) = (
+                    node.account(),
+                    node.name().as_bytes7(),
+                    node.subscripts(),
+                );
                 let next = self.node_neighbour(alloc, account, name, subscripts, direction)?;
                 Ok(next_value(alloc, next))
             }

@@ -4,59 +4,26 @@ ghost use Rattle.std.specs.Prelude.{◌≡◌, ◌↔◌, ◌++◌, IsTrue, IsSo
 ghost use Rattle.mgrammar.specs.Grammar as grammar;
 ghost use Rattle.meval.specs.Words.{AreOrderSubscripts, AreSubscripts, Own, Yields, are_subscripts, bracket, checked, expr_tree, fault_of, operand_tree, ordering};
 ghost use Rattle.mmeaning.specs.Variables as variables;
-ghost use Rattle.meval.specs.Places.{name_view, pending_view, place_view, undefined_at};
+ghost use Rattle.meval.specs.Held.{name_view};
+ghost use Rattle.meval.specs.Places.{pending_view, place_view, undefined_at};
 
-use crate::global_node::GlobalNode;
+use crate::global_reference::GlobalReference;
 use crate::value_list::Values;
+use crate::variable_name::VariableName;
 use mkey::{NodeKey, order_values_ok, values_ok};
-use mnum::Name;
 use moperator::Code;
 use mtree::{Expr, Operand, Primary};
 use mvalue::Value;
 use std::alloc::{AllocError, Global};
 use std::marker::Model;
 
-/// The name of a local variable. Contracts see it by `name_view`, as its text.
-#[derive(Drop)]
-pub enum LocalName<'t> {
-    /// One that the tree of the line holds.
-    Lent(&'t Name),
-    /// One that a text gave.
-    Own(Name),
-}
-
-impl<'t> LocalName<'t> {
-    /// The name. Takes no memory.
-    pub fn as_name(&self) -> &Name
-        ensures { result.now ≡ name_view self.now }
-    {
-        match self {
-            LocalName::Lent(name) => name,
-            LocalName::Own(name) => name,
-        }
-    }
-
-    // The same name, which no tree need hold.
-    fn into_own<'u>(self) -> Result<LocalName<'u>, AllocError>
-        ensures { IfOk result (λ own. name_view own ≡ name_view self.entry) }
-    {
-        match self {
-            LocalName::Lent(name) => {
-                let own = name.copy()?;
-                Ok(LocalName::Own(own))
-            }
-            LocalName::Own(name) => Ok(LocalName::Own(name)),
-        }
-    }
-}
-
 /// A reference of which all is evaluated that it has to evaluate. Contracts see it by `pending_view`, as one of the definitions.
 #[derive(Drop)]
 pub enum Pending<'t> {
     /// A local variable: its name, and its subscripts.
-    Local(LocalName<'t>, Values),
+    Local(VariableName<'t>, Values),
     /// A node of a global.
-    Global(GlobalNode),
+    Global(GlobalReference<'t>),
     /// A node beside the one that was referred to last: the subscripts that stand in the place of the last one.
     Naked(Values),
 }
@@ -144,7 +111,7 @@ impl Subscripts {
 #[derive(Drop)]
 pub enum Place<'t> {
     /// A node of a local variable: its name, and its subscripts.
-    Local(LocalName<'t>, Subscripts),
+    Local(VariableName<'t>, Subscripts),
     /// A node of a global.
     Node(NodeKey),
 }
@@ -160,7 +127,7 @@ pub fn undefined(place: &Place) -> Code
 }
 
 // The place of a local variable with these subscripts: `Zsub` where they are none of a node.
-pub fn local_place<'t>(name: LocalName<'t>, values: Values) -> Result<Place<'t>, Code>
+pub fn local_place<'t>(name: VariableName<'t>, values: Values) -> Result<Place<'t>, Code>
     ensures checked { Yields fault_of (variables.resolve variables.reading (variables.of_local (name_view name.entry) values)) place_view result }
     ensures local { IfOk result (λ place. place_view place ≡ variables.at_local (name_view name.entry) values) }
 {
@@ -173,8 +140,8 @@ pub fn local_place<'t>(name: LocalName<'t>, values: Values) -> Result<Place<'t>,
 // A place that the checks let through for $ORDER: its last subscript may be empty. Contracts see it by `walk_view`.
 #[derive(Drop)]
 pub enum Walk<'t> {
-    Local(LocalName<'t>, Values),
-    Node(GlobalNode),
+    Local(VariableName<'t>, Values),
+    Node(GlobalReference<'t>),
 }
 
 // Whether these can be the subscripts of $ORDER, which takes an empty last one.

@@ -54,9 +54,6 @@ impl<'a, S: NodeStore> Eval<'a, S> {
     fn get_of(&mut self, alloc: Global, reference: &Reference, more: &[Expr]) -> Result<Value, Code>
         ensures { Evaluates S.NodeStore (λ i. acts.get_of i (reference_tree reference.now) (exprs_of (map expr_tree more.now))) (λ v. v) self.old result self.new }
     {
-        if let Reference::Global(name, subscripts) = reference {
-            return self.fast_global_get(alloc, name, subscripts, more);
-        }
         let pending = self.evaluated(alloc, reference)?;
         let place = self.resolved(alloc, Mode::Read, pending)?;
         let more = self.values(alloc, more)?;
@@ -74,9 +71,6 @@ impl<'a, S: NodeStore> Eval<'a, S> {
     ) -> Result<Value, Code>
         ensures { Evaluates S.NodeStore (λ i. acts.order_of i (reference_tree reference.now) (exprs_of (map expr_tree more.now))) (λ v. v) self.old result self.new }
     {
-        if let Reference::Global(name, subscripts) = reference {
-            return self.fast_global_order(alloc, name, subscripts, more);
-        }
         let pending = self.evaluated(alloc, reference)?;
         let walk = self.walked(alloc, pending)?;
         let direction = self.direction(alloc, more)?;

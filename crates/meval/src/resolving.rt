@@ -7,35 +7,36 @@ ghost use Rattle.mspec.specs.KeyBytes.{IsAccountName};
 ghost use Rattle.mgrant.specs.Placed.{mode_of};
 ghost use Rattle.mmeaning.specs.Variables as variables;
 ghost use Rattle.meval.specs.Evaluates.{Evaluates, standing_of};
+ghost use Rattle.meval.specs.Held.{name_view};
 ghost use Rattle.meval.specs.Places.{pending_view, place_view, walk_view, use_of, IsWalk, IsOpen};
 
 use crate::eval::Eval;
-use crate::global_node::GlobalNode;
+use crate::global_reference::GlobalReference;
 use crate::owner::Owner;
 use crate::place::{Pending, Place, Walk, check_walk, local_place};
 use crate::value_list::Values;
+use crate::variable_name::VariableName;
 use mgrant::Mode;
-use mnum::Name;
 use moperator::Code;
 use mstore::NodeStore;
 use std::alloc::{AllocError, Global};
 
 impl<'a, S: NodeStore> Eval<'a, S> {
-    // The node of the account's own global of this name.
-    pub(crate) fn own_node(
+    // The node of the account's own global of this name. Takes no memory where the account has a name.
+    pub(crate) fn own_node<'t>(
         &self,
         alloc: Global,
-        name: &Name,
+        name: VariableName<'t>,
         values: Values,
-    ) -> Result<GlobalNode, AllocError>
-        ensures { IfOk result (λ node. node ≡ record { account = (standing_of self.now).account; name = name.now; subscripts = values }) }
+    ) -> Result<GlobalReference<'t>, AllocError>
+        ensures { IfOk result (λ node. node ≡ record { account = (standing_of self.now).account; name = name_view name.entry; subscripts = values }) }
     {
         let owner = Owner::of_bytes(alloc, self.settings.name_of(self.account))?;
-        Ok(GlobalNode::new(owner, name.copy()?, values))
+        Ok(GlobalReference::new(owner, name, values))
     }
 
     // Whether the account may use the global of a node so.
-    pub(crate) fn check(&self, mode: Mode, node: &GlobalNode) -> Result<(), Code>
+    pub(crate) fn check(&self, mode: Mode, node: &GlobalReference) -> Result<(), Code>
         ensures account { IfOk result (λ _. IsAccountName node.now.account) }
         ensures allowed { IfOk result (λ _. IsOpen (standing_of self.now) (mode_of mode) (variables.at_node node.now)) }
         ensures does { Evaluates S.NodeStore (λ i. variables.allowed (mode_of mode) node.now) (λ u. u) self.now result self.now }
@@ -50,16 +51,23 @@ impl<'a, S: NodeStore> Eval<'a, S> {
         Ok(())
     }
 
-    // The node is the one that was referred to last.
-    pub(crate) fn refer(&mut self, node: GlobalNode)
+    // The node is the one that was referred to last. Where the one before it is of the same global, no name is copied.
+    fn refer(&mut self, node: GlobalReference) -> Result<(), Code>
         ensures same { standing_of self.new ≡ standing_of self.old }
-        ensures does { Evaluates S.NodeStore (λ i. set_naked (Some node)) (λ u. u) self.old (Ok tt) self.new }
+        ensures does { Evaluates S.NodeStore (λ i. set_naked (Some node.entry)) (λ u. u) self.old result self.new }
     {
-        self.session.naked = Some(node);
+        if let Some(last) = &mut self.session.naked {
+            if last.is_of(&node) {
+                last.set_subscripts(node.into_subscripts());
+                return Ok(());
+            }
+        }
+        self.session.naked = Some(node.into_node()?);
+        Ok(())
     }
 
     // The node beside the one that was referred to last.
-    fn beside(&self, alloc: Global, values: Values) -> Result<GlobalNode, Code>
+    fn beside<'t>(&self, alloc: Global, values: Values) -> Result<GlobalReference<'t>, Code>
         ensures { Evaluates S.NodeStore (λ i. variables.beside values) (λ node. node) self.now result self.now }
     {
         match &self.session.naked {
@@ -73,14 +81,14 @@ impl<'a, S: NodeStore> Eval<'a, S> {
         &mut self,
         alloc: Global,
         mode: Mode,
-        node: GlobalNode,
+        node: GlobalReference,
     ) -> Result<Place<'t>, Code>
         ensures allowed { IfOk result (λ place. IsOpen (standing_of self.new) (mode_of mode) (place_view place)) }
-        ensures does { Evaluates S.NodeStore (λ i. variables.node_place (use_of mode) node) place_view self.old result self.new }
+        ensures does { Evaluates S.NodeStore (λ i. variables.node_place (use_of mode) node.entry) place_view self.old result self.new }
     {
         self.check(mode, &node)?;
         let key = node.key(alloc)?;
-        self.refer(node);
+        self.refer(node)?;
         Ok(Place::Node(key))
     }
 
@@ -112,15 +120,15 @@ impl<'a, S: NodeStore> Eval<'a, S> {
 
     // The place of a node of which $ORDER is asked. What stands behind the reference may refer to another, so the walk keeps a node of
     // its own.
-    fn node_walk<'t>(&mut self, alloc: Global, node: GlobalNode) -> Result<Walk<'t>, Code>
+    fn node_walk<'t>(&mut self, alloc: Global, node: GlobalReference<'t>) -> Result<Walk<'t>, Code>
         ensures allowed { IfOk result (λ walk. IsOpen (standing_of self.new) Read (walk_view walk)) }
         ensures walk { IfOk result IsWalk }
-        ensures does { Evaluates S.NodeStore (λ i. variables.node_place variables.ordering node) walk_view self.old result self.new }
+        ensures does { Evaluates S.NodeStore (λ i. variables.node_place variables.ordering node.entry) walk_view self.old result self.new }
     {
         self.check(Mode::Read, &node)?;
         check_walk(node.subscripts())?;
         let walk = node.copy(alloc)?;
-        self.refer(node);
+        self.refer(node)?;
         Ok(Walk::Node(walk))
     }
 

@@ -1,42 +1,35 @@
 // SPDX-License-Identifier: Apache-2.0
 // The short ways. Each function here does what the one that is named beside it does, but faster: delete any of them, and nothing changes but
-// time. They are for what most lines refer to: a literal, a local variable without subscripts, one by one subscript, whose shape the tree
-// has already, and a global of the account's own that the reference before was to. A value is lent where it stands, or put in a place of the
-// caller's.
-ghost use Rattle.std.specs.Prelude.{◌≡◌, ◌<◌, [], ◌∷◌, map, slice_get, unwrap_or, Ok, Some, IfErr, IfOk, IfSome, IsSome, IsTrue};
+// time. They are for what most lines refer to: a literal, a local variable without subscripts, and one by one subscript, whose shape the tree
+// has already. A value is lent where it stands, or put in a place of the caller's.
+ghost use Rattle.std.specs.Prelude.{◌≡◌, ◌≤◌, ◌<◌, [], ◌∷◌, map, slice_get, unwrap_or, IfOk, IfSome};
 ghost use Rattle.mgrammar.specs.Grammar as grammar;
-ghost use Rattle.mgrammar.specs.Grammar.{local, global, no_exprs, exprs, exprs_of};
+ghost use Rattle.mgrammar.specs.Grammar.{local, no_exprs, exprs, exprs_of};
 ghost use Rattle.mmeaning.specs.Expression as meaning;
-ghost use Rattle.mmeaning.specs.Operators.{as_number};
 ghost use Rattle.mmeaning.specs.Variables as variables;
-ghost use Rattle.mmeaning.specs.Yields.{Yields};
-ghost use Rattle.moperator.specs.Codes.{fault_of};
-ghost use Rattle.moperator.specs.declared.code.Code.TheVariants.{Zover};
 ghost use Rattle.mnum.specs.Num.{units};
-ghost use Rattle.mspec.specs.Access.{Read};
-ghost use Rattle.mspec.specs.Act.{get_local, set_naked};
-ghost use Rattle.mspec.specs.KeyBytes.{AreSubscripts, IsAccountName};
+ghost use Rattle.mspec.specs.Act.{get_local};
+ghost use Rattle.mspec.specs.KeyBytes.{AreSubscripts};
 ghost use Rattle.mspec.specs.Trees.{AreOrderSubscripts};
 ghost use Rattle.mkey.specs.Way.{way};
 ghost use Rattle.mtree.specs.Tree.{expr_tree, operand_tree};
 ghost use Rattle.mtree.specs.Functions.{variable_function_tree};
-ghost use Rattle.meval.specs.Evaluates.{Evaluates, standing_of};
+ghost use Rattle.meval.specs.Evaluates.{Evaluates, KeepsEval};
 ghost use Rattle.meval.specs.Acts as acts;
-ghost use Rattle.meval.specs.Places.{pending_view, place_view, own_global, IsOfGlobal, IsOpen};
+ghost use Rattle.meval.specs.Places.{pending_view};
 ghost use Rattle.meval.specs.AtHand.{at_hand_tree};
 
 use crate::eval::Eval;
-use crate::global_node::key_with;
-use crate::place::{LocalName, Pending, Place, check_walk};
+use crate::place::{Pending, check_walk};
 use crate::value_list::Values;
+use crate::variable_name::VariableName;
 use crate::walk::{data_value, first_or_empty, next_value};
-use mgrant::Mode;
 use mkey::{Direction, values_ok};
 use mnum::{Name, Num};
 use moperator::{Code, computed, number_of};
 use mstore::NodeStore;
 use mtree::{Expr, Literal, Operand, Primary, Reference, VariableFunction};
-use mvalue::{Kind, Value};
+use mvalue::Value;
 use std::alloc::Global;
 use std::slice::from_ref;
 
@@ -61,27 +54,6 @@ pub(crate) fn at_hand(operand: &Operand) -> Option<AtHand<'_>>
         Primary::Reference(Reference::Variable(name)) => Some(AtHand::Variable(name)),
         _ => None,
     }
-}
-
-// `number_of`, of a value that may be a number already, which is then lent where it stands.
-#[inline(always)]
-pub(crate) fn fast_number_of(value: &Value) -> Result<Num, Code>
-    ensures number { Yields fault_of (as_number value.now) units result }
-    ensures over { IfErr result (λ code. code ≡ Zover) }
-{
-    match value.kind() {
-        Kind::Number(number) => Ok(*number),
-        Kind::Text(_) => text_number(value),
-    }
-}
-
-// `number_of`. It stands apart, since most values are numbers already.
-#[inline(never)]
-fn text_number(value: &Value) -> Result<Num, Code>
-    ensures number { Yields fault_of (as_number value.now) units result }
-    ensures over { IfErr result (λ code. code ≡ Zover) }
-{
-    number_of(value)
 }
 
 impl<'a, S: NodeStore> Eval<'a, S> {
@@ -130,7 +102,7 @@ impl<'a, S: NodeStore> Eval<'a, S> {
             },
             AtHand::Variable(name) => {
                 let value = self.fast_lent(name)?;
-                *place = fast_number_of(value)?;
+                *place = number_of(value)?;
                 Ok(())
             }
         }
@@ -147,7 +119,7 @@ impl<'a, S: NodeStore> Eval<'a, S> {
         ensures { Evaluates S.NodeStore (λ i. meaning.through i (local name no_exprs) (exprs_of (map expr_tree subscripts.now))) pending_view self.old result self.new }
     {
         let values = self.values(alloc, subscripts)?;
-        Ok(Pending::Local(LocalName::Own(name), values))
+        Ok(Pending::Local(VariableName::Own(name), values))
     }
 
     // `place_value`, of a local variable by one subscript.
@@ -178,141 +150,6 @@ impl<'a, S: NodeStore> Eval<'a, S> {
             Some(value) => Ok(value.copy()?),
             None => Err(Code::M6),
         }
-    }
-
-    // `place_value`, of a global of the account's own.
-    #[cycle(eval)]
-    #[inline(never)]
-    pub(crate) fn fast_global(
-        &mut self,
-        alloc: Global,
-        name: &Name,
-        subscripts: &[Expr],
-    ) -> Result<Value, Code>
-        ensures { Evaluates S.NodeStore (λ i. acts.variable_value i (global name.now (exprs_of (map expr_tree subscripts.now)))) (λ v. v) self.old result self.new }
-    {
-        let values = self.values(alloc, subscripts)?;
-        let place = self.fast_place(alloc, name, values)?;
-        self.read(&place)
-    }
-
-    // `own_node` and `node_place`, of a global that is to be read. Where the node that was referred to last is of the same global, it
-    // becomes this one, and no name is copied. Who asks is its account, which may read it.
-    fn fast_place<'t>(
-        &mut self,
-        alloc: Global,
-        name: &Name,
-        values: Values,
-    ) -> Result<Place<'t>, Code>
-        ensures allowed { IfOk result (λ place. IsOpen (standing_of self.new) Read (place_view place)) }
-        ensures does { Evaluates S.NodeStore (λ i. variables.node_place variables.reading (own_global self.old name.now values)) place_view self.old result self.new }
-    {
-        let own = self.settings.name_of(self.account);
-        if !self.is_own_again(own, name) {
-            let node = self.own_node(alloc, name, values)?;
-            return self.node_place(alloc, Mode::Read, node);
-        }
-        let key = key_with(alloc, own, name.as_bytes7(), values.as_slice())?;
-        self.fast_refer(own, name, values);
-        Ok(Place::Node(key))
-    }
-
-    // Whether the node that was referred to last is of the global of this name of this account, which can be an account's name.
-    fn is_own_again(&self, own: &[u8], name: &Name) -> bool
-        ensures account { IsTrue result → IsAccountName own.now }
-        ensures some { IsTrue result → IsSome self.now.session.now.naked }
-        ensures last { IsTrue result → IfSome self.now.session.now.naked (IsOfGlobal own.now name.now) }
-    {
-        match &self.session.naked {
-            Some(last) => last.is_of(own, name),
-            None => false,
-        }
-    }
-
-    // `refer`, to another node of the global of this name of this account.
-    fn fast_refer(&mut self, own: &[u8], name: &Name, values: Values)
-        requires some { IsSome self.old.session.now.naked }
-        requires last { IfSome self.old.session.now.naked (IsOfGlobal own.now name.now) }
-        ensures same { standing_of self.new ≡ standing_of self.old }
-        ensures does { Evaluates S.NodeStore (λ i. set_naked (Some (record { account = own.now; name = name.now; subscripts = values }))) (λ u. u) self.old (Ok tt) self.new }
-    {
-        match &mut self.session.naked {
-            Some(last) => last.set_subscripts(values),
-            None => unreachable!(),
-        }
-    }
-
-    // `get_of`, of a global of the account's own.
-    #[cycle(eval)]
-    #[inline(never)]
-    pub(crate) fn fast_global_get(
-        &mut self,
-        alloc: Global,
-        name: &Name,
-        subscripts: &[Expr],
-        more: &[Expr],
-    ) -> Result<Value, Code>
-        ensures { Evaluates S.NodeStore (λ i. acts.get_of i (global name.now (exprs_of (map expr_tree subscripts.now))) (exprs_of (map expr_tree more.now))) (λ v. v) self.old result self.new }
-    {
-        let values = self.values(alloc, subscripts)?;
-        let place = self.fast_place(alloc, name, values)?;
-        let more = self.values(alloc, more)?;
-        self.read_or(alloc, &place, more)
-    }
-
-    // `order_of`, of a global of the account's own.
-    #[cycle(eval)]
-    #[inline(never)]
-    pub(crate) fn fast_global_order(
-        &mut self,
-        alloc: Global,
-        name: &Name,
-        subscripts: &[Expr],
-        more: &[Expr],
-    ) -> Result<Value, Code>
-        ensures { Evaluates S.NodeStore (λ i. acts.order_of i (global name.now (exprs_of (map expr_tree subscripts.now))) (exprs_of (map expr_tree more.now))) (λ v. v) self.old result self.new }
-    {
-        let values = self.values(alloc, subscripts)?;
-        let walk = self.fast_walk(alloc, name, values)?;
-        let direction = self.direction(alloc, more)?;
-        self.fast_global_next(alloc, name, walk.as_slice(), direction)
-    }
-
-    // `own_node` and `node_walk`, the same way: gives the subscripts of the walk.
-    fn fast_walk(&mut self, alloc: Global, name: &Name, values: Values) -> Result<Values, Code>
-        ensures account { IfOk result (λ _. IsAccountName (standing_of self.old).account) }
-        ensures walk { IfOk result AreOrderSubscripts }
-        ensures does { Evaluates S.NodeStore (λ i. variables.node_place variables.ordering (own_global self.old name.now values)) (λ walk. variables.at_node (own_global self.old name.now walk)) self.old result self.new }
-    {
-        let walk = values.copy(alloc)?;
-        let own = self.settings.name_of(self.account);
-        if self.is_own_again(own, name) {
-            check_walk(walk.as_slice())?;
-            self.fast_refer(own, name, values);
-            return Ok(walk);
-        }
-        let node = self.own_node(alloc, name, values)?;
-        self.check(Mode::Read, &node)?;
-        check_walk(walk.as_slice())?;
-        self.refer(node);
-        Ok(walk)
-    }
-
-    // `next`, of a global of the account's own by subscripts that are let through.
-    fn fast_global_next(
-        &mut self,
-        alloc: Global,
-        name: &Name,
-        subscripts: &[Value],
-        direction: Direction,
-    ) -> Result<Value, Code>
-        requires account { IsAccountName (standing_of self.old).account }
-        requires subscripts { AreOrderSubscripts subscripts.now }
-        ensures { Evaluates S.NodeStore (λ i. variables.next_at (way direction) (variables.at_node (own_global self.old name.now subscripts.now))) (λ v. v) self.old result self.new }
-    {
-        let own = self.settings.name_of(self.account);
-        let next = self.node_neighbour(alloc, own, name.as_bytes7(), subscripts, direction)?;
-        Ok(next_value(alloc, next))
     }
 
     // `referring`, of a local variable by one subscript.

@@ -14,9 +14,8 @@ ghost use Rattle.meval.specs.Places.{place_view, IsOpen};
 
 use crate::eval::Eval;
 use crate::place::Place;
-use crate::shortcuts::fast_number_of;
 use mnum::{Bytes7, Name, Num};
-use moperator::Code;
+use moperator::{Code, number_of};
 use mstore::NodeStore;
 use mtree::{SpecialVariable, special_of};
 use mvalue::Value;
@@ -132,7 +131,7 @@ impl<'a, S: NodeStore> Eval<'a, S> {
         ensures { Evaluates S.NodeStore (λ i. line.index_number name.now) units self.old result self.new }
     {
         match self.session.locals.own(name) {
-            Some(value) => fast_number_of(value),
+            Some(value) => number_of(value),
             None => Err(Code::M15),
         }
     }

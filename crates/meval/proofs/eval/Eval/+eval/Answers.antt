@@ -1,5 +1,5 @@
 -- SPDX-License-Identifier: Apache-2.0
-use Rattle.meval.proofs.EvalLaws.{◌≡◌, ◌∙◌, ◌++◌, length, [], ◌∷◌, map, refl, sym, ap, arith, nat_tests, nil_from_length, apply, exprs_of, named_by, values, at_local, of_global, subscripts_of, with_subscripts, direction_of, residual_is, slice_get, ◌>>=◌, give, expr_tree, operand_tree, reference_tree, tail_tree, units, read_act, data_act, get_act, order_from, order_behind, pending_view, walk_view, of_local, of_naked, read_or, unwrap_or, decides_subscripts, subst, at_node, read_at, IsAccountName, way, List, computed_outcome, evaluates_then, evaluates_whole, evaluates_failed, evaluates_gives, evaluates_seen, evaluates_refused, evaluates_stopped, evaluates_wanting, evaluates_yielded, never_refused, keeps_itself, keeps_on, node_evaluated, node_failed, variable_told, function_failed, got, let_through, ordered_next, ordered_stopped, walk_through, walk_refused, step_leads, operand_refused, operator_refused, leads_itself, leads_on, leads_into, of_primary, alone, in_brackets, bracket_refused, not_free, is_free, evaluates_behind, evaluates_deep, evaluates_unnamed, evaluates_entry, own_global, gives_own, node_of, owned, own_evaluated, own_failed, next_own, expr_is, operand_is, number_is, text_is, special_is, reference_is, variable_is, node_is, local_is, global_is, naked_is, indirect_is, extended_is, refer_is, referring_is, bracket_is, call_is, select_is, apply_is, matches_is, matches_not_is, charge_failed, from_tail, from_end, next_value, value_failed, values_end, next_choice, is_chosen, not_chosen, none_chosen}
+use Rattle.meval.proofs.EvalLaws.{◌≡◌, ◌∙◌, ◌++◌, length, [], ◌∷◌, map, refl, sym, ap, arith, nat_tests, nil_from_length, apply, exprs_of, named_by, values, at_local, of_global, subscripts_of, with_subscripts, direction_of, residual_is, slice_get, ◌>>=◌, give, expr_tree, operand_tree, reference_tree, tail_tree, units, read_act, data_act, get_act, order_from, order_behind, pending_view, walk_view, of_local, of_naked, read_or, unwrap_or, decides_subscripts, subst, at_node, read_at, IsAccountName, way, List, computed_outcome, evaluates_then, evaluates_whole, evaluates_failed, evaluates_gives, evaluates_seen, evaluates_refused, evaluates_stopped, evaluates_wanting, evaluates_yielded, never_refused, keeps_itself, keeps_on, node_evaluated, node_failed, variable_told, function_failed, got, let_through, ordered_next, ordered_stopped, walk_through, walk_refused, step_leads, operand_refused, operator_refused, leads_itself, leads_on, leads_into, of_primary, alone, in_brackets, bracket_refused, not_free, is_free, evaluates_behind, evaluates_deep, evaluates_unnamed, evaluates_entry, gives_own, node_of, owned, expr_is, operand_is, number_is, text_is, special_is, reference_is, variable_is, node_is, local_is, global_is, naked_is, indirect_is, extended_is, refer_is, referring_is, bracket_is, call_is, select_is, apply_is, matches_is, matches_not_is, charge_failed, from_tail, from_end, next_value, value_failed, values_end, next_choice, is_chosen, not_chosen, none_chosen}
 use Rattle.std.proofs.Common.{Ok}
 use Rattle.mspec.specs.Act.{Text}
 use Rattle.mtree.specs.Functions.{variable_function_tree}
@@ -104,25 +104,6 @@ pub fast_node-returns : goal.fast_node-returns
 fast_node-returns g t c =
     evaluates_then (λ i v. read_act v) (node_evaluated c.args.name.now (expr_tree c.args.subscript.now) _ c.in_ok-eval_into.ensures.does) c.fast_read.ensures
 
-pub variable-returns-in-Global : goal.variable-returns-in-Global
-variable-returns-in-Global g t c =
-    let k = rw c.deref-in-Global.ensures.value at c.fast_global.ensures in
-    rw (c.in-Global.is, global_is c.in-Global.name c.in-Global.subscripts) k
-
-pub fast_global-returns-in_err-values : goal.fast_global-returns-in_err-values
-fast_global-returns-in_err-values g t c =
-    evaluates_stopped (λ i v. read_act v) (own_failed c.args.name.now _ _ c.in_err-values.ensures) c.from_residual.ensures
-
-pub fast_global-returns-in_err-place : goal.fast_global-returns-in_err-place
-fast_global-returns-in_err-place g t c =
-    evaluates_then (λ i v. read_act v) (own_evaluated c.args.name.now _ _ c.in_ok-values.ensures)
-    (evaluates_stopped (λ i p. read_at p) c.in_err-place.ensures.does c.from_residual-in_err-place.ensures)
-
-pub fast_global-returns : goal.fast_global-returns
-fast_global-returns g t c =
-    evaluates_then (λ i v. read_act v) (own_evaluated c.args.name.now _ _ c.in_ok-values.ensures)
-    (evaluates_then (λ i p. read_at p) c.in_ok-place.ensures.does c.read.ensures)
-
 pub place_value-returns-in_err-pending : goal.place_value-returns-in_err-pending
 place_value-returns-in_err-pending g t c = evaluates_stopped _ c.in_err-pending.ensures c.from_residual.ensures
 
@@ -224,14 +205,9 @@ extended-returns-in_err-subscripts g t c =
     evaluates_then (owned c.args.name.now _) c.in_ok-owner.ensures.does
     (evaluates_stopped (λ i xs. give (of_global (node_of c.in_ok-owner.owner c.args.name.now xs))) c.in_err-subscripts.ensures c.from_residual-in_err-subscripts.ensures)
 
-pub extended-returns-in_err-copy : goal.extended-returns-in_err-copy
-extended-returns-in_err-copy g t c =
-    evaluates_then (owned c.args.name.now _) c.in_ok-owner.ensures.does
-    (evaluates_then (λ i xs. give (of_global (node_of c.in_ok-owner.owner c.args.name.now xs))) c.in_ok-subscripts.ensures (evaluates_wanting _ _ _ c.from_residual-in_err-copy.ensures))
-
 pub extended-returns : goal.extended-returns
 extended-returns g t c =
-    let is = rw (c.in_ok-account.ensures, c.in_ok-copy.ensures) at c.new-node.ensures in
+    let is = rw c.in_ok-account.ensures at c.new-node.ensures in
     evaluates_then (owned c.args.name.now _) c.in_ok-owner.ensures.does
     (evaluates_then (λ i xs. give (of_global (node_of c.in_ok-owner.owner c.args.name.now xs))) c.in_ok-subscripts.ensures (evaluates_gives _ pending_view _ (ap of_global is)))
 
@@ -357,29 +333,6 @@ data_of-returns-in_err-pending g t c = evaluates_stopped _ c.in_err-pending.ensu
 pub data_of-returns : goal.data_of-returns
 data_of-returns g t c = evaluates_then _ c.in_ok-pending.ensures c.data.ensures
 
-pub get_of-returns-in-Global : goal.get_of-returns-in-Global
-get_of-returns-in-Global g t c =
-    let k = rw c.deref.ensures.value at c.fast_global_get.ensures in
-    rw (c.in-Global.is, global_is c.in-Global.name c.in-Global.subscripts) k
-
-pub fast_global_get-returns-in_err-values : goal.fast_global_get-returns-in_err-values
-fast_global_get-returns-in_err-values g t c =
-    evaluates_stopped (get_act (exprs_of (map expr_tree c.args.more.now))) (own_failed c.args.name.now _ _ c.in_err-values.ensures) c.from_residual.ensures
-
-pub fast_global_get-returns-in_err-place : goal.fast_global_get-returns-in_err-place
-fast_global_get-returns-in_err-place g t c =
-    evaluates_then (get_act _) (own_evaluated c.args.name.now _ _ c.in_ok-values.ensures) (evaluates_stopped (got _) c.in_err-place.ensures.does c.from_residual-in_err-place.ensures)
-
-pub fast_global_get-returns-in_err-more : goal.fast_global_get-returns-in_err-more
-fast_global_get-returns-in_err-more g t c =
-    evaluates_then (get_act _) (own_evaluated c.args.name.now _ _ c.in_ok-values.ensures)
-    (evaluates_then (got _) c.in_ok-place.ensures.does (evaluates_stopped _ c.in_err-more.ensures c.from_residual-in_err-more.ensures))
-
-pub fast_global_get-returns : goal.fast_global_get-returns
-fast_global_get-returns g t c =
-    evaluates_then (get_act _) (own_evaluated c.args.name.now _ _ c.in_ok-values.ensures)
-    (evaluates_then (got _) c.in_ok-place.ensures.does (evaluates_then _ c.in_ok-more.ensures c.read_or.ensures))
-
 pub get_of-returns-in_err-pending : goal.get_of-returns-in_err-pending
 get_of-returns-in_err-pending g t c = evaluates_stopped _ c.in_err-pending.ensures c.from_residual.ensures
 
@@ -419,37 +372,6 @@ fast_order-returns g t c =
     let passed = rw c.from_ref-subscripts.ensures.value at c.in_ok-check_walk.ensures.checked in
     let next = rw c.from_ref-subscripts.ensures.value at c.fast_next.ensures in
     evaluates_then (order_from _) (walk_through c.args.name.now (c.args.subscript.now ∷ []) passed) (ordered_next _ (at_local c.args.name.now (c.args.subscript.now ∷ [])) c.in_ok-direction.direction c.in_ok-direction.ensures next)
-
-pub order_of-returns-in-Global : goal.order_of-returns-in-Global
-order_of-returns-in-Global g t c =
-    let k = rw c.deref.ensures.value at c.fast_global_order.ensures in
-    rw (c.in-Global.is, global_is c.in-Global.name c.in-Global.subscripts) k
-
-pub fast_global_order-returns-in_err-values : goal.fast_global_order-returns-in_err-values
-fast_global_order-returns-in_err-values g t c =
-    evaluates_stopped (order_behind (exprs_of (map expr_tree c.args.more.now))) (own_failed c.args.name.now _ _ c.in_err-values.ensures) c.from_residual.ensures
-
-pub fast_global_order-returns-in_err-walk : goal.fast_global_order-returns-in_err-walk
-fast_global_order-returns-in_err-walk g t c =
-    evaluates_then (order_behind _) (own_evaluated c.args.name.now _ _ c.in_ok-values.ensures) (evaluates_stopped (order_from _) c.in_err-walk.ensures.does c.from_residual-in_err-walk.ensures)
-
-pub fast_global_order-returns-in_err-direction : goal.fast_global_order-returns-in_err-direction
-fast_global_order-returns-in_err-direction g t c =
-    evaluates_then (order_behind _) (own_evaluated c.args.name.now _ _ c.in_ok-values.ensures)
-    (evaluates_then (order_from _) c.in_ok-walk.ensures.does
-    (ordered_stopped _ (at_node (own_global c.values.new.self c.args.name.now c.in_ok-walk.walk)) c.in_err-direction.ensures c.from_residual-in_err-direction.ensures))
-
-pub fast_global_order-fast_global_next-requires-clause-account : goal.fast_global_order-fast_global_next-requires-clause-account
-fast_global_order-fast_global_next-requires-clause-account g t c =
-    subst (λ b. IsAccountName b.account) (sym (c.in_ok-direction.ensures.keeps.same ∙ c.in_ok-walk.ensures.does.keeps.same)) c.in_ok-walk.ensures.account
-
-pub fast_global_order-returns : goal.fast_global_order-returns
-fast_global_order-returns g t c =
-    let asked = rw c.as_slice.ensures at c.fast_global_next.ensures in
-    let next = next_own c.values.new.self (way c.in_ok-direction.direction) c.args.name.now c.in_ok-walk.walk (c.in_ok-direction.ensures.keeps.same ∙ c.in_ok-walk.ensures.does.keeps.same) asked in
-    evaluates_then (order_behind _) (own_evaluated c.args.name.now _ _ c.in_ok-values.ensures)
-    (evaluates_then (order_from _) c.in_ok-walk.ensures.does
-    (ordered_next _ (at_node (own_global c.values.new.self c.args.name.now c.in_ok-walk.walk)) c.in_ok-direction.direction c.in_ok-direction.ensures next))
 
 pub order_of-returns-in_err-pending : goal.order_of-returns-in_err-pending
 order_of-returns-in_err-pending g t c = evaluates_stopped (order_behind (exprs_of (map expr_tree c.args.more.now))) c.in_err-pending.ensures c.from_residual.ensures

@@ -79,15 +79,6 @@ decreases-fast_get g l = 16 * l.self.now.steps + 6
 abbrev pub decreases-fast_order : goal.decreases-fast_order
 decreases-fast_order g l = 16 * l.self.now.steps + 7
 
-abbrev pub decreases-fast_global : goal.decreases-fast_global
-decreases-fast_global g l = 16 * l.self.now.steps + 6
-
-abbrev pub decreases-fast_global_get : goal.decreases-fast_global_get
-decreases-fast_global_get g l = 16 * l.self.now.steps + 6
-
-abbrev pub decreases-fast_global_order : goal.decreases-fast_global_order
-decreases-fast_global_order g l = 16 * l.self.now.steps + 7
-
 abbrev pub decreases-place_value : goal.decreases-place_value
 decreases-place_value g l = 16 * l.self.now.steps + 8
 

@@ -10,5 +10,5 @@ returns-then-not-is_of_account-clause-does g c =
 pub returns-clause-does : goal.returns-clause-does
 returns-clause-does g c =
     let account = rw c.if-not-is_of_account.false at (decides_account_name _ _ c.is_of_account.ensures) in
-    let may = rw (c.if-not-may.false, c.account-owner.ensures, c.as_bytes-name.ensures.bytes, c.name.ensures.name) at c.may.ensures in
+    let may = rw (c.if-not-may.false, c.account-owner.ensures, c.as_bytes-name.ensures.bytes, c.name.ensures) at c.may.ensures in
     let_in c.args.mode c.args.node.now (and_from _ _ (sym account) (sym may))

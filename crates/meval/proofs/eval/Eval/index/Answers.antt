@@ -6,7 +6,7 @@ pub returns-in-Some : goal.returns-in-Some
 unfolding value_of
 returns-in-Some g c =
     let is = rw c.in-Some.is at c.own.ensures in
-    evaluates_then (λ i found. give_some M15 found >>= as_number) (asks_locals (λ l. value_of l c.args.name.now []) (λ found. found) _ is) (evaluates_yielded c.fast_number_of.ensures.number)
+    evaluates_then (λ i found. give_some M15 found >>= as_number) (asks_locals (λ l. value_of l c.args.name.now []) (λ found. found) _ is) (evaluates_yielded c.number_of.ensures.number)
 
 pub returns-in-None : goal.returns-in-None
 unfolding value_of

@@ -10,10 +10,10 @@ returns-in_ok-next-in-Local g c =
 
 pub returns-in_err-next-in-Node : goal.returns-in_err-next-in-Node
 returns-in_err-next-in-Node g c =
-    let asked = rw (c.account-account.ensures, c.name-name.ensures.name, c.subscripts-subscripts.ensures) at c.in_err-next-in-Node.ensures in
+    let asked = rw (c.account-account.ensures, c.as_bytes7-name.ensures.text, c.name.ensures, c.subscripts-subscripts.ensures) at c.in_err-next-in-Node.ensures in
     rw c.in-Node.is (evaluates_stopped (λ i next. give (unwrap_or next [])) asked c.from_residual-in_err-next-in-Node.ensures)
 
 pub returns-in_ok-next-in-Node : goal.returns-in_ok-next-in-Node
 returns-in_ok-next-in-Node g c =
-    let asked = rw (c.account-account.ensures, c.name-name.ensures.name, c.subscripts-subscripts.ensures) at c.in_ok-next-in-Node.ensures in
+    let asked = rw (c.account-account.ensures, c.as_bytes7-name.ensures.text, c.name.ensures, c.subscripts-subscripts.ensures) at c.in_ok-next-in-Node.ensures in
     rw c.in-Node.is (evaluates_then (λ i next. give (unwrap_or next [])) asked (evaluates_gives _ _ _ c.next_value-in-Node.ensures))

@@ -21,10 +21,18 @@ returns-in_err-walk-clause-does g c =
     evaluates_then (λ i _. checked ordering n.subscripts >> (set_naked (Some n) >> give (at_node n))) c.in_ok-check.ensures.does
     (evaluates_then (λ i _. set_naked (Some n) >> give (at_node n)) (evaluates_yielded passed) (evaluates_wanting _ _ _ c.from_residual-in_err-walk.ensures))
 
+pub returns-in_err-refer-clause-does : goal.returns-in_err-refer-clause-does
+returns-in_err-refer-clause-does g c =
+    let n : Node = c.args.node in
+    let passed = rw c.subscripts.ensures at c.in_ok-check_walk.ensures.checked in
+    evaluates_then (λ i _. checked ordering n.subscripts >> (set_naked (Some n) >> give (at_node n))) c.in_ok-check.ensures.does
+    (evaluates_then (λ i _. set_naked (Some n) >> give (at_node n)) (evaluates_yielded passed)
+    (evaluates_stopped (λ i _. give (at_node n)) c.in_err-refer.ensures.does c.from_residual-in_err-refer.ensures))
+
 pub returns-clause-does : goal.returns-clause-does
 returns-clause-does g c =
     let n : Node = c.args.node in
     let passed = rw c.subscripts.ensures at c.in_ok-check_walk.ensures.checked in
     evaluates_then (λ i _. checked ordering n.subscripts >> (set_naked (Some n) >> give (at_node n))) c.in_ok-check.ensures.does
     (evaluates_then (λ i _. set_naked (Some n) >> give (at_node n)) (evaluates_yielded passed)
-    (evaluates_then (λ i _. give (at_node n)) c.refer.ensures.does (evaluates_gives (at_node n) walk_view _ (ap at_node c.in_ok-walk.ensures))))
+    (evaluates_then (λ i _. give (at_node n)) c.in_ok-refer.ensures.does (evaluates_gives (at_node n) walk_view _ (ap at_node c.in_ok-walk.ensures))))

@@ -3,6 +3,7 @@
 use Rattle.meval.proofs.EvalWords.{◌≡◌, ℕ, zero, suc, ◌<◌, [], ◌∷◌, length, Result, Ok, Err, subst, refl, sym, arith, ◌==◌, false≢true, ◌>>=◌, ◌>>◌, Act, give, unless, ExprsTree, Inside, values, Evaluated, Node, AreOrderSubscripts, are_order_subscripts, order_subscripts_test, of_global, checked, ordering, some_subscript, Yields, did_gives, Ghosts, fault_of, Code, Zsub, Eval, Evaluates, standing_of, pending_view, false, List, Text, evaluated, global, Direction, next_at, at_node}
 use Rattle.mspec.specs.Code as spec
 use Rattle.meval.specs.declared.place.Pending.{Pending}
+use Rattle.meval.proofs.Calls.{keeps_itself}
 
 -- ---- nodes
 

@@ -1,4 +1,5 @@
 -- SPDX-License-Identifier: Apache-2.0
+use Rattle.mcommand.proofs.CommandLaws.{refl}
 use Rattle.mcommand.proofs.Locking.{does_release}
 use Rattle.mcommand.proofs.parts.Parts.release.Goals as goal
 

@@ -182,7 +182,7 @@ impl<'a, S: NodeStore> Eval<'a, S> {
         ensures { Evaluates S.NodeStore (λ i. meaning.evaluated i (global name.now (exprs_of (map expr_tree subscripts.now)))) pending_view self.old result self.new }
     {
         let values = self.values(alloc, subscripts)?;
-        let node = self.own_node(alloc, VariableName::Lent(name), values)?;
+        let node = self.own_node(alloc, VariableName::Lent(name), values);
         Ok(Pending::Global(node))
     }
 

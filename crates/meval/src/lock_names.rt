@@ -59,7 +59,7 @@ impl<'a, S: NodeStore> Eval<'a, S> {
         ensures open { IfOk result (λ name. may_lock (standing_of self.now).settings (standing_of self.now).account name ≡ true) }
         ensures does { Evaluates S.NodeStore (λ i. variables.named_lock i.account (variables.of_local (name_view name.entry) values)) (λ name. name) self.now result self.now }
     {
-        let node = self.own_node(alloc, name, values)?;
+        let node = self.own_node(alloc, name, values);
         if !node.is_of_account() {
             // the id is of other settings, which a world never hands in
             return Err(Code::Zmem);

@@ -1,6 +1,6 @@
 // SPDX-License-Identifier: Apache-2.0
 // Whose global a reference names.
-ghost use Rattle.std.specs.Prelude.{◌≡◌, ◌↔◌, ◌<◌, All, IfOk, IsTrue};
+ghost use Rattle.std.specs.Prelude.{◌≡◌, ◌↔◌, ◌<◌, IfOk, IsTrue, length};
 ghost use Rattle.mspec.specs.KeyBytes.{IsAccountName};
 ghost use Rattle.meval.specs.Held.{owner_text};
 
@@ -18,18 +18,15 @@ pub(crate) enum Owner {
 }
 
 impl Owner {
-    // The owner of these bytes. Takes no memory where they are the name of an account.
-    pub(crate) fn of_bytes(alloc: Global, bytes: &[u8]) -> Result<Owner, AllocError>
-        requires { All (λ c. c < 128) bytes.now }
-        ensures { IfOk result (λ owner. owner_text owner ≡ bytes.now) }
+    // The owner that settings name: an account's name, or no byte. The name is not tested again. Takes no memory.
+    pub(crate) fn of_settings(alloc: Global, name: &[u8]) -> Owner
+        requires { 0 < length name.now → IsAccountName name.now }
+        ensures { owner_text result ≡ name.now }
     {
-        match AccountName::new(bytes) {
-            Some(name) => Ok(Owner::Account(name)),
-            None => {
-                let text = Bytes7::from_slice(alloc, bytes)?;
-                Ok(Owner::Other(text))
-            }
+        if name.is_empty() {
+            return Owner::Other(Bytes7::empty(alloc));
         }
+        Owner::Account(AccountName::of_name(name))
     }
 
     // The owner that a value names.

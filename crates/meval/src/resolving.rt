@@ -19,20 +19,20 @@ use crate::variable_name::VariableName;
 use mgrant::Mode;
 use moperator::Code;
 use mstore::NodeStore;
-use std::alloc::{AllocError, Global};
+use std::alloc::Global;
 
 impl<'a, S: NodeStore> Eval<'a, S> {
-    // The node of the account's own global of this name. Takes no memory where the account has a name.
+    // The node of the account's own global of this name. Takes no memory.
     pub(crate) fn own_node<'t>(
         &self,
         alloc: Global,
         name: VariableName<'t>,
         values: Values,
-    ) -> Result<GlobalReference<'t>, AllocError>
-        ensures { IfOk result (λ node. node ≡ record { account = (standing_of self.now).account; name = name_view name.entry; subscripts = values }) }
+    ) -> GlobalReference<'t>
+        ensures { result ≡ record { account = (standing_of self.now).account; name = name_view name.entry; subscripts = values } }
     {
-        let owner = Owner::of_bytes(alloc, self.settings.name_of(self.account))?;
-        Ok(GlobalReference::new(owner, name, values))
+        let owner = Owner::of_settings(alloc, self.settings.name_of(self.account));
+        GlobalReference::new(owner, name, values)
     }
 
     // Whether the account may use the global of a node so.

@@ -113,6 +113,12 @@ name_good names good i within =
     let (each, distinct) = and_parts (list_all is_account_name names) (are_distinct text_eq names) good in
     ap is_account_name (unwrap_or-slice_get names i []) ∙ AllPass-from_list_all is_account_name names each i [] within
 
+-- a name that has a character is that of a place
+pub within_of_named : (names : List Text) (i : ℕ) → 0 < length (text_in names i) → i < length names
+within_of_named [] i some = absurd (omega (arith, some))
+within_of_named (n ∷ ns) zero some = omega arith
+within_of_named (n ∷ ns) (suc i) some = let rest = within_of_named ns i some in omega (arith, rest)
+
 small : (c : ℕ) → is_name_rest c ≡ true → c < 128
 small c e =
     elim (or_cases (is_letter c) (is_digit c) e) [

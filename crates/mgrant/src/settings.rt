@@ -161,6 +161,7 @@ impl Settings {
         ensures name { result.now ≡ access.name_at self.now id }
         ensures ascii { All (λ c. c < 128) result.now }
         ensures good { id < length self.now.accounts → IsAccountName result.now }
+        ensures named { 0 < length result.now → IsAccountName result.now }
     {
         self.names.at(id.place())
     }

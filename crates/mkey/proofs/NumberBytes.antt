@@ -51,6 +51,11 @@ low_bytes (suc k) n =
 pub bytes_of_fitting : (k n : ℕ) → n < 256 ^ k → bytes_high_first k n ≡ big_endian k n
 bytes_of_fitting k n below = low_bytes k n ∙ ap (big_endian k) (mod-eq_of_lt below)
 
+-- the bytes of a number of the language
+pub bytes_of_number : (u : ℤ) (n : ℕ) → n ≡ raised u → n < 256 ^ 16 → bytes_high_first 16 n ≡ number_bytes u
+unfolding number_bytes
+bytes_of_number u n is below = bytes_of_fitting 16 n below ∙ ap (big_endian 16) is
+
 -- the bytes of two numbers, one behind the other
 pub joined_bytes : (k j t n m : ℕ) → t ≡ k + j → n < 256 ^ k → m < 256 ^ j → big_endian t (n * 256 ^ j + m) ≡ big_endian k n ++ big_endian j m
 joined_bytes zero j t n m e below low =
@@ -76,12 +81,6 @@ joined_bytes (suc k) j (suc t) n m e below low =
 
     around : (q r w n v m : ℕ) → q * w + r ≡ n → q * (v * w) + (r * v + m) ≡ n * v + m
     around q r w n v m e = let spread : (q * w + r) * v + m ≡ n * v + m = ap (λ x. x * v + m) e in omega arith
-
--- the bytes of a number of the language, as two words
-pub words_of_number : (u : ℤ) (n : ℕ) → n ≡ raised u → n < 256 ^ 16 → big_endian 8 (n / 256 ^ 8) ++ big_endian 8 (n % 256 ^ 8) ≡ number_bytes u
-unfolding number_bytes
-words_of_number u n is below =
-    sym (joined_bytes 8 8 16 (n / 256 ^ 8) (n % 256 ^ 8) refl (omega (arith, below)) (mod_below n (256 ^ 8) (byte_pos 8))) ∙ ap (big_endian 16) (div-add-mod' n (256 ^ 8) ∙ is)
 
 -- the first sixteen bytes, as two numbers of eight
 pub word_pair : (bytes rest : List ℕ) (high low : ℕ) → high < 256 ^ 8 → low < 256 ^ 8 → bytes ≡ big_endian 8 high ++ rest → rest ≡ big_endian 8 low ++ drop 8 rest → big_endian 16 (high * 256 ^ 8 + low) ≡ take 16 bytes

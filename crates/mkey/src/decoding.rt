@@ -14,7 +14,7 @@ ghost use Rattle.mspec.specs.NumberText.{IsCanonical};
 use crate::encoding::RAISE;
 use crate::key::NodeKey;
 use crate::names::is_account_name;
-use crate::order::{WORD, first_word};
+use crate::order::first_word;
 use crate::subs::{Subs, is_subscript};
 use mnum::{Bytes7, Num, is_canonical_by, is_name};
 use mspec::limits::MAX_SUBSCRIPTS;
@@ -30,6 +30,9 @@ const OLD_DIGITS: u32 = 15;
 
 // Room for each text of a number: eighteen digits, a sign and a point.
 const NUMBER_TEXT: usize = 20;
+
+// The numbers that eight bytes can be, so many.
+const WORD: u128 = 1 << 64;
 
 // What stands behind the first `count` bytes.
 pub fn behind(bytes: &[u8], count: usize) -> &[u8]

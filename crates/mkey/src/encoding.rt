@@ -1,10 +1,9 @@
 // SPDX-License-Identifier: Apache-2.0
 // The bytes of texts, numbers and subscripts. A subscript that is a number is put as it is, and no text of it is made.
 ghost use Rattle.std.specs.Prelude.{◌≡◌, ℤ, ◌+◌, ◌*◌, ◌^◌, ◌<◌, ◌≤◌, ◌∷◌, ◌++◌, All, OnOk, length, unsigned_abs, vec_len, vec_capacity};
-ghost use Rattle.mspec.specs.KeyBytes.{big_endian, text_bytes, raised, number_bytes, subscript_bytes, subscripts_bytes, IsSubscript, AreSubscripts, IsAscii};
+ghost use Rattle.mspec.specs.KeyBytes.{text_bytes, raised, number_bytes, subscript_bytes, subscripts_bytes, IsSubscript, AreSubscripts, IsAscii};
 ghost use Rattle.mspec.specs.Number.{significant_digits};
 
-use crate::order::WORD;
 use crate::place::canonical;
 use mnum::Bytes7;
 use mvalue::{Kind, Value};
@@ -41,28 +40,16 @@ fn raise(units: i128) -> u128
     }
 }
 
-// The bytes of a word, high byte first.
-fn push_word(out: &mut Vec<u8>, word: u64)
-    requires room { vec_len out.old + 8 ≤ vec_capacity out.old }
-    ensures items { out.new.items ≡ out.old.items ++ big_endian 8 word }
-    ensures len { vec_len out.new ≡ vec_len out.old + 8 }
-    ensures capacity { vec_capacity out.old ≤ vec_capacity out.new }
-{
-    let bytes = word.to_be_bytes();
-    // the room is there
-    let _put = out.extend_from_slice(&bytes);
-}
-
-// The bytes of a number, behind the tag of one. Two words take a third of the time of one number of sixteen bytes.
+// The bytes of a number, behind the tag of one.
 fn push_number(out: &mut Vec<u8>, units: i128)
     requires room { vec_len out.old + 17 ≤ vec_capacity out.old }
     requires range { unsigned_abs units < 10 ^ 36 }
     ensures { out.new.items ≡ out.old.items ++ 1 ∷ number_bytes units }
 {
     out.push_reserved(1);
-    let number = raise(units);
-    push_word(out, (number / WORD) as u64);
-    push_word(out, (number % WORD) as u64);
+    let bytes = raise(units).to_be_bytes();
+    // the room is there
+    let _put = out.extend_from_slice(&bytes);
 }
 
 // Appends the bytes of a subscript that is a text.

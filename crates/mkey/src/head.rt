@@ -42,7 +42,6 @@ impl Head {
     }
 
     // The order of the two numbers.
-    #[inline]
     pub fn order(&self, other: &Head) -> Ordering
         ensures { result ≡ nat_cmp self.now other.now }
     {
@@ -84,7 +83,6 @@ impl Half {
     }
 
     // The order of the two numbers.
-    #[inline]
     fn order(&self, other: &Half) -> Ordering
         ensures { result ≡ nat_cmp self.now other.now }
     {

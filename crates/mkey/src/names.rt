@@ -48,8 +48,16 @@ impl AccountName {
         if !names_account(text) {
             return None;
         }
+        Some(AccountName::of_name(text))
+    }
+
+    /// The account's name that these bytes are, which are one. Takes no memory.
+    pub fn of_name(text: &[u8]) -> AccountName
+        requires { IsAccountName text.now }
+        ensures { result ≡ text.now }
+    {
         match ArrayVec::try_from(text) {
-            Ok(bytes) => Some(AccountName { bytes }),
+            Ok(bytes) => AccountName { bytes },
             Err(_) => unreachable!(),
         }
     }
@@ -66,9 +74,6 @@ impl AccountName {
     pub fn copy(&self) -> AccountName
         ensures { result ≡ self.now }
     {
-        match ArrayVec::try_from(self.bytes.as_slice()) {
-            Ok(bytes) => AccountName { bytes },
-            Err(_) => unreachable!(),
-        }
+        AccountName::of_name(self.as_bytes())
     }
 }

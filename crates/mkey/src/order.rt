@@ -9,9 +9,6 @@ use std::cmp::Ordering;
 
 pub const WORD_BYTES: usize = 8;
 
-// The numbers that eight bytes can be, so many.
-pub const WORD: u128 = 1 << 64;
-
 // The number that the first eight bytes are, high byte first.
 pub fn first_word(bytes: &[u8]) -> u64
     requires { 8 ≤ length bytes.now }
@@ -23,7 +20,6 @@ pub fn first_word(bytes: &[u8]) -> u64
 }
 
 /// The order of two runs of bytes, as that of slices, which looks at one byte at a time. Takes no memory.
-#[inline(never)]
 pub fn compare(left: &[u8], right: &[u8]) -> Ordering
     ensures { result ≡ slice_cmp nat_cmp left.now right.now }
 {

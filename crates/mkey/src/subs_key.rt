@@ -177,7 +177,6 @@ impl Ord for SubsKey {
 
     ghost matches_eq = { λ a b. refl };
 
-    #[inline]
     fn cmp(&self, other: &SubsKey) -> Ordering {
         // before the heads, whose order is theirs since each of these is below 256
         let bytes = self.as_bytes();

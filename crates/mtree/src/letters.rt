@@ -84,6 +84,10 @@ impl Letters {
     }
 
     /// The classes in turn.
+    ///
+    /// # Errors
+    ///
+    /// `AllocError` for want of memory.
     pub fn codes(&self, alloc: Global) -> Result<Vec<PatternCode>, AllocError>
         ensures { IfOk result (λ codes. codes_of codes.items ≡ map pattern_code self.now) }
     {

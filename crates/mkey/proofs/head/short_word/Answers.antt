@@ -1,5 +1,5 @@
 -- SPDX-License-Identifier: Apache-2.0
-use Rattle.mkey.proofs.KeyWords.{arith}
+use Rattle.mkey.proofs.KeyWords.{arith, unwrap_or}
 use Rattle.mkey.proofs.Heads.{fitting_bytes, head_fits}
 use Rattle.mkey.proofs.head.short_word.Goals as goal
 

@@ -182,13 +182,9 @@ pub global-returns-in_err-values : goal.global-returns-in_err-values
 global-returns-in_err-values g t c =
     evaluates_stopped (λ i xs. give (of_global (node_of i.account c.args.name.now xs))) c.in_err-values.ensures c.from_residual.ensures
 
-pub global-returns-in_err-node : goal.global-returns-in_err-node
-global-returns-in_err-node g t c =
-    evaluates_then (λ i xs. give (of_global (node_of i.account c.args.name.now xs))) c.in_ok-values.ensures (evaluates_wanting _ _ _ c.from_residual-in_err-node.ensures)
-
 pub global-returns : goal.global-returns
 global-returns g t c =
-    evaluates_then (λ i xs. give (of_global (node_of i.account c.args.name.now xs))) c.in_ok-values.ensures (gives_own c.args.name.now _ _ (ap of_global c.in_ok-node.ensures))
+    evaluates_then (λ i xs. give (of_global (node_of i.account c.args.name.now xs))) c.in_ok-values.ensures (gives_own c.args.name.now _ _ (ap of_global c.own_node-node.ensures))
 
 -- ---- environments
 

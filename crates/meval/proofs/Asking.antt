@@ -1,7 +1,9 @@
 -- SPDX-License-Identifier: Apache-2.0
 -- Calls that ask a store, and those that ask or set the session.
-use Rattle.meval.proofs.EvalWords.{◌≡◌, Bool, [], ◌∷◌, Some, Result, Ok, Err, refl, sym, ap, ◌∙◌, subst, arith, ⊎_elim, ◌&&◌, text_eq, false≢true, and_parts, and_from, or_cases, or_left, or_right, Own, Zgrant, Node, AreSubscripts, is_account_name, are_subscripts, Locks, Act, ◌>>◌, give, ask, unless, naked_is, set_naked, subscripts_test, Standing, Did, ops_of, Yields, Place, at_local, at_node, replaced, beside, allowed, node_place, resolve, of_local, asked, Ghosts, fault_of, Code, Eval, Evaluates, KeepsEval, standing_of, eval_here, use_of, IsOpen, true, false, List, Option}
+use Rattle.meval.proofs.EvalWords.{◌≡◌, Bool, [], ◌∷◌, Some, Result, Ok, Err, refl, sym, ap, ◌∙◌, subst, arith, ⊎_elim, ◌&&◌, text_eq, false≢true, and_parts, and_from, or_cases, or_left, or_right, Own, Zgrant, Node, AreSubscripts, IsAccountName, is_account_name, are_subscripts, Locks, Act, ◌>>◌, give, ask, unless, naked_is, set_naked, subscripts_test, Standing, Did, ops_of, Yields, Place, at_local, at_node, replaced, beside, allowed, node_place, resolve, of_local, asked, Ghosts, fault_of, Code, Eval, Evaluates, KeepsEval, own_global, standing_of, eval_here, use_of, IsOpen, true, false, List, Option}
+use Rattle.std.specs.Cmp.Lexicographic.{bytes_decides}
 use Rattle.std.specs.List.{list_any}
+use Rattle.mspec.proofs.SubscriptTests.{account_name_test}
 use Rattle.mspec.specs.Code as spec
 use Rattle.mspec.specs.Access.{Mode, Read, Write, Grant, allows, lets, may}
 use Rattle.mspec.specs.Node.{Text}
@@ -72,6 +74,12 @@ module _ {S : Type 0} {g : Ghosts S} where
 
   pub no_account : {e : Eval S} (m : grant.Mode) (n : Node) → is_account_name n.account ≡ false → Evaluates g (λ i. allowed (placed.mode_of m) n) (λ (u : Unit {0}). u) e (Err code.Zgrant) e
   no_account {e = e} m n is = kept_out m n (ap (λ b. b && may_use e m n) is)
+
+  -- an account may read what is its own
+  pub own_let_in : {e : Eval S} (name : Text) (xs : List Text) → IsAccountName (standing_of e).account → Evaluates g (λ i. allowed Read (own_global e name xs)) (λ (u : Unit {0}). u) e (Ok tt) e
+  own_let_in {e = e} name xs is =
+      let account = (standing_of e).account in
+      let_in mode.Read (own_global e name xs) (and_from _ _ (account_name_test account is) (or_left _ _ ((bytes_decides account account).1 refl)))
 
   -- ---- checks that reading and writing share
 

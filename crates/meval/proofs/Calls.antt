@@ -1,6 +1,6 @@
 -- SPDX-License-Identifier: Apache-2.0
 -- How the calls of this crate are put together.
-use Rattle.meval.proofs.EvalWords.{◌≡◌, ◌≢◌, ℕ, [], Result, Ok, Err, refl, sym, ap, ◌∙◌, subst, arith, IsErr, IsErrAnd, Own, Act, Gives, Fails, ◌>>=◌, Locals, value_of, of_locals, give, fail, give_some, Place, at_local, at_node, read_at, found_at, Inside, inside, Standing, Here, Did, Ends, FailedBy, Yields, did_then, did_failed, did_gives, did_lost, residual_is, yielded, Ghosts, fault_of, Code, Zmem, Zstore, Depth, Eval, undefined_at, Evaluates, KeepsEval, standing_of, eval_here, depth_of, Text}
+use Rattle.meval.proofs.EvalWords.{◌≡◌, ◌≢◌, ℕ, [], Result, Ok, Err, refl, sym, ap, ◌∙◌, subst, arith, IsErr, IsErrAnd, Own, Act, Gives, Fails, ◌>>=◌, Locals, value_of, of_locals, give, fail, give_some, Place, at_local, at_node, read_at, found_at, Inside, inside, Standing, Here, Did, Ends, FailedBy, Yields, assoc, did_then, did_failed, did_gives, did_lost, residual_is, yielded, Ghosts, fault_of, Code, Zmem, Zstore, Depth, Eval, undefined_at, Evaluates, KeepsEval, standing_of, eval_here, depth_of, Text}
 use Rattle.std.specs.FinMap.{empty}
 use Rattle.mspec.specs.Code as spec
 
@@ -32,6 +32,12 @@ evaluates_then q {f = f} {old = old} {x = x} d k = record {
   keeps = keeps_on d.keeps k.keeps;
   depth = k.depth ∙ d.depth;
 }
+
+-- what follows both of two acts follows the second one
+pub evaluates_regrouped : {S A B C X : Type 0} {g : Ghosts S} (p : Inside → Act A) (q : Inside → A → Act B) (k : Inside → B → Act C) {f : X → C} {old new : Eval S} {r : Result X Code}
+    → Evaluates g (λ i. (p i >>= q i) >>= k i) f old r new → Evaluates g (λ i. p i >>= (λ a. q i a >>= k i)) f old r new
+evaluates_regrouped {g = g} p q k {f = f} {old = old} {new = new} {r = r} d =
+    subst (λ act. Evaluates g act f old r new) (λ j i. assoc (p i) (q i) (k i) j) d
 
 pub evaluates_failed : {S A B X Y : Type 0} {g : Ghosts S} {p : Inside → Act A} (q : Inside → A → Act B) {f : X → A} {j : Y → B} {old new : Eval S} {e : Code}
     → Evaluates g p f old (Err e) new → Evaluates g (λ i. p i >>= q i) j old (Err e) new

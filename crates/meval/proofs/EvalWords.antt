@@ -39,8 +39,8 @@ pub use Rattle.mtree.specs.Tree.{ChoiceTree, atom_tree, binary_tree, choice_laye
 pub use Rattle.mtree.specs.declared.tree.Choice.{Choice}
 pub use Rattle.mtree.specs.declared.tree.Expr.{Expr}
 pub use Rattle.mtree.specs.declared.tree.Tail.{Tail}
-pub use Rattle.meval.specs.Acts.{data_act, direction_act, get_act, operand_number, order_behind, order_from, primary_number, read_act}
-pub use Rattle.meval.specs.Evaluates.{Evaluates, KeepsEval, Leads, depth_of, eval_here, standing_of}
+pub use Rattle.meval.specs.Acts.{data_act, data_at, direction_act, get_act, get_from, operand_number, order_behind, order_from, primary_number, read_act}
+pub use Rattle.meval.specs.Evaluates.{Evaluates, KeepsEval, Leads, depth_of, eval_here, own_global, standing_of}
 pub use Rattle.meval.specs.Held.{name_view}
 pub use Rattle.meval.specs.Places.{IsOpen, pending_view, place_view, status_view, undefined_at, use_of, walk_view}
 pub use Rattle.meval.specs.declared.depth.Depth.{Depth}

@@ -1,9 +1,8 @@
 -- SPDX-License-Identifier: Apache-2.0
 -- Nodes that references name, and what the checks let through as a walk.
-use Rattle.meval.proofs.EvalWords.{◌≡◌, ℕ, zero, suc, ◌<◌, [], ◌∷◌, length, Result, Ok, Err, subst, refl, sym, arith, ◌==◌, false≢true, ◌>>=◌, ◌>>◌, Act, give, unless, ExprsTree, Inside, values, Evaluated, Node, AreOrderSubscripts, are_order_subscripts, order_subscripts_test, of_global, checked, ordering, some_subscript, Yields, did_gives, Ghosts, fault_of, Code, Zsub, Eval, Evaluates, standing_of, pending_view, false, List, Text, evaluated, global, Direction, next_at, at_node}
+use Rattle.meval.proofs.EvalWords.{◌≡◌, ℕ, zero, suc, ◌<◌, [], ◌∷◌, length, Ok, Err, subst, refl, sym, arith, ◌==◌, false≢true, ◌>>=◌, ◌>>◌, Act, give, unless, ExprsTree, Inside, values, Evaluated, Node, AreOrderSubscripts, are_order_subscripts, order_subscripts_test, of_global, checked, ordering, some_subscript, Yields, did_gives, Ghosts, fault_of, Code, Zsub, Eval, Evaluates, own_global, standing_of, false, List, Text}
 use Rattle.mspec.specs.Code as spec
-use Rattle.meval.specs.declared.place.Pending.{Pending}
-use Rattle.meval.proofs.Calls.{keeps_itself}
+use Rattle.meval.proofs.Calls.{evaluates_failed, evaluates_then, keeps_itself}
 
 -- ---- nodes
 
@@ -16,13 +15,23 @@ abbrev pub owned : Text → ExprsTree → Inside → Text → Act Evaluated
 owned name subscripts i owner = values i [] subscripts >>= (λ xs. give (of_global (node_of owner name xs)))
 
 -- and one of the line's account
-pub gives_own : {S : Type 0} {g : Ghosts S} {e : Eval S} (name : Text) (xs : List Text) (p : Pending) → pending_view p ≡ of_global (node_of (standing_of e).account name xs)
-    → Evaluates g (λ i. give (of_global (node_of i.account name xs))) pending_view e (Ok p) e
-gives_own {e = e} name xs p is = record {
-  at = λ sound out locks. did_gives (of_global (node_of (standing_of e).account name xs)) pending_view p is;
+pub gives_own : {S X : Type 0} {g : Ghosts S} {e : Eval S} (f : X → Evaluated) (name : Text) (xs : List Text) (x : X) → f x ≡ of_global (node_of (standing_of e).account name xs)
+    → Evaluates g (λ i. give (of_global (node_of i.account name xs))) f e (Ok x) e
+gives_own {e = e} f name xs x is = record {
+  at = λ sound out locks. did_gives (of_global (node_of (standing_of e).account name xs)) f x is;
   keeps = keeps_itself _;
   depth = refl;
 }
+
+-- what follows the subscripts, where the node is then seen as what is evaluated
+pub own_failed : {S X : Type 0} {g : Ghosts S} {old new : Eval S} {e : Code} (name : Text) (p : Inside → Act (List Text)) (f : X → List Text) → Evaluates g p f old (Err e) new
+    → Evaluates g (λ i. p i >>= (λ xs. give (of_global (node_of i.account name xs)))) (λ (v : Evaluated). v) old (Err e) new
+own_failed name p f d = evaluates_failed (λ i xs. give (of_global (node_of i.account name xs))) d
+
+pub own_told : {S X : Type 0} {g : Ghosts S} {old mid : Eval S} {x : X} (name : Text) (p : Inside → Act (List Text)) (f : X → List Text) → Evaluates g p f old (Ok x) mid
+    → Evaluates g (λ i. p i >>= (λ xs. give (of_global (node_of i.account name xs)))) (λ (v : Evaluated). v) old (Ok (of_global (own_global mid name (f x)))) mid
+own_told {mid = mid} {x = x} name p f d =
+    evaluates_then (λ i xs. give (of_global (node_of i.account name xs))) d (gives_own (λ v. v) name (f x) (of_global (own_global mid name (f x))) refl)
 
 -- ---- walks
 

@@ -27,6 +27,10 @@ primary_number i p = primary_value i p >>= as_number
 abbrev pub lock_name_act : Inside → ReferenceTree → Act LockName
 lock_name_act i r = evaluated i r >>= named_lock i.account
 
+-- the place of a reference that is read at once
+abbrev pub place_to_read : Inside → ReferenceTree → Act Place
+place_to_read i r = evaluated i r >>= resolve reading
+
 -- what a read, a SET and $DATA do with what is evaluated
 abbrev pub read_act : Evaluated → Act Text
 read_act v = resolve reading v >>= read_at
@@ -36,18 +40,23 @@ put_act v x = do
   p ← resolve writing v
   put_at p x
 
-abbrev pub data_act : Evaluated → Act Text
-data_act v = do
-  p ← resolve reading v
+-- what $DATA does with a place that may be read
+abbrev pub data_at : Place → Act Text
+data_at p = do
   status ← status_at p
   give (whole_text (pos (data_number status)))
 
+abbrev pub data_act : Evaluated → Act Text
+data_act v = resolve reading v >>= data_at
+
 -- what $GET does with it, and with the arguments behind the variable
-abbrev pub get_act : ExprsTree → Inside → Evaluated → Act Text
-get_act more i v = do
-  p ← resolve reading v
+abbrev pub get_from : ExprsTree → Inside → Place → Act Text
+get_from more i p = do
   xs ← values i [] more
   read_or (unwrap_or (slice_get xs 0) []) p
+
+abbrev pub get_act : ExprsTree → Inside → Evaluated → Act Text
+get_act more i v = resolve reading v >>= get_from more i
 
 -- the direction of $ORDER, by the first of the arguments behind the variable
 abbrev pub direction_act : Inside → ExprsTree → Act Direction

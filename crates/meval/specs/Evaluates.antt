@@ -1,9 +1,9 @@
 -- SPDX-License-Identifier: Apache-2.0
 -- What a call that evaluates says: it does an act that is told where it stands.
-use Rattle.std.specs.Prelude.{◌≡◌, ◌≤◌, ℕ, Result}
+use Rattle.std.specs.Prelude.{◌≡◌, ◌≤◌, ℕ, List, Result}
 use Rattle.mspec.specs.Access.{name_at}
 use Rattle.mspec.specs.LockConflict.{Locks}
-use Rattle.mspec.specs.Act.{Text, Act}
+use Rattle.mspec.specs.Act.{Text, Node, Act}
 use Rattle.mmeaning.specs.Expression as meaning
 use Rattle.mmeaning.specs.Expression.{Inside, inside}
 use Rattle.mmeaning.specs.Calls.{Standing, Here, Did, point}
@@ -18,6 +18,10 @@ depth_of d = record { levels = d.levels; indirections = d.indirections }
 
 abbrev pub standing_of : {S : Type 0} → Eval S → Standing
 standing_of e = record { settings = e.settings.now; terminal = e.terminal; account = name_at e.settings.now e.account }
+
+-- a node of the account's own global
+abbrev pub own_global : {S : Type 0} → Eval S → Text → List Text → Node
+own_global e name xs = record { account = (standing_of e).account; name = name; subscripts = xs }
 
 -- where an evaluation is, with what it does not see: the output and the locks
 abbrev pub eval_here : {S : Type 0} → Ghosts S → Eval S → Text → Locks → Here

@@ -1,10 +1,9 @@
 -- SPDX-License-Identifier: Apache-2.0
 -- References and places of the code, as the definitions have them.
-use Rattle.std.specs.Prelude.{◌≡◌, Bool, true, List}
+use Rattle.std.specs.Prelude.{◌≡◌, Bool, true}
 use Rattle.mspec.specs.Access.{Mode, may}
 use Rattle.mspec.specs.Code.{Code, M6, M7}
 use Rattle.mspec.specs.KeyBytes.{IsAccountName}
-use Rattle.mspec.specs.Node.{Text, Node}
 use Rattle.mspec.specs.Trees.{AreOrderSubscripts}
 use Rattle.mmeaning.specs.Calls.{Standing}
 use Rattle.mmeaning.specs.Variables as variables

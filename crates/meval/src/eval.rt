@@ -22,7 +22,7 @@ use crate::session::Session;
 use crate::shortcuts::at_hand;
 use crate::value_list::Values;
 use crate::variable_name::VariableName;
-use mgrant::{AccountId, Mode, Settings};
+use mgrant::{AccountId, Settings};
 use mnum::{Name, Num};
 use moperator::{
     Code, arithmetic_of, binary, calculate, call, computed, matching, number_of, truth_of, unaries,
@@ -119,8 +119,7 @@ impl<'a, S: NodeStore> Eval<'a, S> {
     fn place_value(&mut self, alloc: Global, reference: &Reference) -> Result<Value, Code>
         ensures { Evaluates S.NodeStore (λ i. acts.variable_value i (reference_tree reference.now)) (λ v. v) self.old result self.new }
     {
-        let pending = self.evaluated(alloc, reference)?;
-        let place = self.resolved(alloc, Mode::Read, pending)?;
+        let place = self.place_to_read(alloc, reference)?;
         self.read(&place)
     }
 

@@ -44,12 +44,12 @@ impl GlobalNode {
         }
     }
 
-    // Whether it is of the global that a reference names.
-    pub(crate) fn is_of(&self, reference: &GlobalReference) -> bool
-        ensures account { IsTrue result → self.now.account ≡ reference.now.account }
-        ensures name { IsTrue result → self.now.name ≡ reference.now.name }
+    // Whether it is of the global of this account and name.
+    pub(crate) fn is_of(&self, account: &[u8], name: &Name) -> bool
+        ensures account { IsTrue result → self.now.account ≡ account.now }
+        ensures name { IsTrue result → self.now.name ≡ name.now }
     {
-        self.owner.as_bytes() == reference.account() && self.name == *reference.name()
+        self.owner.as_bytes() == account && self.name == *name
     }
 
     // It becomes the node of the same global with these subscripts.

@@ -9,11 +9,30 @@ use crate::owner::Owner;
 use crate::value_list::Values;
 use crate::variable_name::VariableName;
 use mkey::{KeyFault, NodeKey};
-use mnum::Name;
+use mnum::{Bytes7, Name};
 use moperator::Code;
 use mvalue::Value;
 use std::alloc::{AllocError, Global};
 use std::marker::Model;
+
+// The key of the node of this account, global name and subscripts: `Zsub` where these are none that a node can have.
+pub(crate) fn key_with(
+    alloc: Global,
+    account: &[u8],
+    name: &Bytes7,
+    subscripts: &[Value],
+) -> Result<NodeKey, Code>
+    requires account { IsAccountName account.now }
+    requires name { IsName name.now }
+    ensures checked { Yields fault_of (unless Zsub (are_subscripts subscripts.now)) (λ _. tt) result }
+    ensures key { IfOk result (λ key. key ≡ record { account = account.now; name = name.now; subscripts = subscripts.now }) }
+{
+    match NodeKey::build_values(alloc, account, name, subscripts) {
+        Ok(key) => Ok(key),
+        Err(KeyFault::Sub) => Err(Code::Zsub),
+        Err(KeyFault::Memory) => Err(Code::Zmem),
+    }
+}
 
 /// A node of a global as a reference gives it, whether or not a store can have it: no grant may allow it, and its subscripts may be
 /// none that a node can have. The name is mostly lent, and the subscripts are values up to the key. Contracts see it as the node.
@@ -122,11 +141,11 @@ impl<'t> GlobalReference<'t> {
         ensures checked { Yields fault_of (unless Zsub (are_subscripts self.now.subscripts)) (λ _. tt) result }
         ensures key { IfOk result (λ key. key ≡ self.now) }
     {
-        let (account, name) = (self.account(), self.name().as_bytes7());
-        match NodeKey::build_values(alloc, account, name, self.subscripts()) {
-            Ok(key) => Ok(key),
-            Err(KeyFault::Sub) => Err(Code::Zsub),
-            Err(KeyFault::Memory) => Err(Code::Zmem),
-        }
+        key_with(
+            alloc,
+            self.account(),
+            self.name().as_bytes7(),
+            self.subscripts(),
+        )
     }
 }

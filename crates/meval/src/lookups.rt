@@ -5,14 +5,12 @@ ghost use Rattle.mkey.specs.Way.{way};
 ghost use Rattle.mmeaning.specs.Variables as variables;
 ghost use Rattle.mspec.specs.Access.{Read, Write};
 ghost use Rattle.meval.specs.Evaluates.{Evaluates, standing_of};
-ghost use Rattle.meval.specs.Acts as acts;
-ghost use Rattle.meval.specs.Places.{pending_view, place_view, walk_view, status_view, IsOpen, IsWalk};
+ghost use Rattle.meval.specs.Places.{place_view, walk_view, status_view, IsOpen, IsWalk};
 
 use crate::eval::Eval;
-use crate::place::{Pending, Place, Walk, undefined};
+use crate::place::{Place, Walk, undefined};
 use crate::value_list::Values;
-use crate::walk::{data_value, first_or_empty, next_value};
-use mgrant::Mode;
+use crate::walk::{first_or_empty, next_value};
 use mkey::{Data, Direction};
 use mnum::Bytes7;
 use moperator::Code;
@@ -97,15 +95,6 @@ impl<'a, S: NodeStore> Eval<'a, S> {
             }
             Place::Node(key) => self.node_status(alloc, key),
         }
-    }
-
-    // What $DATA gives of a variable.
-    pub(crate) fn data(&mut self, alloc: Global, pending: Pending) -> Result<Value, Code>
-        ensures { Evaluates S.NodeStore (λ i. acts.data_act (pending_view pending.entry)) (λ v. v) self.old result self.new }
-    {
-        let place = self.resolved(alloc, Mode::Read, pending)?;
-        let data = self.status(alloc, &place)?;
-        Ok(data_value(data))
     }
 
     // The subscript next to the last one of a walk, or the empty text where there is none.

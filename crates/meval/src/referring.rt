@@ -12,8 +12,7 @@ ghost use Rattle.meval.specs.Evaluates.{Evaluates};
 ghost use Rattle.meval.specs.Acts as acts;
 
 use crate::eval::Eval;
-use crate::walk::direction;
-use mgrant::Mode;
+use crate::walk::{data_value, direction};
 use mkey::Direction;
 use moperator::Code;
 use mstore::NodeStore;
@@ -44,8 +43,9 @@ impl<'a, S: NodeStore> Eval<'a, S> {
     fn data_of(&mut self, alloc: Global, reference: &Reference) -> Result<Value, Code>
         ensures { Evaluates S.NodeStore (λ i. acts.data_of i (reference_tree reference.now)) (λ v. v) self.old result self.new }
     {
-        let pending = self.evaluated(alloc, reference)?;
-        self.data(alloc, pending)
+        let place = self.place_to_read(alloc, reference)?;
+        let data = self.status(alloc, &place)?;
+        Ok(data_value(data))
     }
 
     // What $GET gives of a variable, or of the first of these where it has no value.
@@ -54,8 +54,7 @@ impl<'a, S: NodeStore> Eval<'a, S> {
     fn get_of(&mut self, alloc: Global, reference: &Reference, more: &[Expr]) -> Result<Value, Code>
         ensures { Evaluates S.NodeStore (λ i. acts.get_of i (reference_tree reference.now) (exprs_of (map expr_tree more.now))) (λ v. v) self.old result self.new }
     {
-        let pending = self.evaluated(alloc, reference)?;
-        let place = self.resolved(alloc, Mode::Read, pending)?;
+        let place = self.place_to_read(alloc, reference)?;
         let more = self.values(alloc, more)?;
         self.read_or(alloc, &place, more)
     }

@@ -6,19 +6,24 @@ ghost use Rattle.mspec.specs.Act.{set_naked, give};
 ghost use Rattle.mspec.specs.KeyBytes.{IsAccountName};
 ghost use Rattle.mgrant.specs.Placed.{mode_of};
 ghost use Rattle.mmeaning.specs.Variables as variables;
-ghost use Rattle.meval.specs.Evaluates.{Evaluates, standing_of};
+ghost use Rattle.mtree.specs.Tree.{reference_tree};
+ghost use Rattle.meval.specs.Acts as acts;
+ghost use Rattle.meval.specs.Evaluates.{Evaluates, own_global, standing_of};
 ghost use Rattle.meval.specs.Held.{name_view};
 ghost use Rattle.meval.specs.Places.{pending_view, place_view, walk_view, use_of, IsWalk, IsOpen};
 
 use crate::eval::Eval;
-use crate::global_reference::GlobalReference;
+use crate::global_node::GlobalNode;
+use crate::global_reference::{GlobalReference, key_with};
 use crate::owner::Owner;
 use crate::place::{Pending, Place, Walk, check_walk, local_place};
 use crate::value_list::Values;
 use crate::variable_name::VariableName;
 use mgrant::Mode;
+use mkey::AccountName;
 use moperator::Code;
 use mstore::NodeStore;
+use mtree::Reference;
 use std::alloc::Global;
 
 impl<'a, S: NodeStore> Eval<'a, S> {
@@ -57,12 +62,28 @@ impl<'a, S: NodeStore> Eval<'a, S> {
         ensures does { Evaluates S.NodeStore (λ i. set_naked (Some node.entry)) (λ u. u) self.old result self.new }
     {
         if let Some(last) = &mut self.session.naked {
-            if last.is_of(&node) {
+            if last.is_of(node.account(), node.name()) {
                 last.set_subscripts(node.into_subscripts());
                 return Ok(());
             }
         }
         self.session.naked = Some(node.into_node()?);
+        Ok(())
+    }
+
+    // The same of the node of the account of this name, of this global name and these subscripts.
+    fn refer_own(&mut self, own: &[u8], name: VariableName, values: Values) -> Result<(), Code>
+        requires { IsAccountName own.now }
+        ensures { Evaluates S.NodeStore (λ i. set_naked (Some (record { account = own.now; name = name_view name.entry; subscripts = values }))) (λ u. u) self.old result self.new }
+    {
+        if let Some(last) = &mut self.session.naked {
+            if last.is_of(own, name.as_name()) {
+                last.set_subscripts(values);
+                return Ok(());
+            }
+        }
+        let owner = Owner::Account(AccountName::of_name(own));
+        self.session.naked = Some(GlobalNode::new(owner, name.into_name()?, values));
         Ok(())
     }
 
@@ -92,6 +113,26 @@ impl<'a, S: NodeStore> Eval<'a, S> {
         Ok(Place::Node(key))
     }
 
+    // The same of a node of the account's own global, which it may read. No reference to it is made.
+    pub(crate) fn own_place<'t>(
+        &mut self,
+        alloc: Global,
+        name: VariableName,
+        values: Values,
+    ) -> Result<Place<'t>, Code>
+        ensures allowed { IfOk result (λ place. IsOpen (standing_of self.new) Read (place_view place)) }
+        ensures does { Evaluates S.NodeStore (λ i. variables.node_place variables.reading (own_global self.old (name_view name.entry) values)) place_view self.old result self.new }
+    {
+        let own = self.settings.name_of(self.account);
+        if own.is_empty() {
+            // the id is of other settings, which a world never hands in
+            return Err(Code::Zgrant);
+        }
+        let key = key_with(alloc, own, name.as_name().as_bytes7(), values.as_slice())?;
+        self.refer_own(own, name, values)?;
+        Ok(Place::Node(key))
+    }
+
     /// The place of a reference that is to be read or written, once all of it is evaluated.
     ///
     /// # Errors
@@ -116,6 +157,23 @@ impl<'a, S: NodeStore> Eval<'a, S> {
                 self.node_place(alloc, mode, node)
             }
         }
+    }
+
+    // The place of a reference that is read at once: it is evaluated, and then checked.
+    #[cycle(eval)]
+    pub(crate) fn place_to_read<'t>(
+        &mut self,
+        alloc: Global,
+        reference: &'t Reference,
+    ) -> Result<Place<'t>, Code>
+        ensures allowed { IfOk result (λ place. IsOpen (standing_of self.new) Read (place_view place)) }
+        ensures does { Evaluates S.NodeStore (λ i. acts.place_to_read i (reference_tree reference.now)) place_view self.old result self.new }
+    {
+        if let Reference::Global(name, subscripts) = reference {
+            return self.fast_own(alloc, name, subscripts);
+        }
+        let pending = self.evaluated(alloc, reference)?;
+        self.resolved(alloc, Mode::Read, pending)
     }
 
     // The place of a node of which $ORDER is asked. What stands behind the reference may refer to another, so the walk keeps a node of

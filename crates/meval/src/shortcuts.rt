@@ -8,19 +8,20 @@ ghost use Rattle.mgrammar.specs.Grammar.{local, no_exprs, exprs, exprs_of};
 ghost use Rattle.mmeaning.specs.Expression as meaning;
 ghost use Rattle.mmeaning.specs.Variables as variables;
 ghost use Rattle.mnum.specs.Num.{units};
+ghost use Rattle.mspec.specs.Access.{Read};
 ghost use Rattle.mspec.specs.Act.{get_local};
 ghost use Rattle.mspec.specs.KeyBytes.{AreSubscripts};
 ghost use Rattle.mspec.specs.Trees.{AreOrderSubscripts};
 ghost use Rattle.mkey.specs.Way.{way};
 ghost use Rattle.mtree.specs.Tree.{expr_tree, operand_tree};
 ghost use Rattle.mtree.specs.Functions.{variable_function_tree};
-ghost use Rattle.meval.specs.Evaluates.{Evaluates, KeepsEval};
+ghost use Rattle.meval.specs.Evaluates.{Evaluates, KeepsEval, standing_of};
 ghost use Rattle.meval.specs.Acts as acts;
-ghost use Rattle.meval.specs.Places.{pending_view};
+ghost use Rattle.meval.specs.Places.{IsOpen, pending_view, place_view};
 ghost use Rattle.meval.specs.AtHand.{at_hand_tree};
 
 use crate::eval::Eval;
-use crate::place::{Pending, check_walk};
+use crate::place::{Pending, Place, check_walk};
 use crate::value_list::Values;
 use crate::variable_name::VariableName;
 use crate::walk::{data_value, first_or_empty, next_value};
@@ -122,6 +123,21 @@ impl<'a, S: NodeStore> Eval<'a, S> {
         Ok(Pending::Local(VariableName::Own(name), values))
     }
 
+    // `place_to_read`, of a global of the account's own, to which no reference is made.
+    #[cycle(eval)]
+    pub(crate) fn fast_own<'t>(
+        &mut self,
+        alloc: Global,
+        name: &'t Name,
+        subscripts: &[Expr],
+    ) -> Result<Place<'t>, Code>
+        ensures allowed { IfOk result (λ place. IsOpen (standing_of self.new) Read (place_view place)) }
+        ensures does { Evaluates S.NodeStore (λ i. acts.place_to_read i (grammar.global name.now (exprs_of (map expr_tree subscripts.now)))) place_view self.old result self.new }
+    {
+        let values = self.values(alloc, subscripts)?;
+        self.own_place(alloc, VariableName::Lent(name), values)
+    }
+
     // `place_value`, of a local variable by one subscript.
     #[cycle(eval)]
     #[inline(never)]
@@ -174,7 +190,7 @@ impl<'a, S: NodeStore> Eval<'a, S> {
         }
     }
 
-    // `data`, of a local variable by this subscript.
+    // `data_of`, of a local variable by this subscript.
     #[inline(never)]
     fn fast_data(&mut self, name: &Name, subscript: &Value) -> Result<Value, Code>
         ensures { Evaluates S.NodeStore (λ i. acts.data_act (variables.of_local name.now (subscript.now ∷ []))) (λ v. v) self.old result self.new }

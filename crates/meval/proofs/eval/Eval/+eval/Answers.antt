@@ -1,5 +1,5 @@
 -- SPDX-License-Identifier: Apache-2.0
-use Rattle.meval.proofs.EvalLaws.{◌≡◌, ◌∙◌, ◌++◌, length, [], ◌∷◌, map, refl, sym, ap, arith, nat_tests, nil_from_length, apply, exprs_of, named_by, values, at_local, of_global, subscripts_of, with_subscripts, direction_of, residual_is, slice_get, ◌>>=◌, give, expr_tree, operand_tree, reference_tree, tail_tree, units, read_act, data_act, get_act, order_from, order_behind, pending_view, walk_view, of_local, of_naked, read_or, unwrap_or, decides_subscripts, subst, at_node, read_at, IsAccountName, way, List, computed_outcome, evaluates_then, evaluates_whole, evaluates_failed, evaluates_gives, evaluates_seen, evaluates_refused, evaluates_stopped, evaluates_wanting, evaluates_yielded, never_refused, keeps_itself, keeps_on, node_evaluated, node_failed, variable_told, function_failed, got, let_through, ordered_next, ordered_stopped, walk_through, walk_refused, step_leads, operand_refused, operator_refused, leads_itself, leads_on, leads_into, of_primary, alone, in_brackets, bracket_refused, not_free, is_free, evaluates_behind, evaluates_deep, evaluates_unnamed, evaluates_entry, gives_own, node_of, owned, expr_is, operand_is, number_is, text_is, special_is, reference_is, variable_is, node_is, local_is, global_is, naked_is, indirect_is, extended_is, refer_is, referring_is, bracket_is, call_is, select_is, apply_is, matches_is, matches_not_is, charge_failed, from_tail, from_end, next_value, value_failed, values_end, next_choice, is_chosen, not_chosen, none_chosen}
+use Rattle.meval.proofs.EvalLaws.{◌≡◌, ◌∙◌, ◌++◌, length, [], ◌∷◌, map, refl, sym, ap, arith, nat_tests, nil_from_length, apply, exprs_of, named_by, values, at_local, of_global, subscripts_of, with_subscripts, resolve, reading, direction_of, residual_is, slice_get, ◌>>=◌, give, expr_tree, operand_tree, reference_tree, tail_tree, units, read_act, data_act, data_at, get_act, get_from, order_from, order_behind, pending_view, walk_view, of_local, of_naked, read_or, unwrap_or, decides_subscripts, read_at, List, computed_outcome, evaluates_regrouped, evaluates_then, evaluates_whole, evaluates_failed, evaluates_gives, evaluates_seen, evaluates_refused, evaluates_stopped, evaluates_wanting, evaluates_yielded, never_refused, keeps_itself, keeps_on, node_evaluated, node_failed, variable_told, function_failed, got, let_through, ordered_next, ordered_stopped, walk_through, walk_refused, step_leads, operand_refused, operator_refused, leads_itself, leads_on, leads_into, of_primary, alone, in_brackets, bracket_refused, not_free, is_free, evaluates_behind, evaluates_deep, evaluates_unnamed, evaluates_entry, evaluated, gives_own, node_of, own_failed, own_told, owned, expr_is, operand_is, number_is, text_is, special_is, reference_is, variable_is, node_is, local_is, global_is, naked_is, indirect_is, extended_is, refer_is, referring_is, bracket_is, call_is, select_is, apply_is, matches_is, matches_not_is, charge_failed, from_tail, from_end, next_value, value_failed, values_end, next_choice, is_chosen, not_chosen, none_chosen}
 use Rattle.std.proofs.Common.{Ok}
 use Rattle.mspec.specs.Act.{Text}
 use Rattle.mtree.specs.Functions.{variable_function_tree}
@@ -104,14 +104,11 @@ pub fast_node-returns : goal.fast_node-returns
 fast_node-returns g t c =
     evaluates_then (λ i v. read_act v) (node_evaluated c.args.name.now (expr_tree c.args.subscript.now) _ c.in_ok-eval_into.ensures.does) c.fast_read.ensures
 
-pub place_value-returns-in_err-pending : goal.place_value-returns-in_err-pending
-place_value-returns-in_err-pending g t c = evaluates_stopped _ c.in_err-pending.ensures c.from_residual.ensures
-
 pub place_value-returns-in_err-place : goal.place_value-returns-in_err-place
-place_value-returns-in_err-place g t c = evaluates_then _ c.in_ok-pending.ensures (evaluates_stopped _ c.in_err-place.ensures.does c.from_residual-in_err-place.ensures)
+place_value-returns-in_err-place g t c = evaluates_regrouped (λ i. evaluated i (reference_tree c.args.reference.now)) (λ i. resolve reading) (λ i. read_at) (evaluates_stopped (λ i. read_at) c.in_err-place.ensures.does c.from_residual.ensures)
 
 pub place_value-returns : goal.place_value-returns
-place_value-returns g t c = evaluates_then _ c.in_ok-pending.ensures (evaluates_then _ c.in_ok-place.ensures.does c.read.ensures)
+place_value-returns g t c = evaluates_regrouped (λ i. evaluated i (reference_tree c.args.reference.now)) (λ i. resolve reading) (λ i. read_at) (evaluates_then (λ i. read_at) c.in_ok-place.ensures.does c.read.ensures)
 
 pub called-returns-in_err-values : goal.called-returns-in_err-values
 called-returns-in_err-values g t c = evaluates_stopped _ c.in_err-values.ensures c.from_residual.ensures
@@ -120,6 +117,27 @@ pub called-returns : goal.called-returns
 called-returns g t c =
     let called = rw c.as_slice.ensures at c.call.ensures.value in
     evaluates_then _ c.in_ok-values.ensures (evaluates_yielded called)
+
+-- ---- places that are read at once
+
+pub place_to_read-returns-in-Global-clause-does : goal.place_to_read-returns-in-Global-clause-does
+place_to_read-returns-in-Global-clause-does g t c =
+    let k = rw c.deref.ensures.value at c.fast_own.ensures.does in
+    rw (c.in-Global.is, global_is c.in-Global.name c.in-Global.subscripts) k
+
+pub place_to_read-returns-in_err-pending-clause-does : goal.place_to_read-returns-in_err-pending-clause-does
+place_to_read-returns-in_err-pending-clause-does g t c = evaluates_stopped (λ i. resolve reading) c.in_err-pending.ensures c.from_residual.ensures
+
+pub place_to_read-returns-clause-does : goal.place_to_read-returns-clause-does
+place_to_read-returns-clause-does g t c = evaluates_then (λ i. resolve reading) c.in_ok-pending.ensures c.resolved.ensures.does
+
+pub fast_own-returns-in_err-values-clause-does : goal.fast_own-returns-in_err-values-clause-does
+fast_own-returns-in_err-values-clause-does g t c =
+    evaluates_stopped (λ i. resolve reading) (own_failed c.args.name.now (λ i. values i [] (exprs_of (map expr_tree c.args.subscripts.now))) (λ xs. xs) c.in_err-values.ensures) c.from_residual.ensures
+
+pub fast_own-returns-clause-does : goal.fast_own-returns-clause-does
+fast_own-returns-clause-does g t c =
+    evaluates_then (λ i. resolve reading) (own_told c.args.name.now (λ i. values i [] (exprs_of (map expr_tree c.args.subscripts.now))) (λ xs. xs) c.in_ok-values.ensures) c.own_place.ensures.does
 
 -- ---- references
 
@@ -184,7 +202,7 @@ global-returns-in_err-values g t c =
 
 pub global-returns : goal.global-returns
 global-returns g t c =
-    evaluates_then (λ i xs. give (of_global (node_of i.account c.args.name.now xs))) c.in_ok-values.ensures (gives_own c.args.name.now _ _ (ap of_global c.own_node-node.ensures))
+    evaluates_then (λ i xs. give (of_global (node_of i.account c.args.name.now xs))) c.in_ok-values.ensures (gives_own pending_view c.args.name.now _ _ (ap of_global c.own_node-node.ensures))
 
 -- ---- environments
 
@@ -323,25 +341,33 @@ referring-returns-in-Order g t c =
     let k = rw c.deref-in-Order.ensures.value at c.order_of.ensures in
     rw is.1 k
 
-pub data_of-returns-in_err-pending : goal.data_of-returns-in_err-pending
-data_of-returns-in_err-pending g t c = evaluates_stopped _ c.in_err-pending.ensures c.from_residual.ensures
+pub data_of-returns-in_err-place : goal.data_of-returns-in_err-place
+data_of-returns-in_err-place g t c =
+    evaluates_regrouped (λ i. evaluated i (reference_tree c.args.reference.now)) (λ i. resolve reading) (λ i. data_at) (evaluates_stopped (λ i. data_at) c.in_err-place.ensures.does c.from_residual.ensures)
+
+pub data_of-returns-in_err-data : goal.data_of-returns-in_err-data
+data_of-returns-in_err-data g t c =
+    evaluates_regrouped (λ i. evaluated i (reference_tree c.args.reference.now)) (λ i. resolve reading) (λ i. data_at)
+    (evaluates_then (λ i. data_at) c.in_ok-place.ensures.does (evaluates_stopped _ c.in_err-data.ensures c.from_residual-in_err-data.ensures))
 
 pub data_of-returns : goal.data_of-returns
-data_of-returns g t c = evaluates_then _ c.in_ok-pending.ensures c.data.ensures
-
-pub get_of-returns-in_err-pending : goal.get_of-returns-in_err-pending
-get_of-returns-in_err-pending g t c = evaluates_stopped _ c.in_err-pending.ensures c.from_residual.ensures
+data_of-returns g t c =
+    evaluates_regrouped (λ i. evaluated i (reference_tree c.args.reference.now)) (λ i. resolve reading) (λ i. data_at)
+    (evaluates_then (λ i. data_at) c.in_ok-place.ensures.does (evaluates_then _ c.in_ok-data.ensures (evaluates_gives _ _ _ c.data_value.ensures)))
 
 pub get_of-returns-in_err-place : goal.get_of-returns-in_err-place
-get_of-returns-in_err-place g t c = evaluates_then _ c.in_ok-pending.ensures (evaluates_stopped _ c.in_err-place.ensures.does c.from_residual-in_err-place.ensures)
+get_of-returns-in_err-place g t c =
+    evaluates_regrouped (λ i. evaluated i (reference_tree c.args.reference.now)) (λ i. resolve reading) (get_from (exprs_of (map expr_tree c.args.more.now))) (evaluates_stopped (get_from (exprs_of (map expr_tree c.args.more.now))) c.in_err-place.ensures.does c.from_residual.ensures)
 
 pub get_of-returns-in_err-more : goal.get_of-returns-in_err-more
 get_of-returns-in_err-more g t c =
-    evaluates_then _ c.in_ok-pending.ensures (evaluates_then _ c.in_ok-place.ensures.does (evaluates_stopped _ c.in_err-more.ensures c.from_residual-in_err-more.ensures))
+    evaluates_regrouped (λ i. evaluated i (reference_tree c.args.reference.now)) (λ i. resolve reading) (get_from (exprs_of (map expr_tree c.args.more.now)))
+    (evaluates_then (get_from (exprs_of (map expr_tree c.args.more.now))) c.in_ok-place.ensures.does (evaluates_stopped _ c.in_err-more.ensures c.from_residual-in_err-more.ensures))
 
 pub get_of-returns : goal.get_of-returns
 get_of-returns g t c =
-    evaluates_then _ c.in_ok-pending.ensures (evaluates_then _ c.in_ok-place.ensures.does (evaluates_then _ c.in_ok-more.ensures c.read_or.ensures))
+    evaluates_regrouped (λ i. evaluated i (reference_tree c.args.reference.now)) (λ i. resolve reading) (get_from (exprs_of (map expr_tree c.args.more.now)))
+    (evaluates_then (get_from (exprs_of (map expr_tree c.args.more.now))) c.in_ok-place.ensures.does (evaluates_then _ c.in_ok-more.ensures c.read_or.ensures))
 
 pub direction-returns-in_err-values : goal.direction-returns-in_err-values
 direction-returns-in_err-values g t c = evaluates_stopped (λ i xs. direction_of (slice_get xs 0)) c.in_err-values.ensures c.from_residual.ensures

@@ -79,20 +79,26 @@ decreases-fast_get g l = 16 * l.self.now.steps + 6
 abbrev pub decreases-fast_order : goal.decreases-fast_order
 decreases-fast_order g l = 16 * l.self.now.steps + 7
 
+abbrev pub decreases-fast_own : goal.decreases-fast_own
+decreases-fast_own g l = 16 * l.self.now.steps + 6
+
+abbrev pub decreases-place_to_read : goal.decreases-place_to_read
+decreases-place_to_read g l = 16 * l.self.now.steps + 8
+
 abbrev pub decreases-place_value : goal.decreases-place_value
-decreases-place_value g l = 16 * l.self.now.steps + 8
+decreases-place_value g l = 16 * l.self.now.steps + 9
 
 abbrev pub decreases-data_of : goal.decreases-data_of
-decreases-data_of g l = 16 * l.self.now.steps + 8
+decreases-data_of g l = 16 * l.self.now.steps + 9
 
 abbrev pub decreases-get_of : goal.decreases-get_of
-decreases-get_of g l = 16 * l.self.now.steps + 8
+decreases-get_of g l = 16 * l.self.now.steps + 9
 
 abbrev pub decreases-order_of : goal.decreases-order_of
 decreases-order_of g l = 16 * l.self.now.steps + 8
 
 abbrev pub decreases-variable : goal.decreases-variable
-decreases-variable g l = 16 * l.self.now.steps + 9
+decreases-variable g l = 16 * l.self.now.steps + 10
 
 abbrev pub decreases-fast_through : goal.decreases-fast_through
 decreases-fast_through g l = 16 * l.self.now.steps + 6
@@ -104,7 +110,7 @@ abbrev pub decreases-through : goal.decreases-through
 decreases-through g l = 16 * l.self.now.steps + 9
 
 abbrev pub decreases-referring : goal.decreases-referring
-decreases-referring g l = 16 * l.self.now.steps + 9
+decreases-referring g l = 16 * l.self.now.steps + 10
 
 abbrev pub invariant-chosen-loop-choice : goal.invariant-chosen-loop-choice
 invariant-chosen-loop-choice g l = record {

@@ -13,6 +13,7 @@ do the same work beside it if they are installed.
         --twins                     times the workloads that have a twin, and the twins (benchmarks/twins.txt), over a
                                     store in memory and GT.M alone, and prints GT.M's time beside the program's of both;
                                     what ten times as much takes; and how much of the time the store's calls take
+                                    (a pass goes over all of them, so that a slow minute of the machine meets all)
 
 What the store's calls take alone is told by the program `transcripts`, which the gate leaves in its crate's `out`, or
 which the variable TRANSCRIPTS names: it makes them in the order in which four workloads make them.
@@ -51,7 +52,7 @@ ACCOUNTS = 1000
 TURNS = 2_000_000
 GROWTH = 10
 # Ten times as much is timed less often.
-PASSES_OF_GROWTH = 2
+PASSES_OF_GROWTH = 4
 # Of each workload with a floor: the call of the page `floors` of `timings`, and how many operations one such call is.
 FLOORS = {
     "new nodes": ("nodes set", 1),
@@ -95,6 +96,12 @@ class Measured:
     reference: list[float] = field(default_factory=list)
     replies: bytes = b""
     memory: float = 0.0
+
+    def take(self, once: "Measured") -> None:
+        """Adds what further passes took."""
+        self.passes += once.passes
+        self.reference += once.reference
+        self.replies, self.memory = once.replies, max(self.memory, once.memory)
 
     def ratios(self, operations: int) -> list[float]:
         """How many turns of the reference an operation took, in each pass."""
@@ -258,9 +265,28 @@ def measured(subjects: Subjects, work: Workload, passes: int, scale: int) -> dic
         one = found.setdefault(subject, Measured())
         if subjects.beside_reference:
             one.reference.append(reference())
-        once = subjects.run(subject, work, scale)
-        one.passes += once.passes
-        one.replies, one.memory = once.replies, max(one.memory, once.memory)
+        one.take(subjects.run(subject, work, scale))
+    return found
+
+
+@dataclass(frozen=True)
+class Job:
+    """So many passes of a workload, so many times as large, by the subjects of these names."""
+    work: Workload
+    names: tuple[str, ...]
+    scale: int
+    passes: int
+
+
+def in_rounds(subjects: Subjects, jobs: dict[str, Job]) -> dict[str, dict[str, Measured]]:
+    """What each job's subjects took. A round makes one pass of each job, so that a slow minute of the machine meets all of them."""
+    found: dict[str, dict[str, Measured]] = {name: {} for name in jobs}
+    for done in range(max(job.passes for job in jobs.values())):
+        for name, job in jobs.items():
+            if done < job.passes:
+                subjects.names = list(job.names)
+                for subject, once in measured(subjects, job.work, 1, job.scale).items():
+                    found[name].setdefault(subject, Measured()).take(once)
     return found
 
 
@@ -321,27 +347,29 @@ def twin_rows(subjects: Subjects, asked: argparse.Namespace) -> Iterator[tuple[s
     """A row of the table of twins for each workload that has one, and what is wrong with the replies; and one for the
     lines of many accounts."""
     subjects.beside_reference = False
-    alone, of_one = floors(), None
-    twins = {twin.name: twin for twin in workloads(TWINS)}
-    for work in workloads(asked.workloads):
-        twin = twins.get(work.name)
-        if asked.names and not any(name in work.name for name in asked.names):
+    alone, twins = floors(), {twin.name: twin for twin in workloads(TWINS)}
+    wanted = [work for work in workloads(asked.workloads) if not asked.names or any(name in work.name for name in asked.names)]
+    jobs: dict[str, Job] = {}
+    for work in wanted:
+        if twin := twins.get(work.name):
+            jobs[work.name] = Job(work, ("memory", GTM), 1, asked.passes)
+            jobs[f"twin of {work.name}"] = Job(twin, ("memory", GTM), 1, asked.passes)
+            jobs[f"more of {work.name}"] = Job(work, ("memory",), GROWTH, PASSES_OF_GROWTH)
+        elif work.name == MANY_ACCOUNTS:
+            jobs[work.name] = Job(work, ("memory",), 1, asked.passes)
+    found = in_rounds(subjects, jobs)
+    for work in wanted:
+        if work.name not in jobs:
             continue
-        if work.name == MANY_ACCOUNTS and of_one:
-            subjects.names = ["memory"]
-            found = measured(subjects, work, asked.passes, 1)
-            many = found["memory"]
+        own = found[work.name]
+        if twin := twins.get(work.name):
+            other, larger = found[f"twin of {work.name}"], found[f"more of {work.name}"]
+            cells = [work.name, speeds(own), speeds(other), grown(own["memory"], larger["memory"]), above(alone.get(work.name), work, own["memory"])]
+            yield f"| {' | '.join(cells)} |", [*faults(work, own, 1), *faults(twin, other, 1)]
+        elif ONE_ACCOUNT in found:
+            many, of_one = own["memory"], found[ONE_ACCOUNT]["memory"]
             longer = min(many.passes) / min(of_one.passes)
-            yield f"| {work.name} |  |  | {longer:.2f}, {of_one.memory:.0f} and {many.memory:.0f} MB |  |", [*faults(work, found, 1)]
-        if twin is None:
-            continue
-        subjects.names = ["memory", GTM]
-        own, other = (measured(subjects, one, asked.passes, 1) for one in (work, twin))
-        subjects.names = ["memory"]
-        larger = measured(subjects, work, PASSES_OF_GROWTH, GROWTH)
-        of_one = own["memory"] if work.name == ONE_ACCOUNT else of_one
-        cells = [work.name, speeds(own), speeds(other), grown(own["memory"], larger["memory"]), above(alone.get(work.name), work, own["memory"])]
-        yield f"| {' | '.join(cells)} |", [*faults(work, own, 1), *faults(twin, other, 1)]
+            yield f"| {work.name} |  |  | {longer:.2f}, {of_one.memory:.0f} and {many.memory:.0f} MB |  |", [*faults(work, own, 1)]
 
 
 def write_page(begin: str, table: str) -> None:

@@ -4,8 +4,6 @@
 five passes, by Python's own fractions and texts."""
 import contextlib
 import io
-import itertools
-import re
 import textwrap
 
 from blocks import INDENT
@@ -45,14 +43,6 @@ def numbers():
         print(f"  {'write':<12} {summed(lambda i: len(text_of(xs[i % 4])))}")
 
 
-def texts():
-    text = "abcdefghi^" * 400 + "needle"
-    print("texts")
-    print(f"  {'pieces':<12} {summed(lambda i: len(text.split('^')))}")
-    print(f"  {'find':<12} {summed(lambda i: text.index('needle') + len('needle') + 1)}")
-    print(f"  {'matches':<12} {summed(lambda i: int(bool(re.fullmatch('[A-Za-z]+-[0-9]+', 'ABCDEFGHIJ-123456789'))))}")
-
-
 KEYS = {
     "keys of a small number": ["12"],
     "keys of a price": ["-7.25"],
@@ -79,54 +69,6 @@ def keys():
     for title, words in ORDERS.items():
         print(title)
         print(f"  {'collate':<12} {summed(lambda i: int(place(words[i % 4]) < place(words[i // 4 % 4])))}")
-
-
-def local_variables():
-    count, stride = 10_000, 7_919
-    names = [f"V{i}" for i in range(count)]
-    print("ten thousand locals")
-    print(f"  {'get':<12} {summed(lambda i: len(names[i * stride % count]))}")
-    print(f"  {'set':<12} {summed(lambda i: 1)}")
-    print(f"  {'copy alone':<12} {summed(lambda i: len(names[i * stride % count]))}")
-    print(f"  {'level':<12} {summed(lambda i: 1)}")
-    print(f"  {'set number':<12} {summed(lambda i: 1)}")
-    print(f"  {'get number':<12} {summed(lambda i: i)}")
-    for title, letter in {"numbers": "", "texts": "item"}.items():
-        print(f"ten thousand subscripts, {title}")
-        words = [f"{letter}{i}" for i in range(count)]
-        order = sorted(words, key=place)
-        at = {word: i for i, word in enumerate(order)}
-        # each step that leads to a subscript counts
-        for name, step in {"order": 1, "order back": -1}.items():
-            reached = [order[at[w] + step] if 0 <= at[w] + step < count else "" for w in words]
-            print(f"  {name:<12} {summed(lambda i: int(reached[i * stride % count] != ''))}")
-        for name, walk in {"walk": order + [""], "walk back": order[::-1] + [""]}.items():
-            print(f"  {name:<12} {sum(walk[i % len(walk)] != '' for i in range(PASSES * ROUNDS))}")
-
-
-def drawn(i, count):
-    """A place below the count, by the number of the round."""
-    return (i * 0x9E3779B97F4A7C15 % 2**64 >> 32) % count
-
-
-def stores():
-    length = len(key(b"ALICE", b"DATA", [b"0"]))
-    for count, kind in itertools.product((100, 1000), ("plain store", "table")):
-        print(f"{kind} of {count} nodes")
-        print(f"  {'put':<12} {count}")
-        print(f"  {'put again':<12} {PASSES * ROUNDS}")
-        print(f"  {'get':<12} {summed(lambda i: len('hello world'))}")
-        print(f"  {'next':<12} {summed(lambda i: length)}")
-        print(f"  {'prev':<12} {summed(lambda i: length if drawn(i, count) else 0)}")
-        print(f"  {'put and kill':<12} {PASSES * 100}")
-
-
-def cached():
-    for count, kind in itertools.product((100, 1100), ("plain store", "table")):
-        print(f"{kind}, {count} nodes in turn")
-        for front in ("", "cached "):
-            print(f"  {front + 'get':<12} {summed(lambda i: len('hello world'))}")
-            print(f"  {front + 'kill':<12} {PASSES * 100}")
 
 
 def floors():
@@ -165,20 +107,7 @@ def grants():
     print(f"  {'read':<12} {PASSES * 10 * len(document)}")
 
 
-def locks():
-    for what in "other globals, no subscript", "other globals, three subscripts", "the same global, three subscripts":
-        print(f"beside locks of {what}")
-        print(f"  {'take':<12} {PASSES * ROUNDS}")
-        print(f"  {'give_back':<12} {PASSES * ROUNDS}")
-    for what in "above locks, no subscript", "below a lock, three subscripts":
-        print(what)
-        print(f"  {'take':<12} 0")
-
-
-PAGES = {
-    "numbers": numbers, "texts": texts, "keys": keys, "locals": local_variables,
-    "stores": stores, "cached": cached, "floors": floors, "grants": grants, "locks": locks,
-}
+PAGES = {"numbers": numbers, "keys": keys, "floors": floors, "grants": grants}
 
 
 def main():

@@ -1,9 +1,8 @@
 // SPDX-License-Identifier: Apache-2.0
 // The floor below lines of M: the calls of a store that four workloads of `tools/bench.py` make, in their order and alone. The store
 // is as the program has it, a table with texts kept in front of it.
-use crate::cached::with_texts;
 use crate::measuring::Page;
-use crate::stores::{Nodes, drawn, get, key, length, make_nodes, put};
+use crate::nodes::{Nodes, drawn, get, key, length, make_nodes, put, with_texts};
 use mkey::NodeKey;
 use mnum::Bytes7;
 use mstore::{NodeStore, Table};

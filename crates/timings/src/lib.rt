@@ -1,29 +1,23 @@
 // SPDX-License-Identifier: Apache-2.0
-//! Times bare calls that no line of M reaches by itself: those of numbers, texts, keys, locals, stores,
-//! settings and locks, a page each, and a page of those of a store that workloads make. In a transcript a page is played without its times, and its
-//! checksums, which are the same on every machine, stand below it.
+//! Times bare calls that no line of M reaches by itself: those of numbers, keys and settings, a page each, and a page of those of
+//! a store that workloads make. In a transcript a page is played without its times, and its checksums, which are the same on every
+//! machine, stand below it.
 //!
 //! No call has a contract: a program's output is the test of it.
 #![tactic(auto)]
 
-mod cached;
 mod floors;
 mod grants;
 mod keys;
-mod locals;
-mod locks;
 mod measuring;
+mod nodes;
 mod numbers;
-mod stores;
-mod texts;
 
 use crate::measuring::{Page, Plan};
 use mtranscript::play;
 
 /// The names of the pages, in their order.
-pub const PAGES: [&str; 9] = [
-    "numbers", "texts", "keys", "locals", "stores", "cached", "floors", "grants", "locks",
-];
+pub const PAGES: [&str; 4] = ["numbers", "keys", "floors", "grants"];
 
 /// Of each page, the checksum of each call that it makes: the sum of what a thousand rounds give, in five passes.
 ///
@@ -55,7 +49,6 @@ fn add_page(
         rounds,
         passes: 5,
         timed,
-        bytes: None,
     };
     let mut page = Page {
         rt,
@@ -70,14 +63,9 @@ fn add_page(
 fn calls(page: &mut Page, name: &str) -> anyhow::Result<()> {
     match name {
         "numbers" => numbers::numbers(page),
-        "texts" => texts::texts(page),
         "keys" => keys::keys_and_orders(page),
-        "locals" => locals::locals(page),
-        "stores" => stores::stores(page),
-        "cached" => cached::cached(page),
         "floors" => floors::floors(page),
         "grants" => grants::grants(page),
-        "locks" => locks::locks(page),
         _ => anyhow::bail!("no such page"),
     }
 }

@@ -11,8 +11,6 @@ pub struct Plan {
     pub rounds: usize,
     pub passes: u32,
     pub timed: bool,
-    /// How many bytes a call goes over, where it is told how many of them in a nanosecond.
-    pub bytes: Option<usize>,
 }
 
 impl Plan {
@@ -20,14 +18,6 @@ impl Plan {
     pub fn at_most(self, rounds: usize) -> Plan {
         Plan {
             rounds: self.rounds.min(rounds),
-            ..self
-        }
-    }
-
-    /// The same for calls that go over so many bytes.
-    pub fn over(self, bytes: usize) -> Plan {
-        Plan {
-            bytes: Some(bytes),
             ..self
         }
     }
@@ -70,16 +60,11 @@ impl<'a> Page<'a> {
         requires { F.IsAlwaysCallable work }
     {
         let (sum, least) = passes(self.rt, plan, work)?;
-        if !plan.timed {
-            return self.tell_sum(name, sum);
-        }
-        let rounds = plan.rounds as u128;
-        match plan.bytes {
-            None => self.tell_tenths(name, least / rounds.div_ceil(10).max(1), "ns"),
-            Some(bytes) => {
-                let all = (bytes as u128).saturating_mul(rounds);
-                self.tell_tenths(name, all.saturating_mul(10) / least.max(1), "bytes/ns")
-            }
+        if plan.timed {
+            let rounds = plan.rounds as u128;
+            self.tell_tenths(name, least / rounds.div_ceil(10).max(1))
+        } else {
+            self.tell_sum(name, sum)
         }
     }
 
@@ -88,9 +73,9 @@ impl<'a> Page<'a> {
         print_result(&mut self.out, told.as_bytes())
     }
 
-    fn tell_tenths(&mut self, name: &str, tenths: u128, unit: &str) -> anyhow::Result<()> {
+    fn tell_tenths(&mut self, name: &str, tenths: u128) -> anyhow::Result<()> {
         let (whole, tenth) = (tenths / 10, tenths % 10);
-        let told = format!(in self.alloc(); "  {name:<12} {whole:>4}.{tenth} {unit}")?;
+        let told = format!(in self.alloc(); "  {name:<12} {whole:>4}.{tenth} ns")?;
         print_result(&mut self.out, told.as_bytes())
     }
 }

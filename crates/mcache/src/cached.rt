@@ -15,7 +15,6 @@ use std::rc::Rc;
 
 /// A store with the texts of so many nodes, so that a node that was read or set lately is read without the store beneath. What is
 /// not there is not kept. It has what the store beneath has, and is as sound and as steady.
-#[derive(Drop)]
 pub struct Cached<S: NodeStore> {
     store: S,
     entries: Entries,
@@ -25,6 +24,19 @@ pub struct Cached<S: NodeStore> {
     // How many texts the store was asked for since one that is kept was read.
     missed: usize,
     alloc: Global,
+}
+
+// Written out, so that to let go of it is one call, which is proved once.
+impl<S: NodeStore + Drop> Drop for Cached<S> {
+    fn drop(self) {
+        let Cached {
+            store: _,
+            entries: _,
+            told: _,
+            missed: _,
+            alloc: _,
+        } = self;
+    }
 }
 
 impl<S: NodeStore> Model for Cached<S> {
@@ -93,7 +105,13 @@ impl<S: NodeStore> Cached<S> {
     pub fn into_store(self) -> S
         ensures { result ≡ self.store }
     {
-        let Cached { store, .. } = self;
+        let Cached {
+            store,
+            entries: _,
+            told: _,
+            missed: _,
+            alloc: _,
+        } = self;
         store
     }
 }

@@ -22,12 +22,23 @@ use std::rc::Rc;
 /// come again, and cost nothing to be kept.
 ///
 /// Contracts see it as the count of its entries: which trees are kept shows in no answer.
-#[derive(Drop)]
 pub struct Trees {
     entries: usize,
     lines: TreeCache<Line>,
     routine_lines: TreeCache<RoutineLine>,
     doorkeeper: Doorkeeper,
+}
+
+// Written out, so that to let go of it is one call, which is proved once.
+impl Drop for Trees {
+    fn drop(self) {
+        let Trees {
+            entries: _,
+            lines: _,
+            routine_lines: _,
+            doorkeeper: _,
+        } = self;
+    }
 }
 
 impl Model for Trees {

@@ -237,9 +237,9 @@ impl<'a, S: NodeStore> Eval<'a, S> {
     ) -> Result<Pending<'u>, Code>
         ensures { Evaluates S.NodeStore (λ i. meaning.through i (reference_tree reference) (exprs_of (map expr_tree subscripts.now))) pending_view self.old result self.new }
     {
-        match reference {
-            Reference::Variable(name) => self.fast_through(alloc, name, subscripts),
-            reference => self.through(alloc, &reference, subscripts),
+        match reference.into_name() {
+            Ok(name) => self.fast_through(alloc, name, subscripts),
+            Err(reference) => self.through(alloc, &reference, subscripts),
         }
     }
 

@@ -9,7 +9,6 @@ use mlocal::Locals;
 use std::alloc::Global;
 
 /// What a terminal keeps from line to line. Contracts see it by `session_of`, as the session of the definitions.
-#[derive(Drop)]
 pub struct Session {
     /// The local variables.
     pub locals: Locals,
@@ -17,6 +16,17 @@ pub struct Session {
     pub naked: Option<GlobalNode>,
     /// `$TEST`.
     pub test: bool,
+}
+
+// Written out, so that to let go of it is one call, which is proved once.
+impl Drop for Session {
+    fn drop(self) {
+        let Session {
+            locals: _,
+            naked: _,
+            test: _,
+        } = self;
+    }
 }
 
 impl Session {

@@ -11,19 +11,35 @@ use std::alloc::AllocError;
 use std::rc::Rc;
 
 // The lines that labels are sought in, the place of the one that comes next, and how many dots the level's lines have.
-#[derive(Drop)]
 pub(crate) struct Level {
     pub(crate) copy: Rc<Vec<Bytes7>>,
     pub(crate) next: Option<usize>,
     pub(crate) dots: usize,
 }
 
+// Written out, so that to let go of it is one call, which is proved once.
+impl Drop for Level {
+    fn drop(self) {
+        let Level {
+            copy: _,
+            next: _,
+            dots: _,
+        } = self;
+    }
+}
+
 // Where a line stands: how deep, and in which level. Frames share it. Each dot is a level that is open.
-#[derive(Drop)]
 pub(crate) struct Position {
     pub(crate) depth: Depth,
     pub(crate) level: Level,
     ghost opened: { level.dots ≤ depth.levels },
+}
+
+// Written out, so that to let go of it is one call, which is proved once.
+impl Drop for Position {
+    fn drop(self) {
+        let Position { depth: _, level: _ } = self;
+    }
 }
 
 // How a level closes: not at all, as the outermost one does; its scope goes; and $TEST is besides what it was.
@@ -58,17 +74,35 @@ impl Continuation {
 }
 
 // The arguments, from one on, of the command before the rest of a line.
-#[derive(Drop)]
 pub(crate) struct PendingArguments {
     pub(crate) behind: Continuation,
     pub(crate) argument: usize,
 }
 
+// Written out, so that to let go of it is one call, which is proved once.
+impl Drop for PendingArguments {
+    fn drop(self) {
+        let PendingArguments {
+            behind: _,
+            argument: _,
+        } = self;
+    }
+}
+
 // Arguments that a text gave, and where they are done. Frames share them.
-#[derive(Drop)]
 pub(crate) struct IndirectArguments {
     pub(crate) position: Position,
     pub(crate) args: Vec<Arg>,
+}
+
+// Written out, so that to let go of it is one call, which is proved once.
+impl Drop for IndirectArguments {
+    fn drop(self) {
+        let IndirectArguments {
+            position: _,
+            args: _,
+        } = self;
+    }
 }
 
 // A FOR of which a turn is under way: its body, which stands behind it, its next parameter, and how it goes on. Its index and its

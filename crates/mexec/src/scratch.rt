@@ -9,11 +9,21 @@ use std::alloc::{AllocError, Global};
 
 /// What lines are run with, and what is kept from one to the next, so that no memory has to be asked for again: room for frames, the
 /// trees of texts, and where each line begins. What it keeps shows in no answer.
-#[derive(Drop)]
 pub struct Scratch {
     pub(crate) frames: Vec<Frame>,
     pub(crate) trees: Trees,
     pub(crate) top_level: TopLevel,
+}
+
+// Written out, so that to let go of it is one call, which is proved once.
+impl Drop for Scratch {
+    fn drop(self) {
+        let Scratch {
+            frames: _,
+            trees: _,
+            top_level: _,
+        } = self;
+    }
 }
 
 impl Scratch {

@@ -20,12 +20,23 @@ use std::slice::from_ref;
 const MOST_COPIES: usize = 32;
 
 // The lines of an account's routine, with the key of the node above them.
-#[derive(Drop)]
 pub(crate) struct RoutineCopy {
     account: Bytes7,
     name: Bytes7,
     key: NodeKey,
     lines: Rc<Vec<Bytes7>>,
+}
+
+// Written out, so that to let go of it is one call, which is proved once.
+impl Drop for RoutineCopy {
+    fn drop(self) {
+        let RoutineCopy {
+            account: _,
+            name: _,
+            key: _,
+            lines: _,
+        } = self;
+    }
 }
 
 // Whether one of two nodes is the other, or stands below it.

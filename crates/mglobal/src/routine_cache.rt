@@ -12,11 +12,21 @@ use std::rc::Rc;
 
 /// A store with copies of routines that were read of it, so that a routine is read once and not at each DO. A call that may change a
 /// routine lets go of its copy first. It has what the store has, and is as sound and as steady.
-#[derive(Drop)]
 pub struct RoutineCache<S: NodeStore> {
     store: S,
     copies: Vec<RoutineCopy>,
     alloc: Global,
+}
+
+// Written out, so that to let go of it is one call, which is proved once.
+impl<S: NodeStore + Drop> Drop for RoutineCache<S> {
+    fn drop(self) {
+        let RoutineCache {
+            store: _,
+            copies: _,
+            alloc: _,
+        } = self;
+    }
 }
 
 impl<S: NodeStore> Model for RoutineCache<S> {
@@ -54,7 +64,11 @@ impl<S: NodeStore> RoutineCache<S> {
     pub fn into_store(self) -> S
         ensures { result ≡ self }
     {
-        let RoutineCache { store, .. } = self;
+        let RoutineCache {
+            store,
+            copies: _,
+            alloc: _,
+        } = self;
         store
     }
 }

@@ -26,12 +26,23 @@ use toml::Table;
 
 /// The accounts with their steps, the account of each terminal, and the grants between accounts. Contracts see them as the
 /// settings of the definitions. An `AccountId` is of the settings that gave it: of others it names another account or none.
-#[derive(Drop)]
 pub struct Settings {
     names: Words,
     steps: Vec<u32>,
     terminals: Vec<Option<usize>>,
     grants: Grants,
+}
+
+// Written out, so that to let go of it is one call, which is proved once.
+impl Drop for Settings {
+    fn drop(self) {
+        let Settings {
+            names: _,
+            steps: _,
+            terminals: _,
+            grants: _,
+        } = self;
+    }
 }
 
 impl Model for Settings {

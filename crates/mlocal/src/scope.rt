@@ -21,11 +21,21 @@ use std::marker::Model;
 
 // The names that NEW gave a scope, the names that it has not where it has all but some, and its variables by their names.
 // Contracts see it as the scope of the definitions.
-#[derive(Drop)]
 pub(crate) struct Scope {
     names: Vec<Name>,
     others: Option<Vec<Name>>,
     trees: Table,
+}
+
+// Written out, so that to let go of it is one call, which is proved once.
+impl Drop for Scope {
+    fn drop(self) {
+        let Scope {
+            names: _,
+            others: _,
+            trees: _,
+        } = self;
+    }
 }
 
 impl Model for Scope {

@@ -17,12 +17,22 @@ use std::marker::Model;
 use std::mem;
 
 /// The local variables of a session. Contracts see them as the stack of scopes, the innermost on top, and their values as texts.
-#[derive(Drop)]
 pub struct Locals {
     alloc: Global,
     bottom: Scope,
     // the scopes of the levels, the outermost first
     levels: Vec<Level>,
+}
+
+// Written out, so that to let go of it is one call, which is proved once.
+impl Drop for Locals {
+    fn drop(self) {
+        let Locals {
+            alloc: _,
+            bottom: _,
+            levels: _,
+        } = self;
+    }
 }
 
 impl Model for Locals {

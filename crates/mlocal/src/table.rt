@@ -25,12 +25,21 @@ use std::marker::Model;
 const PLACES: usize = 64;
 
 // The variables of a scope by their names. Contracts see it as the finite map from names to trees.
-#[derive(Drop)]
 pub(crate) struct Table {
     variables: IndexMap<Name, Variable>,
     // by the place of a name: where in the map the name of that place stands that was put last. It is looked at first, and passed
     // over if another name stands there, or none
     hints: [u16; PLACES],
+}
+
+// Written out, so that to let go of it is one call, which is proved once.
+impl Drop for Table {
+    fn drop(self) {
+        let Table {
+            variables: _,
+            hints: _,
+        } = self;
+    }
 }
 
 impl Model for Table {

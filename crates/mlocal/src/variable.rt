@@ -27,12 +27,18 @@ use std::marker::Model;
 use std::ops::Bound;
 
 // The values at the nodes of a variable. Contracts see it as the tree of their texts.
-#[derive(Drop)]
 pub(crate) struct Variable {
     // its own value; most variables have no other
     own: Option<Value>,
     // the values at nodes with subscripts, by these
     values: BTreeMap<SubsKey, Value>,
+}
+
+// Written out, so that to let go of it is one call, which is proved once.
+impl Drop for Variable {
+    fn drop(self) {
+        let Variable { own: _, values: _ } = self;
+    }
 }
 
 impl Model for Variable {

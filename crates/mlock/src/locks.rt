@@ -22,12 +22,21 @@ pub(crate) struct Holding {
 }
 
 /// The locks of the terminals: how often each holds a name. Contracts see it as the locks of the definitions.
-#[derive(Drop)]
 pub struct Locks {
     // a name has one holder, since it conflicts with itself
     holdings: IndexMap<LockName, Holding>,
     // each name above one that is held, with what is held below it
     below: IndexMap<LockName, Tally>,
+}
+
+// Written out, so that to let go of it is one call, which is proved once.
+impl Drop for Locks {
+    fn drop(self) {
+        let Locks {
+            holdings: _,
+            below: _,
+        } = self;
+    }
 }
 
 impl Model for Locks {

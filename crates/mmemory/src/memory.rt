@@ -19,10 +19,19 @@ use sqlite_value::value::ValueRef;
 use std::alloc::{AllocError, Global};
 
 /// A store in memory.
-#[derive(Drop)]
 pub struct Memory {
     pub(crate) held: Held,
     pub(crate) cursors: Vec<Option<Cursor>>,
+}
+
+// Written out, so that to let go of it is one call, which is proved once.
+impl Drop for Memory {
+    fn drop(self) {
+        let Memory {
+            held: _,
+            cursors: _,
+        } = self;
+    }
 }
 
 impl Memory {

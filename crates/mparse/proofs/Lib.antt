@@ -1,5 +1,4 @@
 -- SPDX-License-Identifier: Apache-2.0
 mod ParseWords
 mod Lists
-mod Operands
 mod WholeTexts

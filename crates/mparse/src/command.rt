@@ -13,7 +13,6 @@ use crate::entry::{do_argument, goto_argument, xecute_argument};
 use crate::expr::expr;
 use crate::list::{Items, list};
 use crate::lock_arguments::lock_argument;
-use crate::operand::expr_operand;
 use crate::scope::{kill_argument, new_argument};
 use crate::set_arguments::set_argument;
 use mnum::Bytes7;
@@ -31,7 +30,7 @@ fn write_argument(alloc: Global, bytes: &[u8]) -> Result<(Arg, &[u8]), ParseFaul
         return Ok((Arg::Breaks(bangs.len()), rest));
     }
     let (value, rest) = expr(alloc, bytes, MAX_DEPTH)?;
-    match expr_operand(value) {
+    match value.into_operand() {
         Ok(operand) => Ok((Arg::Indirect(Keyword::Write, operand), rest)),
         Err(value) => Ok((Arg::Value(value), rest)),
     }

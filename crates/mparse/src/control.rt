@@ -11,7 +11,6 @@ use crate::along::beside;
 use crate::arity::takes_condition;
 use crate::expr::expr;
 use crate::list::{Items, list};
-use crate::operand::expr_operand;
 use mscan::{ParseFault, expect, name, past};
 use mspec::limits::MAX_DEPTH;
 use mtree::{Arg, Expr, Keyword, Parameter};
@@ -22,7 +21,7 @@ pub fn if_argument(alloc: Global, bytes: &[u8]) -> Result<(Arg, &[u8]), ParseFau
     ensures { Gives (λ x. (arg_tree x.0, x.1.now)) result (settled_with if_argument_at if_argument bytes.now) }
 {
     let (condition, rest) = expr(alloc, bytes, MAX_DEPTH)?;
-    match expr_operand(condition) {
+    match condition.into_operand() {
         Ok(operand) => Ok((Arg::Indirect(Keyword::If, operand), rest)),
         Err(condition) => Ok((Arg::Tested(condition), rest)),
     }

@@ -8,7 +8,6 @@ ghost use Rattle.mscan.specs.Gives.{Gives};
 
 use crate::control::behind_colon;
 use crate::expr::{below, expr};
-use crate::operand::expr_operand;
 use mscan::{ParseFault, name, past};
 use mspec::limits::MAX_DEPTH;
 use mtree::{Arg, Entry, Keyword};
@@ -66,7 +65,7 @@ pub fn xecute_argument(alloc: Global, bytes: &[u8]) -> Result<(Arg, &[u8]), Pars
     if condition.is_some() {
         return Ok((Arg::Executed(text, condition), rest));
     }
-    match expr_operand(text) {
+    match text.into_operand() {
         Ok(operand) => Ok((Arg::Indirect(Keyword::Execute, operand), rest)),
         Err(text) => Ok((Arg::Executed(text, None), rest)),
     }

@@ -9,7 +9,6 @@ ghost use Rattle.mscan.specs.Gives.{Gives};
 
 use crate::expr::{below, reference};
 use crate::list::{Items, list};
-use crate::operand::reference_operand;
 use mnum::Name;
 use mscan::{ParseFault, expect, name};
 use mspec::limits::MAX_DEPTH;
@@ -56,7 +55,7 @@ pub fn kill_argument(alloc: Global, bytes: &[u8]) -> Result<(Arg, &[u8]), ParseF
         return Ok((Arg::KillOthers(names), rest));
     }
     let (reference, rest) = reference(alloc, bytes, MAX_DEPTH)?;
-    match reference_operand(reference) {
+    match reference.into_operand() {
         Ok(operand) => Ok((Arg::Indirect(Keyword::Kill, operand), rest)),
         Err(reference) => Ok((Arg::KillOne(reference), rest)),
     }

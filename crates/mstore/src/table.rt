@@ -26,10 +26,16 @@ use std::marker::Model;
 use std::rt::HostRuntime;
 
 /// A store in the table `node` of a database. What is said of its content holds where its connection is in memory.
-#[derive(Drop)]
 pub struct Table<S: Alter> {
     conn: Connection<S>,
     alloc: Global,
+}
+
+// Written out, so that to let go of it is one call, which is proved once.
+impl<S: Alter + Drop> Drop for Table<S> {
+    fn drop(self) {
+        let Table { conn: _, alloc: _ } = self;
+    }
 }
 
 impl<S: Alter> Model for Table<S> {

@@ -1,5 +1,7 @@
 // SPDX-License-Identifier: Apache-2.0
 // The tree of a line.
+mod bare_operand;
+
 use crate::count::Count;
 use crate::function_word::{ValueWord, VariableWord};
 use crate::letters::Letters;
@@ -66,14 +68,12 @@ pub enum Repeated {
 }
 
 /// An atom of a pattern.
-#[derive(Drop)]
 pub struct Atom {
     pub count: Count,
     pub repeated: Repeated,
 }
 
 /// Operands with operators between them, which apply from left to right.
-#[derive(Drop)]
 #[cycle(tree)]
 pub struct Expr {
     pub first: Operand,
@@ -81,7 +81,6 @@ pub struct Expr {
 }
 
 /// What is done with the value to the left.
-#[derive(Drop)]
 #[cycle(tree)]
 pub enum Tail {
     /// An operator, and the operand to its right.
@@ -101,7 +100,6 @@ pub struct Operand {
 }
 
 /// What an operand stands on.
-#[derive(Drop)]
 #[cycle(tree)]
 pub enum Primary {
     /// A number.
@@ -123,7 +121,6 @@ pub enum Primary {
 }
 
 /// A variable. `Reference::of_local` makes each that is local.
-#[derive(Drop)]
 #[cycle(tree)]
 pub enum Reference {
     /// A local variable without subscripts: its name.
@@ -146,7 +143,6 @@ pub enum Reference {
 
 /// A function of a variable, as `$DATA`, `$GET` and `$ORDER` are: its word behind the `$`, the variable, and the arguments
 /// behind that.
-#[derive(Drop)]
 #[cycle(tree)]
 pub struct Referring {
     pub word: VariableWord,
@@ -155,7 +151,6 @@ pub struct Referring {
 }
 
 /// An argument of `$SELECT`: a condition, and the value where it is true.
-#[derive(Drop)]
 #[cycle(tree)]
 pub struct Choice {
     pub condition: Expr,
@@ -209,7 +204,6 @@ pub enum SpecialVariable {
 }
 
 /// A piece of a variable, to which SET assigns: `$PIECE`, with its word behind the `$`.
-#[derive(Drop)]
 pub struct PieceTarget {
     pub word: Bytes7,
     pub reference: Reference,
@@ -234,7 +228,6 @@ pub enum Destination {
 }
 
 /// What the index of FOR takes on, one value or one after another.
-#[derive(Drop)]
 pub enum Parameter {
     /// A value.
     Once(Expr),
@@ -275,7 +268,6 @@ pub enum Locked {
 }
 
 /// An argument of a command.
-#[derive(Drop)]
 pub enum Arg {
     /// Of SET: what it assigns to, and the value.
     Assign(Destination, Expr),
@@ -326,7 +318,6 @@ pub enum Keyword {
 }
 
 /// A command: what its word says, the word as it is written, its postconditional where it has one, and its arguments.
-#[derive(Drop)]
 pub struct Command {
     pub keyword: Keyword,
     pub word: Bytes7,
@@ -343,7 +334,6 @@ pub struct Spaced {
 }
 
 /// A line: its commands with the spaces around them, and its comment.
-#[derive(Drop)]
 pub struct Line {
     /// How many spaces the line begins with.
     pub lead: usize,
@@ -363,8 +353,157 @@ pub enum Body {
 }
 
 /// A line of a routine: its label, where it has one, and what stands behind that.
-#[derive(Drop)]
 pub struct RoutineLine {
     pub label: Option<Name>,
     pub body: Body,
+}
+
+// Drop is written out, so that the crates above do not prove again how each part of a tree is let go of. An expression ends the
+// cycle of types: what contains a tree lets go of it by one call.
+impl Drop for Atom {
+    fn drop(self) {
+        let Atom {
+            count: _,
+            repeated: _,
+        } = self;
+    }
+}
+
+impl Drop for Expr {
+    #[cycle(drop)]
+    fn drop(self) {
+        let Expr { first: _, rest: _ } = self;
+    }
+}
+
+impl Drop for Tail {
+    #[cycle(drop)]
+    fn drop(self) {
+        match self {
+            Tail::Apply(_, _) => {}
+            Tail::Matches(_) => {}
+            Tail::MatchesNot(_) => {}
+        }
+    }
+}
+
+impl Drop for Primary {
+    #[cycle(drop)]
+    fn drop(self) {
+        match self {
+            Primary::Number(_) => {}
+            Primary::Text(_) => {}
+            Primary::Special(_) => {}
+            Primary::Reference(_) => {}
+            Primary::Bracket(_) => {}
+            Primary::Call(_, _) => {}
+            Primary::Select(_, _) => {}
+            Primary::Refer(_) => {}
+        }
+    }
+}
+
+impl Drop for Reference {
+    #[cycle(drop)]
+    fn drop(self) {
+        match self {
+            Reference::Variable(_) => {}
+            Reference::Node(_, _) => {}
+            Reference::Local(_, _) => {}
+            Reference::Global(_, _) => {}
+            Reference::Naked(_) => {}
+            Reference::Indirect(_, _) => {}
+            Reference::Extended(_, _, _) => {}
+        }
+    }
+}
+
+impl Drop for Referring {
+    #[cycle(drop)]
+    fn drop(self) {
+        let Referring {
+            word: _,
+            reference: _,
+            more: _,
+        } = self;
+    }
+}
+
+impl Drop for Choice {
+    #[cycle(drop)]
+    fn drop(self) {
+        let Choice {
+            condition: _,
+            value: _,
+        } = self;
+    }
+}
+
+impl Drop for PieceTarget {
+    fn drop(self) {
+        let PieceTarget {
+            word: _,
+            reference: _,
+            delimiter: _,
+            place: _,
+        } = self;
+    }
+}
+
+impl Drop for Parameter {
+    fn drop(self) {
+        match self {
+            Parameter::Once(_) => {}
+            Parameter::Onward(_, _) => {}
+            Parameter::Until(_, _, _) => {}
+        }
+    }
+}
+
+impl Drop for Arg {
+    fn drop(self) {
+        match self {
+            Arg::Assign(_, _) => {}
+            Arg::Breaks(_) => {}
+            Arg::Value(_) => {}
+            Arg::KillOne(_) => {}
+            Arg::KillOthers(_) => {}
+            Arg::NewOne(_) => {}
+            Arg::NewOthers(_) => {}
+            Arg::Tested(_) => {}
+            Arg::Loop(_, _) => {}
+            Arg::DoOne(_, _) => {}
+            Arg::GoTo(_, _) => {}
+            Arg::Executed(_, _) => {}
+            Arg::Lock(_, _, _) => {}
+            Arg::Indirect(_, _) => {}
+        }
+    }
+}
+
+impl Drop for Command {
+    fn drop(self) {
+        let Command {
+            keyword: _,
+            word: _,
+            condition: _,
+            args: _,
+        } = self;
+    }
+}
+
+impl Drop for Line {
+    fn drop(self) {
+        let Line {
+            lead: _,
+            commands: _,
+            comment: _,
+        } = self;
+    }
+}
+
+impl Drop for RoutineLine {
+    fn drop(self) {
+        let RoutineLine { label: _, body: _ } = self;
+    }
 }

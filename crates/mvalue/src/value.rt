@@ -14,9 +14,15 @@ use std::alloc::{AllocError, Global};
 use std::marker::Model;
 
 /// A value: a number or a text. Contracts see it as its text, that of a number being the canonical one.
-#[derive(Drop)]
 pub struct Value {
     kind: Kind,
+}
+
+// Written out, so that to let go of it is one call, which is proved once.
+impl Drop for Value {
+    fn drop(self) {
+        let Value { kind: _ } = self;
+    }
 }
 
 /// What a value is held as. Contracts see it by `kind_text`, as its text.
@@ -152,7 +158,8 @@ impl Value {
     pub fn into_text(self, alloc: Global) -> Result<Bytes7, AllocError>
         ensures { IfOk result (λ text. text ≡ self) }
     {
-        match self.kind {
+        let Value { kind } = self;
+        match kind {
             Kind::Number(number) => printed(alloc, number),
             Kind::Text(text) => Ok(text),
         }

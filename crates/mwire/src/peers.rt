@@ -10,12 +10,22 @@ use std::collections::VecDeque;
 use std::io::Cursor;
 
 /// Peers in memory, who connect one after another: what each that still waits sends, and what each that went was answered.
-#[derive(Drop)]
 pub struct Peers {
     alloc: Global,
     waiting: VecDeque<Vec<u8>>,
     answered: Vec<Vec<u8>>,
     ghost room: { vec_len answered + deque_len waiting ≤ vec_capacity answered },
+}
+
+// Written out, so that to let go of it is one call, which is proved once.
+impl Drop for Peers {
+    fn drop(self) {
+        let Peers {
+            alloc: _,
+            waiting: _,
+            answered: _,
+        } = self;
+    }
 }
 
 impl Peers {

@@ -16,19 +16,37 @@ use mstore::NodeStore;
 use std::alloc::{AllocError, Global};
 
 /// A reply, and the terminal that it goes to.
-#[derive(Drop)]
 pub struct Told {
     pub terminal: u32,
     pub reply: Reply,
 }
 
+// Written out, so that to let go of it is one call, which is proved once.
+impl Drop for Told {
+    fn drop(self) {
+        let Told {
+            terminal: _,
+            reply: _,
+        } = self;
+    }
+}
+
 /// What a run of events told an account.
-#[derive(Drop)]
 pub struct Isolated {
     /// The replies at the account's terminals, in their order.
     pub replies: Vec<Told>,
     /// Whether no line of an account that reaches it was answered `Zmem` or `Zstore`.
     pub whole: bool,
+}
+
+// Written out, so that to let go of it is one call, which is proved once.
+impl Drop for Isolated {
+    fn drop(self) {
+        let Isolated {
+            replies: _,
+            whole: _,
+        } = self;
+    }
 }
 
 /// Runs the events in their order, and tells an account of the world's settings the replies at its terminals.

@@ -26,7 +26,6 @@ const KEPT_TREES: usize = 256;
 ///
 /// Of every world over a sound store it is known that each lock is on a name that its terminal's account may hold: one without `^` of its
 /// own, or a global that it may write.
-#[derive(Drop)]
 pub struct World<S: NodeStore> {
     settings: Settings,
     sessions: HashMap<u32, Session>,
@@ -38,6 +37,21 @@ pub struct World<S: NodeStore> {
     room: Vec<u8>,
     alloc: Global,
     pub ghost fit: { S.sound → AreFit settings locks },
+}
+
+// Written out, so that to let go of it is one call, which is proved once.
+impl<S: NodeStore + Drop> Drop for World<S> {
+    fn drop(self) {
+        let World {
+            settings: _,
+            sessions: _,
+            locks: _,
+            store: _,
+            scratch: _,
+            room: _,
+            alloc: _,
+        } = self;
+    }
 }
 
 impl<S: NodeStore> World<S> {
@@ -106,7 +120,16 @@ impl<S: NodeStore> World<S> {
     pub fn into_store(self) -> S
         ensures { S.content result ≡ (world_of S.NodeStore self).shared.globals }
     {
-        self.store
+        let World {
+            settings: _,
+            sessions: _,
+            locks: _,
+            store: left,
+            scratch: _,
+            room: _,
+            alloc: _,
+        } = self;
+        left
     }
 
     /// Runs a line of a terminal, to its end: one transition of the definitions, where the store is sound.

@@ -253,8 +253,11 @@ named-returns g t c =
     let named = rw c.in_ok-text.ensures at c.in_ok-reference.ensures in
     evaluates_entry _ _ _ reference_tree _ _ c.in_ok-value.ensures.does c.in_ok-value.ensures.spent free deeper named c.through_given-result.ensures
 
-pub through_given-returns-in-Variable : goal.through_given-returns-in-Variable
-through_given-returns-in-Variable g t c = rw (c.in-Variable.is, variable_is c.in-Variable.name) c.fast_through.ensures
+pub through_given-returns-in-Ok : goal.through_given-returns-in-Ok
+through_given-returns-in-Ok g t c = rw (c.in-Ok.ensures.name, variable_is c.in-Ok.name) c.fast_through.ensures
+
+pub through_given-returns-in-Err : goal.through_given-returns-in-Err
+through_given-returns-in-Err g t c = rw (sym c.in-Err.ensures.more.1) c.through.ensures
 
 pub fast_through-returns-in_err-values : goal.fast_through-returns-in_err-values
 fast_through-returns-in_err-values g t c =

@@ -1,6 +1,10 @@
 -- SPDX-License-Identifier: Apache-2.0
 -- What is an `@` with its operand and nothing more, by how many subscripts, signs and steps stand beside it.
-use Rattle.mparse.proofs.ParseWords.{◌≡◌, ◌<◌, List, [], ◌∷◌, length, map, Some, None, Box, Vec, Global, refl, sym, ap, ◌∙◌, arith, ExprTree, TailTree, tails_of, OperandTree, PrimaryTree, ReferenceTree, exprs_of, bare_reference, bare_primary, bare_expr, Expr, ChoiceTree, expr_tree, tail_tree, operand_tree, primary_tree, reference_tree, sign_tree, primary_layer, reference_layer, tail_layer, choice_layer, expr_layer, operand_layer, referring_layer}
+use Rattle.std.proofs.Common.{◌≡◌, ◌<◌, List, [], ◌∷◌, length, map, Some, None, Box, Vec, Global, refl, sym, ap, ◌∙◌, arith}
+use Rattle.mgrammar.specs.Grammar.{ExprTree, TailTree, tails_of, OperandTree, PrimaryTree, ReferenceTree, exprs_of}
+use Rattle.mgrammar.specs.WellFormed.{bare_reference, bare_primary, bare_expr}
+use Rattle.mtree.specs.Tree.{ChoiceTree, expr_tree, tail_tree, operand_tree, primary_tree, reference_tree, sign_tree, primary_layer, reference_layer, tail_layer, choice_layer, expr_layer, operand_layer, referring_layer}
+use Rattle.mtree.specs.declared.tree.Expr.{Expr}
 use Rattle.mgrammar.specs.Grammar as grammar
 use Rattle.mtree.specs.declared.tree.Tail.{Tail}
 use Rattle.mtree.specs.declared.tree.Operand.{Operand}

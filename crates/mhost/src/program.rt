@@ -1,7 +1,6 @@
 // SPDX-License-Identifier: Apache-2.0
 // The program, over any reader and two writers.
-ghost use Rattle.std.specs.Prelude.{◌≡◌, ◌≢◌, false, map, string_bytes};
-ghost use Rattle.std.specs.IoError.{error_kind};
+ghost use Rattle.std.specs.Prelude.{◌≡◌, false, map, string_bytes};
 ghost use Rattle.mwire.specs.Watched.{failed_of};
 ghost use Rattle.mhost.specs.Jobs.{status_of, CarriesOut};
 ghost use Rattle.mhost.specs.Programs.{Ends};
@@ -12,14 +11,14 @@ use crate::only_job::run_only_job;
 use mcache::Cached;
 use mglobal::RoutineCache;
 use mjob::command_line::job;
-use mjob::jobs::{Job, JobFault};
+use mjob::jobs::Job;
+use mjob::refusal::refused;
 use mmemory::Memory;
 use mstore::{NodeStore, Table};
 use mwire::Watched;
 use sqlite_std_file::File;
 use sqlite_store::FileStore;
-use std::io;
-use std::io::{ErrorKind, Read, Write};
+use std::io::{Read, Write};
 
 /// Runs the program with these words, which stand behind its name on the command line, and gives the exit status.
 ///
@@ -97,37 +96,4 @@ fn status_of(outcome: &Result<(), RunFault>) -> u8
         Err(RunFault::Store(_)) => 4,
         Err(RunFault::Listen | RunFault::Accept | RunFault::Wire(_)) => 5,
     }
-}
-
-// Tells `errors` why the words ask for no job, and gives the exit status.
-fn refused<E: Write>(fault: &JobFault, errors: &mut E) -> u8
-    ensures { result ≡ 2 }
-{
-    match fault {
-        JobFault::Line(error) => {
-            let _ = write!(errors, "{error}");
-            2
-        }
-        JobFault::Memory => short_of_memory(errors),
-    }
-}
-
-/// The exit status where the words of the command line cannot be had: 2. `errors` gets a line where that is for want of memory, and
-/// none where words are not UTF-8.
-pub fn no_words<E: Write>(error: &io::Error, errors: &mut E) -> u8
-    ensures status { result ≡ 2 }
-    ensures untold { error_kind error.now ≢ ErrorKind.OutOfMemory → errors.new ≡ errors.old }
-{
-    if error.kind() == ErrorKind::OutOfMemory {
-        return short_of_memory(errors);
-    }
-    2
-}
-
-// Tells `errors` that there was no memory for the command line, and gives the exit status.
-fn short_of_memory<E: Write>(errors: &mut E) -> u8
-    ensures { result ≡ 2 }
-{
-    let _ = writeln!(errors, "mserve: Memory");
-    2
 }

@@ -4,7 +4,8 @@
 //! `mserve run` answers the lines of its standard input on its standard output, `mserve serve` those of connections at a port of 127.0.0.1.
 #![tactic(auto)]
 
-use mhost::program::{no_words, program};
+use mhost::program::program;
+use mjob::refusal::no_words;
 use mwire::Watched;
 use std::process::ExitCode;
 use std::{env, io};

@@ -10,14 +10,13 @@ use crate::run::{run, run_file};
 use crate::settings_document::{read_document, read_settings};
 use crate::worlds::{close_file, file_world, memory_world};
 use mcache::Cached;
+use mfile::FileTable;
 use mglobal::RoutineCache;
 use mjob::jobs::Store;
 use mmemory::Memory;
 use mstore::{NodeStore, Table};
 use mwire::Watched;
 use mworld::World;
-use sqlite_std_file::File;
-use sqlite_store::FileStore;
 use std::io::{Read, Write};
 use std::net::{Ipv4Addr, TcpListener};
 
@@ -37,7 +36,7 @@ pub fn run_job<I: Read, O: Write>(
 ) -> Result<(), RunFault>
     requires input_works { failed_of input.old ≡ false }
     requires output_works { failed_of output.old ≡ false }
-    ensures { RunsBy ⟦<RoutineCache<Cached<Table<Memory>>> as NodeStore>⟧ ⟦<RoutineCache<Cached<Table<FileStore<File>>>> as NodeStore>⟧ I.remaining O.contents
+    ensures { RunsBy ⟦<RoutineCache<Cached<Table<Memory>>> as NodeStore>⟧ ⟦<RoutineCache<Cached<FileTable>> as NodeStore>⟧ I.remaining O.contents
         store.now input.old input.new output.old output.new result }
 {
     match read_document(rt, settings) {
@@ -56,7 +55,7 @@ fn run_by<I: Read, O: Write>(
 ) -> Result<(), RunFault>
     requires input_works { failed_of input.old ≡ false }
     requires output_works { failed_of output.old ≡ false }
-    ensures { RunsOver ⟦<RoutineCache<Cached<Table<Memory>>> as NodeStore>⟧ ⟦<RoutineCache<Cached<Table<FileStore<File>>>> as NodeStore>⟧ I.remaining O.contents
+    ensures { RunsOver ⟦<RoutineCache<Cached<Table<Memory>>> as NodeStore>⟧ ⟦<RoutineCache<Cached<FileTable>> as NodeStore>⟧ I.remaining O.contents
         store.now document.now input.old input.new output.old output.new result }
 {
     match store {

@@ -8,6 +8,7 @@ use crate::fault::RunFault;
 use crate::settings_document::{read_document, read_settings};
 use crate::worlds::{close_file, file_world, memory_world};
 use mcache::Cached;
+use mfile::FileTable;
 use mglobal::RoutineCache;
 use mgrant::AccountId;
 use mjob::jobs::Store;
@@ -15,8 +16,6 @@ use mmemory::Memory;
 use mstore::{NodeStore, Table};
 use mwire::{Watched, serve_only};
 use mworld::World;
-use sqlite_std_file::File;
-use sqlite_store::FileStore;
 use std::alloc::Global;
 use std::io::{Read, Write};
 
@@ -39,7 +38,7 @@ pub fn run_only_job<I: Read, O: Write>(
 ) -> Result<(), RunFault>
     requires input_works { failed_of input.old ≡ false }
     requires output_works { failed_of output.old ≡ false }
-    ensures { OnlyBy ⟦<RoutineCache<Cached<Table<Memory>>> as NodeStore>⟧ ⟦<RoutineCache<Cached<Table<FileStore<File>>>> as NodeStore>⟧ I.remaining O.contents
+    ensures { OnlyBy ⟦<RoutineCache<Cached<Table<Memory>>> as NodeStore>⟧ ⟦<RoutineCache<Cached<FileTable>> as NodeStore>⟧ I.remaining O.contents
         store.now name.now input.old input.new output.old output.new result }
 {
     match read_document(rt, settings) {
@@ -66,7 +65,7 @@ fn run_only<I: Read, O: Write>(
 ) -> Result<(), RunFault>
     requires input_works { failed_of input.old ≡ false }
     requires output_works { failed_of output.old ≡ false }
-    ensures { OnlyOver ⟦<RoutineCache<Cached<Table<Memory>>> as NodeStore>⟧ ⟦<RoutineCache<Cached<Table<FileStore<File>>>> as NodeStore>⟧ I.remaining O.contents
+    ensures { OnlyOver ⟦<RoutineCache<Cached<Table<Memory>>> as NodeStore>⟧ ⟦<RoutineCache<Cached<FileTable>> as NodeStore>⟧ I.remaining O.contents
         store.now name.now document.now input.old input.new output.old output.new result }
 {
     let settings = match read_settings(rt.alloc(), document) {

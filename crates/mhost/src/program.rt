@@ -9,6 +9,7 @@ use crate::carrying_out::{run_job, serve_job};
 use crate::fault::RunFault;
 use crate::only_job::run_only_job;
 use mcache::Cached;
+use mfile::FileTable;
 use mglobal::RoutineCache;
 use mjob::command_line::job;
 use mjob::jobs::Job;
@@ -16,8 +17,6 @@ use mjob::refusal::refused;
 use mmemory::Memory;
 use mstore::{NodeStore, Table};
 use mwire::Watched;
-use sqlite_std_file::File;
-use sqlite_store::FileStore;
 use std::io::{Read, Write};
 
 /// Runs the program with these words, which stand behind its name on the command line, and gives the exit status.
@@ -39,7 +38,7 @@ pub fn program<I: Read, O: Write, E: Write>(
 ) -> u8
     requires input_works { failed_of input.old ≡ false }
     requires output_works { failed_of output.old ≡ false }
-    ensures { Ends ⟦<RoutineCache<Cached<Table<Memory>>> as NodeStore>⟧ ⟦<RoutineCache<Cached<Table<FileStore<File>>>> as NodeStore>⟧ I.remaining O.contents
+    ensures { Ends ⟦<RoutineCache<Cached<Table<Memory>>> as NodeStore>⟧ ⟦<RoutineCache<Cached<FileTable>> as NodeStore>⟧ I.remaining O.contents
         (map string_bytes words.now) input.old input.new output.old output.new result }
 {
     let job = match job(rt.alloc(), words) {
@@ -63,7 +62,7 @@ fn carry_out<I: Read, O: Write, E: Write>(
 ) -> Result<(), RunFault>
     requires input_works { failed_of input.old ≡ false }
     requires output_works { failed_of output.old ≡ false }
-    ensures { CarriesOut ⟦<RoutineCache<Cached<Table<Memory>>> as NodeStore>⟧ ⟦<RoutineCache<Cached<Table<FileStore<File>>>> as NodeStore>⟧ I.remaining O.contents
+    ensures { CarriesOut ⟦<RoutineCache<Cached<Table<Memory>>> as NodeStore>⟧ ⟦<RoutineCache<Cached<FileTable>> as NodeStore>⟧ I.remaining O.contents
         job.now input.old input.new output.old output.new result }
 {
     match job {

@@ -11,13 +11,12 @@ use crate::fault::RunFault;
 use crate::settings_document::read_settings;
 use crate::worlds::{close_file, file_world, memory_world, table_of};
 use mcache::Cached;
+use mfile::FileTable;
 use mglobal::RoutineCache;
 use mmemory::Memory;
 use mstore::{NodeStore, Table};
 use mwire::{Watched, WireFault, serve};
 use mworld::World;
-use sqlite_std_file::File;
-use sqlite_store::FileStore;
 use std::alloc::Global;
 use std::io::{Read, Write};
 
@@ -56,7 +55,7 @@ pub fn run<I: Read, O: Write>(
 
 /// Answers a stream by the settings of a document, over the table in a file, which is made where there is none.
 ///
-/// The faults are those of `run`, and `Store` has all of `Table::open_file`. What the file holds at the start, and that it holds what
+/// The faults are those of `run`, and `Store` has all of `FileTable::open`. What the file holds at the start, and that it holds what
 /// the lines left, no contract says: of a file this says only that each line had its reply.
 ///
 /// The condition: no call of the input or the output has failed yet.
@@ -71,7 +70,7 @@ pub fn run_file<I: Read, O: Write>(
     requires output_works { failed_of output.old ≡ false }
     ensures answered { OnOk result (Followed document.now (I.remaining (inner_of input.old)) (I.remaining (inner_of input.new))
         (O.contents (inner_of output.old)) (O.contents (inner_of output.new))) }
-    ensures early { IfErr result (EndsEarlyOverFile ⟦<RoutineCache<Cached<Table<FileStore<File>>>> as NodeStore>⟧ I.remaining O.contents document.now input.old input.new output.old output.new) }
+    ensures early { IfErr result (EndsEarlyOverFile ⟦<RoutineCache<Cached<FileTable>> as NodeStore>⟧ I.remaining O.contents document.now input.old input.new output.old output.new) }
 {
     let settings = match read_settings(rt.alloc(), document) {
         Ok(settings) => settings,

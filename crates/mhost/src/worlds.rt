@@ -7,14 +7,13 @@ ghost use Rattle.mhost.specs.Runs.{IsMemoryFault, IsStoreFault};
 
 use crate::fault::RunFault;
 use mcache::Cached;
+use mfile::FileTable;
 use mglobal::RoutineCache;
 use mgrant::Settings;
 use mmemory::Memory;
 use mstore::{NodeStore, OpenFault, Table};
 use mworld::World;
 use sqlite::Alter;
-use sqlite_std_file::File;
-use sqlite_store::FileStore;
 use std::alloc::Global;
 
 // How many texts of nodes are kept in front of a table.
@@ -24,7 +23,7 @@ const ENTRIES: usize = 1024;
 pub type MemoryWorld = World<RoutineCache<Cached<Table<Memory>>>>;
 
 /// A world over a table in a file.
-pub type FileWorld = World<RoutineCache<Cached<Table<FileStore<File>>>>>;
+pub type FileWorld = World<RoutineCache<Cached<FileTable>>>;
 
 // A store with texts of so many nodes and copies of routines in front of it, if there is memory for them.
 fn kept_over<S: NodeStore + Drop>(
@@ -38,6 +37,25 @@ fn kept_over<S: NodeStore + Drop>(
     match Cached::new(alloc, store, entries) {
         Ok(cached) => Some(RoutineCache::new(alloc, cached)),
         Err(_) => None,
+    }
+}
+
+// A world without a session over a store, with texts of nodes and copies of routines in front of it. The fault is `Store(Memory)`.
+fn world_over<S: NodeStore + Drop>(
+    alloc: Global,
+    settings: Settings,
+    store: S,
+) -> Result<World<RoutineCache<Cached<S>>>, RunFault>
+    ensures settings { IfOk result (λ world. settings_of world ≡ settings) }
+    ensures world { IfOk result (λ world. world_of ⟦<RoutineCache<Cached<S>> as NodeStore>⟧ world ≡ opening (S.content store)) }
+    ensures early { IfErr result (λ fault. fault ≡ RunFault.Store OpenFault.Memory) }
+{
+    let Some(kept) = kept_over(alloc, store, ENTRIES) else {
+        return Err(RunFault::Store(OpenFault::Memory));
+    };
+    match World::new(alloc, settings, kept) {
+        Ok(world) => Ok(world),
+        Err(_) => Err(RunFault::Store(OpenFault::Memory)),
     }
 }
 
@@ -56,12 +74,9 @@ pub fn memory_world(alloc: Global, settings: Settings) -> Result<MemoryWorld, Ru
         Ok(table) => table,
         Err(fault) => return Err(RunFault::Store(fault)),
     };
-    let Some(kept) = kept_over(alloc, table, ENTRIES) else {
-        return Err(RunFault::Store(OpenFault::Memory));
-    };
-    match World::new(alloc, settings, kept) {
+    match world_over(alloc, settings, table) {
         Ok(world) => Ok(world),
-        Err(_) => Err(RunFault::Store(OpenFault::Memory)),
+        Err(fault) => Err(fault),
     }
 }
 
@@ -69,22 +84,19 @@ pub fn memory_world(alloc: Global, settings: Settings) -> Result<MemoryWorld, Ru
 ///
 /// # Errors
 ///
-/// `Store`, with the faults of `Table::open_file`; `Memory` of the world and of what is kept in front of the table too.
+/// `Store`, with the faults of `FileTable::open`; `Memory` of the world and of what is kept in front of the table too.
 pub fn file_world(rt: &HostRuntime, path: &str, settings: Settings) -> Result<FileWorld, RunFault>
     ensures settings { IfOk result (λ world. settings_of world ≡ settings) }
-    ensures world { IfOk result (λ world. (globals : Globals) × (world_of ⟦<RoutineCache<Cached<Table<FileStore<File>>>> as NodeStore>⟧ world ≡ opening globals)) }
+    ensures world { IfOk result (λ world. (globals : Globals) × (world_of ⟦<RoutineCache<Cached<FileTable>> as NodeStore>⟧ world ≡ opening globals)) }
     ensures early { IfErr result IsStoreFault }
 {
-    let table = match Table::open_file(rt, path) {
+    let table = match FileTable::open(rt, path) {
         Ok(table) => table,
         Err(fault) => return Err(RunFault::Store(fault)),
     };
-    let Some(kept) = kept_over(rt.alloc(), table, ENTRIES) else {
-        return Err(RunFault::Store(OpenFault::Memory));
-    };
-    match World::new(rt.alloc(), settings, kept) {
+    match world_over(rt.alloc(), settings, table) {
         Ok(world) => Ok(world),
-        Err(_) => Err(RunFault::Store(OpenFault::Memory)),
+        Err(fault) => Err(fault),
     }
 }
 
@@ -95,8 +107,7 @@ pub fn table_of<S: Alter>(kept: RoutineCache<Cached<Table<S>>>) -> Table<S>
     kept.into_store().into_store()
 }
 
-/// Ends a table over a file: the log of its database is copied into the file. Where that fails, the log beside the file has what the
-/// file lacks, and the next opening finds it.
-pub fn close_file(kept: RoutineCache<Cached<Table<FileStore<File>>>>) {
-    let _ = table_of(kept).into_connection().close();
+/// Ends a table over a file, as by `FileTable::close`, whose fault is passed over.
+pub fn close_file(kept: RoutineCache<Cached<FileTable>>) {
+    let _ = kept.into_store().into_store().close();
 }

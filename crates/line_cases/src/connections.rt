@@ -3,7 +3,7 @@
 use crate::lines::{Lines, plain_world};
 use mstore::Plain;
 use mtranscript::{bytes_of, print_case, print_result, print_results};
-use mwire::{Peers, serve_each};
+use mwire::{AcceptFault, Peers, serve_each};
 use mworld::World;
 use std::alloc::Global;
 use std::collections::VecDeque;
@@ -39,14 +39,25 @@ fn connected(
 ) -> anyhow::Result<()> {
     let count = u32::try_from(cases.len())?;
     let mut errors = Vec::new(alloc);
-    serve_each(alloc, world, peers, count, &mut errors)?;
+    served(alloc, world, peers, count, &mut errors)?;
     for (case, answer) in cases.iter().zip(peers.answers()) {
         print_case(out, case)?;
         print_results(alloc, out, answer)?;
     }
     print_results(alloc, out, &errors)?;
-    match serve_each(alloc, world, peers, 1, &mut errors) {
+    match served(alloc, world, peers, 1, &mut errors) {
         Ok(()) => print_result(out, b"one more"),
         Err(fault) => print_result(out, format!(in alloc; "then {fault}")?.as_bytes()),
     }
+}
+
+// Serves so many of them.
+fn served(
+    alloc: Global,
+    world: &mut World<Plain>,
+    peers: &mut Peers,
+    count: u32,
+    errors: &mut Vec<u8>,
+) -> Result<(), AcceptFault> {
+    serve_each(alloc, world, peers, count, errors)
 }

@@ -6,7 +6,7 @@ use crate::lines::{Lines, Stream, answer_of, lines_of};
 use mstore::{Failing, NodeStore, Plain, StoreCall, Table};
 use mtranscript::print_result;
 use mworld::World;
-use sqlite::{Connection, FileStore, Files, Options};
+use sqlite::{Alter, Connection, FileStore, Files, Options};
 use sqlite_disk::{Crash, Disk, Fuse, Memory};
 use std::alloc::Global;
 
@@ -190,9 +190,17 @@ fn table_over(alloc: Global, files: Stopping) -> Result<StoppingTable, Stopping>
         Ok(conn) => conn,
         Err((_, left)) => return Err(left.into_files()),
     };
+    match adopted(alloc, conn) {
+        Ok(table) => Ok(table),
+        Err(store) => Err(store.close()),
+    }
+}
+
+// A table over a connection, or its store, if it is not taken.
+fn adopted<S: Alter + Drop>(alloc: Global, conn: Connection<S>) -> Result<Table<S>, S> {
     match Table::adopt(alloc, conn) {
         Ok(table) => Ok(table),
-        Err((_, conn)) => Err(conn.into_store().close()),
+        Err((_, conn)) => Err(conn.into_store()),
     }
 }
 
@@ -202,9 +210,19 @@ fn closed_over(
     stream: &Stream,
     table: StoppingTable,
 ) -> anyhow::Result<(usize, Stopping)> {
-    let (answered, table) = served_over(alloc, stream, table)?;
-    let files = left_by(table.into_connection(), answered == stream.lines.len());
+    let (answered, conn) = served_by(alloc, stream, table)?;
+    let files = left_by(conn, answered == stream.lines.len());
     Ok((answered, files))
+}
+
+// Serves the lines over a table, and gives its connection.
+fn served_by<S: Alter + Drop>(
+    alloc: Global,
+    stream: &Stream,
+    table: Table<S>,
+) -> anyhow::Result<(usize, Connection<S>)> {
+    let (answered, table) = served_over(alloc, stream, table)?;
+    Ok((answered, table.into_connection()))
 }
 
 // The files of a connection, closed or as they are.
@@ -257,14 +275,19 @@ fn is_left(
     allowed: &[Left],
     answered: usize,
 ) -> anyhow::Result<bool> {
-    let Ok(mut table) = table_over(alloc, files) else {
+    let Ok(table) = table_over(alloc, files) else {
         return Ok(false);
     };
-    let holds = held(alloc, &mut table)?;
+    let holds = held_by(alloc, table)?;
     for left in allowed {
         if left.0 == answered && left.1.as_slice() == holds.as_slice() {
             return Ok(true);
         }
     }
     Ok(false)
+}
+
+// All that a table holds.
+fn held_by<S: Alter + Drop>(alloc: Global, mut table: Table<S>) -> anyhow::Result<Vec<u8>> {
+    held(alloc, &mut table)
 }

@@ -3,7 +3,7 @@
 use anyhow::Context;
 use mstore::Table;
 use mtranscript::{bytes_of, play, print_result};
-use sqlite::{Connection, MemStore};
+use sqlite::{Alter, Connection};
 use std::alloc::Global;
 
 /// Makes a database in memory by the statements of the cases, and says whether it is taken, or by which fault it is refused;
@@ -20,6 +20,15 @@ pub fn play_database(alloc: Global, cases: &[&str], out: &mut Vec<u8>) -> anyhow
         conn.execute(text.as_str(), &[])?;
         Ok(())
     })?;
+    adopt(alloc, conn, out)
+}
+
+// Says whether a database is taken, or why not, and what the connection that comes back has.
+fn adopt<S: Alter + Drop>(
+    alloc: Global,
+    conn: Connection<S>,
+    out: &mut Vec<u8>,
+) -> anyhow::Result<()> {
     let (told, mut conn) = match Table::adopt(alloc, conn) {
         Ok(table) => ("taken".to_string(alloc)?, table.into_connection()),
         Err((fault, conn)) => (fault.to_string(alloc)?, conn),
@@ -37,7 +46,7 @@ pub fn play_database(alloc: Global, cases: &[&str], out: &mut Vec<u8>) -> anyhow
 }
 
 // The number that a query finds, if there is such a table, and a row.
-fn number(conn: &mut Connection<MemStore>, query: &str) -> anyhow::Result<Option<i64>> {
+fn number<S: Alter>(conn: &mut Connection<S>, query: &str) -> anyhow::Result<Option<i64>> {
     match conn.query_row(query, &[]) {
         Ok(row) => Ok(Some(row.get::<i64>(0)?)),
         Err(_) => Ok(None),

@@ -2,6 +2,7 @@
 // Drawn nodes in two stores, of which each must answer what the other does.
 use crate::stores::{node, put};
 use anyhow::Context;
+use mfile::FileTable;
 use mkey::NodeKey;
 use mstore::{NodeStore, Plain, Table};
 use mtranscript::{play, print_result, remove, text_of, words_of};
@@ -42,9 +43,9 @@ fn compare(rt: &HostRuntime, seed: u64, count: usize, out: &mut Vec<u8>) -> anyh
     print_result(out, told.as_bytes())?;
     remove(rt, FILE, LOG);
     let mut plain = Plain::new(alloc);
-    let mut table = Table::open_file(rt, FILE)?;
+    let mut table = FileTable::open(rt, FILE)?;
     let found = differences(&mut plain, &mut table, alloc, seed, count);
-    let closed = table.into_connection().close();
+    let closed = table.close();
     remove(rt, FILE, LOG);
     closed?;
     let found = found?;

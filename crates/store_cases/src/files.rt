@@ -2,6 +2,7 @@
 // Tables in files: what is there when they are opened again, and files that are refused.
 use crate::stores::{node, put};
 use anyhow::Context;
+use mfile::FileTable;
 use mstore::{NodeStore, Table};
 use mtranscript::{play, print_result, remove, text_of, words_of};
 use sqlite::params;
@@ -51,17 +52,17 @@ fn write_row(rt: &HostRuntime, key: &str, value: &str) -> anyhow::Result<()> {
 
 // Puts a text at a node. The table is dropped and not closed, as where a process ends, so that its statements are in the log.
 fn put_unclosed(rt: &HostRuntime, subscript: &str, text: &str) -> anyhow::Result<()> {
-    let mut table = Table::open_file(rt, FILE)?;
+    let mut table = FileTable::open(rt, FILE)?;
     let key = node(rt.alloc(), "D", &[subscript])?;
     put(&mut table, &key, &text_of(rt.alloc(), text)?)
 }
 
 // Prints the text of a node as the file opened again has it.
 fn print_text(rt: &HostRuntime, subscript: &str, out: &mut Vec<u8>) -> anyhow::Result<()> {
-    let mut table = Table::open_file(rt, FILE)?;
+    let mut table = FileTable::open(rt, FILE)?;
     let key = node(rt.alloc(), "D", &[subscript])?;
     let found = table.get(&key).ok().context("not read")?;
-    table.into_connection().close()?;
+    table.close()?;
     match found {
         None => print_result(out, b"none"),
         Some(text) => print_result(out, text.as_bytes()),
@@ -71,9 +72,9 @@ fn print_text(rt: &HostRuntime, subscript: &str, out: &mut Vec<u8>) -> anyhow::R
 // Prints whether the file is taken, or by which fault it is refused, and then whether its bytes are as they were.
 fn open(rt: &HostRuntime, out: &mut Vec<u8>) -> anyhow::Result<()> {
     let before = fs::read(rt, FILE)?;
-    match Table::open_file(rt, FILE) {
+    match FileTable::open(rt, FILE) {
         Ok(table) => {
-            table.into_connection().close()?;
+            table.close()?;
             return print_result(out, b"taken");
         }
         Err(fault) => print_result(out, fault.to_string(rt.alloc())?.as_bytes())?,

@@ -199,10 +199,18 @@ fn opened(
     }
     match Connection::open_files(alloc, files, options(2)) {
         Err((_, left)) => Ok((false, left.into_files())),
-        Ok(conn) => match Table::adopt(alloc, conn) {
-            Ok(table) => Ok((true, table.into_connection().into_store().close())),
-            Err((_, conn)) => Ok((false, conn.into_store().close())),
-        },
+        Ok(conn) => {
+            let (is_opened, store) = adopted(alloc, conn);
+            Ok((is_opened, store.close()))
+        }
+    }
+}
+
+// Whether a database is taken as a table, and its store then.
+fn adopted<S: Alter + Drop>(alloc: Global, conn: Connection<S>) -> (bool, S) {
+    match Table::adopt(alloc, conn) {
+        Ok(table) => (true, table.into_connection().into_store()),
+        Err((_, conn)) => (false, conn.into_store()),
     }
 }
 
@@ -229,7 +237,14 @@ fn crashed(alloc: Global, mut files: Files<Fuse<Memory>>) -> anyhow::Result<(Vec
 
 // What the files hold, before and after they are opened as a table.
 fn reopened<D: Disk + Drop>(alloc: Global, files: Files<D>) -> anyhow::Result<(Vec<u8>, Vec<u8>)> {
-    let mut conn = connected(alloc, files, 3)?;
+    found(alloc, connected(alloc, files, 3)?)
+}
+
+// What a database holds, before and after it is opened as a table.
+fn found<S: Alter + Drop>(
+    alloc: Global,
+    mut conn: Connection<S>,
+) -> anyhow::Result<(Vec<u8>, Vec<u8>)> {
     let found = content(alloc, &mut conn)?;
     let Ok(table) = Table::adopt(alloc, conn) else {
         anyhow::bail!("not adopted again");

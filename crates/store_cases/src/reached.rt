@@ -6,7 +6,7 @@ use anyhow::Context;
 use mmemory::Memory;
 use mstore::Table;
 use mtranscript::{bytes_of, play, print_result};
-use sqlite::Connection;
+use sqlite::{Alter, Connection};
 use std::alloc::Global;
 use std::cell::Cell;
 use std::rc::Rc;
@@ -46,7 +46,12 @@ fn opened(alloc: Global, case: &str, calls: &Rc<Noted>) -> anyhow::Result<Reache
 }
 
 // Carries out a case, and leaves noted what it is to print.
-fn reach(alloc: Global, mut conn: Reached, case: &str, calls: &Noted) -> anyhow::Result<Reached> {
+fn reach<S: Alter + Drop>(
+    alloc: Global,
+    mut conn: Connection<S>,
+    case: &str,
+    calls: &Noted,
+) -> anyhow::Result<Connection<S>> {
     if let Some(statement) = case.strip_prefix("run ") {
         let text = String::from_utf8(bytes_of(alloc, statement)?)
             .ok()

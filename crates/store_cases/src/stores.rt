@@ -2,6 +2,7 @@
 // Calls on stores, each over the plain store, a table in memory and a table in a file.
 use crate::globals::{data, lines, order};
 use anyhow::Context;
+use mfile::FileTable;
 use mkey::{Direction, NodeKey, read};
 use mnum::Bytes7;
 use mspec::limits::MAX_TEXT;
@@ -9,6 +10,7 @@ use mstore::{NodeStore, Plain, Table};
 use mtranscript::{
     key_of, play, print, print_others, print_result, remove, text_of, texts_of, words_of,
 };
+use sqlite::Alter;
 use std::alloc::Global;
 use std::rt::HostRuntime;
 
@@ -32,7 +34,8 @@ pub fn play_stores(rt: &HostRuntime, cases: &[&str], out: &mut Vec<u8>) -> anyho
         print_answer(out, &answer)?;
         print(&mut given, &answer)
     })?;
-    print_others(alloc, "in a table:", &in_memory(alloc, cases)?, &given, out)?;
+    let in_memory = over_table(alloc, Table::open_memory(alloc)?, cases)?;
+    print_others(alloc, "in a table:", &in_memory, &given, out)?;
     remove(rt, FILE, LOG);
     let in_a_file = in_a_file(rt, cases);
     remove(rt, FILE, LOG);
@@ -47,9 +50,12 @@ pub(crate) fn print_answer(out: &mut Vec<u8>, answer: &[u8]) -> anyhow::Result<(
     print_result(out, answer)
 }
 
-// What the calls give over a table in memory, which is made anew from its connection before each.
-fn in_memory(alloc: Global, cases: &[&str]) -> anyhow::Result<Vec<u8>> {
-    let mut table = Table::open_memory(alloc)?;
+// What the calls give over a table, which is made anew from its connection before each.
+fn over_table<S: Alter + Drop>(
+    alloc: Global,
+    mut table: Table<S>,
+    cases: &[&str],
+) -> anyhow::Result<Vec<u8>> {
     let mut given = Vec::new(alloc);
     for case in cases {
         if !case.starts_with("# ") {
@@ -68,9 +74,9 @@ fn in_a_file(rt: &HostRuntime, cases: &[&str]) -> anyhow::Result<Vec<u8>> {
     let mut given = Vec::new(rt.alloc());
     for case in cases {
         if !case.starts_with("# ") {
-            let mut table = Table::open_file(rt, FILE)?;
+            let mut table = FileTable::open(rt, FILE)?;
             print(&mut given, &call(&mut table, rt.alloc(), case)?)?;
-            table.into_connection().close()?;
+            table.close()?;
         }
     }
     Ok(given)

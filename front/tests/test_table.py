@@ -17,8 +17,8 @@ from database import Cluster
 from front import Front, Ran, in_loop, tool
 from mserve_front.control import asked
 from mserve_front.history import History
-from mserve_front.journal import LogFault, LogTaken
-from mserve_front.journal_table import flush_of
+from mserve_front.journal import LogFault, LogTaken, Tail
+from mserve_front.journal_table import TableLog, flush_of
 from mserve_front.places import reader_of, writer_of
 from mserve_front.records import BadJournal, Flush, LineRecord
 from mserve_front.settings import JournalSettings
@@ -76,6 +76,19 @@ def mjournal(journal: JournalSettings) -> Callable[..., Ran]:
     return tool("mjournal", "--database", str(journal.database), "--name", journal.name)
 
 
+def taken(journal: JournalSettings) -> tuple[TableLog, Tail]:
+    """A writer that has the lock, with the end that it found. The database gives the lock back a moment after the last writer closed."""
+    end = time.monotonic() + 10
+    while True:
+        log = writer_of(journal)
+        try:
+            return log, log.take()
+        except LogTaken:
+            if time.monotonic() > end:
+                raise
+            time.sleep(0.05)
+
+
 def test_flushes_are_kept_in_order_and_one_writes(journal: JournalSettings) -> None:
     log, reader, parts = writer_of(journal), reader_of(journal, 1), flushes(30)
     assert reader.more() == [] and log.take().next == 1
@@ -89,8 +102,7 @@ def test_flushes_are_kept_in_order_and_one_writes(journal: JournalSettings) -> N
     assert second.take().sequence == 0
     second.close()
     log.close()
-    log = writer_of(journal)
-    tail = log.take()
+    log, tail = taken(journal)
     assert (tail.sequence, tail.next, tail.answered, tail.journal) == (20, 20, 18, 7)
     for flush in parts[20:]:
         log.append(flush)

@@ -2,10 +2,13 @@
 # SPDX-License-Identifier: Apache-2.0
 """Where a crate's proof costs, without a run: the sizes of what `rt check` kept of it, by kinds of modules and by functions.
 
-    tools/proof_sizes.py CRATE.. [--top FOLDER] [--most 30]
+    tools/proof_sizes.py CRATE.. [--top FOLDER] [--most 30] [--waits]
 
 A check of the crate must have passed there. A megabyte kept took 1.1 to 1.5 s of a processor to prove in the low crates, and 1.7 to 2.1 in
-those on top of many others, which first load these. Unlike a time, a size is the same on a busy machine."""
+those on top of many others, which first load these. Unlike a time, a size is the same on a busy machine.
+
+With --waits it prints, in place of the functions, the modules before which the check was silent longest, in seconds by the clock: what takes
+time and keeps little, such as a function tied to its code over a type with large parameters. It tells something of a check from nothing alone."""
 import argparse
 import os
 import re
@@ -62,15 +65,26 @@ def show(top: str, crate: str, most: int) -> None:
     shown(functions, most)
 
 
+def waits(top: str, crate: str, most: int) -> None:
+    """Prints how long nothing was kept before a module was, the longest first."""
+    kept = os.path.join(top, "crates", crate, "out", "incremental")
+    files = [entry for folder in os.scandir(kept) for entry in os.scandir(folder) if entry.name.endswith(".oantt")]
+    files.sort(key=lambda entry: entry.stat().st_mtime)
+    silent = [(late.stat().st_mtime - early.stat().st_mtime, late.name.removesuffix(".oantt")) for early, late in zip(files, files[1:])]
+    for seconds, module in sorted(silent, reverse=True)[:most]:
+        print(f"{seconds:9.1f} {module}")
+
+
 def main() -> None:
     """Prints the sizes of each crate that is asked for."""
     read = argparse.ArgumentParser(description=__doc__.split("\n", maxsplit=1)[0])
     read.add_argument("crates", nargs="+", metavar="CRATE")
     read.add_argument("--top", default=TOP)
     read.add_argument("--most", type=int, default=30)
+    read.add_argument("--waits", action="store_true")
     asked = read.parse_args()
     for crate in asked.crates:
-        show(asked.top, crate, asked.most)
+        (waits if asked.waits else show)(asked.top, crate, asked.most)
 
 
 if __name__ == "__main__":

@@ -7,7 +7,9 @@ in seconds, of its proof, of proving its tests, and of trying its must-fail edit
     tools/gate_times.py --anew        has the gate prove and try all, also what it passed earlier on this machine; a kit whose `rt ci` knows no
                                       `--anew` keeps nothing and always does
     tools/gate_times.py --write       puts the table of the run into docs/PERFORMANCE.md too
-    tools/gate_times.py --change REV  runs nothing: what changed in that page's table since the revision, as `origin/main`
+    tools/gate_times.py --change REV  runs nothing: what changed in that page's table since the revision, as `origin/main`; and what the crates took in both
+                                      whose sources did not change, since a second differs from run to run: the
+                                      revision's page has to be of a run over the revision's sources
 
 The times are read off the processes below the gate five times a second, so of each process up to a fifth of a second is missed."""
 import os
@@ -106,7 +108,7 @@ def table(watch, seconds):
     lines.append("| together | " + " | ".join(f"{it:.0f}" for it in sums) + f" ({edits}) |")
     minutes = (sum(sums) + other) / 60
     lines.append("")
-    lines.append(f"{seconds / 60:.0f} minutes by the clock on {os.cpu_count()} processors, {minutes:.0f} processor minutes, {other / 60:.0f} of them compiling and running.")
+    lines.append(f"{seconds / 60:.0f} minutes by the clock on {len(os.sched_getaffinity(0))} processors, {minutes:.0f} processor minutes, {other / 60:.0f} of them compiling and running.")
     return "\n".join(lines) + "\n"
 
 
@@ -138,6 +140,24 @@ def print_change(revision):
         told = [sum(it[:3]) for it in (old, new)]
         if old != new:
             print(f"| {name} | {told[0]} | {told[1]} | {told[1] - told[0]:+} | {old[3]} | {new[3]} |")
+    print_scale(revision, before, now)
+
+
+def print_scale(revision, before, now):
+    """Prints what the crates took before and now that have the sources of the revision, as has all that they stand on; and all crates by that."""
+    same = [name for name in before if name in now and name != "together" and is_same(revision, name)]
+    old, new = (sum(sum(it[name][:3]) for name in same) for it in (before, now))
+    if new:
+        told = sum(now["together"][:3]) * old / new
+        print(f"\nAs at {revision}, with all below: {', '.join(same)}, {old} seconds before and {new} now. By that all crates take {told:.0f} of the seconds before.")
+
+
+def is_same(revision, name):
+    """Whether no source of the crate, nor of those that it stands on, changed since the revision."""
+    with open(os.path.join(TOP, "crates.txt"), encoding="utf-8") as file:
+        below = {line.partition(":")[0]: line.partition(":")[2].split() for line in file if not line.startswith("#")}
+    paths = [f"crates/{it}/{part}" for it in [name, *below.get(name, [])] for part in ("src", "specs", "proofs")]
+    return not subprocess.run(["git", "diff", "--quiet", revision, "--", *paths], cwd=TOP).returncode
 
 
 def write_page(text):

@@ -308,7 +308,9 @@ async def test_a_journal_that_cannot_be_written() -> None:
     with pytest.raises(NoJournal):
         await kept.turns.ask(3, Line(b"W 4"))
     kept.peer.reply(b"1")
-    await asyncio.sleep(0.1)
+    # Until it was tried again in vain, however busy the machine is.
+    while kept.log.mended < 2:
+        await asyncio.sleep(0.001)
     assert not sent.done() and kept.peer.lines == [] and kept.told == [
         "the journal cannot be written: journal: No space left on device: no line goes on until it can"]
     kept.log.fails = None

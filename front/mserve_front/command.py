@@ -9,6 +9,7 @@ import sys
 from collections.abc import Callable
 from pathlib import Path
 
+from . import ending
 from .control import Refused, asked
 from .server import NoStart, tell
 from .settings import BadSettings, Settings, Table, journal_settings, read_settings, read_terminals, read_toml
@@ -125,7 +126,7 @@ def serve(options: argparse.Namespace) -> None:
             if promoted is None:
                 return
         await Service(settings, promoted).run()
-    asyncio.run(run())
+    ending.run(run())
 
 
 def told_status(options: argparse.Namespace) -> None:

@@ -3,8 +3,13 @@
 from __future__ import annotations
 
 import argparse
+import asyncio
+import signal
 import sys
-from collections.abc import Callable, Mapping
+from collections.abc import Callable, Coroutine, Mapping
+from typing import TypeVar
+
+Result = TypeVar("Result")
 
 # Where the front's settings are, unless the words say otherwise.
 DEFAULT = "/etc/mserve/front.toml"
@@ -14,6 +19,25 @@ FOUND, USAGE, FAILED, INTERRUPTED = 1, 2, 3, 130
 def say(command: str, text: str) -> None:
     """Writes a line to the standard error."""
     print(f"{command}: {text}", file=sys.stderr, flush=True)
+
+
+def hear(number: signal.Signals, act: Callable[..., object], *given: object) -> None:
+    """Has the running loop do an act each time a signal comes, until `run` ends."""
+    loop = asyncio.get_running_loop()
+    signal.signal(number, lambda *_: loop.call_soon_threadsafe(act, *given))
+
+
+def run(work: Coroutine[object, object, Result]) -> Result:
+    """Runs a service to its end. What it heard is ignored from then on: a loop that closes gives its own handlers (`add_signal_handler`) up to the system's,
+    so that a second SIGTERM would kill a service that was stopped well, and change its status."""
+    async def whole() -> Result:
+        try:
+            return await work
+        finally:
+            for number in signal.valid_signals():
+                if callable(signal.getsignal(number)):
+                    signal.signal(number, signal.SIG_IGN)
+    return asyncio.run(whole())
 
 
 def ended(command: str, options: argparse.Namespace, statuses: Mapping[type[Exception], int]) -> int:

@@ -119,16 +119,16 @@ def contexts(doorway: Doorway) -> tuple[ssl.SSLContext, ssl.SSLContext, ssl.SSLC
 
 def serve(options: argparse.Namespace) -> None:
     """Serves until it is stopped."""
-    asyncio.run(_serve(*settings_of(options)))
+    ending.run(_serve(*settings_of(options)))
 
 
 async def _serve(home: Home, doorway: Doorway) -> None:
     _, most = resource.getrlimit(resource.RLIMIT_NOFILE)
     with contextlib.suppress(OSError, ValueError):
         resource.setrlimit(resource.RLIMIT_NOFILE, (most, most))
-    stopping, loop = asyncio.Event(), asyncio.get_running_loop()
+    stopping = asyncio.Event()
     for number in (signal.SIGTERM, signal.SIGINT):
-        loop.add_signal_handler(number, stopping.set)
+        ending.hear(number, stopping.set)
     users, inward, outward = contexts(doorway)
     islands = Islands(home, Placement(home.database))
     gate = Gate(home.machine.name, islands, outward)

@@ -12,6 +12,7 @@ from typing import TYPE_CHECKING
 
 from aiohttp import web
 
+from . import ending
 from .audit import Audit
 from .doors import MOST_BYTES, Doors, spare_memory
 from .line_port import LinePort
@@ -60,10 +61,9 @@ class Service:
         with contextlib.suppress(OSError, ValueError):
             # A sandbox may forbid it; then the limit stays, and connections are refused at it.
             resource.setrlimit(resource.RLIMIT_NOFILE, (most, most))
-        loop = asyncio.get_running_loop()
         for number, why in ENDS.items():
-            loop.add_signal_handler(number, self._stop, why)
-        loop.add_signal_handler(signal.SIGHUP, self._reload)
+            ending.hear(number, self._stop, why)
+        ending.hear(signal.SIGHUP, self._reload)
         runner = web.AppRunner(Web(self.settings, self._sessions, self._signing, self.metrics, self._doors).application(),
                                handle_signals=False, access_log=None, keepalive_timeout=KEPT, auto_decompress=False)
         await runner.setup()

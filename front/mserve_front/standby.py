@@ -11,6 +11,7 @@ import time
 from dataclasses import replace
 from pathlib import Path
 
+from . import ending
 from .control import Answered, Control, Refused
 from .doors import held
 from .history import History
@@ -51,9 +52,8 @@ class Standby:
     async def run(self) -> Promoted | None:
         """Follows until it is promoted, or stopped: then it is None. Raises `NoStart` if it cannot go on; the store is not to be used then, unless it
         says otherwise."""
-        loop = asyncio.get_running_loop()
         for number in (signal.SIGTERM, signal.SIGINT):
-            loop.add_signal_handler(number, self._stop)
+            ending.hear(number, self._stop)
         promoted = None
         try:
             self._hold_ports()

@@ -323,3 +323,13 @@ async def test_stop_tells_all_users(start, tmp_path) -> None:
     again = start(store=str(tmp_path / "store.db"))
     async with again.person("ben") as ben:
         assert await ben.told("W ^X") == "1"
+
+
+@pytest.mark.parametrize("number", [signal.SIGTERM, signal.SIGINT, signal.SIGHUP])
+def test_signals_up_to_the_end_leave_the_status(start, number) -> None:
+    front = start()
+    front.process.terminate()
+    while front.process.poll() is None:
+        front.process.send_signal(number)
+        time.sleep(0.0005)
+    assert front.process.returncode == 0

@@ -35,7 +35,7 @@ atom n p = record { count = n; repeated = p }
 abbrev one_digit : List ℕ → ExprTree
 one_digit t = alone (digits t)
 
--- with one subscript, behind the `^` of a naked reference
+-- with one subscript, after the `^` of a naked reference
 abbrev naked_digit : List ℕ → ReferenceTree
 naked_digit t = naked (exprs_of (one_digit t ∷ []))
 
@@ -44,7 +44,7 @@ one_global t = global (codes "X") (exprs_of (one_digit t ∷ []))
 
 -- ---- how deep brackets may lie
 
--- a number in so many brackets
+-- a number in this many brackets
 abbrev in_brackets : ℕ → List ℕ
 in_brackets n = replicate n 40 ++ (49 ∷ replicate n 41)
 
@@ -52,7 +52,7 @@ abbrev IsSome : {A : Type 0} → Option A → Type 0
 IsSome None = ⊥
 IsSome (Some a) = Unit {0}
 
--- a number in the subscripts of so many variables, one within another
+-- a number in the subscripts of this many variables, one within another
 abbrev subscripts_opened : ℕ → List ℕ
 subscripts_opened zero = []
 subscripts_opened (suc n) = 65 ∷ 40 ∷ subscripts_opened n
@@ -96,7 +96,7 @@ record Read : Type 0 where
       ∷ apply (is greater) (digits (codes "4")) ∷ apply (is contains) (digits (codes "5"))
       ∷ apply (is follows) (digits (codes "6")) ∷ apply (is sorts_after) (digits (codes "7"))
       ∷ apply (is both) (digits (codes "8")) ∷ apply (is either) (digits (codes "9")) ∷ [])))
-  -- a `'` before an operator belongs to it, and one behind it is a sign
+  -- a `'` before an operator belongs to it, and one after it is a sign
   negated_operators : IsRead (codes "W 1'=2']3']]4'!5='6") (
       written (taken (digits (codes "1")) (apply (is_not equals) (digits (codes "2"))
       ∷ apply (is_not follows) (digits (codes "3")) ∷ apply (is_not sorts_after) (digits (codes "4"))
@@ -107,7 +107,7 @@ record Read : Type 0 where
       ∷ atom (count [] (Some [])) (classes (codes "E")) ∷ atom (count (codes "2") (Some [])) (classes (codes "aUn"))
       ∷ atom (count [] (Some (codes "3"))) (copies (codes "x"))
       ∷ atom (count (codes "1") (Some (codes "2"))) (classes (codes "P")) ∷ []) ∷ [])))
-  -- an expression goes on behind a pattern
+  -- an expression goes on after a pattern
   pattern_within : IsRead (codes "W A'?1N_1?0001C") (
       written (taken (name (codes "A")) (matches_not (atom (count (codes "1") None) (classes (codes "N")) ∷ [])
       ∷ apply join (digits (codes "1")) ∷ matches (atom (count (codes "0001") None) (classes (codes "C")) ∷ []) ∷ [])))
@@ -138,7 +138,7 @@ record Read : Type 0 where
       (one_digit (codes "3")))
   -- the word of a special variable ends where no letter follows
   specials : IsRead (codes "W $T_'$test") (written (taken (plain (special (codes "T"))) (apply join (operand (negate ∷ []) (special (codes "test"))) ∷ [])))
-  -- functions of a variable, with arguments behind it or not
+  -- functions of a variable, with arguments after it or not
   of_variables : IsRead (codes "W $D(L)_$GET(A,1)_$o(L(\"\"),-1)") (
       written (taken (plain (refer (codes "D") (named (codes "L")) no_exprs))
       (apply join (plain (refer (codes "GET") (named (codes "A")) (exprs_of (one_digit (codes "1") ∷ []))))

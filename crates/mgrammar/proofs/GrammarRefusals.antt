@@ -9,7 +9,7 @@ record Refused : Type 0 where
   no_commands : HaveNone (codes "W" ∷ codes "W 1," ∷ codes "W 1 2" ∷ codes "WRI 1" ∷ codes "W  1" ∷ codes "W \"a\"W 1" ∷ codes "W ,1" ∷ [])
   -- strings and names
   no_names : HaveNone (codes "W \"a" ∷ codes "W A234567890123456789012345678901X" ∷ [])
-  -- numbers: `E` belongs to one only where a digit, or a sign and a digit, follows
+  -- numbers: `E` belongs to one only if a digit, or a sign and a digit, follows
   no_numbers : HaveNone (codes "W 1..5" ∷ codes "W 1." ∷ codes "W ." ∷ codes "W 1E" ∷ codes "W 1E+" ∷ codes "W 1E5E5" ∷ codes "W 1A" ∷ [])
   -- operators
   no_operators : HaveNone (codes "W 1+" ∷ codes "W *1" ∷ codes "W 1'2" ∷ codes "W 1'+2" ∷ codes "W 1]]]2" ∷ codes "W 1@2" ∷ [])
@@ -35,7 +35,7 @@ record Refused : Type 0 where
   no_globals : HaveNone (
       codes "W ^" ∷ codes "W ^()" ∷ codes "W ^1" ∷ codes "W ^^X" ∷ codes "W ^ X" ∷ codes "W ^X()" ∷ codes "W ^(1" ∷ codes "W ^(1)(2)" ∷ codes "W 1^X" ∷
       codes "S ^=1" ∷ codes "K (^X)" ∷ codes "N ^X" ∷ codes "F ^X=1" ∷ codes "W $D(^)" ∷ [])
-  -- one space behind a command without arguments, and a postconditional where none may stand
+  -- one space after a command without arguments, and a postconditional where none may stand
   no_flow : HaveNone (
       codes "Q W 1" ∷ codes "E W 1" ∷ codes "K  A" ∷ codes "I:1 1" ∷ codes "E:1" ∷ codes "F:1 I=1" ∷ codes "S: A=1" ∷ codes "Q 1" ∷ codes "E 1" ∷ [])
   -- arguments of KILL, NEW, IF and FOR

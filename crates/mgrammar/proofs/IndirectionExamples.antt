@@ -37,7 +37,7 @@ bracket_and_operand = (refl, λ e. cc, λ e. cc)
 
 record Read : Type 0 where
   -- name indirection
-  -- in the place of a variable; with subscripts behind a further `@`; and those belong to the innermost `@` that has none yet
+  -- in the place of a variable; with subscripts after a further `@`; and those belong to the innermost `@` that has none yet
   operand_and_subscripts : IsRead (codes "W @A+1,@A@(1),@@A@(1)@(2),+@@A@(1)") (of_one write_word (codes "W") (shown (expr (operand [] (reference (at a))) (tail (apply add (operand [] (number (codes "1")))) no_tails)) ∷ shown (only (reference (at_digit a (codes "1")))) ∷ shown (only (reference (at_digit (reference (at_digit a (codes "1"))) (codes "2")))) ∷ shown (expr (operand (plus ∷ []) (reference (at (reference (at_digit a (codes "1")))))) no_tails) ∷ []))
   -- a target of SET, and what KILL takes away
   targets : IsRead (codes "S @A=1,(@A,B)=@A") (of_one set_word (codes "S") (assign (one (variable (at a))) (only (number (codes "1"))) ∷ assign (several (variable (at a) ∷ variable (named (codes "B")) ∷ [])) (only (reference (at a))) ∷ []))
@@ -60,7 +60,7 @@ record Read : Type 0 where
   goto_argument_given : IsRead (codes "G @A,@@A") (of_one goto_word (codes "G") (indirect_args goto_argument a ∷ indirect_args goto_argument (reference (at a)) ∷ []))
   -- XECUTE
   xecute_argument_given : IsRead (codes "X @A,@@A") (of_one execute_word (codes "X") (indirect_args xecute_argument a ∷ indirect_args xecute_argument (reference (at a)) ∷ []))
-  -- subscripts behind a further `@` make it a variable
+  -- subscripts after a further `@` make it a variable
   removal_named : IsRead (codes "K @A@(1),@(A)") (of_one kill_word (codes "K") (kill_one (at_digit a (codes "1")) ∷ indirect_args kill_argument (bracket (only a)) ∷ []))
   -- texts without a tree
   -- FOR and QUIT take none; and no name, label or routine alone is given so

@@ -6,7 +6,7 @@ use Rattle.mgrammar.proofs.ShortTrees.{IsRead, HaveNone, only, the_one, named, o
 
 -- ---- short forms
 
--- a command with a condition or none, and the spaces behind it
+-- a command with a condition or none, and the spaces after it
 abbrev spaced : KeywordTree → List ℕ → Option ExprTree → List ArgTree → ℕ → SpacedTree
 spaced k word condition args spaces = (record { keyword = k; word = word; condition = condition; args = args }, spaces)
 
@@ -22,7 +22,7 @@ record Read : Type 0 where
   -- environments
   -- the environment is an expression, of which the variable has subscripts or none
   environments : IsRead (codes "W ^|\"B\"|X(1),^|A|X") (of_one write_word (codes "W") (shown (only (reference (extended (only (text (codes "B"))) (codes "X") (exprs the_one no_exprs)))) ∷ shown (only (reference (extended (only (reference (named (codes "A")))) (codes "X") no_exprs))) ∷ []))
-  -- a name stands behind it, and it is there
+  -- a name comes after it, and it is there
   no_environments : HaveNone (
       codes "W ^|\"B\"|(1)" ∷ codes "W ^||X" ∷ codes "W ^|\"B\"X" ∷ codes "W |\"B\"|X" ∷ codes "W ^|\"B\"|" ∷ codes "W ^ |\"B\"|X" ∷ [])
   -- LOCK

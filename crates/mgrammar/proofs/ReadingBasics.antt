@@ -49,7 +49,7 @@ Begins-long p (c ∷ cs) b = omega arith
 abbrev pub goes_on : ℕ → Bool
 goes_on c = is_name_rest c || eqb c 34 || eqb c 46 || eqb c 40
 
--- or with subscripts behind an `@`
+-- or with subscripts after an `@`
 abbrev pub goes_further : ℕ → Bool
 goes_further c = goes_on c || eqb c 64
 

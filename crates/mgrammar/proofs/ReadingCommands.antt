@@ -34,7 +34,7 @@ as_arg a b = Begins-weaker begins_operand begins_arg (spell_arg a) operand_or_ba
 abbrev pub Closes : List ℕ → Type 0
 Closes rest = Follows rest × Stops is_comma rest
 
--- so many arguments of this form: one of FOR has the commas behind it
+-- this many arguments of this form: one of FOR has the commas after it
 abbrev pub IsCounted : FormTree → ℕ → Type 0
 IsCounted f n = f ≡ for_argument → n ≤ 1
 
@@ -68,7 +68,7 @@ single_again [] rest w n s = absurd w
 single_again (a ∷ []) rest w n s = one_again spell_arg (WellArg for_argument) (arg_at for_argument) a rest (for_argument_again a rest (written_loop a w.0) ((s.0.0, s.0.2), s.1)) s.1
 single_again (a ∷ b ∷ more) rest w n s = absurd (let le = n refl in omega (arith, le))
 
--- where arguments that are written begin so
+-- if arguments that are written begin so
 form_begins : (f : FormTree) → ((a : ArgTree) → WellPlain f a → Begins begins_arg (spell_arg a)) → (a : ArgTree) → WellArg f a → Begins begins_arg (spell_arg a)
 form_begins f begins a w =
     elim (which f a w) [
@@ -214,7 +214,7 @@ three_parts w cs a t b rest p q =
     let same : (w ++ (a ++ b)) ++ rest ≡ w ++ (a ++ (b ++ rest)) = simp append_assoc in
     whole ∙ sym same
 
--- a command of which all is read, where it takes so many arguments
+-- a command of which all is read, if it takes this many arguments
 abbrev made : KeywordTree → List ℕ → Option ExprTree → List ArgTree × List ℕ → Option (CommandTree × List ℕ)
 made k w c x = cond (takes_args k (length x.0)) (Some (record { keyword = k; word = w; condition = c; args = x.0 }, x.1)) None
 

@@ -11,7 +11,7 @@ use Rattle.mgrammar.proofs.ReadingPrimaries.{begins_primary, primary_begins, pri
 
 -- ---- what is read is spelled so, below some depth
 
--- the text of an operator and of what stands behind it
+-- the text of an operator and of what comes after it
 behind_parts : (o cs a b : List ℕ) → cs ≡ a ++ b → o ++ cs ≡ (o ++ a) ++ b
 behind_parts o cs a b p = rw (p, append_assoc) refl
 
@@ -73,7 +73,7 @@ deeper P d a w =
 inside : {A : Type 0} (P : ℕ → A → Type 0) (d : ℕ) (a : A) → (0 < suc d) × P (suc d - 1) a → P d a
 inside P d a w = let same : suc d - 1 ≡ d = omega arith in subst (λ (n : ℕ). P n a) same w.1
 
--- what may stand in brackets, and behind an `@`, at some depth
+-- what may stand in brackets, and after an `@`, at some depth
 record Taken (d : ℕ) : Type 0 where
   inner : Takes spell_expr (WellInner d) (inner_at d)
   within : Takes spell_reference (WellWithin d) ((readers_at d).within)

@@ -6,7 +6,7 @@ use Rattle.mgrammar.proofs.ReadingLists.{list_takes}
 use Rattle.mgrammar.proofs.ReadingArguments.{variable_takes, variable_again}
 use Rattle.mgrammar.proofs.ReadingCommands.{IsCounted, is_form}
 
--- what is read whole leaves nothing behind it
+-- what is read whole leaves nothing after it
 whole_is : {A : Type 0} (a b : A) (rest : List ℕ) → whole_by a rest ≡ Some b → (rest ≡ []) × (a ≡ b)
 whole_is a b [] e = (refl, some_is a b e)
 whole_is a b (c ∷ cs) e = absurd cc

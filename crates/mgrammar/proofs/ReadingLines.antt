@@ -5,9 +5,9 @@ use Rattle.mgrammar.proofs.ReadingBasics.{IsRead, Stops, Begins, Begins-append, 
 use Rattle.mgrammar.proofs.ReadingArguments.{all_copies, copies_are}
 use Rattle.mgrammar.proofs.ReadingCommands.{Closes, After, command_takes, command_again, command_letter}
 
--- ---- commands with spaces behind them
+-- ---- commands with spaces after them
 
--- enough spaces stand behind the command, unless nothing more than a comment follows
+-- enough spaces follow the command, unless nothing more than a comment follows
 abbrev HasGap : SpacedTree → List ℕ → Type 0
 HasGap c rest = at_end rest || nat_le (least_gap c.0.args) c.1 ≡ true
 

@@ -82,7 +82,7 @@ spell_more-each f [] = refl
 spell_more-each f (x ∷ xs) = ap (λ (y : List ℕ). 44 ∷ (f x ++ y)) (spell_more-each f xs)
 
 module _ {A : Type 0} (f : A → List ℕ) (P : A → Type 0) (item : List ℕ → Read A) where
-  -- as comma_takes, where this stands behind a comma
+  -- as comma_takes, where this comes after a comma
   comma_takes_by : (cs : List ℕ) (o : Option (List ℕ)) (x : A × List ℕ) → Takes f P item → past 44 cs ≡ o → comma_by item o ≡ Some (Some x) → (cs ≡ (44 ∷ f x.0) ++ x.1) × P x.0
   comma_takes_by cs None x takes h e = absurd cc
   comma_takes_by cs (Some rest) x takes h e =
@@ -159,7 +159,7 @@ listed_or_one spell P item made spell_one W single alone Q takes singly c cs x e
           subst Q {x = (alone b.0.0, b.0.1)} (some_is (alone b.0.0, b.0.1) x b.2) (is b.0.0 b.0.1 t.0 t.1)
     ]
 
--- a list in brackets that is spelled so is read, by what reads one behind its bracket
+-- a list in brackets that is spelled so is read, by what reads one after its bracket
 pub bracketed_again : {A B : Type 0} (spell : A → List ℕ) (P : A → Type 0) (item : List ℕ → Read A) (F : List ℕ → Type 0) (made : List A → B) (read : List ℕ → Read B)
     → ((cs : List ℕ) → read (40 ∷ cs) ≡ (list_at item cs >>= λ y. past 41 y.1 >>= λ rest. Some (made y.0, rest))) → ((rest : List ℕ) → F (44 ∷ rest) × F (41 ∷ rest)) → Again spell P F item
     → (xs : List A) (rest : List ℕ) → WellList P xs → read ((40 ∷ (spell_list spell xs ++ 41 ∷ [])) ++ rest) ≡ Some (made xs, rest)

@@ -40,14 +40,14 @@ module _ {A : Type 0} (item : List ℕ → Option (Option (A × List ℕ))) wher
       sym so_far ∙ one
 
 module _ {A : Type 0} (item : List ℕ → Read A) where
-  -- a list that begins with this item, of which none has come behind a comma
+  -- a list that begins with this item, of which none has come after a comma
   pub list_begins : (cs : List ℕ) (x : A) (rest : List ℕ) → item cs ≡ Some (x, rest) → with_front (x ∷ []) (many (after_comma item) (length rest - 0) rest) ≡ list_at item cs
   unfolding list_at
   list_begins cs x rest h =
       let all : length rest - 0 ≡ length rest = omega arith in
       rw (all, h) refl
 
-  -- one more behind a comma
+  -- one more after a comma
   pub comma_goes_on : (front : List A) (count i : ℕ) (rest behind : List ℕ) (x : A) (after : List ℕ) (total : Read (List A)) → i < count → past 44 rest ≡ Some behind → item behind ≡ Some (x, after)
       → with_front front (many (after_comma item) (count - i) rest) ≡ total → with_front (front ++ x ∷ []) (many (after_comma item) (count - (i + 1)) after) ≡ total
   comma_goes_on front count i rest behind x after total lt h k so_far =

@@ -26,7 +26,7 @@ point_parts_by : (ds cs : List ℕ) → AllAre is_digit ds → cs ≡ ds ++ afte
 point_parts_by [] cs all e = (None, refl, tt, refl)
 point_parts_by (d ∷ ds) cs all e = (Some (d ∷ ds), refl, some_digits d ds all, ap (λ (x : List ℕ). 46 ∷ x) e)
 
--- a part behind a mark, where the first character's test gives b
+-- a part after a mark, where the first character's test gives b
 marked : {A : Type 0} (spell : Option A → List ℕ) (P : Option A → Type 0) (mark c : ℕ) (cs : List ℕ) (y : List ℕ × List ℕ) (b : Bool) → eqb c mark ≡ b
     → Part spell P (mark ∷ cs) y → Part spell P (c ∷ cs) ([], c ∷ cs) → Part spell P (c ∷ cs) (cond b y ([], c ∷ cs))
 marked spell P mark c cs y true h p none = let at : c ≡ mark = eqb-true _ _ h in rw at p
@@ -76,7 +76,7 @@ exponent_parts (c ∷ cs) =
     marked spell_exponent IsExponent 69 c cs (exponent_by (run_of is_digit (after_sign cs)) cs) (eqb c 69) refl
     (exponent_parts_by (run_of is_digit (after_sign cs)) cs r.1 r.0 (sign_parts cs)) (None, refl, tt, refl)
 
--- digits, and a fraction or none, are a mantissa where there is a digit
+-- digits, and a fraction or none, are a mantissa if there is a digit
 is_mantissa : (ds : List ℕ) (o : Option (List ℕ)) → AllAre is_digit ds → IsFraction o → ds ++ spell_fraction o ≢ [] → IsMantissa ds o
 is_mantissa [] None all f some = absurd (some refl)
 is_mantissa (d ∷ ds) None all f some = some_digits d ds all

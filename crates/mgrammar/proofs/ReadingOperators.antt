@@ -98,7 +98,7 @@ spell_operator matching_not = 39 ∷ 63 ∷ []
 abbrev OperatorIs : List ℕ → OperatorTree × List ℕ → Type 0
 OperatorIs cs x = cs ≡ spell_operator x.0 ++ x.1
 
--- behind a `'`
+-- after a `'`
 negated_takes : (cs : List ℕ) (x : OperatorTree × List ℕ) → negated_at cs ≡ Some x → OperatorIs (39 ∷ cs) x
 negated_takes [] x e = absurd cc
 negated_takes (c ∷ cs) x e =

@@ -13,7 +13,7 @@ spell_count n = n.front ++ spell_behind n.behind
 abbrev WellCount : CountTree → Type 0
 WellCount n = IsCount n.front n.behind
 
--- what stands behind a point that was read, or none
+-- what comes after a point that was read, or none
 abbrev IsBehind : Option (List ℕ) → Type 0
 IsBehind None = Unit {0}
 IsBehind (Some ds) = AllAre is_digit ds

@@ -12,11 +12,11 @@ not_on c h = (grind (arith, nat_tests), grind (arith, nat_tests), grind (arith, 
 
 -- ---- what is read is spelled so, below some depth
 
--- the text of a string, from the text behind its first quote
+-- the text of a string, from the text after its first quote
 cells : (c : ℕ) (cs : List ℕ) (a : ℕ) (t : List ℕ) (z : ℕ) (rest : List ℕ) → c ≡ a → cs ≡ t ++ z ∷ rest → c ∷ cs ≡ (a ∷ (t ++ z ∷ [])) ++ rest
 cells c cs a t z rest p q = rw (p, q, append_assoc) refl
 
--- the text behind the bracket of a function, and what follows the function
+-- the text after the bracket of a function, and what follows the function
 pub in_brackets : (w t rest : List ℕ) → (36 ∷ (w ++ 40 ∷ (t ++ 41 ∷ []))) ++ rest ≡ 36 ∷ (w ++ 40 ∷ (t ++ 41 ∷ rest))
 in_brackets w t rest = simp append_assoc
 
@@ -27,7 +27,7 @@ call_cells cs w after inside t t' last rest p q s u e =
     let whole : 36 ∷ cs ≡ 36 ∷ (w ++ 40 ∷ (t ++ 41 ∷ rest)) = rw (p, q, s, u) refl in
     whole ∙ sym (in_brackets w t rest) ∙ ap (λ (y : List ℕ). (36 ∷ (w ++ 40 ∷ (y ++ 41 ∷ []))) ++ rest) (sym e)
 
--- what is read behind a character is a primary
+-- what is read after a character is a primary
 abbrev PrimaryIs : ℕ → List ℕ → PrimaryTree × List ℕ → Type 0
 PrimaryIs d cs y = (cs ≡ spell_primary y.0 ++ y.1) × WellPrimary d y.0 × Greedy (bare_primary y.0) y.1
 
@@ -71,7 +71,7 @@ module _ (d : ℕ) (r : Readers) (inner_takes : Takes spell_expr (WellInner d) (
       subst (λ (y : (ExprTree × ExprTree) × List ℕ). (cs ≡ spell_choice y.0 ++ y.1) × WellChoice d y.0) {x = ((c.0.0, v.0.0), v.0.1)} (some_is ((c.0.0, v.0.0), v.0.1) x v.2)
       (joined_by 58 cs (spell_expr c.0.0) c.0.1 k.0 (spell_expr v.0.0) v.0.1 condition.0 colon value.0, (condition.1, value.1))
 
-  -- behind a word and its bracket
+  -- after a word and its bracket
   select_takes : (w cs ds after : List ℕ) (x : PrimaryTree × List ℕ) → ds ≡ w ++ after → after ≡ 40 ∷ cs → AllAre is_letter w → function_of w ≡ Some of_choices → select_with r w cs ≡ Some x
       → PrimaryIs d (36 ∷ ds) x
   unfolding select_with
@@ -226,7 +226,7 @@ choice_step : (r : Readers) (cs ds : List ℕ) (c v : ExprTree) (rest : List ℕ
 unfolding choice_with
 choice_step r cs ds c v rest h k = rw (h, k) refl
 
--- behind a word and its bracket
+-- after a word and its bracket
 select_step : (r : Readers) (w cs : List ℕ) (all : List (ExprTree × ExprTree)) (rest : List ℕ) → function_of w ≡ Some of_choices → list_at (choice_with r) cs ≡ Some (all, 41 ∷ rest)
     → function_by r w (function_of w) cs ≡ Some (select w (choices_of all), rest)
 unfolding select_with

@@ -14,7 +14,7 @@ OperandEnds rest = Stops goes_further rest
 abbrev pub Ends : List ℕ → Type 0
 Ends rest = OperandEnds rest × Stops is_operator rest
 
--- what may not follow an `@` with its operand alone: subscripts behind a further `@`
+-- what may not follow an `@` with its operand alone: subscripts after a further `@`
 abbrev pub Greedy : Option PrimaryTree → List ℕ → Type 0
 Greedy None rest = Unit {0}
 Greedy (Some p) rest = attached_at rest ≡ None
@@ -43,7 +43,7 @@ operand_ends rest s = Stops-weaker goes_further goes_on rest (λ c h. (further_t
 pub greedy_ends : (o : Option PrimaryTree) (rest : List ℕ) → OperandEnds rest → Greedy o rest
 greedy_ends o rest s = greedy_end o rest (Stops-weaker goes_further (λ c. eqb c 64) rest (λ c h. (further_tests c h).1) s)
 
--- a variable in brackets, where so many brackets more may be open
+-- a variable in brackets, if this many more brackets may be open
 abbrev pub WellWithin : ℕ → ReferenceTree → Type 0
 WellWithin d r = (0 < d) × WellReference (d - 1) r
 
@@ -70,13 +70,13 @@ SomeAre d cs x = IsRead spell_subscripts (WellSubscripts d) cs x × HasExpr x.0
 abbrev ReferenceIs : ℕ → List ℕ → ReferenceTree × List ℕ → Type 0
 ReferenceIs d cs x = (cs ≡ spell_reference x.0 ++ x.1) × WellReference d x.0 × Greedy (bare_reference x.0) x.1
 
--- what was read of subscripts behind an operand, of which the innermost `@` without any keeps them
+-- what was read of subscripts after an operand, of which the innermost `@` without any keeps them
 abbrev AttachedAre : ℕ → List ℕ → ExprsTree × List ℕ → Type 0
 AttachedAre d cs x =
     (cs ≡ spell_attached x.0 ++ x.1) × WellSubscripts d x.0
     × ((p : PrimaryTree) → Greedy (bare_primary p) cs → IsAttached p x.0 × Greedy (bare_reference (indirect p x.0)) x.1)
 
--- a bracket stands behind an `@`
+-- a bracket comes after an `@`
 attached_is : (cs behind : List ℕ) → attached_at cs ≡ Some behind → (cs ≡ 64 ∷ behind) × ((inside : List ℕ) × (behind ≡ 40 ∷ inside))
 attached_is cs behind e =
     let b = bind_some (past 64 cs) (λ behind. past 40 behind >>= λ inside. Some behind) behind e in
@@ -117,7 +117,7 @@ module _ (d : ℕ) (r : Readers) (inner_takes : Takes spell_expr (WellInner d) (
         | inr p ↦ subst (IsRead spell_subscripts (WellSubscripts d) (c ∷ cs)) {x = (no_exprs, c ∷ cs)} (some_is (no_exprs, c ∷ cs) x p.1) (refl, tt)
       ]
 
-  -- where a bracket opens, some are read
+  -- if a bracket opens, some are read
   opened_takes : (cs inside : List ℕ) (x : ExprsTree × List ℕ) → cs ≡ 40 ∷ inside → subscripts_with r cs ≡ Some x → SomeAre d cs x
   unfolding subscripts_with
   opened_takes [] inside x p e = absurd cc
@@ -276,7 +276,7 @@ some_attached : (r : Readers) (cs : List ℕ) (s : ExprsTree) (rest : List ℕ) 
 unfolding attached_with
 some_attached r cs s rest h = h
 
--- where subscripts or none stand behind an operand, none more are attached to that
+-- if subscripts or none come after an operand, no more are attached to that
 operand_follows : (p : PrimaryTree) (s : ExprsTree) (rest : List ℕ) → IsAttached p s → Stops goes_on rest → Greedy (bare_reference (indirect p s)) rest
     → Stops goes_on (spell_attached s ++ rest) × Greedy (bare_primary p) (spell_attached s ++ rest)
 operand_follows p no_exprs rest a f g = (f, greedy_none (bare_primary p))
@@ -298,7 +298,7 @@ module _ (d : ℕ) (r : Readers) (inner_again : Again spell_expr (WellInner d) E
       ap (subscripts_with r) parts ∙ subscripts_step r (spell_list spell_expr (e ∷ es) ++ 41 ∷ rest) (e ∷ es) rest l
       ∙ ap (λ (y : ExprsTree). Some (exprs e y, rest)) (exprs_back more)
 
-  -- behind a name
+  -- after a name
   name_and_subscripts : (name : List ℕ) (s : ExprsTree) (rest : List ℕ) → IsName name → Stops goes_on rest → name_at (name ++ (spell_subscripts s ++ rest)) ≡ Some (name, spell_subscripts s ++ rest)
   name_and_subscripts name s rest w f = name_again name (spell_subscripts s ++ rest) w (subscripts_follow s rest f)
 

@@ -22,7 +22,7 @@ label_takes : (cs : List ℕ) → IsRead spell_label WellLabel cs (label_at cs)
 unfolding label_at
 label_takes cs = label_takes_by cs (name_at cs) refl
 
--- no name begins what stands behind a label
+-- no name begins what comes after a label
 no_name : (b : BodyTree) → name_at (spell_body b) ≡ None
 unfolding name_at
 no_name (short None) = refl
@@ -78,7 +78,7 @@ dot_again n rest =
     let parts : spell_dot n ++ rest ≡ replicate n 32 ++ 46 ∷ rest = append_assoc (replicate n 32) (46 ∷ []) rest in
     rw (parts, r.0, r.1, length-replicate {A = ℕ} n 32) refl
 
--- ---- what stands behind the dots
+-- ---- what comes after the dots
 
 letter_not_dot : (c : ℕ) → is_letter c ≡ true → is_space_or_dot c ≡ false
 letter_not_dot c h = grind (arith, nat_tests)

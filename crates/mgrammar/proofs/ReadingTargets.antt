@@ -1,5 +1,5 @@
 -- SPDX-License-Identifier: Apache-2.0
--- What is read of the left side of an set_argument is spelled so, and what is spelled so is read.
+-- What is read of the left side of a set_argument is spelled so, and what is spelled so is read.
 use Rattle.mgrammar.proofs.GrammarWords.{◌≡◌, ℕ, ◌<◌, ◌-◌, Bool, true, eqb, List, [], ◌∷◌, ◌++◌, Option, Some, None, inl, inr, refl, sym, ap, subst, ◌∙◌, append_assoc, arith, eqb-true, nat_tests, is_letter, AllAre, ExprTree, PrimaryTree, no_exprs, ReferenceTree, indirect, TargetTree, variable, piece, DestinationTree, one, several, ArgTree, assign, indirect_args, FormTree, spell_expr, spell_primary, spell_reference, spell_place, spell_target, spell_destination, spell_arg, set_argument, is_piece, max_depth, bare_primary, bare_destination, WellBelow, WellReference, WellOptional, WellTarget, WellDestination, WellArg, Read, ◌>>=◌, run_of, after_run, past, Readers, reference_with, expr_at, readers_at, place_with, piece_with, piece_by, target_with, destination_at, given_by, set_argument_by, set_argument_at}
 use Rattle.mgrammar.proofs.ReadingBasics.{IsRead, Takes, Again, Stops, Begins, Begins-append, Begins-stops, Begins-weaker, bind_some, chosen, some_is, both_are, run_parts, run_again, past_takes, not_past}
 use Rattle.mgrammar.proofs.ReadingLists.{joined_by, listed_or_one, bracketed_again, is_comma}
@@ -35,7 +35,7 @@ module _ (d : ℕ) (r : Readers) (takes : Takes spell_expr (WellInner d) (r.inne
         | inr p ↦ subst Is (some_is (None, c ∷ cs) x p.1) (refl, tt)
       ]
 
-  -- behind a word and its bracket
+  -- after a word and its bracket
   piece_takes : (w cs ds after : List ℕ) (x : TargetTree × List ℕ) → ds ≡ w ++ after → after ≡ 40 ∷ cs → AllAre is_letter w → is_piece w ≡ true → piece_with r w cs ≡ Some x
       → IsRead spell_target (WellTarget d) (36 ∷ ds) x
   unfolding piece_with

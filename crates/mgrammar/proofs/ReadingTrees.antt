@@ -27,7 +27,7 @@ list_well d (tail s rest) w = (w.0, list_well d rest w.1)
 
 -- ---- what stands in brackets
 
--- an expression in brackets, where so many brackets more may be open
+-- an expression in brackets, if this many more brackets may be open
 abbrev pub WellInner : ℕ → ExprTree → Type 0
 WellInner d e = (0 < d) × WellExpr (d - 1) e
 
@@ -77,7 +77,7 @@ pub choices_back : (s : ChoicesTree) → choices_of (choices_list s) ≡ s
 choices_back no_choices = refl
 choices_back (choice c v rest) = ap (λ (x : ChoicesTree). choice c v x) (choices_back rest)
 
--- a choice, and the text of those behind it
+-- a choice, and the text of those after it
 choice-more : (c v rest more : List ℕ) → rest ≡ more → c ++ 58 ∷ (v ++ rest) ≡ (c ++ 58 ∷ v) ++ more
 choice-more c v rest more e = ap (λ (y : List ℕ). c ++ 58 ∷ (v ++ y)) e ∙ sym (append_assoc c (58 ∷ v) more)
 

@@ -9,7 +9,7 @@ use Rattle.mgrammar.proofs.ShortTrees.{IsRead, HaveNone, only, the_one, named, c
 abbrev variable : List ℕ → ExprTree
 variable name = only (reference (named name))
 
--- a command, with the spaces behind it
+-- a command, with the spaces after it
 abbrev spaced : KeywordTree → List ℕ → List ArgTree → ℕ → SpacedTree
 spaced k word args n = (command k word args, n)
 
@@ -31,28 +31,28 @@ record Read : Type 0 where
   entries : IsRead (codes "D A,%1^R:1,^R") (of_commands (spaced do_word (codes "D") (do_one (at_label (codes "A")) None ∷ do_one (at_label_in (codes "%1") (codes "R")) (Some the_one) ∷ do_one (at_routine (codes "R")) None ∷ []) 0 ∷ []))
   -- beside one of the command
   conditions : IsRead (codes "goto:1 A:A,B") (of_commands ((conditional goto_word (codes "goto") the_one (go_to (at_label (codes "A")) (Some (variable (codes "A"))) ∷ go_to (at_label (codes "B")) None ∷ []), 0) ∷ []))
-  -- texts, and an argumentless DO, behind which two spaces stand
+  -- texts, and an argumentless DO, which two spaces follow
   texts : IsRead (codes "X \"W 1\":A,A D  W 1") (of_commands (spaced execute_word (codes "X") (executed (only (text (codes "W 1"))) (Some (variable (codes "A"))) ∷ executed (variable (codes "A")) None ∷ []) 1 ∷ spaced do_word (codes "D") [] 2 ∷ spaced write_word (codes "W") (shown the_one ∷ []) 0 ∷ []))
   -- an entry is names alone; GOTO and XECUTE have some argument
   none_of_commands : HaveNone (
       codes "G" ∷ codes "X" ∷ codes "G:1" ∷ codes "D  A" ∷ codes "D A B" ∷ codes "D A^" ∷ codes "D ^" ∷ codes "D ^1" ∷ codes "D 1" ∷ codes "D A(1)" ∷
       codes "D ^R(1)" ∷ codes "D A^B^C" ∷ codes "D \"A\"" ∷ codes "D A:" ∷ codes "D A," ∷ codes "G A+1" ∷ codes "X 1:2:3" ∷ codes "XE 1" ∷
       codes "D W 1" ∷ codes ". W 1" ∷ [])
-  -- with a label and without, and with nothing or a comment behind it
+  -- with a label and without, and with nothing or a comment after it
   short_lines :
       IsRoutineLine [] (record { label = None; body = short None })
       × IsRoutineLine (codes ";c") (record { label = None; body = short (Some (codes "c")) })
       × IsRoutineLine (codes "L") (record { label = Some (codes "L"); body = short None })
       × IsRoutineLine (codes "L;c") (record { label = Some (codes "L"); body = short (Some (codes "c")) })
       × IsRoutineLine (codes " ") (record { label = None; body = spaced_out [] (of_commands []) })
-  -- with commands, behind dots or none: each dot with the spaces in front of it, the first space of all apart
+  -- with commands, after dots or none: each dot with the spaces in front of it, the first space of all apart
   dotted_lines :
       IsRoutineLine (codes "L W 1") (record { label = Some (codes "L"); body = spaced_out [] write_one })
       × IsRoutineLine (codes "  W 1") (record { label = None; body = spaced_out [] (record write_one { lead = 1 }) })
       × IsRoutineLine (codes " .W 1") (record { label = None; body = spaced_out (0 ∷ []) write_one })
       × IsRoutineLine (codes "L  . . W 1") (record { label = Some (codes "L"); body = spaced_out (1 ∷ 1 ∷ []) (record write_one { lead = 1 }) })
       × IsRoutineLine (codes " ..;c") (record { label = None; body = spaced_out (0 ∷ 0 ∷ []) (record { lead = 0; commands = []; comment = Some (codes "c") }) })
-  -- behind a label the end, a space or a comment comes, and a command stands behind a space
+  -- after a label comes the end, a space or a comment, and a command comes after a space
   none_of_lines :
       HasNoLine (codes "L. W 1")
       × HasNoLine (codes "W 1")

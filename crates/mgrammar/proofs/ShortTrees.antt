@@ -32,7 +32,7 @@ command k word args = record { keyword = k; word = word; condition = None; args 
 abbrev pub conditional : KeywordTree → List ℕ → ExprTree → List ArgTree → CommandTree
 conditional k word e args = record { keyword = k; word = word; condition = Some e; args = args }
 
--- a line of these commands, with the spaces behind each
+-- a line of these commands, with the spaces after each
 abbrev pub of_commands : List SpacedTree → LineTree
 of_commands cs = record { lead = 0; commands = cs; comment = None }
 

@@ -1,6 +1,6 @@
 -- SPDX-License-Identifier: Apache-2.0
--- The commands, a row each: its word, its first letter, the form of its arguments, from how many to how many there may be, and whether a
--- `postcond` may stand behind the word.
+-- The commands, one row each: the word, its first letter, the form of its arguments, how many there may be at least and at most, and
+-- whether a `postcond` may follow the word.
 --
 -- Restates "Command definitions" of ISO/IEC 11756:1999, of those that the language has.
 use Rattle.std.specs.Prelude.{ℕ, Bool, true, false, ◌&&◌, nat_le, if◌then◌else◌, Option, Some, None, List, [], ◌∷◌, codes}
@@ -49,10 +49,10 @@ keyword_of w = keyword_named w keywords
 abbrev pub form_of : KeywordTree → FormTree
 form_of k = (command_row k).form
 
--- whether a command takes so many arguments
+-- whether a command takes this many arguments
 abbrev pub takes_args : KeywordTree → ℕ → Bool
 takes_args k n = nat_le (command_row k).least n && is_at_most (command_row k).most n
 
--- whether a `postcond` may stand behind its word
+-- whether a `postcond` may follow its word
 abbrev pub takes_condition : KeywordTree → Bool
 takes_condition k = (command_row k).is_conditioned

@@ -1,5 +1,5 @@
 -- SPDX-License-Identifier: Apache-2.0
--- The functions, a row each: its word, its abbreviation, and what stands in its brackets.
+-- The functions, one row each: the word, its abbreviation, and what stands in its brackets.
 --
 -- Restates "Intrinsic functions" of ISO/IEC 11756:1999, of those that the language has.
 use Rattle.std.specs.Prelude.{ℕ, Bool, ◌&&◌, nat_le, if◌then◌else◌, Option, Some, None, List, [], ◌∷◌, codes}
@@ -22,7 +22,7 @@ pub data VariableFunctionTree : Type 0 where
   get_function : VariableFunctionTree
   order_function : VariableFunctionTree
 
--- what stands in the brackets: from so many values to so many, or without a bound; a variable, and up to so many values behind it; or choices
+-- what stands in the brackets: from this many values to that many, or without a bound; a variable, and up to this many values after it; or choices
 pub data FunctionTree : Type 0 where
   of_values : ValueFunctionTree → ℕ → Option ℕ → FunctionTree
   of_variable : VariableFunctionTree → ℕ → FunctionTree
@@ -60,7 +60,7 @@ row_named w (r ∷ rs) = if is_either r.short r.whole w then Some r.function els
 unfoldable pub function_of : List ℕ → Option FunctionTree
 function_of w = row_named w function_rows
 
--- whether so many values may stand in brackets that take from so many to so many: one at least
+-- whether n values may stand in brackets that take from `least` to `most`: at least one
 abbrev pub takes : ℕ → Option ℕ → ℕ → Bool
 takes least most n = nat_le 1 n && (nat_le least n && is_at_most most n)
 

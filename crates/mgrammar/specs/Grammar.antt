@@ -2,7 +2,7 @@
 -- The grammar: a line of M as a plain tree, and the text of a tree.
 --
 -- Restates productions of ISO/IEC 11756:1999, each named at its rule by its name in the standard's metalanguage. Nothing
--- reads here: a text has a tree where a tree that is `well` (WellFormed) spells it. A tree keeps what the text says beside the meaning:
+-- is read here: a text has a tree if a tree that is `well` (WellFormed) spells it. A tree keeps what the text says besides the meaning:
 -- words as they are written, digits, spaces.
 use Rattle.std.specs.Prelude.{ℕ, Bool, true, false, ◌||◌, ◌==◌, nat_le, if◌then◌else◌, List, [], ◌∷◌, ◌++◌, replicate, codes, Option, Some, None}
 use Rattle.std.specs.List.{list_any}
@@ -28,7 +28,7 @@ pub data TruthTree : Type 0 where
   both : TruthTree
   either : TruthTree
 
--- `binaryop`; and a `truthop`, alone or behind a `'`
+-- `binaryop`; and a `truthop`, alone or after a `'`
 pub data BinaryTree : Type 0 where
   add : BinaryTree
   subtract : BinaryTree
@@ -40,7 +40,7 @@ pub data BinaryTree : Type 0 where
   is : TruthTree → BinaryTree
   is_not : TruthTree → BinaryTree
 
--- `repcount`: the digits in front, and a point with the digits behind it
+-- `repcount`: the digits in front, and a point with the digits after it
 pub record CountTree : Type 0 where
   pub front : List ℕ
   pub behind : Option (List ℕ)
@@ -84,9 +84,9 @@ mutual
     select : List ℕ → ChoicesTree → PrimaryTree
     refer : List ℕ → ReferenceTree → ExprsTree → PrimaryTree
 
-  -- `glvn`: `lvn`, a name, and its subscripts, of which there may be none; `gvn`, such a name and subscripts behind a `^`, and
-  -- with an `environment` in front of them; and the subscripts of a naked reference, which stand behind the `^` alone. Name
-  -- indirection: the `expratom` behind an `@`, its operand, and the subscripts behind a further `@` (`lnamind`, `gnamind`), of which
+  -- `glvn`: `lvn`, a name, and its subscripts, of which there may be none; `gvn`, such a name and subscripts after a `^`, and
+  -- with an `environment` in front of them; and the subscripts of a naked reference, which come after the `^` alone. Name
+  -- indirection: the `expratom` after an `@`, its operand, and the subscripts after a further `@` (`lnamind`, `gnamind`), of which
   -- there may be none
   pub data ReferenceTree : Type 0 where
     local : List ℕ → ExprsTree → ReferenceTree
@@ -149,7 +149,7 @@ pub data LockedTree : Type 0 where
   lock_one : ReferenceTree → LockedTree
   lock_several : List ReferenceTree → LockedTree
 
--- what a command's arguments look like; no text is one of the form `nothing`, that of commands that take none
+-- what a command's arguments look like; no text has the form `no_argument`, that of commands that take none
 pub data FormTree : Type 0 where
   set_argument : FormTree
   kill_argument : FormTree
@@ -165,9 +165,9 @@ pub data FormTree : Type 0 where
 
 -- an argument of any command: `setargument`, a destination and a value; `writeargument`, a run of the format `!`, or a value;
 -- `killargument`, a variable, or the names that are spared; `newargument`, a name, or the names that are spared; the condition
--- of `ifargument`; what stands behind FOR, the name of an index and its parameters; and with a `postcond` of its own or none,
+-- of `ifargument`; what comes after FOR, the name of an index and its parameters; and with a `postcond` of its own or none,
 -- `doargument`, `gotoargument` and `xargument`; `lockargument`, with its `timeout` or none. Argument indirection: arguments of this form
--- that a text gives, the value of the `expratom` behind an `@`
+-- that a text gives, the value of the `expratom` after an `@`
 pub data ArgTree : Type 0 where
   assign : DestinationTree → ExprTree → ArgTree
   breaks : ℕ → ArgTree
@@ -200,14 +200,14 @@ pub data KeywordTree : Type 0 where
   lock_word : KeywordTree
   halt_word : KeywordTree
 
--- `command`: its word, also as it is written, its `postcond` where it has one, then its arguments
+-- `command`: its word, also as it is written, its `postcond` if it has one, then its arguments
 pub record CommandTree : Type 0 where
   pub keyword : KeywordTree
   pub word : List ℕ
   pub condition : Option ExprTree
   pub args : List ArgTree
 
--- a command, and how many spaces stand behind it
+-- a command, and how many spaces follow it
 abbrev pub SpacedTree : Type 0
 SpacedTree = CommandTree × ℕ
 
@@ -250,7 +250,7 @@ abbrev pub spell_signs : List SignTree → List ℕ
 spell_signs [] = []
 spell_signs (s ∷ ss) = sign_char s ∷ spell_signs ss
 
--- a quote within a string stands twice
+-- a quote within a string is written twice
 abbrev pub quoted : List ℕ → List ℕ
 quoted [] = []
 quoted (c ∷ cs) = if c == 34 then 34 ∷ 34 ∷ quoted cs else c ∷ quoted cs
@@ -306,12 +306,12 @@ abbrev mutual
   spell_reference (indirect p subscripts) = 64 ∷ (spell_primary p ++ spell_attached subscripts)
   spell_reference (extended e name subscripts) = 94 ∷ 124 ∷ (spell_expr e ++ 124 ∷ (name ++ spell_subscripts subscripts))
 
-  -- in brackets, where there are some
+  -- in brackets, if there are some
   pub spell_subscripts : ExprsTree → List ℕ
   spell_subscripts no_exprs = []
   spell_subscripts (exprs e rest) = 40 ∷ (spell_expr e ++ (spell_more_exprs rest ++ 41 ∷ []))
 
-  -- behind an `@`, where there are some
+  -- after an `@`, if there are some
   pub spell_attached : ExprsTree → List ℕ
   spell_attached no_exprs = []
   spell_attached (exprs e rest) = 64 ∷ 40 ∷ (spell_expr e ++ (spell_more_exprs rest ++ 41 ∷ []))
@@ -366,7 +366,7 @@ spell_parameter (once e) = spell_expr e
 spell_parameter (onward e by) = spell_expr e ++ 58 ∷ spell_expr by
 spell_parameter (until e by to) = spell_expr e ++ 58 ∷ (spell_expr by ++ 58 ∷ spell_expr to)
 
--- behind a colon, where there is one
+-- after a colon, if there is one
 abbrev pub spell_condition : Option ExprTree → List ℕ
 spell_condition None = []
 spell_condition (Some e) = 58 ∷ spell_expr e
@@ -401,7 +401,7 @@ spell_arg (executed e c) = spell_expr e ++ spell_condition c
 spell_arg (locked k names t) = (spell_kind k ++ spell_locked names) ++ spell_condition t
 spell_arg (indirect_args f p) = 64 ∷ spell_primary p
 
--- behind a space, where there are some
+-- after a space, if there are some
 abbrev pub spell_args : List ArgTree → List ℕ
 spell_args [] = []
 spell_args (a ∷ rest) = 32 ∷ spell_list spell_arg (a ∷ rest)

@@ -11,7 +11,7 @@ use Rattle.mgrammar.specs.RoutineLine.{RoutineLineTree, spell_routine_line, well
 abbrev pub OneTree : Type 0
 OneTree = (s t : LineTree) → well s → well t → spell s ≡ spell t → s ≡ t
 
--- a text is read as a tree exactly where that is the well-formed tree that spells it
+-- a text is read as a tree exactly when that is the well-formed tree that spells it
 abbrev pub ReadsItsTree : Type 0
 ReadsItsTree = (text : List ℕ) (l : LineTree) → (line_at text ≡ Some l) ↔ ((spell l ≡ text) × well l)
 
@@ -19,7 +19,7 @@ ReadsItsTree = (text : List ℕ) (l : LineTree) → (line_at text ≡ Some l) �
 abbrev pub OneRoutineTree : Type 0
 OneRoutineTree = (s t : RoutineLineTree) → well_routine_line s → well_routine_line t → spell_routine_line s ≡ spell_routine_line t → s ≡ t
 
--- and it is read as a tree exactly where that is the well-formed tree that spells it
+-- and it is read as a tree exactly when that is the well-formed tree that spells it
 abbrev pub ReadsItsRoutineTree : Type 0
 ReadsItsRoutineTree = (text : List ℕ) (l : RoutineLineTree) → (routine_line_at text ≡ Some l) ↔ ((spell_routine_line l ≡ text) × well_routine_line l)
 
@@ -35,7 +35,7 @@ ToldOfItsTree = (text : List ℕ) (l : RoutineLineTree) → routine_line_at text
 abbrev pub OneReference : Type 0
 OneReference = (s t : ReferenceTree) → WellReference max_depth s → WellReference max_depth t → spell_reference s ≡ spell_reference t → s ≡ t
 
--- and it is read as a tree exactly where that is the well-formed tree that spells it
+-- and it is read as a tree exactly when that is the well-formed tree that spells it
 abbrev pub ReadsItsReference : Type 0
 ReadsItsReference = (text : List ℕ) (v : ReferenceTree) → (ref_at text ≡ Some v) ↔ ((spell_reference v ≡ text) × WellReference max_depth v)
 
@@ -45,7 +45,7 @@ OneArgumentList =
     (f : FormTree) → may_be_indirect f ≡ true → (s t : List ArgTree) → WellList (WellArg f) s → WellList (WellArg f) t →
     spell_list spell_arg s ≡ spell_list spell_arg t → s ≡ t
 
--- and it is read as such a list exactly where that is the list of well-formed trees that spells it
+-- and it is read as such a list exactly when that is the list of well-formed trees that spells it
 abbrev pub ReadsItsArguments : Type 0
 ReadsItsArguments =
     (f : FormTree) → may_be_indirect f ≡ true → (text : List ℕ) (args : List ArgTree) →

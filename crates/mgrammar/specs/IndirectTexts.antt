@@ -2,7 +2,7 @@
 -- The texts of indirection, read whole.
 --
 -- Restates "Indirection" of ISO/IEC 11756:1999: the value of the operand of an `@` is a text that stands where the `@` stands, in the
--- place of a variable or of arguments. The meaning of a line reads such a text so; laws tie what is read to the grammar.
+-- place of a variable or of arguments. The meaning of a line reads such a text in this way; laws tie what is read to the grammar.
 use Rattle.std.specs.Prelude.{ℕ, List, [], ◌∷◌, Option, Some, None}
 use Rattle.mgrammar.specs.Grammar.{ReferenceTree, ArgTree, FormTree}
 use Rattle.mgrammar.specs.WellFormed.{max_depth}
@@ -10,7 +10,7 @@ use Rattle.mgrammar.specs.ReadingWords.{◌>>=◌, list_at}
 use Rattle.mgrammar.specs.ReadingExpressions.{readers_at, reference_with}
 use Rattle.mgrammar.specs.Reading.{arg_at}
 
--- what was read, unless something is left behind it
+-- what was read, unless something is left after it
 abbrev pub whole_by : {A : Type 0} → A → List ℕ → Option A
 whole_by a [] = Some a
 whole_by a (c ∷ cs) = None

@@ -13,7 +13,7 @@ use Rattle.mspec.specs.Pattern.{PatternCode, letter, control, everything, lower,
 
 -- ---- the pattern of a tree
 
--- the code that a letter names in either case, where the grammar has one
+-- the code that a letter names in either case, if the grammar has one
 abbrev pub pattern_code : ℕ → PatternCode
 pattern_code c =
     let capital = upper_case c in
@@ -24,12 +24,12 @@ pattern_code c =
     else (if capital == 78 then numeral
     else (if capital == 80 then punctuation else upper)))))
 
--- the number of some digits, where there are any
+-- the number of some digits, if there are any
 abbrev pub bound_of : List ℕ → Option ℕ
 bound_of [] = None
 bound_of (d ∷ ds) = Some (digits_after 0 (d ∷ ds))
 
--- of a count without a point the digits in front are both bounds, and else those behind the point are the upper one
+-- in a count without a point the digits in front are both bounds; otherwise those after the point are the upper one
 abbrev pub most_of : List ℕ → Option (List ℕ) → Option ℕ
 most_of front None = bound_of front
 most_of front (Some behind) = bound_of behind
@@ -64,7 +64,7 @@ abbrev pub any_up_to : ℕ → (ℕ → Bool) → Bool
 any_up_to zero test = test 0
 any_up_to (suc n) test = any_up_to n test || test (suc n)
 
--- A text that is not empty holds at most as many copies of a string as it has characters; of the empty string the least
+-- A text that is not empty holds at most as many copies of a string as it has characters; for the empty string the least
 -- number of copies is as good as any.
 abbrev pub is_repetition : Count → Repeated → List ℕ → Bool
 is_repetition count (members codes) text = list_all (is_in_any codes) text && is_permitted count (length text)

@@ -4,6 +4,6 @@ use Rattle.std.specs.Prelude.{ℕ, List, Decides}
 use Rattle.mspec.specs.Pattern.{Atom, Matches}
 use Rattle.mgrammar.specs.Matching.{is_match}
 
--- `is_match` is true exactly where the text is a joining of segments, one for each atom
+-- `is_match` is true exactly when the text is a joining of segments, one for each atom
 abbrev pub DecidesMatch : Type 0
 DecidesMatch = (atoms : List Atom) (text : List ℕ) → Decides (is_match atoms text) (Matches atoms text)

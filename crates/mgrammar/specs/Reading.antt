@@ -1,6 +1,6 @@
 -- SPDX-License-Identifier: Apache-2.0
--- Reading a tree back from its text. The meaning of a line reads its text so; the law `reads_its_tree` ties what is read to the
--- grammar, which a reader checks in its place.
+-- Reading a tree back from its text. The meaning of a line reads its text in this way; the law `reads_its_tree` ties what is read to
+-- the grammar, which a reader checks in its place.
 use Rattle.std.specs.Prelude.{ℕ, ◌-◌, Bool, true, false, not, ◌&&◌, ◌||◌, ◌==◌, nat_le, if◌then◌else◌, List, [], ◌∷◌, length, drop, Option, Some, None}
 use Rattle.mspec.specs.Names.{is_letter, is_character}
 use Rattle.mgrammar.specs.Grammar.{ExprTree, PrimaryTree, ReferenceTree, TargetTree, variable, piece, DestinationTree, one, several, ParameterTree, once, onward, until, EntryTree, at_label, at_label_in, at_routine, ArgTree, assign, breaks, shown, kill_one, kill_others, new_one, new_others, tested, loop, do_one, go_to, executed, locked, indirect_args, LockKindTree, anew, adding, giving_back, LockedTree, lock_one, lock_several, CommandTree, SpacedTree, LineTree, KeywordTree, FormTree, set_argument, kill_argument, new_argument, if_argument, for_argument, write_argument, do_argument, goto_argument, xecute_argument, lock_argument, no_argument}
@@ -13,7 +13,7 @@ use Rattle.mgrammar.specs.ReadingExpressions.{Readers, reference_with, readers_a
 -- ---- arguments
 
 module _ (r : Readers) where
-  -- behind a delimiter
+  -- after a delimiter
   unfoldable pub place_with : List ℕ → Read (Option ExprTree)
   place_with [] = Some (None, [])
   place_with (c ∷ cs) = if c == 44 then (r.inner cs >>= λ e. Some (Some e.0, e.1)) else Some (None, c ∷ cs)
@@ -41,12 +41,12 @@ destination_at (c ∷ cs) =
     then (list_at (target_with (readers_at (max_depth - 1))) cs >>= λ x. past 41 x.1 >>= λ rest. Some (several x.0, rest))
     else (target_with (readers_at max_depth) (c ∷ cs) >>= λ t. Some (one t.0, t.1))
 
--- arguments that a text gives, where this operand of an `@` is read, or none
+-- arguments that a text gives, if the operand of an `@` was read
 abbrev pub given_by : FormTree → List ℕ → Option PrimaryTree → Read ArgTree
 given_by f cs None = None
 given_by f cs (Some p) = Some (indirect_args f p, cs)
 
--- a destination is read, and this text stands behind a `=`, or none does
+-- a destination is read, and this text comes after a `=`, or none does
 abbrev pub set_argument_by : DestinationTree → List ℕ → Option (List ℕ) → Read ArgTree
 set_argument_by d cs None = given_by set_argument cs (bare_destination d)
 set_argument_by d cs (Some rest) = expr_at max_depth rest >>= λ e. Some (assign d e.0, e.1)
@@ -57,7 +57,7 @@ set_argument_at cs = destination_at cs >>= λ d. set_argument_by d.0 d.1 (past 6
 abbrev pub is_bang : ℕ → Bool
 is_bang c = c == 33
 
--- where this run of `!` is in front
+-- with this run of `!` in front
 abbrev pub write_argument_by : List ℕ → List ℕ → Read ArgTree
 write_argument_by [] cs = expr_at max_depth cs >>= λ e. Some (shown e.0, e.1)
 write_argument_by (b ∷ bs) cs = Some (breaks (length (b ∷ bs)), after_run is_bang cs)
@@ -65,7 +65,7 @@ write_argument_by (b ∷ bs) cs = Some (breaks (length (b ∷ bs)), after_run is
 unfoldable pub write_argument_at : List ℕ → Read ArgTree
 write_argument_at cs = write_argument_by (run_of is_bang cs) cs
 
--- names, where the bracket in front of them is past
+-- names, after the bracket in front of them
 unfoldable pub names_at : List ℕ → Read (List (List ℕ))
 names_at cs = list_at name_at cs >>= λ x. past 41 x.1 >>= λ rest. Some (x.0, rest)
 
@@ -84,7 +84,7 @@ new_argument_at (c ∷ cs) =
 unfoldable pub if_argument_at : List ℕ → Read ArgTree
 if_argument_at cs = expr_at max_depth cs >>= λ e. Some (tested e.0, e.1)
 
--- a parameter of which the expressions in front are read, with what stands behind a colon
+-- a parameter whose expressions in front are read, with what comes after a colon
 abbrev pub limit_by : ExprTree → ExprTree → List ℕ → Option (List ℕ) → Read ParameterTree
 limit_by e by cs None = Some (onward e by, cs)
 limit_by e by cs (Some rest) = expr_at max_depth rest >>= λ to. Some (until e by to.0, to.1)
@@ -100,12 +100,12 @@ unfoldable pub for_argument_at : List ℕ → Read ArgTree
 for_argument_at cs =
     name_at cs >>= λ n. past 61 n.1 >>= λ rest. list_at parameter_at rest >>= λ x. Some (loop n.0 x.0, x.1)
 
--- an expression, where the colon in front of it is past, or none
+-- an expression after the colon in front of it, or none
 abbrev pub postcondition_by : List ℕ → Option (List ℕ) → Read (Option ExprTree)
 postcondition_by cs None = Some (None, cs)
 postcondition_by cs (Some rest) = expr_at max_depth rest >>= λ e. Some (Some e.0, e.1)
 
--- a name is read: a routine's behind a `^`, and otherwise a label
+-- a name is read: a routine's after a `^`, and otherwise a label
 abbrev pub label_by : List ℕ → List ℕ → Option (List ℕ) → Read EntryTree
 label_by label cs None = Some (at_label label, cs)
 label_by label cs (Some rest) = name_at rest >>= λ n. Some (at_label_in label n.0, n.1)
@@ -175,7 +175,7 @@ arg_at no_argument = λ cs. None
 
 -- ---- commands and lines
 
--- arguments stand behind a word: a space, and behind it no space, no comment and no end
+-- arguments follow a word: a space, and after it no space, no comment and no end
 abbrev pub has_args : List ℕ → Bool
 has_args [] = false
 has_args (c ∷ []) = false
@@ -184,11 +184,11 @@ has_args (c ∷ d ∷ cs) = c == 32 && not (d == 32 || d == 59)
 unfoldable pub args_at : FormTree → List ℕ → Read (List ArgTree)
 args_at f cs = if has_args cs then list_at (arg_at f) (drop 1 cs) else Some ([], cs)
 
--- behind a word of this keyword
+-- after a word of this keyword
 unfoldable pub postcondition_at : KeywordTree → List ℕ → Read (Option ExprTree)
 postcondition_at k cs = if takes_condition k then postcondition_by cs (past 58 cs) else Some (None, cs)
 
--- a command of this word and keyword, of which the text behind the word is left
+-- a command of this word and keyword, of which the text after the word is left
 abbrev pub command_by : List ℕ → Option KeywordTree → List ℕ → Read CommandTree
 command_by w None cs = None
 command_by w (Some k) cs =
@@ -206,7 +206,7 @@ abbrev pub at_end : List ℕ → Bool
 at_end [] = true
 at_end (c ∷ cs) = c == 59
 
--- a command with these spaces behind it: enough of them, unless nothing more than a comment follows
+-- a command with these spaces after it: enough of them, unless nothing more than a comment follows
 abbrev pub spaced : CommandTree → List ℕ → List ℕ → Option (Option (SpacedTree × List ℕ))
 spaced c spaces rest =
     if at_end rest || nat_le (least_gap c.args) (length spaces) then Some (Some ((c, length spaces), rest)) else None
@@ -216,7 +216,7 @@ spaced_at cs =
     if at_end cs then Some None
     else (command_at cs >>= λ c. spaced c.0 (run_of is_space c.1) (after_run is_space c.1))
 
--- a comment, unless something is left behind it
+-- a comment, unless something is left after it
 abbrev pub comment_by : List ℕ → List ℕ → Option (Option (List ℕ))
 comment_by t [] = Some (Some t)
 comment_by t (c ∷ cs) = None

@@ -14,18 +14,18 @@ pub record Readers : Type 0 where
   pub within : List ℕ → Read ReferenceTree
   pub below : List ℕ → Read PrimaryTree
 
--- the text behind an `@`, where a bracket opens there
+-- the text after an `@`, if a bracket opens there
 abbrev pub attached_at : List ℕ → Option (List ℕ)
 attached_at cs = past 64 cs >>= λ behind. past 40 behind >>= λ inside. Some behind
 
 module _ (r : Readers) where
-  -- subscripts, where a bracket opens
+  -- subscripts, if a bracket opens
   unfoldable pub subscripts_with : List ℕ → Read ExprsTree
   subscripts_with [] = Some (no_exprs, [])
   subscripts_with (c ∷ cs) =
       if c == 40 then (list_at (r.inner) cs >>= λ x. past 41 x.1 >>= λ rest. Some (exprs_of x.0, rest)) else Some (no_exprs, c ∷ cs)
 
-  -- those behind an operand, where this text with a bracket in front stands behind an `@`, or none does
+  -- those after an operand, given that this text with a bracket in front comes after an `@`, or none does
   abbrev pub attached_by : List ℕ → Option (List ℕ) → Read ExprsTree
   attached_by cs None = Some (no_exprs, cs)
   attached_by cs (Some behind) = subscripts_with behind
@@ -33,16 +33,16 @@ module _ (r : Readers) where
   unfoldable pub attached_with : List ℕ → Read ExprsTree
   attached_with cs = attached_by cs (attached_at cs)
 
-  -- behind an `@`
+  -- after an `@`
   unfoldable pub indirect_with : List ℕ → Read ReferenceTree
   indirect_with cs = r.below cs >>= λ p. attached_with p.1 >>= λ x. Some (indirect p.0 x.0, x.1)
 
-  -- where this text stands behind an `@`, or none does
+  -- given that this text comes after an `@`, or none does
   abbrev pub local_by : List ℕ → Option (List ℕ) → Read ReferenceTree
   local_by cs None = name_at cs >>= λ n. subscripts_with n.1 >>= λ x. Some (local n.0 x.0, x.1)
   local_by cs (Some behind) = indirect_with behind
 
-  -- behind a `^|`
+  -- after a `^|`
   unfoldable pub extended_with : List ℕ → Read ReferenceTree
   extended_with cs =
       r.inner cs >>= λ e. past 124 e.1 >>= λ rest. name_at rest >>= λ n. subscripts_with n.1 >>= λ x. Some (extended e.0 n.0 x.0, x.1)
@@ -51,12 +51,12 @@ module _ (r : Readers) where
   owned_by cs None = name_at cs >>= λ n. subscripts_with n.1 >>= λ x. Some (global n.0 x.0, x.1)
   owned_by cs (Some inside) = extended_with inside
 
-  -- behind a `^`: subscripts alone where a bracket opens, and otherwise a name in front of them, with an environment or none
+  -- after a `^`: subscripts alone if a bracket opens, and otherwise a name in front of them, with an environment or none
   abbrev pub global_by : List ℕ → Option (List ℕ) → Read ReferenceTree
   global_by cs None = owned_by cs (past 124 cs)
   global_by cs (Some inside) = subscripts_with cs >>= λ x. Some (naked x.0, x.1)
 
-  -- where this text stands behind a `^`, or none does
+  -- given that this text comes after a `^`, or none does
   abbrev pub reference_by : List ℕ → Option (List ℕ) → Read ReferenceTree
   reference_by cs None = local_by cs (past 64 cs)
   reference_by cs (Some behind) = global_by behind (past 40 behind)
@@ -70,17 +70,17 @@ module _ (r : Readers) where
   unfoldable pub choice_with : List ℕ → Read (ExprTree × ExprTree)
   choice_with cs = r.inner cs >>= λ c. past 58 c.1 >>= λ rest. r.inner rest >>= λ v. Some ((c.0, v.0), v.1)
 
-  -- of this word, where the text behind its bracket is left
+  -- of this word, of which the text after its bracket is left
   unfoldable pub select_with : List ℕ → List ℕ → Read PrimaryTree
   select_with w cs = list_at choice_with cs >>= λ x. past 41 x.1 >>= λ rest. Some (select w (choices_of x.0), rest)
 
-  -- so many values at least, and at most
+  -- at least `least` values, and at most `most`
   unfoldable pub call_with : ℕ → Option ℕ → List ℕ → List ℕ → Read PrimaryTree
   call_with least most w cs =
       list_at (r.inner) cs >>= λ x. past 41 x.1 >>= λ rest.
       if takes least most (length x.0) then Some (call w (exprs_of x.0), rest) else None
 
-  -- a variable, and so many values behind it at most
+  -- a variable, and at most `most` values after it
   unfoldable pub refer_with : ℕ → List ℕ → List ℕ → Read PrimaryTree
   refer_with most w cs =
       r.within cs >>= λ v. many (after_comma (r.inner)) (length v.1) v.1 >>= λ x. past 41 x.1 >>= λ rest.
@@ -96,12 +96,12 @@ module _ (r : Readers) where
   special_by w None cs = None
   special_by w (Some v) cs = Some (special w, cs)
 
-  -- of this word, with this text behind it: a function where a bracket opens there, and otherwise a special variable
+  -- of this word, with this text after it: a function if a bracket opens there, and otherwise a special variable
   abbrev pub dollar_by : List ℕ → List ℕ → Option (List ℕ) → Read PrimaryTree
   dollar_by w cs None = special_by w (special_of w) cs
   dollar_by w cs (Some inside) = function_by w (function_of w) inside
 
-  -- behind a `$`
+  -- after a `$`
   unfoldable pub dollar_with : List ℕ → Read PrimaryTree
   dollar_with cs = dollar_by (run_of is_letter cs) (after_run is_letter cs) (past 40 (after_run is_letter cs))
 
@@ -117,7 +117,7 @@ module _ (r : Readers) where
   unfoldable pub operand_with : List ℕ → Read OperandTree
   operand_with cs = primary_with (after_signs cs) >>= λ p. Some (operand (signs_of cs) p.0, p.1)
 
-  -- a step, where this operator is in front and this text behind it
+  -- a step, with this operator in front and this text after it
   unfoldable pub tail_by : OperatorTree → List ℕ → Read TailTree
   tail_by (between b) cs = operand_with cs >>= λ o. Some (apply b o.0, o.1)
   tail_by matching cs = pattern_at cs >>= λ p. Some (matches p.0, p.1)
@@ -133,7 +133,7 @@ module _ (r : Readers) where
   unfoldable pub expr_with : List ℕ → Read ExprTree
   expr_with cs = operand_with cs >>= λ o. many tail_with (length o.1) o.1 >>= λ s. Some (expr o.0 (tails_of s.0), s.1)
 
--- what may stand within, where so many more brackets may be open
+-- what may stand within, if this many more brackets may be open
 unfoldable pub readers_at : ℕ → Readers
 readers_at zero = record { inner = λ cs. None; within = λ cs. None; below = λ cs. None }
 readers_at (suc d) =

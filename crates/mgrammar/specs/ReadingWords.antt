@@ -28,7 +28,7 @@ after_run p (c ∷ cs) = if p c then after_run p cs else c ∷ cs
 
 -- ---- numbers, names and strings
 
--- a point with digits behind it, or nothing; and the text after it
+-- a point with digits after it, or nothing; and the text that follows
 abbrev pub point_by : List ℕ → List ℕ → List ℕ × List ℕ
 point_by [] cs = ([], 46 ∷ cs)
 point_by (d ∷ ds) cs = (46 ∷ d ∷ ds, after_run is_digit cs)
@@ -49,7 +49,7 @@ abbrev pub after_sign : List ℕ → List ℕ
 after_sign [] = []
 after_sign (c ∷ cs) = if is_plus_or_minus c then cs else c ∷ cs
 
--- an `E` with a sign or none and digits behind it, or nothing; and the text after it
+-- an `E` with a sign or none and digits after it, or nothing; and the text that follows
 abbrev pub exponent_by : List ℕ → List ℕ → List ℕ × List ℕ
 exponent_by [] cs = ([], 69 ∷ cs)
 exponent_by (d ∷ ds) cs = (69 ∷ (one_sign cs ++ d ∷ ds), after_run is_digit (after_sign cs))
@@ -83,7 +83,7 @@ name_at (c ∷ cs) =
     if is_name_start c && nat_le (length (run_of is_name_rest cs)) max_name_rest
     then Some (c ∷ run_of is_name_rest cs, after_run is_name_rest cs) else None
 
--- a list that was read, behind what was there before
+-- a list that was read, after what was there before
 abbrev pub with_front : {A : Type 0} → List A → Read (List A) → Read (List A)
 with_front front read = read >>= λ x. Some (front ++ x.0, x.1)
 
@@ -95,20 +95,20 @@ text_from false [] = None
 text_from false (c ∷ cs) =
     if c == 34 then text_from true cs else (if is_character c then with_front (c ∷ []) (text_from false cs) else None)
 
--- the text behind this character, which is to come
+-- the text after this character, which must come next
 abbrev pub past : ℕ → List ℕ → Option (List ℕ)
 past a [] = None
 past a (c ∷ cs) = if c == a then Some cs else None
 
 -- ---- lists
 
--- An item reads one more, or nothing where none begins, or None at a fault.
+-- An item reads one more, or nothing if none begins, or None at a fault.
 module _ {A : Type 0} (item : List ℕ → Option (Option (A × List ℕ))) where
   abbrev pub more_by : (List ℕ → Read (List A)) → List ℕ → Option (A × List ℕ) → Read (List A)
   more_by more cs None = Some ([], cs)
   more_by more cs (Some x) = with_front (x.0 ∷ []) (more x.1)
 
-  -- items one after another, at most so many: the count of the characters is always enough
+  -- items one after another, at most this many: the count of the characters is always enough
   unfoldable pub many : ℕ → List ℕ → Read (List A)
   many zero cs = Some ([], cs)
   many (suc n) cs = item cs >>= more_by (many n) cs
@@ -118,7 +118,7 @@ module _ {A : Type 0} (item : List ℕ → Read A) where
   comma_by None = Some None
   comma_by (Some rest) = item rest >>= λ x. Some (Some x)
 
-  -- an item behind a comma, or nothing where no comma stands
+  -- an item after a comma, or nothing if no comma comes
   abbrev pub after_comma : List ℕ → Option (Option (A × List ℕ))
   after_comma cs = comma_by (past 44 cs)
 
@@ -143,7 +143,7 @@ abbrev pub is_count : List ℕ → Option (List ℕ) → Bool
 is_count front None = nat_lt 0 (length front) && nat_le (length front) 4
 is_count front (Some behind) = nat_le (length front) 4 && nat_le (length behind) 4
 
--- digits, and what stands behind a point, where the text after them is cs
+-- digits, and what comes after a point, where the text after them is cs
 abbrev pub count_by : List ℕ → Option (List ℕ) → List ℕ → Read CountTree
 count_by front behind cs = if is_count front behind then Some (record { front = front; behind = behind }, cs) else None
 
@@ -204,7 +204,7 @@ abbrev pub arithmetic : List (ℕ × BinaryTree)
 arithmetic =
     (43, add) ∷ (45, subtract) ∷ (42, multiply) ∷ (47, divide) ∷ (92, divide_whole) ∷ (35, remainder) ∷ (95, join) ∷ []
 
--- the operator behind a `]`: the longest
+-- the operator after a `]`: the longest
 abbrev pub follows_at : List ℕ → TruthTree × List ℕ
 follows_at [] = (follows, [])
 follows_at (c ∷ cs) = if c == 93 then (sorts_after, cs) else (follows, c ∷ cs)
@@ -219,13 +219,13 @@ pub data OperatorTree : Type 0 where
   matching : OperatorTree
   matching_not : OperatorTree
 
--- behind a `'`
+-- after a `'`
 abbrev pub negated_at : List ℕ → Read OperatorTree
 negated_at [] = None
 negated_at (c ∷ cs) =
     if c == 63 then Some (matching_not, cs) else (truth_at (c ∷ cs) >>= λ t. Some (between (is_not t.0), t.1))
 
--- where the first character alone says this
+-- given that the first character alone says this
 abbrev pub plain_by : Option BinaryTree → List ℕ → Read OperatorTree
 plain_by None cs = truth_at cs >>= λ t. Some (between (is t.0), t.1)
 plain_by (Some b) cs = Some (between b, drop 1 cs)
@@ -234,7 +234,7 @@ abbrev pub plain_at : List ℕ → Read OperatorTree
 plain_at [] = None
 plain_at (c ∷ cs) = plain_by (found arithmetic c) (c ∷ cs)
 
--- None where no operator begins
+-- None if no operator begins
 unfoldable pub operator_at : List ℕ → Read OperatorTree
 operator_at [] = None
 operator_at (c ∷ cs) =

@@ -2,7 +2,7 @@
 -- A line of a routine: its tree, the text of a tree, and reading a tree back from its text.
 --
 -- Restates "Routine structure" of ISO/IEC 11756:1999: a `levelline` is a label or none, then spaces, an `li` for each dot, and a
--- `linebody`. Behind the label a line may also end, or a comment stand at once.
+-- `linebody`. After the label a line may also end, or a comment come at once.
 use Rattle.std.specs.Prelude.{ℕ, Bool, true, ◌||◌, ◌==◌, if◌then◌else◌, List, [], ◌∷◌, ◌++◌, replicate, length, Option, Some, None}
 use Rattle.std.specs.List.{filter}
 use Rattle.mspec.specs.Names.{IsName}
@@ -13,8 +13,8 @@ use Rattle.mgrammar.specs.Reading.{is_space, comment_at, line_at}
 
 -- ---- trees
 
--- what stands behind the label: nothing or a comment; or behind a space, for each dot how many spaces stand in
--- front of it, and then what a line of a terminal has too
+-- what comes after the label: nothing or a comment; or after a space, for each dot how many spaces are in front
+-- of it, and then what a line of a terminal has too
 pub data BodyTree : Type 0 where
   short : Option (List ℕ) → BodyTree
   spaced_out : List ℕ → LineTree → BodyTree
@@ -62,14 +62,14 @@ WellBody (spaced_out dots l) = well l
 abbrev pub well_routine_line : RoutineLineTree → Type 0
 well_routine_line l = WellLabel l.label × WellBody l.body
 
--- ---- labels and dots, told without reading what stands behind them
+-- ---- labels and dots, told without reading what comes after them
 
 -- a label ends here: at the end, at a space or at a comment
 abbrev pub label_ends : List ℕ → Bool
 label_ends [] = true
 label_ends (c ∷ cs) = c == 32 || c == 59
 
--- a label, or none, and the text behind it
+-- a label, or none, and the text after it
 abbrev pub label_by : List ℕ → Option (List ℕ × List ℕ) → Option (List ℕ) × List ℕ
 label_by cs None = (None, cs)
 label_by cs (Some name) = if label_ends name.1 then (Some name.0, name.1) else (None, cs)
@@ -91,7 +91,7 @@ abbrev pub dots_in : List ℕ → ℕ
 dots_in [] = 0
 dots_in (c ∷ cs) = if is_space c then length (filter is_dot (run_of is_space_or_dot cs)) else 0
 
--- the dots of a line, as its text tells them where it has no tree too
+-- the dots of a line, as its text gives them, even if it has no tree
 abbrev pub dots_of : List ℕ → ℕ
 dots_of cs = dots_in (label_at cs).1
 
@@ -101,14 +101,14 @@ abbrev pub dot_by : ℕ → Option (List ℕ) → Option (Option (ℕ × List �
 dot_by spaces None = Some None
 dot_by spaces (Some rest) = Some (Some (spaces, rest))
 
--- a dot with its spaces in front, or nothing where none comes
+-- a dot with its spaces in front, or nothing if none comes
 unfoldable pub dot_at : List ℕ → Option (Option (ℕ × List ℕ))
 dot_at cs = dot_by (length (run_of is_space cs)) (past 46 (after_run is_space cs))
 
 unfoldable pub dots_at : List ℕ → Read (List ℕ)
 dots_at cs = many dot_at (length cs) cs
 
--- where this text stands behind a space, or no space comes
+-- given that this text comes after a space, or no space comes
 abbrev pub body_by : List ℕ → Option (List ℕ) → Option BodyTree
 body_by cs None = comment_at cs >>= λ o. Some (short o)
 body_by cs (Some rest) = dots_at rest >>= λ p. line_at p.1 >>= λ l. Some (spaced_out p.0 l)

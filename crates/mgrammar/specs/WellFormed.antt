@@ -13,7 +13,7 @@ use Rattle.mgrammar.specs.Functions.{ValueFunctionTree, VariableFunctionTree, of
 abbrev pub SpellsNumber : List ℕ → Type 0
 SpellsNumber t = (l : Literal) × IsLiteral l × (spell_literal l ≡ t)
 
--- one to four digits
+-- at most four digits
 abbrev pub IsBound : List ℕ → Type 0
 IsBound digits = AllAre is_digit digits × (length digits ≤ 4)
 
@@ -41,11 +41,11 @@ abbrev pub exprs_count : ExprsTree → ℕ
 exprs_count no_exprs = 0
 exprs_count (exprs e rest) = suc (exprs_count rest)
 
--- a function that takes so many values
+-- a function that takes this many values
 abbrev pub IsCall : List ℕ → ℕ → Type 0
 IsCall word n = (f : ValueFunctionTree) × (least : ℕ) × (most : Option ℕ) × (function_of word ≡ Some (of_values f least most)) × (takes least most n ≡ true)
 
--- a function of a variable that takes so many values behind it
+-- a function of a variable that takes this many values after it
 abbrev pub IsReferring : List ℕ → ℕ → Type 0
 IsReferring word n = (f : VariableFunctionTree) × (most : ℕ) × (function_of word ≡ Some (of_variable f most)) × (nat_le n most ≡ true)
 
@@ -101,14 +101,14 @@ bare_destination (one (variable r)) = bare_reference r
 bare_destination (one (piece word r delimiter place)) = None
 bare_destination (several ts) = None
 
--- subscripts behind an `@` belong to the innermost one before them that has none yet
+-- subscripts after an `@` belong to the innermost one before them that has none yet
 abbrev pub IsAttached : PrimaryTree → ExprsTree → Type 0
 IsAttached p no_exprs = Unit {0}
 IsAttached p (exprs e rest) = bare_primary p ≡ None
 
 -- ---- expressions
 
--- where so many brackets more may be open, of `( )`, of `| |` and of operands of `@` together
+-- if this many more brackets may be open, counting `( )`, `| |` and operands of `@` together
 abbrev mutual
   pub WellExpr : ℕ → ExprTree → Type 0
   WellExpr d (expr first rest) = WellOperand d first × WellTails d rest
@@ -154,7 +154,7 @@ abbrev mutual
   WellChoices d no_choices = Unit {0}
   WellChoices d (choice c v rest) = WellExpr d c × WellExpr d v × WellChoices d rest
 
--- where there is one
+-- if there is one
 abbrev pub WellOptional : ℕ → Option ExprTree → Type 0
 WellOptional d None = Unit {0}
 WellOptional d (Some e) = WellExpr d e
@@ -210,7 +210,7 @@ WellPlain xecute_argument (executed e c) = WellExpr max_depth e × WellOptional 
 WellPlain lock_argument (locked k names t) = WellLocked names × WellOptional max_depth t
 WellPlain f a = ⊥
 
--- the operand, where an argument is an `@` with it and nothing more
+-- the operand, if an argument is an `@` with it and nothing more
 abbrev pub bare_arg : ArgTree → Option PrimaryTree
 bare_arg (assign d e) = None
 bare_arg (breaks n) = None
@@ -256,8 +256,8 @@ WellCommand c =
     (keyword_of c.word ≡ Some c.keyword) × AllAre is_letter c.word × (takes_args c.keyword (length c.args) ≡ true)
     × WellCondition c.keyword c.condition × WellAll (WellArg (form_of c.keyword)) c.args
 
--- how many spaces stand at least between a command with these arguments and another one: behind a command without arguments
--- one space would look like that before the first
+-- how many spaces there are at least between a command with these arguments and another one: after a command without arguments
+-- one space would look like the one before the first argument
 abbrev pub least_gap : List ArgTree → ℕ
 least_gap [] = 2
 least_gap (a ∷ rest) = 1

@@ -8,7 +8,7 @@ pub fn one_tree()
     ensures { OneTree }
 {}
 
-/// A text is read as a tree exactly where that is the well-formed tree that spells it. The meaning of a line reads its text, so
+/// A text is read as a tree exactly when that is the well-formed tree that spells it. The meaning of a line reads its text, so
 /// this is what ties meanings to the grammar.
 pub fn reads_its_tree()
     ensures { ReadsItsTree }
@@ -20,13 +20,13 @@ pub fn one_routine_tree()
     ensures { OneRoutineTree }
 {}
 
-/// A text is read as a routine's line exactly where the tree that is read is the well-formed one that spells it.
+/// A text is read as a routine's line exactly when the tree that is read is the well-formed one that spells it.
 pub fn reads_its_routine_tree()
     ensures { ReadsItsRoutineTree }
 {}
 
-/// The label and the dots that are told of a text without reading it whole are those of its tree, where it has one. Labels are
-/// sought, and lines passed over, by these alone.
+/// The label and the dots that are told of a text without reading it whole are those of its tree, if it has one. Labels are
+/// searched for, and lines passed over, by these alone.
 pub fn told_of_its_tree()
     ensures { ToldOfItsTree }
 {}
@@ -37,7 +37,7 @@ pub fn one_reference()
     ensures { OneReference }
 {}
 
-/// A text is read as that of a name indirection exactly where the tree that is read is the well-formed one that spells it.
+/// A text is read as that of a name indirection exactly when the tree that is read is the well-formed one that spells it.
 pub fn reads_its_reference()
     ensures { ReadsItsReference }
 {}
@@ -48,7 +48,7 @@ pub fn one_argument_list()
     ensures { OneArgumentList }
 {}
 
-/// A text is read as that of an argument indirection exactly where the trees that are read are the well-formed ones that spell it.
+/// A text is read as that of an argument indirection exactly when the trees that are read are the well-formed ones that spell it.
 pub fn reads_its_arguments()
     ensures { ReadsItsArguments }
 {}

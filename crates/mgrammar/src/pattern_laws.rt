@@ -2,7 +2,7 @@
 // The law of pattern match. The function's contract is the law, and its body is empty: the code never calls it.
 ghost use Rattle.mgrammar.specs.PatternLaws.{DecidesMatch};
 
-/// `is_match` is true exactly where a text matches a pattern.
+/// `is_match` is true exactly when a text matches a pattern.
 #[tactic(auto, using(crate::proofs::Matchings::decides_match))]
 pub fn decides_match()
     ensures { DecidesMatch }

@@ -6,7 +6,7 @@ pub any_more : {X : Type 0} (p q : X → Bool) → ((x : X) → p x ≡ true →
 any_more p q h [] e = e
 any_more p q h (x ∷ xs) e = ⊎_elim (λ a. or_left _ _ (h x a)) (λ a. or_right (q x) _ (any_more p q h xs a)) (or_cases (p x) _ e)
 
--- who is let use what, and by whom
+-- who is allowed to use what, and by whom
 pub let_by : (me owner name : Text) (mode : Mode) (g : Grant) → lets me owner name mode g ≡ true → (owner ≡ g.from) × (me ≡ g.to) × (allows g.mode mode ≡ true)
 let_by me owner name mode g e =
     let parts = and_parts (text_eq owner g.from && text_eq me g.to) _ e in
@@ -18,7 +18,7 @@ let_by me owner name mode g e =
 lets_flow : (me owner name : Text) (mode : Mode) (g : Grant) → lets me owner name mode g ≡ true → carries owner me g ≡ true
 lets_flow me owner name mode g e = or_left _ _ (and_parts (text_eq owner g.from && text_eq me g.to) _ e).0
 
--- and one to write also back
+-- and one to write flows back as well
 writes_flow : (me owner name : Text) (g : Grant) → lets me owner name Write g ≡ true → carries me owner g ≡ true
 writes_flow me owner name g e =
     let parts = and_parts (text_eq owner g.from && text_eq me g.to) _ e in

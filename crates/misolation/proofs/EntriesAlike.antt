@@ -88,7 +88,7 @@ module _ (one two : Settings) (same : SameEntries one two) where
   -- ---- the cuts to a set
 
   module _ (s : Accounts) where
-    -- a grant that lets an account use what is an owner's is between members where both are
+    -- a grant that lets an account use what is an owner's is between members when both are
     between_ends : (me owner name : Text) (mode : Mode) (g : Grant) → lets me owner name mode g ≡ true → is_between s g ≡ (s owner && s me)
     between_ends me owner name mode g e = let by = let_by me owner name mode g e in λ i. s (sym by.0 i) && s (sym by.1 i)
 

@@ -137,7 +137,7 @@ module _ (place : Placement) (settings : Settings) (ties : KeepsTies settings pl
         subst (λ v. History (cut_settings (on place m) settings) v (part (on place m) settings es) (left m)) (sym same)
         (subst (λ xs. History (cut_settings (on place m) settings) (cut_world (on place m) settings world) xs (left m)) (part_away m e es away) (h m))
 
-    -- the first line's transition in the whole, and the machines' histories behind it
+    -- the first line's transition in the whole, and the machines' histories after it
     stepped : (o : Option Account) → get settings.terminals e.0.terminal ≡ o → (get settings.terminals e.0.terminal ≡ None → e.1 ≡ refusal)
         → (between : World) × Transition settings e.0 e.1 world between × Histories between es left
     stepped None known stranger = (

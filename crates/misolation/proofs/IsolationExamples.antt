@@ -219,7 +219,7 @@ module _ (text : Text) where
   clinic_sees_no_bank : (line 1 text, (normal apart (line 1 text) (failed busy)).0) ∷ [] ≡ lonely
   clinic_sees_no_bank = sym (simp (own_inside, own_outside) refl) ∙ same_replies.own ∙ simp own_inside refl
 
--- ---- a line of the laboratory fails, and past it the bank is not seen either
+-- ---- a line of the laboratory fails, and after it the bank is not seen either
 
 of_laboratory : get terminals 2 ≡ Some (account laboratory)
 of_laboratory = simp gets refl
@@ -251,7 +251,7 @@ module _ (text : Text) where
       subst₂ (λ world es. History (cut_settings tied apart) world es (cut_world tied apart after)) same_cut whole_part
       (part_is_history tied apart busy after short_of_memory least.closed busy_fits laboratory_fails)
 
--- ---- how settings are listed, and whether a session is new or none, counts for nothing
+-- ---- how settings are listed, and whether a session is new or none, does not matter
 
 abbrev bills_read : Grant
 bills_read = record bills_written { mode = Read }
@@ -303,14 +303,14 @@ results_shown_alone =
 
 -- ---- the bank let in
 
--- nothing that the bank tries at the clinic is done where it has no grant
+-- nothing that the bank tries at the clinic is done if it has no grant
 write_refused : (x : Text) (w : Shared) → act apart 3 bank (Put bills x) w ≡ (tt, w)
 write_refused x w = refl
 
 lock_refused : (w : Shared) → act apart 3 bank (Take (lock bills ∷ [])) w ≡ (false, w)
 lock_refused w = refl
 
--- where it has one, what it writes shows at the clinic
+-- if it has one, what it writes shows at the clinic
 write_shows : (x : Text) → (act let_in 1 clinic (Value bills) (act let_in 3 bank (Put bills x) quiet.shared).1).0 ≡ Some x
 write_shows x = simp (gets, node_cmp_total significant_digits) refl
 
@@ -338,7 +338,7 @@ lock_free = simp (none_held, gets) refl
 lock_shows : (act let_in 1 clinic (Take (lock bills ∷ [])) billed).0 ≡ false
 lock_shows = simp one_held refl
 
--- so those that reached the clinic before are no closed set any more
+-- so those that reached the clinic before are no longer a closed set
 no_longer_closed : IsClosed let_in tied → ⊥
 no_longer_closed closed = let no : tied bank ≡ true = closed bank clinic refl refl in absurd (cc)
 
@@ -353,7 +353,7 @@ write_is_seen x e =
     let no : Some x ≡ None = cut ∙ none in
     absurd (cc)
 
--- the bank's lines are among those that the clinic's replies hang on
+-- the bank's lines are among those that the clinic's replies depend on
 all_tied : (text other : Text) → cut_events (reach let_in clinic) let_in (line 3 other ∷ line 1 text ∷ []) ≡ line 3 other ∷ line 1 text ∷ []
 all_tied text other = simp (inside_let_in 1 clinic of_clinic refl, inside_let_in 3 bank of_bank refl) refl
   where

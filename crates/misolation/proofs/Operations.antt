@@ -128,7 +128,7 @@ module _ (s : Accounts) (b : Actor) (closed : IsClosed b.settings s) where
   outsiders : s b.account.name ≡ false → (n : Node) → may_write b.settings b.account.name n ≡ true → s n.account ≡ false
   outsiders m n y = written_outside s b.settings closed b.account.name n.account n.name m y
 
-  -- and so is what stands below it
+  -- and so is what is below it
   below_outside : (n k : Node) → s n.account ≡ false → s k.account ≡ true → not (is_node_within n k) ≡ true
   below_outside n k m h = by_test (is_node_within n k)
       (λ e.

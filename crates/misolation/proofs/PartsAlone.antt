@@ -75,7 +75,7 @@ abbrev tail : {A : Type 0} → List A → List A
 tail [] = []
 tail (x ∷ xs) = xs
 
--- lines with the replies of normal steps are these lines answered
+-- lines with the replies of normal transitions are these lines answered
 lines_answered : (settings : Settings) (world : World) (es : List (Event × Reply)) → map (λ e. e.1) es ≡ replies settings world (events_of es) → es ≡ answered settings world (events_of es)
 lines_answered settings world [] h = refl
 lines_answered settings world (e ∷ es) h =

@@ -1,5 +1,5 @@
 -- SPDX-License-Identifier: Apache-2.0
--- The two laws for steps.
+-- The two laws for transitions.
 use Rattle.misolation.proofs.IsolationWords.{◌≡◌, ℕ, Bool, true, false, Option, Some, None, refl, sym, ap, ◌∙◌, subst, not, ◌||◌, List, [], ◌∷◌, if◌then◌else◌, FinMap, get, retain_keys, nat_cmp-IsAntisymmetric, nat_cmp, nat_cmp_total, Text, Account, Settings, Write, Outcome, Op, Put, Kill, Plan, perform, cut_short, line_at, Completion, act, Accounts, IsClosed, is_member, is_inside, cut_settings, cut_locks, cut_shared, cut_world, AreFit, IsFit, flat_map, Session, session_or_new, World, Event, Reply, plan_of, ended, is_too_long, is_ascii, at_tree, checked, at_account, normal, FailedTransition, is_failure, TransitionBy, Exchange, exchanges, Actor, ops_of, cut_ops, InsidePlan, OutsidePlan, GlobalWrite, Puts, Kills, write_of, writes, exchanges_by, line_exchanges, writes_by, line_writes, InsideTransition, InsideTransitions, OutsideTransition, OutsideTransitions, TransitionsKeepFit, TransitionsAreIsolated}
 use Rattle.misolation.proofs.Access.{may_cut}
 use Rattle.misolation.proofs.TransitionsWrite.{transitions_write}
@@ -150,7 +150,7 @@ module _ (s : Accounts) (settings : Settings) (e : Event) (world : World) where
       let sessions = ap (λ l. retain_keys l (is_inside s settings)) f.sessions ∙ gone_outside s settings world.sessions e.terminal away in
       λ i. record { shared = record { globals = globals i; locks = locks i }; sessions = sessions i }
 
--- ---- steps, by whether their replies say that they failed
+-- ---- transitions, by whether their replies say that they failed
 
 pub inside_transitions : InsideTransitions
 inside_transitions s settings e world closed fit here = record {

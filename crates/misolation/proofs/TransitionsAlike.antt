@@ -45,7 +45,7 @@ transitions_by_allowed one two e world alike = ap (at_account one e world) (alik
 pub alike_worlds : (one two : World) → one ≡ two → AlikeWorlds one two
 alike_worlds one two e = record { shared = ap (λ (v : World). v.shared) e; sessions = λ t. ap (λ (v : World). session_or_new (get v.sessions t)) e }
 
--- what a line leaves of its session it leaves alike, and where it halts none
+-- what a line leaves of its session it leaves alike, and none if it halts
 put_alike : (b : Bool) (x : Session) (o p : Option Session) → session_or_new o ≡ session_or_new p → session_or_new (cond b (Some x) o) ≡ session_or_new (cond b (Some x) p)
 put_alike true x o p e = refl
 put_alike false x o p e = e
@@ -97,7 +97,7 @@ module _ (one two : World) (alike : AlikeWorlds one two) where
 pub transitions_by_sessions : TransitionsBySessions
 transitions_by_sessions settings e one two alike = account_alike one two alike settings e (get settings.terminals e.terminal)
 
--- ---- normal steps, one after another
+-- ---- normal transitions, one after another
 
 module _ (one two : Settings) (alike : AlikeSettings one two) where
   both_alike : (e : Event) (first second : World) → AlikeWorlds first second → AlikeTransitions (normal one e first) (normal two e second)

@@ -1,5 +1,5 @@
 -- SPDX-License-Identifier: Apache-2.0
--- What plans and steps leave of globals, by their writes.
+-- What plans and transitions leave of globals, by their writes.
 use Rattle.misolation.proofs.IsolationWords.{◌≡◌, ℕ, zero, suc, Bool, true, false, List, [], ◌∷◌, ◌++◌, Option, Some, None, refl, sym, ap, ◌∙◌, append_assoc, not, ◌||◌, if◌then◌else◌, get, insert, list_all, Text, Node, Account, Settings, State, Outcome, Locks, taken, line_at, Completion, session_or_new, World, Event, Reply, Ending, Halted, reply_of, state_of, settled, plan_of, is_too_long, is_ascii, checked, at_account, FailedTransition, is_failure, TransitionBy, append-nil, Globals, without_subtree, Op, Value, Status, Neighbour, Put, Kill, Take, Plan, Done, Ask, Ops, perform, cut_short, Shared, act, guarded, may_read, may_write, may_lock, took, Exchange, exchanges, GlobalWrite, Puts, Kills, written_by, written, write_of, writes, line_writes, writes_by, TransitionWrites, TransitionsWrite}
 
 -- writes one after another
@@ -48,7 +48,7 @@ module _ (settings : Settings) (terminal : ℕ) (me : Text) where
       let rest = writes settings me (exchanges ops (k (ops op w).0) (ops op w).1) in
       plan_writes (k (ops op w).0) (ops op w).1 ∙ ap (written rest) (operation_writes op w) ∙ sym (written-append (write_of settings me op) rest w.globals)
 
-  -- a plan cut short has done some first of its writes
+  -- a plan cut short has done a first part of its writes
   abbrev ShortWrites : List GlobalWrite → Shared → Shared → Type 0
   ShortWrites all w after = (done : List GlobalWrite) × (undone : List GlobalWrite) × (all ≡ done ++ undone) × (after.globals ≡ written done w.globals)
 
@@ -63,7 +63,7 @@ module _ (settings : Settings) (terminal : ℕ) (me : Text) where
         rest.3 ∙ ap (written rest.0) (operation_writes op w) ∙ sym (written-append (write_of settings me op) rest.0 w.globals),
       )
 
--- ---- steps
+-- ---- transitions
 
 settled_globals : (terminal : ℕ) (world : World) (ending : Ending) (s : State) (w : Shared) → (settled terminal world ending s w).shared.globals ≡ w.globals
 settled_globals terminal world Halted s w = refl

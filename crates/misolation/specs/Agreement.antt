@@ -14,8 +14,8 @@ pub record Run : Type 0 where
   pub world : World
   pub events : List Event
 
--- The same accounts reach `a`. Of these both have the same terminals and steps, and allow the same between them; the same globals and
--- locks; the same sessions, where one as new counts as none; and the same lines. All else may differ.
+-- The same accounts reach `a`. For these both have the same terminals and steps, and allow the same between them; the same globals and
+-- locks; the same sessions, where one that is as new counts as none; and the same lines. All else may differ.
 pub record Agree (a : Text) (one two : Run) : Type 0 where
   pub reaching : (x : Text) → reach one.settings a x ≡ reach two.settings a x
   pub settings : AlikeSettings (cut_settings (reach one.settings a) one.settings) (cut_settings (reach two.settings a) two.settings)

@@ -1,5 +1,5 @@
 -- SPDX-License-Identifier: Apache-2.0
--- What a line cannot tell apart: settings that allow the same, and worlds whose sessions differ in none or a new one alone.
+-- What a line cannot tell apart: settings that allow the same, and worlds whose sessions differ only in whether there is none or a new one.
 use Rattle.std.specs.Prelude.{◌≡◌, ℕ, IsTrue, List}
 use Rattle.std.specs.List.{list_all, list_any}
 use Rattle.std.specs.FinMap.{get}
@@ -12,7 +12,7 @@ pub record AlikeSettings (one two : Settings) : Type 0 where
   pub terminals : (t : ℕ) → get one.terminals t ≡ get two.terminals t
   pub allowed : (me owner name : Text) (mode : Mode) → may one me owner name mode ≡ may two me owner name mode
 
--- The same globals and locks, and the same sessions, where one as new counts as none.
+-- The same globals and locks, and the same sessions, where one that is as new counts as none.
 pub record AlikeWorlds (one two : World) : Type 0 where
   pub shared : one.shared ≡ two.shared
   pub sessions : (t : ℕ) → session_or_new (get one.sessions t) ≡ session_or_new (get two.sessions t)
@@ -24,12 +24,12 @@ pub record AlikeTransitions (one two : Reply × World) : Type 0 where
 
 -- ---- settings of the same entries
 
--- what the one list of grants lets an account do, the other lets it
+-- what the one list of grants lets an account do, the other lets it do
 abbrev pub AllowsAll : List Grant → List Grant → Type 0
 AllowsAll gs hs = IsTrue (list_all (λ g. list_any (lets g.to g.from g.global g.mode) hs) gs)
 
--- The same accounts at the same terminals with the same steps, and the same grants: in whatever order they stand, how often each, and
--- with or without one to read beside one to write. In which order the accounts stand is nothing to it.
+-- The same accounts at the same terminals with the same steps, and the same grants: in whatever order, however often each is
+-- listed, and with or without one to read beside one to write. The order of the accounts does not matter.
 pub record SameEntries (one two : Settings) : Type 0 where
   pub terminals : (t : ℕ) → get one.terminals t ≡ get two.terminals t
   pub there : AllowsAll one.grants two.grants

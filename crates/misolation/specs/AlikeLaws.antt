@@ -7,7 +7,7 @@ use Rattle.mmeaning.specs.Transition.{World, Event, normal}
 use Rattle.misolation.specs.Alike.{AlikeSettings, AlikeWorlds, AlikeTransitions, SameEntries}
 use Rattle.misolation.specs.Agreement.{Agree}
 
--- a normal transition depends on the settings by their terminals and by what is allowed alone
+-- a normal transition depends on the settings only through their terminals and through what is allowed
 abbrev pub TransitionsByAllowed : Type 0
 TransitionsByAllowed = (one two : Settings) (e : Event) (world : World) → AlikeSettings one two → normal one e world ≡ normal two e world
 
@@ -16,7 +16,7 @@ abbrev pub TransitionsBySessions : Type 0
 TransitionsBySessions =
     (settings : Settings) (e : Event) (one two : World) → AlikeWorlds one two → AlikeTransitions (normal settings e one) (normal settings e two)
 
--- So runs agree for every account that have the same lines, worlds alike, and settings of the same entries, however these are listed.
+-- So runs agree for every account if they have the same lines, worlds alike, and settings of the same entries, however these are listed.
 abbrev pub SameEntriesAgree : Type 0
 SameEntriesAgree =
     (a : Text) (one two : Settings) (first second : World) (events : List Event) → SameEntries one two → AlikeWorlds first second →

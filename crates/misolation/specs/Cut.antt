@@ -1,5 +1,5 @@
 -- SPDX-License-Identifier: Apache-2.0
--- The cut to a set of accounts: what is left of settings, of what terminals share, of worlds and of lines where there is nothing but the set.
+-- The cut to a set of accounts: what is left of settings, of what terminals share, of worlds and of lines if there is nothing but the set.
 use Rattle.std.specs.Prelude.{◌≡◌, ℕ, Bool, false, IsTrue, ◌&&◌, List, Option, Some, None}
 use Rattle.std.specs.FinMap.{get, retain_keys}
 use Rattle.std.specs.List.{filter}
@@ -69,8 +69,8 @@ holds_by settings (Some account) n = may_lock settings account.name n
 abbrev pub may_hold : Settings → Held → Bool
 may_hold settings h = holds_by settings (get settings.terminals h.terminal) h.name
 
--- Each lock is on a name that its terminal's account may hold: one without `^` of its own, or a global that it may write. So
--- it is where no lock is held, and each transition keeps it so.
+-- Each lock is on a name that its terminal's account may hold: one without `^` of its own, or a global that it may write. This
+-- holds if no lock is held, and each transition keeps it true.
 abbrev pub AreFit : Settings → Locks → Type 0
 AreFit settings locks = (h : Held) (n : ℕ) → get locks h ≡ Some n → IsTrue (may_hold settings h)
 

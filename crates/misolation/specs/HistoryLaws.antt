@@ -17,19 +17,19 @@ use Rattle.misolation.specs.Agreement.{Run, Agree}
 abbrev pub events_of : List (Event × Reply) → List Event
 events_of es = map (λ e. e.0) es
 
--- the members' part of a history is a history over the cuts, whichever of all its steps failed
+-- the members' part of a history is a history over the cuts, whichever of all its transitions failed
 abbrev pub PartIsHistory : Type 0
 PartIsHistory =
     (s : Accounts) (settings : Settings) (world after : World) (es : List (Event × Reply)) → IsClosed settings s → IsFit settings world.shared →
     History settings world es after → History (cut_settings s settings) (cut_world s settings world) (part s settings es) (cut_world s settings after)
 
--- a history is what a trace tells without the worlds between
+-- a history is what a trace says without the worlds between
 abbrev pub HistoryHasTrace : Type 0
 HistoryHasTrace =
     (settings : Settings) (world after : World) (es : List (Event × Reply)) →
     History settings world es after ↔ ((ms : List Moment) × Trace settings world ms × (lines_of ms ≡ es) × (left_by world ms ≡ after))
 
--- and of a trace too the members' part is one over the cuts: each world between is cut
+-- and the members' part of a trace, too, is a trace over the cuts: each world between is cut
 pub record PartOfTrace (s : Accounts) (settings : Settings) (world : World) (ms : List Moment) : Type 0 where
   pub steps : Trace (cut_settings s settings) (cut_world s settings world) (cut_trace s settings ms)
   pub lines : lines_of (cut_trace s settings ms) ≡ part s settings (lines_of ms)
@@ -45,13 +45,13 @@ pub record IsAlone (s : Accounts) (settings : Settings) (world after : World) (e
   pub lines : part s settings es ≡ alone s settings world (events_of es)
   pub left : cut_world s settings after ≡ world_after (cut_settings s settings) (cut_world s settings world) (cut_events s settings (events_of es))
 
--- so it is where none of the members' steps failed, whichever others did
+-- this holds if none of the members' transitions failed, whichever others did
 abbrev pub PartIsAlone : Type 0
 PartIsAlone =
     (s : Accounts) (settings : Settings) (world after : World) (es : List (Event × Reply)) → IsClosed settings s → IsFit settings world.shared →
     History settings world es after → NoneFailed (part s settings es) → IsAlone s settings world after es
 
--- and so it always is of the definitional interpreter, whose steps never fail: run on all lines, it gives the members' lines the replies
+-- and it always holds for the definitional interpreter, whose transitions never fail: run on all lines, it gives the members' lines the replies
 -- that it gives them alone
 abbrev pub InterpreterIsolates : Type 0
 InterpreterIsolates =
@@ -66,7 +66,7 @@ Isolation =
     NoneFailed (part (reach settings a) settings es) →
     part (only a) settings es ≡ part (only a) settings (alone (reach settings a) settings (opening globals) (events_of es))
 
--- the premises of these laws are met: no lock is held where the first line comes
+-- the premises of these laws are met: no lock is held when the first line comes
 abbrev pub OpeningIsFit : Type 0
 OpeningIsFit = (settings : Settings) (globals : Globals) → IsFit settings (opening globals).shared
 
@@ -88,8 +88,8 @@ pub record Answered (a : Text) (run : Run) (es : List (Event × Reply)) (after :
   pub history : History run.settings run.world es after
   pub none_failed : NoneFailed (part (reach run.settings a) run.settings es)
 
--- the same lines with the same replies, at the terminals of the accounts that reach `a` and at its own; and what is left to these is
--- alike, and equal if it was so before
+-- the same lines with the same replies, at the terminals of the accounts that reach `a` and at its own; and what these are left with
+-- is alike, and equal if it was equal before
 pub record SameReplies (a : Text) (one two : Run) (es fs : List (Event × Reply)) (first second : World) : Type 0 where
   pub reaching : part (reach one.settings a) one.settings es ≡ part (reach two.settings a) two.settings fs
   pub own : part (only a) one.settings es ≡ part (only a) two.settings fs
@@ -112,7 +112,7 @@ abbrev pub sent_to : Settings → Globals → List (Event × Reply) → Run
 sent_to settings globals es = record { settings = settings; world = opening globals; events = events_of es }
 
 -- The replies at the account's terminals are those of the definitional interpreter, run on the lines of the accounts that reach it, over
--- their globals and the grants between them alone. And any other world of which that is said, and that agrees with this one on these,
+-- their globals and the grants between them alone. And any other world of which the same is said, and which agrees with this one on these,
 -- gives it the same replies, whatever other accounts store, lock, run or exhaust in either.
 pub record Promise (a : Text) (settings : Settings) (globals : Globals) (es : List (Event × Reply)) : Type 0 where
   pub alone : part (only a) settings es ≡ part (only a) settings (alone (reach settings a) settings (opening globals) (events_of es))

@@ -31,7 +31,7 @@ on place m x = nat_eq (place x) m
 abbrev pub KeepsTies : Settings → Placement → Type 0
 KeepsTies settings place = (x y : Text) → Flows settings x y → place x ≡ place y
 
--- what a line is answered at a terminal of no account, which is on no machine
+-- the answer to a line at a terminal of no account, which is on no machine
 abbrev pub refusal : Reply
 refusal = record { out = []; ending = Faulted (Own Zterm) }
 
@@ -44,7 +44,7 @@ pub record RunsApart (place : Placement) (settings : Settings) (world : World) (
   pub machines : (m : ℕ) → History (cut_settings (on place m) settings) (cut_world (on place m) settings world) (part (on place m) settings es) (left m)
   pub strangers : StrangersRefused settings es
 
--- The machines' worlds laid together: each is its part of the whole, and the whole has of each account what the account's machine has.
+-- The machines' worlds laid together: each is its part of the whole, and for each account the whole has what the account's machine has.
 pub record LaidTogether (place : Placement) (settings : Settings) (left : ℕ → World) (whole : World) : Type 0 where
   pub parts : (m : ℕ) → cut_world (on place m) settings whole ≡ left m
   pub globals : (n : Node) → get whole.shared.globals n ≡ get (left (place n.account)).shared.globals n

@@ -1,7 +1,7 @@
 -- SPDX-License-Identifier: Apache-2.0
 -- The laws of operations and of plans, as statements. The functions of src/ named after them carry them.
 --
--- A plan is whatever a line does: which commands there are is nothing to these laws.
+-- A plan is whatever a line does: which commands there are does not matter to these laws.
 use Rattle.std.specs.Prelude.{◌≡◌, ℕ, false, IsTrue, List, [], ◌∷◌, Some}
 use Rattle.std.specs.FinMap.{get}
 use Rattle.mspec.specs.Access.{Account, Settings}

@@ -1,5 +1,5 @@
 -- SPDX-License-Identifier: Apache-2.0
--- Closed sets of accounts, and the least one that has an account: all whose doings can show at it.
+-- Closed sets of accounts, and the least one that has an account: all accounts whose doings can show at it.
 use Rattle.std.specs.Prelude.{Bool, IsTrue, ◌&&◌, ◌||◌, List, [], ◌∷◌}
 use Rattle.std.specs.List.{flat_map}
 use Rattle.mspec.specs.Node.{Text}
@@ -25,7 +25,7 @@ pub record Link : Type 0 where
 abbrev pub link : Text → Text → Link
 link from to = record { from = from; to = to }
 
--- what its giver has shows at its taker, and of a grant to write the taker's doings show at the giver
+-- what a grant's giver has shows at its taker, and for a grant to write, the taker's doings show at the giver
 abbrev pub links_by : Mode → Text → Text → List Link
 links_by Read giver taker = link giver taker ∷ []
 links_by Write giver taker = link giver taker ∷ link taker giver ∷ []

@@ -13,11 +13,11 @@ use Rattle.misolation.specs.Telling.{Told, told_to, Tells, TellsPart}
 
 -- ---- how a run is made
 
--- where nothing was run, nothing is told
+-- if nothing was run, nothing is told
 abbrev pub NothingIsTold : Type 0
 NothingIsTold = (a : Text) (settings : Settings) (world : World) → Tells a settings world [] [] true world
 
--- a run goes on by one transition: where that is at a terminal of the account its reply is told, and the run stays whole where the transition
+-- a run goes on by one transition: if that is at a terminal of the account, its reply is told, and the run stays whole if the transition
 -- did not fail at a terminal of an account that reaches `a`
 abbrev pub TellsOn : Type 0
 TellsOn =
@@ -29,7 +29,7 @@ TellsOn =
 -- ---- what it tells
 
 -- Told apart: whatever a run tells an account, and whether it is whole, the members' part of its history tells it, over the cuts to any
--- closed set that has the account, whichever of their steps failed.
+-- closed set that has the account, whichever of their transitions failed.
 abbrev pub ToldApart : Type 0
 ToldApart =
     (s : Accounts) (a : Text) (settings : Settings) (world after : World) (events : List Event) (told : List Told) (whole : Bool) →

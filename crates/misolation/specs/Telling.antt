@@ -23,7 +23,7 @@ abbrev pub told_to : Text → Settings → List (Event × Reply) → List Told
 told_to a settings es = map told_by (part (only a) settings es)
 
 -- These are the replies at the account's terminals of a history of all the events, from the one world to the other; and it is whole
--- exactly where no transition failed in it at a terminal of an account that reaches `a`.
+-- exactly if no transition failed in it at a terminal of an account that reaches `a`.
 pub record Tells (a : Text) (settings : Settings) (world : World) (events : List Event) (told : List Told) (whole : Bool) (after : World) : Type 0 where
   pub lines : List (Event × Reply)
   pub sent : events_of lines ≡ events

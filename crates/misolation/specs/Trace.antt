@@ -1,5 +1,5 @@
 -- SPDX-License-Identifier: Apache-2.0
--- Histories with the worlds between their steps written out.
+-- Histories with the worlds between their transitions written out.
 use Rattle.std.specs.Prelude.{List, [], ◌∷◌, map}
 use Rattle.std.specs.List.{filter}
 use Rattle.mspec.specs.Access.{Settings}

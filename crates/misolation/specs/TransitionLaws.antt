@@ -1,5 +1,5 @@
 -- SPDX-License-Identifier: Apache-2.0
--- The laws of steps, as statements. The functions of src/ named after them carry them.
+-- The laws of transitions, as statements. The functions of src/ named after them carry them.
 use Rattle.std.specs.Prelude.{◌≡◌, false, not, ◌||◌, IsTrue, List, [], ◌++◌, Option, Some, None, if◌then◌else◌}
 use Rattle.std.specs.FinMap.{get}
 use Rattle.mspec.specs.Access.{Account, Settings}
@@ -11,7 +11,7 @@ use Rattle.misolation.specs.Cut.{is_inside, cut_settings, cut_world, IsFit}
 use Rattle.misolation.specs.PlanLaws.{Exchange, exchanges}
 use Rattle.misolation.specs.Writes.{GlobalWrite, written, writes}
 
--- the operations that a line comes to, with their answers; none where it is refused before it is run
+-- the operations that a line comes to, with their answers; none if it is refused before it is run
 abbrev pub exchanges_by : Settings → Event → World → Option Account → List Exchange
 exchanges_by settings e world None = []
 exchanges_by settings e world (Some account) =
@@ -29,7 +29,7 @@ writes_by settings e world (Some account) = writes settings account.name (exchan
 abbrev pub line_writes : Settings → Event → World → List GlobalWrite
 line_writes settings e world = writes_by settings e world (get settings.terminals e.terminal)
 
--- The globals that a transition leaves are the old ones after some first of the line's writes: after all, if it did not fail.
+-- The globals that a transition leaves are the old ones after a first part of the line's writes: after all, if it did not fail.
 pub record TransitionWrites (settings : Settings) (e : Event) (reply : Reply) (world after : World) : Type 0 where
   pub done : List GlobalWrite
   pub undone : List GlobalWrite
@@ -83,7 +83,7 @@ pub record TransitionWithin (s : Accounts) (settings : Settings) (e : Event) (re
   pub transition : Transition (cut_settings s settings) e reply (cut_world s settings world) (cut_world s settings after)
   pub writes : line_writes (cut_settings s settings) e (cut_world s settings world) ≡ line_writes settings e world
 
--- Both laws of one transition, in one, as a call that makes steps may say it of each. Only the inside law asks something of the locks.
+-- Both laws for one transition, in one, as a call that makes transitions may state them of each. Only the inside law asks something of the locks.
 pub record IsolatedTransition (s : Accounts) (settings : Settings) (e : Event) (reply : Reply) (world after : World) : Type 0 where
   pub inside : IsFit settings world.shared → IsTrue (is_inside s settings e.terminal) → TransitionWithin s settings e reply world after
   pub outside : is_inside s settings e.terminal ≡ false → cut_world s settings after ≡ cut_world s settings world

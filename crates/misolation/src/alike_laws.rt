@@ -2,7 +2,7 @@
 // The laws of likeness. Each function's contract is the law, and its body is empty: the code never calls them.
 ghost use Rattle.misolation.specs.AlikeLaws.{TransitionsByAllowed, TransitionsBySessions, SameEntriesAgree};
 
-/// A normal transition depends on the settings by their terminals and by what is allowed alone.
+/// A normal transition depends on the settings only through their terminals and through what is allowed.
 #[tactic(auto, using(crate::proofs::TransitionsAlike::transitions_by_allowed))]
 pub fn transitions_by_allowed()
     ensures { TransitionsByAllowed }
@@ -14,7 +14,7 @@ pub fn transitions_by_sessions()
     ensures { TransitionsBySessions }
 {}
 
-/// Runs agree for every account that have the same lines, worlds alike, and settings of the same entries, however these are listed.
+/// Runs agree for every account if they have the same lines, worlds alike, and settings of the same entries, however these are listed.
 pub fn same_entries_agree()
     ensures { SameEntriesAgree }
 {}

@@ -3,30 +3,30 @@
 ghost use Rattle.misolation.specs.HistoryLaws.{PartIsHistory, HistoryHasTrace, PartIsTrace, PartIsAlone, InterpreterIsolates, OpeningIsFit, HistoriesKeepFit, Isolation, OpeningIsCut, AgreeingReplies, PromiseIsKept};
 
 /// The part of every history at the terminals of a closed set, its worlds cut to the set, is a history over the cuts, whichever of
-/// its steps failed.
+/// its transitions failed.
 #[tactic(auto, using(crate::proofs::PartsAlone::part_is_history))]
 pub fn part_is_history()
     ensures { PartIsHistory }
 {}
 
-/// A history is what a trace tells without the worlds between its steps.
+/// A history is what a trace says without the worlds between its transitions.
 #[tactic(auto, using(crate::proofs::PartsAlone::history_has_trace))]
 pub fn history_has_trace()
     ensures { HistoryHasTrace }
 {}
 
-/// Of a trace too the members' part is one over the cuts, each world between its steps cut to the set.
+/// The members' part of a trace, too, is a trace over the cuts, with each world between its transitions cut to the set.
 pub fn part_is_trace()
     ensures { PartIsTrace }
 {}
 
-/// Where none of the members' own steps failed, their lines have the replies that they have alone, and leave what they leave alone.
+/// If none of the members' own transitions failed, their lines have the replies that they have alone, and leave what they leave alone.
 #[tactic(auto, using(crate::proofs::PartsAlone::part_is_alone))]
 pub fn part_is_alone()
     ensures { PartIsAlone }
 {}
 
-/// The definitional interpreter, whose steps never fail, gives the members' lines among all others the replies that it gives them
+/// The definitional interpreter, whose transitions never fail, gives the members' lines among all others the replies that it gives them
 /// alone.
 #[tactic(auto, using(crate::proofs::PartsAlone::interpreter_isolates))]
 pub fn interpreter_isolates()

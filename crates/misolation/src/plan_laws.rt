@@ -10,7 +10,7 @@ pub fn inside_operations()
 {}
 
 /// The inside law for every plan: what it gives, each operation that it comes to with its answer, and the world that it leaves,
-/// also where it is cut short.
+/// even if it is cut short.
 pub fn inside_plans()
     ensures { InsidePlans }
 {}

@@ -4,7 +4,7 @@ use Rattle.mmeaning.proofs.MeaningWords.{M9, M13, Zsyntax, Zlevel, Zsteps}
 use Rattle.mmeaning.proofs.Running.{[], ◌∷◌, refl, codes, new_session, done, failed, at_first, at_last, asked, serving_in, holding_in, With, WithSteps, Anywhere, WithEach, at_case, no_more, runs, running}
 
 record Blocks : Type 0 where
-  -- the block behind an argumentless DO has one dot more; a line with more dots is passed over, and $TEST is restored
+  -- the block after an argumentless DO has one dot more; a line with more dots is passed over, and $TEST is restored
   block : With (codes "B") (codes "B I 1 F I=1:1:2 D  W $T" ∷ codes " . W I I 0" ∷ codes " . . W 0" ∷ codes " W \"end\"" ∷ []) (codes "D ^B" ∷ []) (done (codes "1121end") ∷ [])
   do_to_dots : WithEach (codes "C") (codes "C W 1" ∷ codes "L . W 2" ∷ []) (
       -- DO with an argument leads to no line with dots
@@ -22,16 +22,16 @@ record Blocks : Type 0 where
   block_in_xecute : WithEach (codes "T") (codes "T X \"D  W 1\" Q" ∷ codes " . W 9" ∷ codes "U D  W 2 Q" ∷ codes " . W 3" ∷ []) (
       -- no line follows a text of XECUTE
       (codes "D T^T", done (codes "1")) ∷
-      -- but behind a GOTO lines follow those of a terminal
+      -- but after a GOTO lines follow those of a terminal
       (codes "G U^T", done (codes "32")) ∷
       -- and those of a text
       (codes "X \"G U^T\" W 4", done (codes "324")) ∷ [])
   dots_told : WithEach (codes "T") (codes "T W 1" ∷ codes " .5" ∷ codes "L. W 1" ∷ codes "M ..;x" ∷ []) (
-      -- dots stand behind a space, and a line that is passed over is not read
+      -- dots come after a space, and a line that is passed over is not read
       (codes "D T^T", failed (codes "1") Zsyntax) ∷
-      -- behind a label too
+      -- after a label too
       (codes "D L^T", failed [] M13) ∷
-      -- a comment may stand behind them
+      -- a comment may come after them
       (codes "D M^T", failed [] Zlevel) ∷ [])
   goto_in_block : WithEach (codes "T") (codes "T D  W 5 Q" ∷ codes " . W 1 G:'$D(A) V X \"G V\"" ∷ codes " . W 9" ∷ codes "V . W 2" ∷ codes "U W 3 Q" ∷ []) (
       -- GOTO in a block keeps to its dots
@@ -40,7 +40,7 @@ record Blocks : Type 0 where
       (codes "S A=1 D T^T", failed (codes "1") Zlevel) ∷ [])
   -- so it goes to a line without dots
   xecute_leaves_block : With (codes "T") (codes "T D  W 5 Q" ∷ codes " . W 1 X \"G U\" W 4 Q" ∷ codes " . W 9" ∷ codes "V . W 2" ∷ codes "U W 3 Q" ∷ []) (codes "D T^T" ∷ []) (done (codes "1345") ∷ [])
-  -- what NEW hides in a block comes back behind it
+  -- what NEW hides in a block comes back after it
   new_in_block : With (codes "T") (codes "T S V=1 D  W V Q" ∷ codes " . N V S V=2 W V" ∷ []) (codes "D ^T" ∷ []) (done (codes "21") ∷ [])
   -- QUIT ends a block, and its line goes on
   quit_in_block : With (codes "T") (codes "T D  W 2 Q" ∷ codes " . W 1 Q" ∷ codes " . W 9" ∷ []) (codes "D ^T" ∷ []) (done (codes "12") ∷ [])

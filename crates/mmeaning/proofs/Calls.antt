@@ -18,7 +18,7 @@ then_follows b p f h a h' g =
 cut_then : {A B : Type 0} (b : Standing) (p : Act A) (f : A → Act B) (h h' : Here) → IsCut b p h h' → IsCut b (p >>= f) h h'
 cut_then b p f h h' g = let s = cut_first (ops_of b) g.0 (p h.0) (on_gives f) h.1 in (s.0, s.1 ∙ g.1)
 
--- where an act fails, so does what begins with it
+-- if an act fails, so does what begins with it
 pub then_failed : {A B : Type 0} (b : Standing) (steady : Type 0) (p : Act A) (f : A → Act B) (h : Here) (c : Fault) (h' : Here) → FailedBy b steady p h c h' → FailedBy b steady (p >>= f) h c h'
 then_failed b steady p f h (Own c) h' g =
     let here : perform (ops_of b) (p h.0) h.1 ≡ (Fails c h'.0, h'.1) = g in
@@ -80,7 +80,7 @@ did_then {b = b} {steady = steady} {fault_of = fault_of} {h = h} {h1 = h1} {h2 =
       fewer = omega (arith, few, fewer);
     }
 
--- the same, where the first act spent the step of an entry: what follows runs with one text fewer
+-- the same, if the first act spent the step of an entry: what follows runs with one text fewer
 pub did_spent : {A B X Y E : Type 0} {b : Standing} {steady : Type 0} {fault_of : E → Fault} {h h1 h2 : Here} {p : ℕ → Act A} (q : ℕ → A → Act B) {f : X → A} {g : Y → B} {x : X} {r : Result Y E}
     → Did b steady fault_of p f h (Ok x) h1 → h1.0.steps < h.0.steps → Did b steady fault_of (λ n. q (suc n) (f x)) g h1 r h2 → Did b steady fault_of (λ n. p n >>= q n) g h r h2
 did_spent {b = b} {steady = steady} {fault_of = fault_of} {h = h} {h1 = h1} {h2 = h2} {p = p} q {f = f} {g = g} {x = x} {r = r} d less k = record { at = go; fewer = omega (arith, k.fewer, less) }
@@ -104,7 +104,7 @@ lost_by b steady p h (Own c) h1 m cut = absurd m
 lost_by b steady p h (Lost Memory) h1 m cut = cut
 lost_by b steady p h (Lost Store) h1 m cut = (m, cut)
 
--- a loss, where nothing was done yet
+-- a loss, if nothing was done yet
 pub did_lost : {A X E : Type 0} {b : Standing} {steady : Type 0} {fault_of : E → Fault} {h h1 : Here} (p : ℕ → Act A) (f : X → A) (e : E) → MayLose steady (fault_of e) → h.1 ≡ h1.1 → h1.0.steps ≤ h.0.steps → Did b steady fault_of p f h (Err e) h1
 did_lost {b = b} {steady = steady} {fault_of = fault_of} {h = h} {h1 = h1} p f e m same few = record {
   at = λ n le. lost_by b steady (p n) h (fault_of e) h1 m (0, same);

@@ -42,7 +42,7 @@ module _ (w : Shared) (last : Option Node) (test : Bool) (out : Text) (locals : 
       → perform his (value his_line (only (reference (naked (subscript (codes "b"))))) (state (Some (node (codes "X") (codes "a"))) (suc (suc steps)))) w ≡ (Gives x (state (Some (node (codes "X") (codes "b"))) steps), w)
   beside_value x h = rw (perform, h) refl
 
-  -- ---- what is not: the node that was referred to last stays that
+  -- ---- what is not: the node that was referred to last stays the same
 
   record Refusals : Type 0 where
     written_beside : perform his (setting his_line (one (variable (naked (subscript (codes "b"))))) (only (text (codes "1"))) (state (Some (node (codes "X") (codes "a"))) (suc (suc steps)))) w

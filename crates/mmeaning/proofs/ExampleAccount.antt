@@ -2,7 +2,7 @@
 -- The account of the examples, and replies to its lines.
 use Rattle.mmeaning.proofs.MeaningWords.{ℕ, [], ◌∷◌, codes, empty, insert, Code, Own, Text, Account, Settings, Reply, Finished, Faulted}
 
--- ALICE with so many steps a line
+-- ALICE with this many steps a line
 abbrev pub with_steps : ℕ → Account
 with_steps n = record { name = codes "ALICE"; steps = n }
 

@@ -32,7 +32,7 @@ answers : {g : Globals} {t : Text} {r : Outcome Completion × Shared} (l : Optio
     → Comes (shut_run (codes "ALICE") l (begun account new_session)) (opening g).shared r → AreAnswered account (opening g) (t ∷ []) ((ended 1 (opening g) r).0 ∷ [])
 answers {g = g} {t = t} l tree short ascii run = at_last l tree (ap (λ x. x.0) (opened g t l short ascii) ∙ ap (λ r. (ended 1 (opening g) r).0) run.is)
 
--- behind a line over these globals that ends in a code, this is the node that was referred to last
+-- after a line over these globals that ends in a code, this is the node that was referred to last
 record Refers (g : Globals) (t : Text) (last : Option Node) : Type 0 where
   is : option_map (λ (s : Session). s.naked) (get (normal alice (event t) (opening g)).1.sessions 1) ≡ Some last
 
@@ -74,7 +74,7 @@ record GlobalsAsked : Type 0 where
   no_last_subscript : Anywhere (codes "S ^A=\"1\",^(\"x\")=\"2\"" ∷ []) (failed [] M1 ∷ [])
   -- a refused subscript: the account was asked for first
   refused_subscript : Anywhere (codes "S ^A(\"\")=\"1\"" ∷ []) (failed [] Zsub ∷ [])
-  -- KILL takes a node with what stands below it
+  -- KILL takes a node with what is below it
   kill_takes_descendants : Anywhere (codes "K ^A(\"x\") W ^A(\"x\",\"y\")" ∷ []) (failed [] M7 ∷ [])
   -- $DATA of a node that has texts below it alone
   data_of_descendants : (g : Globals) → status g (at (codes "A") (codes "x" ∷ [])) ≡ (false, true) → AreAnswered account (opening g) (codes "W $D(^A(\"x\"))" ∷ []) (done (codes "10") ∷ [])

@@ -1,5 +1,5 @@
 -- SPDX-License-Identifier: Apache-2.0
--- Histories and normal steps.
+-- Histories and normal transitions.
 use Rattle.mmeaning.proofs.MeaningWords.{◌≡◌, Bool, true, false, [], ◌∷◌, Option, Some, None, refl, sym, ap, ◌∙◌, subst, map, get, Outcome, Gives, Fails, Completion, Halts, Settings, Account, World, Event, Reply, Transition, TransitionBy, normal, at_account, checked, is_too_long, is_ascii, ending_of, reply_of, is_failure, replies, world_after, NormalNeverFails, NormalTransitionsAreHistory, HistoryIsNormal}
 
 -- no act ends with a loss

@@ -1,5 +1,5 @@
 -- SPDX-License-Identifier: Apache-2.0
--- Indirection on examples, as proved equations. What is read of the texts that stand for an `@` stands beside the lines.
+-- Indirection on examples, as proved equations. What is read of the texts that stand for an `@` is beside the lines.
 use Rattle.mmeaning.proofs.MeaningWords.{ℕ, ◌++◌, rules, replicate, M6, M9, Zsteps, Zsyntax, Zdepth, no_locals, assigned_to, divide, ExprTree, number, text, reference, local, exprs, no_exprs, set_argument, kill_argument, new_argument, if_argument, write_argument, xecute_argument, breaks, shown, kill_one, new_one, tested, executed, indirect_args, ref_at, args_of, reads, line_end}
 use Rattle.mmeaning.proofs.LineTrees.{only, with_operator, named, set_to}
 use Rattle.mmeaning.proofs.Running.{◌≡◌, List, [], ◌∷◌, Some, None, true, false, refl, codes, empty, Text, opening, with_steps, done, failed, AreAnswered, Answered, serving, holding, at_first, at_last, Each, at_case, no_more, runs, running}
@@ -65,11 +65,11 @@ in_brackets n t = replicate n 40 ++ (t ++ replicate n 41)
 
 lines : Each (
     -- name indirection
-    -- arguments that a text gives, and a variable that it names with subscripts behind it
+    -- arguments that a text gives, and a variable that it names with subscripts after it
     (codes "S A=\"B\",B=7 W @A,@\"A\"@(1)", failed (codes "7") M6) ∷
-    -- what a text names is set, with or without subscripts behind it
+    -- what a text names is set, with or without subscripts after it
     (codes "S A=\"B\",@A=1,@A@(2)=3 W B,B(2)", done (codes "13")) ∷
-    -- a text's own parts are evaluated before the subscripts behind it
+    -- a text's own parts are evaluated before the subscripts after it
     (codes "W @\"B(C)\"@(1/0)", failed [] M6) ∷
     -- and the text is read before that
     (codes "W @\"B C\"@(1/0)", failed [] Zsyntax) ∷
@@ -94,7 +94,7 @@ lines : Each (
     (codes "S A=1 N @\"A\" W $D(A)", done (codes "0")) ∷
     -- WRITE, at each turn of a FOR anew
     (codes "F I=1:1:2 W @\"I\"", done (codes "12")) ∷
-    -- what stands before an error in the text is written
+    -- what comes before an error in the text is written
     (codes "W @\"1,!,2,1/0\"", failed (codes "1" ++ line_end ∷ codes "2") M9) ∷
     -- a text gives one argument at least
     (codes "W @\"\"", failed [] Zsyntax) ∷
@@ -103,7 +103,7 @@ lines : Each (
     ((codes "S A=1 W " ++ in_brackets 39 (codes "@\"A\"")), done (codes "1")) ∷
     ((codes "S A(1)=1 W " ++ in_brackets 39 (codes "@\"A(1)\"@(2)")), failed [] M6) ∷
     ((codes "W " ++ in_brackets 40 (codes "@\"A\"")), failed [] Zsyntax) ∷
-    -- a text that stands for itself: 32 indirections are under evaluation where it is refused
+    -- a text that stands for itself: 32 indirections are under evaluation when it is refused
     (codes "S A=\"@A\" W @A", failed [] Zdepth) ∷ [])
 unfolding runs
 lines =

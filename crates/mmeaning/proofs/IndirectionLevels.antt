@@ -4,7 +4,7 @@ use Rattle.mmeaning.proofs.MeaningWords.{◌≡◌, ℕ, zero, suc, ◌+◌, ◌
 use Rattle.mgrammar.specs.ReadingExpressions.{subscripts_with, attached_with, indirect_with, reference_with, primary_with, readers_at}
 use Rattle.mmeaning.proofs.LineTrees.{only, with_operator, command, line}
 
--- where so many levels are open, of which so many are indirections
+-- with this many levels open, of which this many are indirections
 abbrev within : ℕ → ℕ → Inside
 within levels indirections = inside (codes "ALICE") 9 (record { levels = levels; indirections = indirections })
 
@@ -39,7 +39,7 @@ module _ (naked : Option Node) (test : Bool) (out : Text) where
   unfolding reads computes
   in_order = search rules
 
-  -- ---- subscripts of a text, and those behind it
+  -- ---- subscripts of a text, and those after it
 
   record Named : Type 0 where
     global_named : (locals : Locals) (steps : ℕ) → evaluated (within 0 0) (indirect (text (codes "^A(\"x\")")) (exprs (only (text (codes "y"))) no_exprs)) (state locals (suc (suc (suc steps))))
@@ -55,7 +55,7 @@ module _ (naked : Option Node) (test : Bool) (out : Text) where
   unfolding reads finds
   named = search rules
 
-  -- ---- which are levels at once, where one level is free
+  -- ---- which are levels at once, if one level is free
 
   -- an operand is evaluated before its indirection is a level
   operand_is_outside : (locals : Locals) (steps : ℕ) → value_of locals (codes "B") [] ≡ Some (codes "C")
@@ -69,7 +69,7 @@ module _ (naked : Option Node) (test : Bool) (out : Text) where
   unfolding finds ref_at name_at subscripts_with attached_with indirect_with reference_with readers_at primary_with
   text_is_inside locals steps h = rw h refl
 
-  -- and so they are in the subscripts behind it
+  -- and so they are in the subscripts after it
   subscripts_are_inside : (locals : Locals) (steps : ℕ) → evaluated (within 255 0) (indirect (text (codes "B")) (exprs (only (reference (at_text (codes "C")))) no_exprs)) (state locals (suc (suc (suc steps)))) ≡ Done (Fails Zdepth (state locals steps))
   unfolding finds ref_at name_at subscripts_with attached_with indirect_with reference_with readers_at
   subscripts_are_inside locals steps = refl
@@ -81,7 +81,7 @@ module _ (naked : Option Node) (test : Bool) (out : Text) where
   unfolding finds ref_at name_at subscripts_with attached_with indirect_with reference_with readers_at
   target_before_value locals steps h = rw h refl
 
--- ---- an argument's indirection is a level while the argument is done: 32 are open where a line that does itself is refused
+-- ---- an argument's indirection is a level while the argument is done: 32 are open when a line that does itself is refused
 
 abbrev itself_line : Text
 itself_line = codes "T D @\"T\""
@@ -114,7 +114,7 @@ in_line levels indirections = record {
   level = record { copy = itself_line ∷ []; next = Some 1; dots = 0 };
 }
 
--- three steps for each level of DO more, and two where the indirection is refused
+-- three steps for each further level of DO, and two when the indirection is refused
 abbrev steps_for : ℕ → ℕ → ℕ
 steps_for zero steps = suc (suc steps)
 steps_for (suc k) steps = suc (suc (suc (steps_for k steps)))
@@ -127,7 +127,7 @@ module _ (naked : Option Node) (test : Bool) (out : Text) (steps : ℕ) where
   abbrev in_state : Locals → ℕ → State
   in_state locals n = record { locals = locals; naked = naked; test = test; out = out; steps = n }
 
-  -- so many indirections may be opened yet
+  -- this many more indirections may be opened
   abbrev IsRefused : ℕ → ℕ → ℕ → ℕ → Locals → Type 0
   IsRefused k levels indirections n locals =
       commands (context (codes "ALICE") n (in_line levels indirections)) itself_commands (in_state locals (steps_for k steps)) ≡ Done (Fails Zdepth (in_state (begun_more k locals) steps))
@@ -146,6 +146,6 @@ module _ (naked : Option Node) (test : Bool) (out : Text) (steps : ℕ) where
   refused (suc k) levels indirections (suc (suc n)) locals e few le =
       below_limit k levels indirections n locals (grind (arith, nat_tests, e, few)) (grind (arith, nat_tests, few)) (refused k (levels + 1 + 1) (indirections + 1) n (level_begun locals) (omega (arith, e)) (omega (arith, few)) (omega (arith, le)))
 
-  -- the line stands in the level of a DO: 32 levels of DO more are open, and as many indirections
+  -- the line stands in the level of a DO: 32 further levels of DO are open, and as many indirections
   line_of_itself : (locals : Locals) → commands (context (codes "ALICE") 64 (in_line 1 0)) itself_commands (in_state locals (steps_for 32 steps)) ≡ Done (Fails Zdepth (in_state (begun_more 32 locals) steps))
   line_of_itself locals = refused 32 1 0 64 locals refl (omega arith) (omega arith)

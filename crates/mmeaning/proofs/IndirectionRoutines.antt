@@ -22,7 +22,7 @@ two_lines = codes "T W 1 Q" ∷ codes "U W 2 Q" ∷ []
 record Given : Type 0 where
   -- each entry that the text gives is done
   given_entries : With (codes "T") two_lines (codes "D @\"T^T,U^T\" W 3" ∷ []) (done (codes "123") ∷ [])
-  -- GOTO leads on in the level that the indirection stands in
+  -- GOTO leads on in the level that the indirection is in
   given_leap : With (codes "T") two_lines (codes "G @\"U^T\" W 3" ∷ []) (done (codes "2") ∷ [])
 
 given : Given

@@ -3,7 +3,7 @@
 use Rattle.mmeaning.proofs.MeaningWords.{◌≡◌, ℕ, zero, suc, ◌+◌, ◌≤◌, Bool, true, false, List, [], ◌∷◌, Option, Some, None, refl, ap, subst, ◌∙◌, arith, rules, codes, nat_lt, M9, M13, Zdepth, Zlevel, Zsyntax, Plan, Done, then_plan, line_at, text_run, nat_tests, Scope, Text, Node, Locals, State, Outcome, Gives, Fails, on_gives, level_begun, value_of, divide, number, text, reference, at_label, executed, execute_word, LineTree, reads, Completion, Position, top_level, after_level, run_within, Context, Go_on, Goes, context, commands, doing, doing_block, executing, going, commands_of, computes}
 use Rattle.mmeaning.proofs.LineTrees.{only, with_operator, named, command, line}
 
--- a level of this many dots, of a routine of three lines, where so many levels are open
+-- a level of this many dots, of a routine of three lines, with this many levels open
 abbrev lines : List Text
 lines = codes "T W 1" ∷ codes "U . W 2" ∷ codes "V )" ∷ []
 
@@ -16,12 +16,12 @@ record Refused : Type 0 where
   -- before the line of a DO is sought
   level_before_line : (s : State) → doing (within 256 0) (at_label (codes "NO")) s ≡ Done (Fails Zdepth s)
   line_sought : (s : State) → doing (within 255 0) (at_label (codes "NO")) s ≡ Done (Fails M13 s)
-  -- also for an argumentless DO that no line follows
+  -- even for an argumentless DO that no line follows
   level_of_block : (s : State) → doing_block (within 256 0) s ≡ Done (Fails Zdepth s)
   block_ends : (naked : Option Node) (test : Bool) (out : Text) (steps : ℕ) (top : Scope) (below : Locals)
       → doing_block (within 255 0) (record { locals = top ∷ below; naked = naked; test = test; out = out; steps = steps })
       ≡ Done (Gives Go_on (record { locals = top ∷ below; naked = naked; test = test; out = out; steps = steps }))
-  -- behind the value of a text, and before that is read
+  -- after the value of a text, and before the text is read
   level_before_text : (locals : Locals) (naked : Option Node) (test : Bool) (out : Text) (steps : ℕ)
       → executing (within 256 0) (only (text (codes "1 1"))) (record { locals = locals; naked = naked; test = test; out = out; steps = suc steps })
       ≡ Done (Fails Zdepth (record { locals = locals; naked = naked; test = test; out = out; steps = steps }))
@@ -42,7 +42,7 @@ refused_levels : Refused
 unfolding reads level_begun computes
 refused_levels = search rules
 
--- ---- a text that runs itself: 256 levels are open where it is refused
+-- ---- a text that runs itself: 256 levels are open when it is refused
 
 -- X A
 abbrev itself : LineTree
@@ -55,7 +55,7 @@ itself_read = refl
 abbrev open_levels : ℕ → Position
 open_levels levels = record { depth = record { levels = levels; indirections = 0 }; level = record { copy = []; next = None; dots = 0 } }
 
--- two steps for each level more, and for the one that is refused
+-- two steps for each further level, and for the one that is refused
 abbrev steps_for : ℕ → ℕ → ℕ
 steps_for zero steps = suc (suc steps)
 steps_for (suc k) steps = suc (suc (steps_for k steps))
@@ -73,7 +73,7 @@ module _ (naked : Option Node) (test : Bool) (out : Text) (steps : ℕ) where
   abbrev state : Locals → ℕ → State
   state locals n = record { locals = locals; naked = naked; test = test; out = out; steps = n }
 
-  -- so many levels may be opened yet
+  -- this many more levels may be opened
   abbrev IsRefused : ℕ → ℕ → ℕ → Locals → Type 0
   IsRefused k levels n locals =
       commands (context (codes "ALICE") n (open_levels levels)) (commands_of itself) (state locals (steps_for k steps)) ≡ Done (Fails Zdepth (state (begun_more k locals) steps))

@@ -4,7 +4,7 @@ use Rattle.mmeaning.proofs.MeaningWords.{◌≡◌, ℕ, suc, List, [], ◌∷�
 use Rattle.mmeaning.proofs.Calls.{assoc, ended}
 
 module _ (a : Text) (fs : List View) (ns : List ℕ) where
-  -- a text that is entered in a level stands on top of its frame
+  -- a text that is entered in a level is on top of its frame
   pub text_entered : (n : ℕ) (p : Position) (c : Closing) (cs : List CommandTree)
       → ◌≡◌ {A = Act Completion} ((texts a (suc n)).enter p cs >>= closed c >>= left a fs ns) (left a (Rests p cs ∷ Levels p c ∷ fs) (n ∷ n ∷ ns) Go_on)
   text_entered n p c cs =

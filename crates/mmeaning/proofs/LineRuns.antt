@@ -1,5 +1,5 @@
 -- SPDX-License-Identifier: Apache-2.0
--- Lines of a terminal, one after another, in a form that `simp` computes: a turn is opened only where its state is known, since what
+-- Lines of a terminal, one after another, in a form that `simp` computes: a turn is opened only if its state is known, since what
 -- runs a turn holds what runs the next one, and so on for all the fuel.
 use Rattle.mmeaning.proofs.MeaningWords.{◌≡◌, ℕ, zero, suc, Bool, true, false, List, [], ◌∷◌, Option, Some, None, refl, ap, ◌∙◌, map, empty, get, insert, Plan, perform, Zsyntax, Zsteps, Zterm, Zline, Zchar, ReferenceTree, ExprsTree, ArgTree, CommandTree, LineTree, line_at, opening, replies, Text, Node, Locals, no_locals, assigned_to, State, Outcome, Act, ◌>>=◌, fail, Evaluated, Depth, through, finds, inside, Completion, Position, top_level, Turning, Texts, Context, texts, arguments, commands, after_turn, after_level, commands_of, Account, Settings, Session, World, Event, Reply, plan_of, begun, session_or_new, ended, refused, is_too_long, is_ascii, checked, at_account, normal}
 use Rattle.mmeaning.specs.Transition.{act}
@@ -102,7 +102,7 @@ at_case {a = a} {world = world} {t = t} l e run rest = record {
 pub no_more : {a : Account} {world : World} → AreAnsweredEach a world []
 no_more = record { answers = refl }
 
--- a line, and then those behind it in the world that it leaves
+-- a line, and then those after it in the world that it leaves
 pub at_first : {a : Account} {world : World} {t : Text} {r : Reply} {ts : List Text} {rs : List Reply} (after : World) (l : Option LineTree)
     → line_at t ≡ l → shut_step (settings_of a) (event t) l world ≡ (r, after) → AreAnswered a after ts rs → AreAnswered a world (t ∷ ts) (r ∷ rs)
 at_first {a = a} {world = world} {t = t} {r = r} {ts = ts} after l e first rest = record {
@@ -117,7 +117,7 @@ abbrev pub turned : Text → ℕ → Position → Turning → Act Completion
 turned a zero p t = fail Zsteps
 turned a (suc n) p t = commands (at a n p) t.body >>= after_turn (at a n p) t
 
--- only where the state is known
+-- only if the state is known
 abbrev pub Opens : {A : Type 0} → Act A → Act A → Type 0
 Opens f g =
     (locals : Locals) (naked : Option Node) (test : Bool) (out : Text) (steps : ℕ) → f (record { locals = locals; naked = naked; test = test; out = out; steps = steps })
@@ -146,7 +146,7 @@ unfolding shut
 list_opened a zero p args locals naked test out steps = refl
 list_opened a (suc n) p args locals naked test out steps = refl
 
--- what a text names is found where the state is known too
+-- what a text names is found if the state is known, too
 abbrev pub found : Text → ℕ → Depth → ReferenceTree → ExprsTree → Act Evaluated
 found a zero d r subscripts = fail Zsteps
 found a (suc n) d r subscripts = through (inside a n d) r subscripts

@@ -1,5 +1,5 @@
 -- SPDX-License-Identifier: Apache-2.0
--- Trees of lines, written shortly: for examples of lines whose text takes long to read by `simp`.
+-- Trees of lines, in a short notation: for examples of lines whose text takes long to read by `simp`.
 use Rattle.mmeaning.proofs.MeaningWords.{ℕ, List, [], ◌∷◌, Some, None, Text, ExprTree, expr, no_tails, tail, BinaryTree, apply, OperandTree, operand, PrimaryTree, minus, ReferenceTree, local, no_exprs, variable, one, KeywordTree, ArgTree, assign, CommandTree, SpacedTree, LineTree}
 
 abbrev pub plain : PrimaryTree → OperandTree
@@ -28,6 +28,6 @@ command k letter args = record { keyword = k; word = letter ∷ []; condition = 
 abbrev pub command_if : KeywordTree → ℕ → ExprTree → List ArgTree → CommandTree
 command_if k letter e args = record { keyword = k; word = letter ∷ []; condition = Some e; args = args }
 
--- each with the spaces behind it
+-- each with the spaces after it
 abbrev pub line : List SpacedTree → LineTree
 line cs = record { lead = 0; commands = cs; comment = None }

@@ -32,7 +32,7 @@ true_test = plain_session true
 abbrev one_session : FinMap nat_cmp Session
 one_session = insert empty 1 no_test
 
--- a name, those above and those below exclude each other, in one account; where a line halts the locks of its session go with it
+-- a name, those above and those below exclude each other, in one account; if a line halts, the locks of its session go with it
 locks_between_terminals : AreReplied (opening empty) ((1, codes "L +^J(1)") ∷ (2, codes "L +^J:0 W $T") ∷ (3, codes "L +^J(1):0 W $T") ∷ (2, codes "L ^J(1,5)") ∷ (1, codes "S V=1 H") ∷ (1, codes "W V") ∷ (2, codes "L +^J:0 W $T") ∷ []) (done [] ∷ done (codes "0") ∷ done (codes "1") ∷ failed [] Zlocked ∷ halted ∷ failed [] M6 ∷ done (codes "1") ∷ [])
 unfolding runs
 locks_between_terminals =
@@ -64,7 +64,7 @@ nothing_released_before =
     (replied_first (world (insert empty (held 1 (hers (codes "X") [])) 1) (insert one_session 2 no_test)) _ refl (simp lock_running)
     (replied_last _ refl (simp lock_running)))))
 
--- a name that stands twice in a list counts twice, and each argument without a sign releases
+-- a name that is twice in a list counts twice, and each argument without a sign releases
 list_counts_twice : AreReplied (opening empty) ((1, codes "L +(^X,^X) L -^X") ∷ (2, codes "L +^X:0 W $T") ∷ (1, codes "L -(^X,^X):0 W $T") ∷ (2, codes "L +^X:0 W $T") ∷ (1, codes "L ^Y,^Z") ∷ (2, codes "L +^Y:0 W $T") ∷ []) (done [] ∷ done (codes "0") ∷ done (codes "1") ∷ done (codes "1") ∷ done [] ∷ done (codes "1") ∷ [])
 unfolding runs
 list_counts_twice =
@@ -100,7 +100,7 @@ naked_locks =
     (replied_first (world empty one_session) _ refl (simp lock_running)
     (replied_last _ refl (simp lock_running))))))
 
--- a timeout behind it makes an operand a name
+-- a timeout after it makes an operand a name
 locks_given : AreReplied (opening empty) ((1, codes "L @\"^X,^Y\":0") ∷ (1, codes "L @\"^X,+^Y:0\" W $T") ∷ []) (failed [] Zsyntax ∷ done (codes "1") ∷ [])
 unfolding runs
 locks_given =

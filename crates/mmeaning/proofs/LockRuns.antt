@@ -45,7 +45,7 @@ replied_last {world = world} {l = l} tree e run = record {
   answers = ap (λ (x : Reply × World). x.0 ∷ []) (line_is world l tree e) ∙ ap (λ (r : Reply). r ∷ []) run;
 }
 
--- a line, and then those behind it in the world that it leaves
+-- a line, and then those after it in the world that it leaves
 pub replied_first : {world : World} {l : ℕ × Text} {r : Reply} {ls : List (ℕ × Text)} {rs : List Reply} (after : World) (tree : Option LineTree)
     → line_at l.1 ≡ tree → shut_step lending (line_of l) tree world ≡ (r, after) → AreReplied after ls rs → AreReplied world (l ∷ ls) (r ∷ rs)
 replied_first {world = world} {l = l} {r = r} {ls = ls} after tree e first rest = record {
@@ -54,7 +54,7 @@ replied_first {world = world} {l = l} {r = r} {ls = ls} after tree e first rest 
       ∙ ap (λ (rs : List Reply). r ∷ rs) rest.answers;
 }
 
--- ---- a session without variables, and the reply where a line halts
+-- ---- a session without variables, and the reply if a line halts
 
 abbrev pub plain_session : Bool → Session
 plain_session test = record { locals = no_locals; naked = None; test = test }

@@ -39,15 +39,15 @@ module _ (w : Shared) (naked : Option Node) (test : Bool) (out : Text) (locals :
 
   -- ---- taking
 
-  -- without a sign all that the terminal holds is given up first; the node that was referred to last stays that
+  -- without a sign all that the terminal holds is given up first; the node that was referred to last stays the same
   taken_anew : (locks : Locks) → taken (released w.locks 1) 1 (lock_j ∷ []) ≡ Some locks → perform hers (locking her_line anew (lock_one global_j) None (state test steps)) w ≡ (Gives tt (state test steps), record w { locks = locks })
   taken_anew locks h = rw (perform, h) refl
 
-  -- also where the names are not free then
+  -- even if the names are not free then
   refused_anew : taken (released w.locks 1) 1 (lock_j ∷ []) ≡ None → perform hers (locking her_line anew (lock_one global_j) None (state test steps)) w ≡ (Fails Zlocked (state test steps), record w { locks = released w.locks 1 })
   refused_anew h = rw (perform, h) refl
 
-  -- with a timeout $TEST tells it, and the line goes on
+  -- with a timeout $TEST says so, and the line goes on
   taken_in_time : (locks : Locks) → taken w.locks 1 (lock_j ∷ lock_m ∷ []) ≡ Some locks
       → perform hers (locking her_line adding (lock_several (global_j ∷ local_m ∷ [])) (Some (only (text (codes "1E30")))) (state test (suc steps))) w ≡ (Gives tt (state true steps), record w { locks = locks })
   taken_in_time locks h = rw h refl
@@ -74,7 +74,7 @@ module _ (w : Shared) (naked : Option Node) (test : Bool) (out : Text) (locals :
     error_in_timeout : perform hers (locking her_line anew (lock_one (global (codes "Y") no_exprs)) (Some error) (state test (suc (suc steps)))) w ≡ (Fails M9 (state test steps), w)
     empty_subscript : perform hers (locking her_line anew (lock_one (local (codes "M") (exprs (only (text [])) no_exprs))) None (state test (suc steps))) w ≡ (Fails Zsub (state test steps), w)
     -- who may lock
-    -- to be let read is not enough, and to be let nothing is told as an account that there is not
+    -- permission to read is not enough, and having none is reported like an account that does not exist
     granted_reading : perform his (locking his_line adding (lock_one (extended (only (text (codes "ALICE"))) (codes "X") no_exprs)) None (state test (suc steps))) w ≡ (Fails Zgrant (state test steps), w)
     no_such_account : perform his (locking his_line adding (lock_one (extended (only (text (codes "NOBODY"))) (codes "X") no_exprs)) None (state test (suc steps))) w ≡ (Fails Zgrant (state test steps), w)
 
@@ -90,7 +90,7 @@ module _ (w : Shared) (naked : Option Node) (test : Bool) (out : Text) (locals :
   -- ---- naked references
 
   record NakedNamed : Type 0 where
-    -- one that a text names is refused behind its subscripts, and before the next name
+    -- one that a text names is refused after its subscripts, and before the next name
     naked_named : perform hers (locking her_line adding (lock_several (indirect (text (codes "^(\"x\")")) no_exprs ∷ global (codes "X") (exprs error no_exprs) ∷ [])) None (state test (suc (suc steps)))) w ≡ (Fails Zsyntax (state test steps), w)
     subscripts_before : perform hers (locking her_line adding (lock_one (indirect (text (codes "^(\"x\")")) (exprs error no_exprs))) None (state test (suc (suc (suc (suc steps)))))) w ≡ (Fails M9 (state test steps), w)
 

@@ -102,7 +102,7 @@ record Sessions : Type 0 where
   place_too_far : Answered (codes "S B=1,$P(B,\",\",501)=2" ∷ codes "W B" ∷ []) (failed [] Zarg ∷ done (codes "1") ∷ [])
   -- locals last from line to line
   locals_last : Answered (codes "S A=5" ∷ codes "W A,A+1" ∷ []) (done [] ∷ done (codes "56") ∷ [])
-  -- what stands before an error stands, and what stands behind it is not done
+  -- what comes before an error stands, and what comes after it is not done
   set_stops_at_fault : Answered (codes "S A=1,B=1/0,C=3" ∷ codes "W A,$D(B),$D(C)" ∷ []) (failed [] M9 ∷ done (codes "100") ∷ [])
   -- a step for each command and each primary, and none for the targets of SET and what is in their brackets
   steps_of_line : AreAnswered (with_steps 13) (opening empty) (codes "S (A,B)=1 S $P(A,\",\",2)=(1) K A(1) I $D(A(1))+1" ∷ []) (done [] ∷ [])

@@ -28,7 +28,7 @@ module _ {X E : Type 0} {b : Standing} {steady : Type 0} {fault_of : E → Fault
     done = then_failed b steady (p n >>= q) k h (fault_of e) h1 (then_failed b steady (p n) q h (fault_of e) h1 (d.at n le));
   }
 
-  -- a loss, where nothing was done yet
+  -- a loss, if nothing was done yet
   pub on_lost : {A : Type 0} {h h1 : Here} (p : Act A) (k : A → Act Completion) (e : E) {fs : List View} → MayLose steady (fault_of e) → h.1 ≡ h1.1 → h1.0.steps ≤ h.0.steps → MovedOn {X = X} b steady fault_of completion_of p k h (Err e) fs h1
   on_lost {h = h} {h1 = h1} p k e m same few = record {
     done = let d : Did b steady fault_of (λ n. p >>= k) (λ (s : Completion). s) h (Err e) h1 = did_lost (λ n. p >>= k) (λ s. s) e m same few in d.at h.0.steps (omega arith);
@@ -38,7 +38,7 @@ module _ {X E : Type 0} {b : Standing} {steady : Type 0} {fault_of : E → Fault
   pub on_completion : {h : Here} {fs : List View} (s : X) (ns : List ℕ) → Enough h.0.steps fs ns → MovedOn b steady fault_of completion_of (give (completion_of s)) (left b.account fs ns) h (Ok s) fs h
   on_completion {h = h} {fs = fs} s ns e = record { done = (ns, e, follows_itself b (left b.account fs ns (completion_of s)) h) }
 
-  -- a frame is pushed: what it does stands between an act and the frames below
+  -- a frame is pushed: what it does comes between an act and the frames below
   pub on_frame : {h h1 : Here} {p : Act Completion} {r : Result X E} {fs' : List View} (fs : List View) (f : View) (n : ℕ) (ns : List ℕ)
       → MovedOn b steady fault_of completion_of p (left b.account (f ∷ fs) (n ∷ ns)) h r fs' h1 → MovedOn b steady fault_of completion_of (p >>= frame b.account n f) (left b.account fs ns) h r fs' h1
   on_frame {h = h} {h1 = h1} {p = p} {r = r} {fs' = fs'} fs f n ns m = record {

@@ -25,7 +25,7 @@ record Routines : Type 0 where
   -- which has those of its line, and a line of a terminal has none
   label_in_xecute : Anywhere (codes "X \"D U\"" ∷ []) (failed [] M13 ∷ [])
   read_where_reached : WithEach (codes "T") (codes "T W 1" ∷ codes "U )" ∷ codes "V(" ∷ []) (
-      -- a line is read where it is reached, and not before
+      -- a line is read when it is reached, and not before
       (codes "D T^T", failed (codes "1") Zsyntax) ∷
       -- its label is found before
       (codes "D U^T", failed [] Zsyntax) ∷
@@ -35,7 +35,7 @@ record Routines : Type 0 where
   lines_in_order : With (codes "T") (codes " W 0" ∷ codes " W 1" ∷ codes " W 2" ∷ []) (codes "D ^T" ∷ []) (done (codes "012") ∷ [])
   -- of two lines with a label the first is meant
   first_label : With (codes "T") (codes "T Q" ∷ codes "U W 1 Q" ∷ codes "U W 2 Q" ∷ []) (codes "D U^T" ∷ []) (done (codes "1") ∷ [])
-  -- arguments one after another, each where its own condition holds
+  -- arguments one after another, each if its own condition holds
   arguments_of_do : With (codes "T") (codes "T W 1 Q" ∷ codes "U W 2 Q" ∷ []) (codes "D U^T:1,T^T:0,^T" ∷ []) (done (codes "21") ∷ [])
   -- XECUTE of several texts, and of one whose condition is false
   texts : Anywhere (codes "X \"S A=4\":1,\"W A*A\",\"W 1/0\":0" ∷ []) (done (codes "16") ∷ [])
@@ -57,7 +57,7 @@ record Routines : Type 0 where
   do_in_xecute : With (codes "T") (codes "T X \"D U\" W 2 Q" ∷ codes "U W 1 Q" ∷ []) (codes "D T^T" ∷ []) (done (codes "12") ∷ [])
   -- DO in the turns of a FOR
   do_in_for : With (codes "T") (codes " W I" ∷ []) (codes "F I=1:1:3 D ^T" ∷ []) (done (codes "123") ∷ [])
-  -- QUIT ends the FOR of its line first, and the level only where there is none
+  -- QUIT ends the FOR of its line first, and the level only if there is none
   quit_of_for : With (codes "T") (codes "T F I=1:1 W I Q:I=2" ∷ codes " W \"e\" Q  W 9" ∷ []) (codes "D ^T W \".\"" ∷ []) (done (codes "12e.") ∷ [])
 
 routines : Routines

@@ -37,7 +37,7 @@ serving_in g s = record { shared = (opening g).shared; sessions = insert empty 1
 abbrev pub holding_in : Globals → Text → Text → World
 holding_in g name x = serving_in g (record { locals = assigned_to no_locals name [] x; naked = None; test = false })
 
--- A level stands deep within plans one behind another, where `simp` doesn't look: it brings what is done next to the front.
+-- A level is deep within plans one after another, where `simp` doesn't look: it brings what is done next to the front.
 pub ruleset computed_levels = (opened, text_opened, list_opened, name_found, assoc_plan)
 
 -- what lines of a terminal are answered in any store, and in one that has these lines of a routine

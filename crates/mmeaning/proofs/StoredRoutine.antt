@@ -8,7 +8,7 @@ use Rattle.mmeaning.proofs.Running.{◌≡◌, [], ◌∷◌, Some, false, refl,
 abbrev line_node : Text → Node
 line_node place = record { account = codes "ALICE"; name = codes "ROUTINE"; subscripts = codes "R" ∷ place ∷ [] }
 
--- what is stored behind the lines that set it
+-- what is stored after the lines that set it
 abbrev one_stored : Globals
 one_stored = insert empty (line_node (codes "1")) (codes "T N V S V=2 D U W V Q")
 

@@ -20,7 +20,7 @@ values : Each (
     (codes "S A(1)=5 W A(\"1\"),$D(A(\"01\"))", done (codes "50")) ∷
     -- $DATA tells a text from texts below
     (codes "S A(1,1)=5 W $D(A),$D(A(1)),$D(A(1,1)),$D(A(2)) S A(1)=6 W $D(A(1)),A(1,1)", done (codes "101010115")) ∷
-    -- a default where there is no text
+    -- a default if there is no text
     (codes "W $G(A(1),\"d\") S A(1)=5 W $G(A(1),\"d\"),$G(B)", done (codes "d5")) ∷
     -- $ORDER goes through numbers and then other texts, forward and backward
     (codes "S L(2)=1,L(\"x\")=1,L(10)=1 W $O(L(\"\")),$O(L(2)),$O(L(\"x\"),-1)", done (codes "21010")) ∷
@@ -28,11 +28,11 @@ values : Each (
     (codes "S L(1,5)=1,L(1,7,2)=1,L(1,7,3)=1,L(2)=1 W $O(L(1,5)),$O(L(\"\")),$O(L(1,7,\"\"),-1),$O(L(2))", done (codes "713")) ∷
     -- a direction is a number without its fraction
     (codes "S A(1)=1,A(2)=2 W $O(A(1),1.9),$O(A(2),-1.9)", done (codes "21")) ∷
-    -- KILL takes a node with what stands below it, and nothing beside it
+    -- KILL takes a node with what is below it, and nothing beside it
     (codes "S A=1,A(1)=2,A(1,1)=3,A(2)=4 K A(1) W $D(A),A,A(2),$D(A(1)) K A W $D(A)", done (codes "111400")) ∷
     -- of all variables those named in brackets are spared
     (codes "S A=1,B=2,C=3 K (A,B) W $D(A),$D(B),$D(C)", done (codes "110")) ∷
-    -- and none where no name is given
+    -- and none if no name is given
     (codes "S A=1,B(1)=2 K  W $D(A),$D(B)", done (codes "00")) ∷ [])
 unfolding runs
 values =
@@ -41,7 +41,7 @@ values =
     (at_case _ refl (simp running) (at_case _ refl (simp running) no_more)))))))))
 
 record Hidden : Type 0 where
-  -- what NEW hides comes back behind the line
+  -- what NEW hides comes back after the line
   new_ends_with_line : Answered (codes "S A=1" ∷ codes "N A W $D(A) S A=2 W A" ∷ codes "W A" ∷ []) (done [] ∷ done (codes "02") ∷ done (codes "1") ∷ [])
   -- NEW of all variables but those named; a second list keeps the names that both have
   new_spares : Answered (codes "S A=1,B=2,C=3 N (A,B) N (B,C) W $D(A),$D(B),$D(C)" ∷ []) (done (codes "010") ∷ [])
@@ -49,7 +49,7 @@ record Hidden : Type 0 where
   new_after_new : Answered (codes "S A=1" ∷ codes "N A S A=2 N (A) W A" ∷ []) (done [] ∷ done (codes "2") ∷ [])
   -- KILL of all variables leaves those that are hidden
   kill_where_hidden : Answered (codes "S B=2" ∷ codes "N B S B=3 K (A) W $D(B)" ∷ codes "W B" ∷ []) (done [] ∷ done (codes "0") ∷ done (codes "2") ∷ [])
-  -- also behind an error what NEW hid comes back, and what was set stays
+  -- even after an error what NEW hid comes back, and what was set stays
   undone_after_error : Answered (codes "S A=1" ∷ codes "N A S A=2 W 1/0" ∷ codes "W A" ∷ []) (done [] ∷ failed [] M9 ∷ done (codes "1") ∷ [])
 
 hidden : Hidden

@@ -38,7 +38,7 @@ yields_stopped {fault_of = fault_of} {p = p} q {g = g} {r = r} d h = subst (λ r
 pub yields_gives : {A X E : Type 0} {fault_of : E → Fault} (a : A) (f : X → A) (x : X) → f x ≡ a → Yields {E = E} fault_of (give a) f (Ok x)
 yields_gives a f x e = record { ends = λ s. ap (λ a. Done (Gives a s)) (sym e) }
 
--- want of memory, by a `?` that the call returns
+-- out of memory, by a `?` that the call returns
 pub yields_wanting : {A X E : Type 0} {fault_of : E → Fault} (p : Act A) (f : X → A) (e : E) (r : Result X E) → fault_of e ≡ Lost Memory → IsErr r × IsErrAnd r (λ x. x ≡ e) → Yields fault_of p f r
 yields_wanting {fault_of = fault_of} p f e r memory h = subst (λ r. Yields fault_of p f r) (sym (residual_is r e h)) (record { ends = subst (YieldsFault p) (sym memory) tt })
 

@@ -33,7 +33,7 @@ Gave b p h a h' = perform (ops_of b) (p h.0) h.1 ≡ (Gives a h'.0, h'.1)
 abbrev pub IsCut : {A : Type 0} → Standing → Act A → Here → Here → Type 0
 IsCut b p h h' = (n : ℕ) × (cut_short (ops_of b) n (p h.0) h.1 ≡ h'.1)
 
--- The act fails by a code of its own, or memory or the store did not suffice for it. Over a steady store it is never the store.
+-- The act fails with a code of its own, or memory or the store did not suffice for it. Over a steady store it is never the store.
 abbrev pub FailedBy : {A : Type 0} → Standing → (steady : Type 0) → Act A → Here → Fault → Here → Type 0
 FailedBy b steady p h (Own c) h' = perform (ops_of b) (p h.0) h.1 ≡ (Fails c h'.0, h'.1)
 FailedBy b steady p h (Lost Memory) h' = IsCut b p h h'
@@ -43,8 +43,8 @@ abbrev pub Ends : {A X E : Type 0} → Standing → (steady : Type 0) → (E →
 Ends b steady fault_of p f h (Ok x) h' = Gave b p h (f x) h'
 Ends b steady fault_of p f h (Err e) h' = FailedBy b steady p h (fault_of e) h'
 
--- A call does an act, with any fuel from the steps left on, and adds no steps. `steady` says that the store is so: as a field of
--- the standing it would lift that to a greater universe.
+-- A call does an act, with any fuel that is at least the steps left, and adds no steps. `steady` says that the store is steady: as
+-- a field of the standing it would lift that to a greater universe.
 pub record Did {A X E : Type 0} (b : Standing) (steady : Type 0) (fault_of : E → Fault) (p : ℕ → Act A) (f : X → A) (h : Here) (r : Result X E) (h' : Here) : Type 0 where
   pub at : (n : ℕ) → h.0.steps ≤ n → Ends b steady fault_of (p n) f h r h'
   pub fewer : h'.0.steps ≤ h.0.steps
@@ -55,7 +55,7 @@ MayLose steady (Own c) = ⊥
 MayLose steady (Lost Memory) = Unit {0}
 MayLose steady (Lost Store) = steady → ⊥
 
--- q from the one place is what is left of p from the other
+-- q from `h'` is what is left of p from `h`
 pub record Follows {A : Type 0} (b : Standing) (p : Act A) (h : Here) (q : Act A) (h' : Here) : Type 0 where
   pub whole : perform (ops_of b) (p h.0) h.1 ≡ perform (ops_of b) (q h'.0) h'.1
   pub short : (k : ℕ) → (m : ℕ) × (cut_short (ops_of b) m (p h.0) h.1 ≡ cut_short (ops_of b) k (q h'.0) h'.1)

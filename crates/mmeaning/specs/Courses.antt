@@ -1,7 +1,7 @@
 -- SPDX-License-Identifier: Apache-2.0
--- How a FOR goes on behind a turn.
+-- How a FOR goes on after a turn.
 --
--- Restates "For" of ISO/IEC 11756:1999: a limit is passed above it, or below it where the increment is below zero.
+-- Restates "For" of ISO/IEC 11756:1999: a limit is passed above it, or below it if the increment is below zero.
 use Rattle.std.specs.Prelude.{ℤ, pos, Bool, cond}
 use Rattle.std.specs.Ordering.{int_cmp, is_lt}
 
@@ -12,6 +12,6 @@ pub data Course : Type 0 where
   limited : ℤ → ℤ → Course
   forever : Course
 
--- whether an index is beyond the limit, where this is the increment
+-- whether an index is beyond the limit, given this increment
 abbrev pub is_past : ℤ → ℤ → ℤ → Bool
 is_past by n limit = cond (is_lt (int_cmp by (pos 0))) (is_lt (int_cmp n limit)) (is_lt (int_cmp limit n))

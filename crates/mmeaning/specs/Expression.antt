@@ -3,7 +3,7 @@
 --
 -- Restates "Expressions", "$SELECT", the environment of "Global variable name gvn", which is an account, and what "Indirection" says of
 -- names and subscripts, of ISO/IEC 11756:1999: operators apply from left to right, none before another, and unary operators bind to the
--- operand behind them. Both operands of an operator are evaluated, the left one first. A text that stands for an `@` names a variable,
+-- operand after them. Both operands of an operator are evaluated, the left one first. A text that stands for an `@` names a variable,
 -- and what it has to evaluate is evaluated where it stands.
 use Rattle.std.specs.Prelude.{ℕ, zero, suc, ◌+◌, Bool, nat_lt, ◌&&◌, cond, not, List, [], ◌∷◌, ◌++◌, map, Option, Some, None}
 pub use Rattle.mspec.specs.Limits.{max_levels, max_indirections}
@@ -35,21 +35,21 @@ an_indirection_free d = unless Zdepth (is_indirection_free d)
 abbrev pub indirected : Depth → Depth
 indirected d = record { levels = d.levels + 1; indirections = d.indirections + 1 }
 
--- where an expression stands: whose line it is of, how deep it stands, and what evaluates, so deep, the variable that a text names,
--- which is no part of the tree, with the subscripts behind it, once the step of its operand is spent
+-- where an expression stands: whose line it belongs to, how deep it is, and what evaluates, at a given depth, the variable that a text
+-- names, which is no part of the tree, with the subscripts after it, once the step of its operand is spent
 pub record Inside : Type 0 where
   pub account : Text
   pub depth : Depth
   pub find : Depth → ReferenceTree → ExprsTree → Act Evaluated
 
--- what the variable that a text names has to evaluate, and the subscripts behind it
+-- what the variable that a text names has to evaluate, and the subscripts after it
 abbrev pub named_by : Inside → ExprsTree → Text → Act Evaluated
 named_by i subscripts x = do
   an_indirection_free i.depth
   r ← give_some Zsyntax (ref_at x)
   i.find (indirected i.depth) r subscripts
 
--- A primary costs a step, before it is evaluated: a bracket and a call cost theirs before what stands in them.
+-- A primary costs a step, before it is evaluated: a bracket and a call cost theirs before what is in them.
 abbrev mutual
   pub value : Inside → ExprTree → Act Text
   value i (expr first rest) = do
@@ -115,14 +115,14 @@ abbrev mutual
     xs ← values i [] subscripts
     give (of_global (record { account = owner; name = name; subscripts = xs }))
 
-  -- the values of some expressions, behind those before them
+  -- the values of some expressions, appended to those before them
   pub values : Inside → List Text → ExprsTree → Act (List Text)
   values i xs no_exprs = give xs
   values i xs (exprs e rest) = do
     x ← value i e
     values i (xs ++ x ∷ []) rest
 
-  -- the value of the first choice whose condition is true; what stands behind it is not evaluated
+  -- the value of the first choice whose condition is true; what comes after it is not evaluated
   pub chosen : Inside → ChoicesTree → Act Text
   chosen i no_choices = fail M4
   chosen i (choice c v rest) = do
@@ -130,25 +130,25 @@ abbrev mutual
     b ← as_truth x
     cond b (value i v) (chosen i rest)
 
--- where there is one
+-- if there is one
 abbrev pub optional_value : Inside → Option ExprTree → Act (Option Text)
 optional_value i None = give None
 optional_value i (Some e) = do
   x ← value i e
   give (Some x)
 
--- what a text names: first its own parts, then the subscripts behind it
+-- what a text names: first its own parts, then the subscripts after it
 abbrev pub through : Inside → ReferenceTree → ExprsTree → Act Evaluated
 through i r subscripts = do
   v ← evaluated i r
   xs ← values i (subscripts_of v) subscripts
   give (with_subscripts xs v)
 
--- with so many texts at most
+-- with at most this many texts
 unfoldable pub finds : Text → ℕ → Depth → ReferenceTree → ExprsTree → Act Evaluated
 finds a zero d r subscripts = fail Zsteps
 finds a (suc n) d r subscripts = through (record { account = a; depth = d; find = finds a n }) r subscripts
 
--- in a line of this account, where so many texts that are no part of the tree may be entered
+-- in a line of this account, in which this many texts that are no part of the tree may be entered
 abbrev pub inside : Text → ℕ → Depth → Inside
 inside a n d = record { account = a; depth = d; find = finds a n }

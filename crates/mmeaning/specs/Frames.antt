@@ -1,5 +1,5 @@
 -- SPDX-License-Identifier: Apache-2.0
--- What a line has still to do, frame by frame: a frame is an act from the completion of what was done before it to its own.
+-- What a line still has to do, frame by frame: a frame is an act from the completion of what was done before it to its own.
 use Rattle.std.specs.Prelude.{ℕ, ◌≤◌, List, [], ◌∷◌, Result, Ok, Err}
 use Rattle.mspec.specs.Code.{Fault}
 use Rattle.mspec.specs.Act.{Text, Act, ◌>>=◌, give}
@@ -20,13 +20,13 @@ frame a n (Lists p args) s = after s (arguments (context a n p) args)
 frame a n (Turns p t) s = after_turn (context a n p) t s
 frame a n (Levels p c) s = after_level (context a n p) s >>= closed c
 
--- top first, each with as many texts as it may enter
+-- from the top, each with the number of texts that it may enter
 abbrev pub left : Text → List View → List ℕ → Completion → Act Completion
 left a [] ns s = give s
 left a (f ∷ fs) [] s = give s
 left a (f ∷ fs) (n ∷ ns) s = frame a n f s >>= left a fs ns
 
--- each frame may enter as many texts as there are steps
+-- each frame may enter at least as many texts as there are steps
 abbrev pub Enough : ℕ → List View → List ℕ → Type 0
 Enough steps [] [] = Unit {0}
 Enough steps (f ∷ fs) (n ∷ ns) = (steps ≤ n) × Enough steps fs ns

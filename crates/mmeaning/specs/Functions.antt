@@ -1,8 +1,8 @@
 -- SPDX-License-Identifier: Apache-2.0
--- What functions give of the values of their arguments, $SELECT and the functions of a variable apart.
+-- What functions give for the values of their arguments, except for $SELECT and the functions of a variable.
 --
 -- Restates "Intrinsic functions" of ISO/IEC 11756:1999. All arguments are evaluated before the first of them becomes a
--- number. Then each that is to be a whole number becomes one, from left to right, also where it plays no part.
+-- number. Then each that is to be a whole number becomes one, from left to right, even if it plays no part.
 use Rattle.std.specs.Prelude.{ℕ, ◌^◌, ℤ, pos, ◌*ℤ◌, List, [], ◌∷◌, ◌++◌, length, get_or, slice_get, Option, Some, None, unwrap_or}
 use Rattle.mspec.specs.NumberText.{number_text}
 use Rattle.mspec.specs.Interpretations.{whole_part}
@@ -15,7 +15,7 @@ use Rattle.mmeaning.specs.Operators.{as_number, outcome}
 
 -- ---- arguments
 
--- the argument at a place; the empty text where it is left out
+-- the argument at a place; the empty text if it is left out
 abbrev pub text_at : ℕ → List Text → Text
 text_at k args = get_or args k []
 
@@ -31,24 +31,24 @@ as_whole_or_none (Some x) = do
   n ← as_whole x
   give (Some n)
 
--- the argument at a place as a whole number; none where it is left out
+-- the argument at a place as a whole number; none if it is left out
 abbrev pub whole_at : ℕ → List Text → Act (Option ℤ)
 whole_at k args = as_whole_or_none (slice_get args k)
 
--- the arguments as whole numbers, behind those before them
+-- the arguments as whole numbers, appended to those before them
 abbrev pub wholes : List ℤ → List Text → Act (List ℤ)
 wholes ns [] = give ns
 wholes ns (x ∷ xs) = do
   n ← as_whole x
   wholes (ns ++ n ∷ []) xs
 
--- ---- values; those of functions of a variable stand apart, as that of $SELECT does
+-- ---- values; those of functions of a variable are elsewhere, as is that of $SELECT
 
 -- a whole number as its text
 abbrev pub whole_text : ℤ → Text
 whole_text n = number_text (n *ℤ pos (10 ^ 18))
 
--- $LENGTH: of characters, and of pieces where there is a delimiter
+-- $LENGTH: in characters, or in pieces if there is a delimiter
 abbrev pub length_of : Text → Option Text → ℕ
 length_of s None = length s
 length_of s (Some d) = piece_count s d

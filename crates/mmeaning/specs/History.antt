@@ -13,17 +13,17 @@ History settings world (e ∷ es) after = (between : World) × Transition settin
 abbrev pub opening : Globals → World
 opening globals = record { shared = record { globals = globals; locks = empty }; sessions = empty }
 
--- the replies of normal steps
+-- the replies of normal transitions
 abbrev pub replies : Settings → World → List Event → List Reply
 replies settings world [] = []
 replies settings world (e ∷ es) = (normal settings e world).0 ∷ replies settings (normal settings e world).1 es
 
--- the world after normal steps
+-- the world after normal transitions
 abbrev pub world_after : Settings → World → List Event → World
 world_after settings world [] = world
 world_after settings world (e ∷ es) = world_after settings (normal settings e world).1 es
 
--- the events with the replies of normal steps
+-- the events with the replies of normal transitions
 abbrev pub answered : Settings → World → List Event → List (Event × Reply)
 answered settings world [] = []
 answered settings world (e ∷ es) = (e, (normal settings e world).0) ∷ answered settings (normal settings e world).1 es

@@ -14,8 +14,8 @@ use Rattle.mgrammar.specs.RoutineLine.{BodyTree, short, spaced_out, label_of, do
 use Rattle.mmeaning.specs.Expression.{Depth, indirected}
 pub use Rattle.mmeaning.specs.Expression.{max_levels}
 
--- the lines that labels are sought in; the place of the one that comes next; and how many dots the level's lines have. A terminal's text
--- has no lines, and none comes behind it or behind a text of XECUTE, until a GOTO leads to one.
+-- the lines that labels are sought in; the place of the line that comes next; and how many dots the level's lines have. A terminal's text
+-- has no lines, and none comes after it or after a text of XECUTE, until a GOTO leads to one.
 pub record Level : Type 0 where
   pub copy : List Text
   pub next : Option ℕ
@@ -40,7 +40,7 @@ pub record Target : Type 0 where
   pub copy : List Text
   pub line : ℕ
 
--- a routine that is named is read; a label alone stands in the level's own
+-- a routine that is named is read; a label alone is sought in the level's own lines
 abbrev pub lines_of_entry : List Text → EntryTree → Act (List Text)
 lines_of_entry copy (at_label label) = give copy
 lines_of_entry copy (at_label_in label routine) = ask (Routine routine)
@@ -50,7 +50,7 @@ abbrev pub is_label : Text → Option Text → Bool
 is_label label None = false
 is_label label (Some name) = text_eq label name
 
--- whether a line is one that is meant, which the first such line is
+-- whether a line matches the entry, which means the first such line
 abbrev pub is_entry : EntryTree → Text → Bool
 is_entry (at_label label) line = is_label label (label_of line)
 is_entry (at_label_in label routine) line = is_label label (label_of line)
@@ -60,7 +60,7 @@ abbrev pub has_dots : ℕ → Option Text → Bool
 has_dots dots None = false
 has_dots dots (Some line) = dots_of line == dots
 
--- the line that is meant: there has to be one, and it has to have as many dots as the level
+-- the line that the entry means: there has to be one, and it has to have as many dots as the level
 abbrev pub target : List Text → ℕ → EntryTree → Act Target
 target copy dots e = do
   lines ← lines_of_entry copy e
@@ -73,17 +73,17 @@ target copy dots e = do
 abbrev pub a_level_free : Depth → Act (Unit {0})
 a_level_free d = unless Zdepth (nat_lt d.levels max_levels)
 
--- in a level more
+-- one level deeper
 abbrev pub deeper : Position → Level → Position
 deeper p l = record { depth = record { levels = p.depth.levels + 1; indirections = p.depth.indirections }; level = l }
 
--- within an indirection, whose arguments are done in the level that it stands in
+-- within an indirection, whose arguments are done in the level that it is in
 abbrev pub within_indirection : Position → Position
 within_indirection p = record { depth = indirected p.depth; level = p.level }
 
 -- ---- how a level closes
 
--- not at all, as the outermost one does, which goes with its line; its scope goes; and $TEST is besides what it was
+-- not at all, as the outermost one does, which goes with its line; its scope goes; and besides that, $TEST is again what it was
 pub data Closing : Type 0 where
   stays : Closing
   leaves : Closing

@@ -3,8 +3,8 @@
 --
 -- Restates "Commands" of ISO/IEC 11756:1999, "Do", "Else", "For", "Goto", "Halt", "If", "Kill", "New", "Quit", "Set", "Write" and "Xecute"
 -- among them, and what "Indirection" says of arguments: arguments are done from left to right, each as if it stood in a command of its
--- own, and those that a text gives as if they stood in its place. A DO without arguments does the lines behind its own that have one dot
--- more, and keeps $TEST. LOCK stands in Locking.
+-- own, and those that a text gives as if they stood in its place. A DO without arguments does the lines after its own that have one dot
+-- more, and keeps $TEST. LOCK is in Locking.
 use Rattle.std.specs.Prelude.{ℕ, zero, suc, ◌+◌, ℤ, ◌+ℤ◌, Bool, true, not, cond, nat_lt, ◌==◌, List, [], ◌∷◌, ◌++◌, drop, replicate, Option, Some, None}
 use Rattle.mspec.specs.Number.{sum_of}
 use Rattle.mspec.specs.NumberText.{number_text}
@@ -33,7 +33,7 @@ line_end = 255
 
 -- ---- how a line goes on
 
--- with what is next; with what is behind the rest of the line; out of its turn or its level; with another line; or not at all
+-- with what is next; with what comes after the rest of the line; out of its turn or its level; with another line; or not at all
 pub data Completion : Type 0 where
   Go_on : Completion
   Skips : Completion
@@ -49,7 +49,7 @@ after Quits p = give Quits
 after (Goes t) p = give (Goes t)
 after Halts p = give Halts
 
--- a FOR under way: its index, how its parameter goes on, the parameters behind that, and the rest of the line
+-- a FOR under way: its index, how its parameter goes on, the parameters after that, and the rest of the line
 pub record Turning : Type 0 where
   pub index : Text
   pub course : Course
@@ -77,8 +77,7 @@ inside_of x = inside x.account x.fuel x.position.depth
 
 -- ---- SET
 
--- a target of which everything is evaluated that it has to evaluate: a variable, or a piece of one with its delimiter and its
--- place
+-- a target with everything evaluated that it has to evaluate: a variable, or a piece of one with its delimiter and its place
 pub data Prepared : Type 0 where
   whole : Evaluated → Prepared
   part : Evaluated → Text → Option Text → Prepared
@@ -93,7 +92,7 @@ prepared i (piece word r delimiter place) = do
   n ← optional_value i place
   give (part v d n)
 
--- some targets, behind those before them
+-- some targets, appended to those before them
 abbrev pub all_prepared : Inside → List Prepared → List TargetTree → Act (List Prepared)
 all_prepared i ps [] = give ps
 all_prepared i ps (t ∷ ts) = do
@@ -120,7 +119,7 @@ abbrev pub targets : DestinationTree → List TargetTree
 targets (one t) = t ∷ []
 targets (several ts) = ts
 
--- each target's parts, then the right side, and then each target is given it: an error leaves those before it set
+-- each target's parts, then the right side, which each target is then given: an error leaves those before it set
 abbrev pub setting : Inside → DestinationTree → ExprTree → Act (Unit {0})
 setting i d e = do
   ps ← all_prepared i [] (targets d)
@@ -144,14 +143,14 @@ killing i r = do
 
 -- ---- conditions
 
--- a truth, where there is a condition
+-- the truth of the condition, if there is one
 abbrev pub holds : Inside → Option ExprTree → Act Bool
 holds i None = give true
 holds i (Some e) = do
   x ← value i e
   as_truth x
 
--- what is next where this is true, and otherwise what is behind the rest of the line
+-- what is next if this is true, and otherwise what comes after the rest of the line
 abbrev pub where_true : Bool → Completion
 where_true b = cond b Go_on Skips
 
@@ -185,7 +184,7 @@ begin_turn x t = charge >> x.texts.turn x.position t
 abbrev pub turn_with : Context → Text → Turning → Act Completion
 turn_with x index t = put_at (at_local t.index []) index >> begin_turn x t
 
--- the turns of these parameters: each is evaluated where it is reached
+-- the turns of these parameters: each is evaluated when it is reached
 abbrev pub next_parameter : Context → Text → List CommandTree → List ParameterTree → Act Completion
 next_parameter x index body [] = give Skips
 next_parameter x index body (once e ∷ rest) = do
@@ -202,7 +201,7 @@ next_parameter x index body (until e by to ∷ rest) = do
   put_at (at_local index []) (number_text a)
   cond (is_past b a c) (next_parameter x index body rest) (begin_turn x (record { index = index; course = limited b c; parameters = rest; body = body }))
 
--- one turn more, with the increment added
+-- one more turn, with the increment added
 abbrev pub stepped : Context → Turning → ℤ → ℤ → Act Completion
 stepped x t n by = do
   next ← as_text (sum_of n by)
@@ -231,14 +230,14 @@ turns_forever x body = begin_turn x (record { index = []; course = forever; para
 
 -- ---- lines of a routine
 
--- the commands of a line that is entered; it is read where it is reached, and not before
+-- the commands of a line that is entered; it is read when it is reached, and not before
 abbrev pub line_entered : Context → ℕ → Text → Act Completion
 line_entered x n text = do
   l ← give_some Zsyntax (routine_line_at text)
   x.texts.enter (record { depth = x.position.depth; level = record x.position.level { next = Some (n + 1) } }) (commands_in l.body)
 
--- The lines from a place on, where these stand. One with more dots than the level's is passed over, one with fewer ends the level, as the
--- end of the lines does. A line that is entered or passed over costs a step.
+-- The lines from a place on, which are these. One with more dots than the level's is passed over; one with fewer ends the level, as does
+-- the end of the lines. A line that is entered or passed over costs a step.
 abbrev pub lines_reached : Context → ℕ → List Text → Act Completion
 lines_reached x n [] = give Go_on
 lines_reached x n (text ∷ rest) =
@@ -249,7 +248,7 @@ abbrev pub lines_from : Context → Option ℕ → Act Completion
 lines_from x None = give Go_on
 lines_from x (Some n) = lines_reached x n (drop n x.position.level.copy)
 
--- the line that comes next in a level, and those behind it; a level that ends gives Go_on
+-- the line that comes next in a level, and those after it; a level that ends gives Go_on
 abbrev pub lines_next : Context → Act Completion
 lines_next x = lines_from x x.position.level.next
 
@@ -277,7 +276,7 @@ doing x e = do
   t ← target x.position.level.copy 0 e
   in_level x (record { copy = t.copy; next = Some t.line; dots = 0 }) leaves lines_next
 
--- argumentless DO: the lines behind this one that have one dot more
+-- argumentless DO: the lines after this one that have one dot more
 abbrev pub doing_block : Context → Act Completion
 doing_block x = do
   a_level_free x.position.depth
@@ -292,7 +291,7 @@ executing x e = do
   l ← give_some Zsyntax (line_at text)
   in_level x (record { copy = x.position.level.copy; next = None; dots = 0 }) leaves (λ y. y.texts.enter y.position (commands_of l))
 
--- GOTO: a line of the level's own dots
+-- GOTO: a line with as many dots as the level
 abbrev pub going : Context → EntryTree → Act Completion
 going x e = do
   t ← target x.position.level.copy x.position.level.dots e
@@ -300,7 +299,7 @@ going x e = do
 
 -- ---- commands
 
--- where its own condition holds
+-- if its own condition holds
 abbrev pub where_holds : Context → Option ExprTree → Act Completion → Act Completion
 where_holds x c p = do
   b ← holds (inside_of x) c
@@ -318,7 +317,7 @@ given x f p = do
   text ← primary_value (inside_of x) p
   given_by x f text
 
--- what an argument does, of whichever command; that of FOR takes the rest of the line, and stands apart
+-- what an argument does, of whichever command; that of FOR takes the rest of the line, and is done elsewhere
 abbrev pub argument : Context → ArgTree → Act Completion
 argument x (assign d e) = setting (inside_of x) d e >> give Go_on
 argument x (breaks n) = write (replicate n line_end) >> give Go_on
@@ -339,8 +338,8 @@ abbrev pub arguments : Context → List ArgTree → Act Completion
 arguments x [] = give Go_on
 arguments x (a ∷ rest) = argument x a >>= (λ s. after s (arguments x rest))
 
--- a command without arguments, before the rest of its line: KILL and NEW are of all variables, LOCK gives up all names, DO is of a block,
--- and those that take some are of nothing
+-- a command without arguments, before the rest of its line: KILL and NEW affect all variables, LOCK gives up all names, DO does a block,
+-- and those that need some do nothing
 abbrev pub bare : Context → KeywordTree → List CommandTree → Act Completion
 bare x set_word rest = give Go_on
 bare x kill_word rest = with_locals (killed_except []) >> give Go_on
@@ -366,7 +365,7 @@ effect x k [] rest = bare x k rest
 effect x k (loop index parameters ∷ more) rest = next_parameter x index rest parameters
 effect x k (a ∷ more) rest = arguments x (a ∷ more)
 
--- where its condition holds
+-- if its condition holds
 abbrev pub conditional : Context → CommandTree → List CommandTree → Act Completion
 conditional x c rest = where_holds x c.condition (effect x c.keyword c.args rest)
 
@@ -377,7 +376,7 @@ commands x (c ∷ rest) = charge >> (conditional x c rest >>= (λ s. after s (co
 
 -- ---- texts
 
--- with so many texts at most
+-- with at most this many texts
 abbrev pub texts : Text → ℕ → Texts
 texts a zero = record { turn = λ _ _. fail Zsteps; list = λ _ _. fail Zsteps; enter = λ _ _. fail Zsteps }
 texts a (suc n) =

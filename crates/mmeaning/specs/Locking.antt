@@ -3,7 +3,7 @@
 --
 -- Restates "LOCK" of ISO/IEC 11756:1999: an argument without a sign gives up all that the process holds and then takes its names, one with
 -- a `+` takes them besides, and one with a `-` gives each back once; a list is taken whole or not at all. A LOCK never waits, which is
--- mserve's own: with a timeout $TEST tells at once whether the names were taken, and without one a conflict is an error.
+-- mserve's own: with a timeout $TEST says at once whether the names were taken, and without one a conflict is an error.
 use Rattle.std.specs.Prelude.{Bool, true, List, [], ◌∷◌, ◌++◌, Option, Some, None}
 use Rattle.mspec.specs.LockConflict.{LockName}
 use Rattle.mspec.specs.Code.{Zlocked}
@@ -17,7 +17,7 @@ abbrev pub names_of : LockedTree → List ReferenceTree
 names_of (lock_one r) = r ∷ []
 names_of (lock_several rs) = rs
 
--- the locks of some references, behind those before them: each is evaluated and checked before the next
+-- the locks of some references, appended to those before them: each is evaluated and checked before the next
 abbrev pub lock_names : Inside → List LockName → List ReferenceTree → Act (List LockName)
 lock_names i ns [] = give ns
 lock_names i ns (r ∷ rs) = do

@@ -1,8 +1,8 @@
 -- SPDX-License-Identifier: Apache-2.0
--- What operators give of values.
+-- What operators give for values.
 --
--- Restates "Unary operator", "Binary operators" and "Pattern match pattern" of ISO/IEC 11756:1999. Where an operator wants
--- numbers its operands become numbers once both are evaluated, the left one first.
+-- Restates "Unary operator", "Binary operators" and "Pattern match pattern" of ISO/IEC 11756:1999. If an operator wants
+-- numbers, its operands become numbers once both are evaluated, the left one first.
 use Rattle.std.specs.Prelude.{ℤ, neg_ℤ, Bool, not, ◌&&◌, ◌||◌, nat_eq, List, [], ◌∷◌, ◌++◌, Option, option_map, Result, Ok, Err}
 use Rattle.std.specs.List.{list_any}
 use Rattle.std.specs.Ordering.{int_cmp, is_lt, is_gt}

@@ -36,8 +36,8 @@ abbrev pub took : Shared → Option Locks → Bool × Shared
 took w None = (false, w)
 took w (Some locks) = (true, record w { locks = locks })
 
--- What is done for a terminal of the account `me`. One that the account may not do does nothing, so that no plan tells or
--- changes more than the settings allow. Those without a guard touch only what is the terminal's or its account's own: a routine
+-- What is done for a terminal of the account `me`. An operation that the account may not do does nothing, so that no plan tells
+-- or changes more than the settings allow. Those without a guard touch only what is the terminal's or its account's own: a routine
 -- of the account, counts of the terminal.
 abbrev pub act : Settings → ℕ → Text → Ops Shared
 act settings terminal me (May owner name mode) w = (may settings me owner name mode, w)

@@ -51,11 +51,11 @@ pub record Reply : Type 0 where
 abbrev pub begun : Account → Session → State
 begun account s = record { locals = level_begun s.locals; naked = s.naked; test = s.test; out = []; steps = account.steps }
 
--- of the scopes that a line opened none is left, however it ended
+-- none of the scopes that a line opened is left, however it ended
 abbrev pub kept : State → Session
 kept s = record { locals = outermost s.locals; naked = s.naked; test = s.test }
 
--- what a text of an account does; one that has no tree does nothing
+-- what a text of an account does; one that has no tree fails with ZSYNTAX
 abbrev pub text_run : Text → Option LineTree → Act Completion
 text_run a None = fail Zsyntax
 text_run a (Some tree) = run a tree
@@ -63,7 +63,7 @@ text_run a (Some tree) = run a tree
 abbrev pub plan_of : Account → Session → Option LineTree → Plan (Outcome Completion)
 plan_of account s tree = text_run account.name tree (begun account s)
 
--- how a line ends that gives this completion
+-- how a line that gives this completion ends
 abbrev pub ending_of : Completion → Ending
 ending_of Go_on = Finished
 ending_of Skips = Finished
@@ -79,7 +79,7 @@ abbrev pub state_of : Outcome Completion → State
 state_of (Gives completion s) = s
 state_of (Fails code s) = s
 
--- effects before an error stand, and so does the session; where the line halts, session and locks are gone
+-- effects before an error stand, and so does the session; if the line halts, session and locks are gone
 abbrev pub settled : ℕ → World → Ending → State → Shared → World
 settled terminal world Finished s w = record { shared = w; sessions = insert world.sessions terminal (kept s) }
 settled terminal world (Faulted fault) s w = record { shared = w; sessions = insert world.sessions terminal (kept s) }
@@ -92,7 +92,7 @@ ended terminal world r = (reply_of r.0, settled terminal world (reply_of r.0).en
 abbrev pub refused : Code → World → Reply × World
 refused code world = (record { out = []; ending = Faulted (Own code) }, world)
 
--- the run of a line that passed the checks before it; a session that it opens for a text without a tree is as new, so as none
+-- the run of a line that passed the checks before it; a session that it opens for a text without a tree is like a new one, so like none
 abbrev pub at_tree : Settings → Event → World → Account → Reply × World
 at_tree settings e world account =
     ended e.terminal world (perform (act settings e.terminal account.name) (plan_of account (session_or_new (get world.sessions e.terminal)) (line_at e.text)) world.shared)
@@ -103,7 +103,7 @@ is_too_long text = nat_lt max_line (length text)
 abbrev pub is_ascii : Text → Bool
 is_ascii text = list_all is_character text
 
--- where the text is too long, or of ASCII
+-- by whether the text is too long, and whether it is ASCII
 abbrev pub checked : Bool → Bool → Settings → Event → World → Account → Reply × World
 checked true ascii settings e world account = refused Zline world
 checked false false settings e world account = refused Zchar world
@@ -117,7 +117,7 @@ at_account settings e world (Some account) = checked (is_too_long e.text) (is_as
 abbrev pub normal : Settings → Event → World → Reply × World
 normal settings e world = at_account settings e world (get settings.terminals e.terminal)
 
--- A transition that they do not suffice for. It comes behind the checks that take no memory; no output is replied, the terminal's
+-- A transition that they do not suffice for. It comes after the checks that take no memory; the reply has no output, the terminal's
 -- session and its locks are gone, the globals are those of the line cut short, and all else is unchanged.
 pub record FailedTransition (settings : Settings) (e : Event) (world after : World) : Type 0 where
   pub account : Account
@@ -144,7 +144,7 @@ is_failure (Faulted fault) = is_lost fault
 abbrev pub lost : Ending → Reply
 lost ending = record { out = []; ending = ending }
 
--- a normal transition, or a failed one where the reply says so
+-- a normal transition, or a failed one if the reply says so
 abbrev pub TransitionBy : Bool → Settings → Event → Reply → World → World → Type 0
 TransitionBy false settings e reply world after = normal settings e world ≡ (reply, after)
 TransitionBy true settings e reply world after = (reply ≡ lost reply.ending) × FailedTransition settings e world after

@@ -24,7 +24,7 @@ NormalTransitionsAreHistory =
     (settings : Settings) (world : World) (events : List Event) →
     History settings world (answered settings world events) (world_after settings world events)
 
--- and where none of its transitions failed, a history has their replies and leaves their world
+-- and if none of its transitions failed, a history has their replies and leaves their world
 abbrev pub HistoryIsNormal : Type 0
 HistoryIsNormal =
     (settings : Settings) (world after : World) (es : List (Event × Reply)) → History settings world es after → NoneFailed es →

@@ -21,7 +21,7 @@ use Rattle.mmeaning.specs.Functions.{whole_text, as_whole}
 
 -- ---- references
 
--- a reference of which all is evaluated that it has to evaluate: of a local, of a global of some account, or of one beside the node that
+-- a reference with everything evaluated that it has to evaluate: to a local, to a global of some account, or to one beside the node that
 -- was referred to last
 pub data Evaluated : Type 0 where
   of_local : Text → List Text → Evaluated
@@ -50,13 +50,13 @@ pub data Use : Type 0 where
   ordering : Use
   writing : Use
 
--- what an account has to be let do for that
+-- what an account has to be allowed to do for that
 abbrev pub mode_of : Use → Mode
 mode_of reading = Read
 mode_of ordering = Read
 mode_of writing = Write
 
--- $ORDER takes an empty last subscript; where there is none at all it is refused by a code of its own
+-- $ORDER takes an empty last subscript; if there is none at all it is refused with a code of its own
 abbrev pub may_be_ordered : List Text → Bool
 may_be_ordered [] = true
 may_be_ordered (x ∷ xs) = are_order_subscripts (x ∷ xs)
@@ -65,7 +65,7 @@ abbrev pub some_subscript : List Text → Act (Unit {0})
 some_subscript [] = fail Zarg
 some_subscript (x ∷ xs) = give tt
 
--- refused where there is a subscript too many, or one that is too long or empty
+-- refused if there are too many subscripts, or if one is too long or empty
 abbrev pub checked : Use → List Text → Act (Unit {0})
 checked reading xs = unless Zsub (are_subscripts xs)
 checked ordering xs = unless Zsub (may_be_ordered xs) >> some_subscript xs
@@ -82,14 +82,14 @@ beside xs = do
   last ← naked_is
   replaced xs last
 
--- whether the line's account may use a global so; what is no account's name is refused as an account that grants nothing, its own
--- too, which no account has by a document of settings
+-- whether the line's account may use a global in this way; what is no account's name is refused like an account that grants nothing,
+-- even if it is the account's own, which no account has by a document of settings
 abbrev pub allowed : Mode → Node → Act (Unit {0})
 allowed mode n = do
   is_let ← ask (May n.account n.name mode)
   unless Zgrant (is_account_name n.account && is_let)
 
--- a node that is let through is the one that was referred to last, also where it then turns out to have no text
+-- a node that is let through is the one that was referred to last, even if it then turns out to have no text
 abbrev pub node_place : Use → Node → Act Place
 node_place u n = do
   allowed (mode_of u) n
@@ -104,7 +104,7 @@ resolve u (of_naked xs) = do
   n ← beside xs
   node_place u n
 
--- The lock that a reference names. The node that was referred to last stays that, and a naked reference has no name.
+-- The lock that a reference names. The node that was referred to last stays the same, and a naked reference has no name.
 abbrev pub named_lock : Text → Evaluated → Act LockName
 named_lock me (of_local name xs) = do
   checked writing xs
@@ -125,7 +125,7 @@ abbrev pub found_at : Place → Act (Option Text)
 found_at (at_local name xs) = of_locals (λ l. value_of l name xs)
 found_at (at_node n) = ask (Value n)
 
--- the text there, or another one where there is none
+-- the text there, or another one if there is none
 abbrev pub read_or : Text → Place → Act Text
 read_or other p = do
   found ← found_at p
@@ -136,7 +136,7 @@ abbrev pub put_at : Place → Text → Act (Unit {0})
 put_at (at_local name xs) x = set_local name xs x
 put_at (at_node n) x = unless Zlong (nat_le (length x) max_text) >> ask (Put n x)
 
--- without its node and what stands below it
+-- without its node and what is below it
 abbrev pub kill_at : Place → Act (Unit {0})
 kill_at (at_local name xs) = with_locals (λ l. killed l name xs)
 kill_at (at_node n) = ask (Kill n)
@@ -146,7 +146,7 @@ abbrev pub status_at : Place → Act (Bool × Bool)
 status_at (at_local name xs) = of_locals (λ l. (is_value l name xs, is_above l name xs))
 status_at (at_node n) = ask (Status n)
 
--- the next subscript at the last place; the empty text where there is none
+-- the next subscript at the last place; the empty text if there is none
 abbrev pub next_at : Direction → Place → Act Text
 next_at d (at_local name xs) = of_locals (λ l. unwrap_or (next_subscript l d name xs) [])
 next_at d (at_node n) = do
@@ -155,11 +155,11 @@ next_at d (at_node n) = do
 
 -- ---- functions of a variable
 
--- $DATA: 1 where it has a text, and 10 more where a node below it has one
+-- $DATA: 1 if it has a text, and 10 more if a node below it has one
 abbrev pub data_number : Bool × Bool → ℕ
 data_number status = cond status.0 1 0 + 10 * cond status.1 1 0
 
--- $ORDER: 1 is forward, as where nothing is said, and -1 backward
+-- $ORDER: 1 is forward, as it is if nothing is said, and -1 is backward
 abbrev pub direction_of : Option Text → Act Direction
 direction_of None = give Forward
 direction_of (Some x) = do

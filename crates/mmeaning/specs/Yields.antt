@@ -2,8 +2,8 @@
 -- What a function over values says of an act: its result is the act's outcome, and the act looks at no state, changes none and asks
 -- nothing of the world.
 --
--- `E` is the code's type of codes and `fault_of` what each stands for; `f` says what the call's value stands for. Want of memory says
--- nothing of the act, and no such function needs the store.
+-- `E` is the code's type of codes and `fault_of` what each stands for; `f` says what the call's value stands for. Running out of memory
+-- says nothing of the act, and no such function needs the store.
 use Rattle.std.specs.Prelude.{◌≡◌, Result, Ok, Err}
 use Rattle.mspec.specs.Code.{Fault, Own, Lost, Memory, Store}
 use Rattle.mspec.specs.Plan.{Done}

@@ -24,7 +24,7 @@ pub fn normal_transitions_are_history()
     ensures { NormalTransitionsAreHistory }
 {}
 
-/// A history of which no transition failed has the replies of the definitional interpreter, and leaves its world.
+/// A history in which no transition failed has the replies of the definitional interpreter, and leaves its world.
 pub fn history_is_normal()
     ensures { HistoryIsNormal }
 {}

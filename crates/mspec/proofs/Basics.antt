@@ -16,7 +16,7 @@ pub from_T : (b : Bool) → T b → b ≡ true
 from_T true h = refl
 from_T false h = absurd h
 
--- what is there only where a test fails
+-- what is there only if a test fails
 pub unopposed : {A : Type 0} (b : Bool) (o : Option A) (x : A) → (if b then None else o) ≡ Some x → o ≡ Some x
 unopposed true o x e = absurd (cc)
 unopposed false o x e = e

@@ -23,7 +23,7 @@ fraction_none (suc k) (suc n) below e =
     let some : fraction_text (suc k) (suc n) ≡ (48 + suc n / 10 ^ k) ∷ fraction_text k (suc n % 10 ^ k) = fraction_some k (suc n) (omega arith) in
     cc
 
--- digits end in no 0 where those after the first do not, and the first is not 0 alone
+-- digits end in no 0 if those after the first do not, and the first is not 0 alone
 end_of_rest : (d : ℕ) (xs : List ℕ) → NoZeroAtEnd xs → (xs ≡ [] → d ≢ 48) → NoZeroAtEnd (d ∷ xs)
 end_of_rest d xs rest alone [] e =
     let none : xs ≡ [] = cc in
@@ -132,11 +132,11 @@ same_whole xs ys all_xs all_ys front_xs front_ys e =
     let least : length ys ≤ length xs = no_longer ys xs all_ys all_xs front_ys (sym e) in
     same_digits xs ys all_xs all_ys (omega arith) e
 
--- so many digits 0
+-- this many digits 0
 abbrev zeros : ℕ → List ℕ
 zeros m = replicate m 48
 
--- zeros behind a number multiply it by a power of ten
+-- zeros after a number multiply it by a power of ten
 zeros_value : (m a : ℕ) → digits_after a (zeros m) ≡ a * 10 ^ m
 zeros_value zero a = omega arith
 zeros_value (suc m) a = zeros_value m (with_digit a 48) ∙ one_more a (10 ^ m) ∙ ap (λ x. a * x) (sym (ten_more m))
@@ -148,14 +148,14 @@ zeros_value (suc m) a = zeros_value m (with_digit a 48) ∙ one_more a (10 ^ m) 
 zeros_end : (m : ℕ) → zeros (m + 1) ≡ zeros m ++ (48 ∷ [])
 zeros_end m = sym (replicate-append-replicate m 1 48)
 
--- digits that end in no 0 are others with zeros behind them only where there are none
+-- digits that end in no 0 are others with zeros after them only if there are none
 none_behind : (n : ℕ) (xs ys : List ℕ) → NoZeroAtEnd xs → xs ≡ ys ++ zeros n → xs ≡ ys
 none_behind zero xs ys end e = e ∙ append-nil ys
 none_behind (suc n) xs ys end e =
     let last : suc n ≡ n + 1 = omega arith in
     absurd (end (ys ++ zeros n) (e ∙ ap (λ m. ys ++ zeros m) last ∙ ap (λ t. ys ++ t) (zeros_end n) ∙ sym (append_assoc ys (zeros n) (48 ∷ []))))
 
--- the same where fewer zeros stand behind the digits too
+-- the same if fewer zeros come after the digits too
 fewer_behind : (m n : ℕ) (xs ys : List ℕ) → m ≤ n → NoZeroAtEnd xs → xs ++ zeros m ≡ ys ++ zeros n → xs ≡ ys
 fewer_behind m n xs ys h end e =
     let back : n ≡ n - m + m = omega arith in
@@ -163,7 +163,7 @@ fewer_behind m n xs ys h end e =
     (append_cancel_right xs (ys ++ zeros (n - m)) (zeros m)
     (e ∙ ap (λ k. ys ++ zeros k) back ∙ ap (λ t. ys ++ t) (sym (replicate-append-replicate (n - m) m 48)) ∙ sym (append_assoc ys (zeros (n - m)) (zeros m))))
 
--- digits that end in no 0 are determined up to zeros behind them
+-- digits that end in no 0 are determined up to zeros after them
 same_ends : (m n : ℕ) (xs ys : List ℕ) → NoZeroAtEnd xs → NoZeroAtEnd ys → xs ++ zeros m ≡ ys ++ zeros n → xs ≡ ys
 same_ends m n xs ys end_xs end_ys e =
     ⊎_elim
@@ -171,7 +171,7 @@ same_ends m n xs ys end_xs end_ys e =
     (λ (more : n ≤ m). sym (fewer_behind n m ys xs more end_ys (sym e)))
     (cases_lt m n)
 
--- the whole part, moved, and the fraction with zeros behind it are the digits times a power of ten
+-- the whole part, moved, and the fraction with zeros after it are the digits times a power of ten
 moved_digits : (w f : List ℕ) (m : ℕ) → digits_after 0 w * 10 ^ length (f ++ zeros m) + digits_after 0 (f ++ zeros m) ≡ digits_after 0 (w ++ f) * 10 ^ m
 moved_digits w f m =
     sym (digits_split (digits_after 0 w) (f ++ zeros m))
@@ -180,15 +180,15 @@ moved_digits w f m =
     ∙ fold-append with_digit 0 (w ++ f) (zeros m)
     ∙ zeros_value m (digits_after 0 (w ++ f))
 
--- how long digits are with as many zeros behind them
+-- how long digits are with as many zeros after them
 padded_length : (xs : List ℕ) (m : ℕ) → length (xs ++ zeros m) ≡ length xs + m
 padded_length xs m = length-append xs (zeros m) ∙ ap (λ k. length xs + k) (length-replicate m 48)
 
--- digits with zeros behind them are digits
+-- digits with zeros after them are digits
 padded_all : (xs : List ℕ) (m : ℕ) → All Digit xs → All Digit (xs ++ zeros m)
 padded_all xs m all = All-append Digit xs (zeros m) all (All-replicate Digit m 48 refl)
 
--- the digits of a literal without an exponent, before the point and behind it
+-- the digits of a literal without an exponent, before the point and after it
 record PlainDigits (w f : List ℕ) : Type 0 where
   all_whole : All Digit w
   all_fraction : All Digit f
@@ -221,7 +221,7 @@ plain_digits l is =
     let all = mantissa_digits l.whole l.fraction is.literal.mantissa in
     record { all_whole = all.0; all_fraction = all.1; front = is.whole; end = is.fraction }
 
--- a fraction is spelled alike where its digits are
+-- a fraction is spelled alike if its digits are
 same_fraction : (v w : List ℕ) (f g : Option (List ℕ)) → IsMantissa v f → IsMantissa w g → fraction_of f ≡ fraction_of g → spell_fraction f ≡ spell_fraction g
 same_fraction v w None None is_f is_g e = refl
 same_fraction v w None (Some g) is_f is_g e = absurd (is_g.1.some (sym e))

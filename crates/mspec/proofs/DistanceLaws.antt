@@ -246,7 +246,7 @@ below_ten : (n : ℕ) → n < 10 ^ n
 below_ten zero = omega arith
 below_ten (suc n) = omega (arith, pow-suc 10 n, below_ten n)
 
--- a size that is not 0 has digits: q places behind the point show the first one
+-- a size that is not 0 has digits: q places after the point show the first one
 size_has_digits : (n q : ℕ) → 0 < n → 0 < q → (a : ℕ) × (b : ℕ) × (10 ^ a * q ≤ n * 10 ^ (b + 1)) × (n * 10 ^ b < 10 ^ a * q)
 size_has_digits n q some some_q =
     let N : ℕ = n * 10 ^ q in

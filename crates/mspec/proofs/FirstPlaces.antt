@@ -16,7 +16,7 @@ in_empty t false is = nowhere where
   nowhere [] after e = not_begun t [] after is e
   nowhere (y ∷ before) after e = absurd cc
 
--- behind a character at which t doesn't begin
+-- after a character at which t doesn't begin
 behind_one : (t s : List ℕ) (x : ℕ) (r : Option ℕ) → begins_with t (x ∷ s) ≡ false → MatchOption r (Lacks t s) (λ n. StandsFirst t s n)
     → MatchOption (option_map suc r) (Lacks t (x ∷ s)) (λ n. StandsFirst t (x ∷ s) n)
 behind_one t s x None no' lacks = lacks_more t x s lacks no'

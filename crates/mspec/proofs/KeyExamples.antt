@@ -3,7 +3,7 @@
 use Rattle.mspec.proofs.SpecWords.{◌≡◌, ℕ, List, [], ◌∷◌, refl, rules, codes, Ordering, Less, Greater, significant_digits, text_cmp, node_cmp, key_bytes, number_bytes, replicate}
 use Rattle.mspec.proofs.ComputedNumbers.{computes}
 
--- the key of account A, global B and one subscript, behind its two names
+-- the key of account A, global B and one subscript, after its two names
 abbrev key_of : List ℕ → List ℕ
 key_of s = key_bytes significant_digits (record { account = codes "A"; name = codes "B"; subscripts = s ∷ [] })
 
@@ -34,7 +34,7 @@ longer_behind : node_cmp significant_digits (record { account = codes "A"; name 
 unfolding computes
 longer_behind = refl
 
--- by fifteen digits a text of sixteen is no number
+-- with fifteen digits a text of sixteen is no number
 sixteen_digits : text_cmp 15 (codes "1234567890123456") (codes "0A") ≡ Greater
 unfolding computes
 sixteen_digits = refl

@@ -170,7 +170,7 @@ pub tag_of : (s : Text) (o : Option ℤ) → HasTag (subscript_by s o)
 tag_of s (Some u) = record { tag = 1; rest = number_bytes u; is = refl; some = omega arith; few = omega arith }
 tag_of s None = record { tag = 2; rest = text_bytes s; is = refl; some = omega arith; few = omega arith }
 
--- no subscripts stand before some, and some behind none
+-- no subscripts come before some, and some after none
 first_is_less : (kept : ℕ) (s : Text) (x : List ℕ) → slice_cmp nat_cmp [] (subscript_bytes kept s ++ x) ≡ Less
 first_is_less kept s x = let tag = tag_of s (canonical_value kept s) in ap (λ b. slice_cmp nat_cmp [] (b ++ x)) tag.is
 

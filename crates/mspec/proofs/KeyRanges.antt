@@ -24,7 +24,7 @@ subscript_split kept s t x y some_s some_t e =
     let both = both_Equal (text_cmp kept s t) (slice_cmp nat_cmp x y) (sym (subscript_order kept s t x y some_s some_t) ∙ same_bytes _ _ e) in
     (text_cmp_exact kept s t both.0, texts_exact x y both.1)
 
--- the subscripts behind others, of which the bytes are given
+-- the subscripts after others, of which the bytes are given
 pub record IsBehind (kept : ℕ) (front : List Text) (rest : List ℕ) (all : List Text) : Type 0 where
   pub more : List Text
   pub subscripts : all ≡ front ++ more
@@ -65,7 +65,7 @@ key_split kept a b rest all_a all_b e =
 
 -- ---- the bytes of what is below
 
--- more subscripts stand behind the others
+-- more subscripts come after the others
 subscripts_join : (kept : ℕ) (xs more : List Text) → subscripts_bytes kept (xs ++ more) ≡ subscripts_bytes kept xs ++ subscripts_bytes kept more
 subscripts_join kept xs more = flat_map-append (subscript_bytes kept) xs more
 
@@ -87,7 +87,7 @@ key_join kept a b more account name e =
 pub keys_are_injective : KeysAreInjective
 keys_are_injective kept a b all_a all_b e = node_cmp_exact kept a b (sym (key_order kept a b all_a all_b) ∙ same_bytes _ _ e)
 
--- a node with more subscripts, or none, behind those of another
+-- a node with more subscripts, or none, after those of another
 pub within : (a b : Node) (more : List Text) → a.account ≡ b.account → a.name ≡ b.name → b.subscripts ≡ a.subscripts ++ more → IsWithin a b
 within a b [] account name e = inl (same_node a b account name (sym (append-nil a.subscripts) ∙ sym e))
 within a b (s ∷ more) account name e = inr (record { account = account; name = name; longer = (s, more, e) })
@@ -138,7 +138,7 @@ between_rest (c ∷ k) low high (d ∷ x) is = by_first (between_rest k low high
         let no : false ≡ true = ap (λ o. is_le (ordering_then o (slice_cmp nat_cmp (k ++ low) x))) (nat_cmp_is c d Greater more) ∙ is.from in
         absurd (cc)
 
--- the bytes of subscripts stand before 3, and from 1 on where there are some
+-- the bytes of subscripts stand before 3, and from 1 on if there are some
 tagged_below : (bytes x : List ℕ) → HasTag bytes → IsBetween (1 ∷ []) (3 ∷ []) (bytes ++ x)
 tagged_below bytes x tag = subst (λ b. IsBetween (1 ∷ []) (3 ∷ []) (b ++ x)) (sym tag.is) (by_tag tag.tag (tag.rest ++ x) tag.some tag.few)
   where

@@ -16,7 +16,7 @@ AreDigits digits = All IsDigit digits
 split_text : (s : List ℕ) → front_digits s ++ after_digits s ≡ s
 split_text s = take-append-drop (prefix_len is_digit s) s
 
--- what is dropped where one element more passes
+-- what is dropped if one more element passes
 drop_one_more : (b : Bool) (n c : ℕ) (s : List ℕ) → drop (cond b (1 + n) 0) (c ∷ s) ≡ cond b (drop n s) (c ∷ s)
 drop_one_more true n c s = let e : 1 + n ≡ suc n = omega arith in ap (λ k. drop k (c ∷ s)) e
 drop_one_more false n c s = refl
@@ -51,12 +51,12 @@ after_digits-append (c ∷ digits) s each =
     ∙ ap (λ b. cond b (after_digits (digits ++ s)) (c ∷ (digits ++ s))) (All-head IsDigit c digits each)
     ∙ after_digits-append digits s (All-tail IsDigit c digits each)
 
--- the exponent of a sign and of digits behind it, none where there is no digit
+-- the exponent of a sign and of digits after it, none if there is no digit
 abbrev exponent_with : ExponentSign → List ℕ → Option Exponent
 exponent_with sign [] = None
 exponent_with sign (c ∷ digits) = Some (record { sign = sign; digits = c ∷ digits })
 
--- the exponent that a text begins with behind its mark
+-- the exponent that a text begins with after its mark
 abbrev signed_exponent : List ℕ → Option Exponent
 signed_exponent [] = None
 signed_exponent (c ∷ s) = cond (eqb c 45) (exponent_with Minus (front_digits s)) (cond (eqb c 43) (exponent_with Plus (front_digits s)) (exponent_with Unsigned (front_digits (c ∷ s))))
@@ -66,12 +66,12 @@ abbrev exponent_at : List ℕ → Option Exponent
 exponent_at [] = None
 exponent_at (c ∷ s) = cond (eqb c 69) (signed_exponent s) None
 
--- a fraction of these digits, none where there is no digit
+-- a fraction of these digits, none if there is no digit
 abbrev fraction_with : List ℕ → Option (List ℕ)
 fraction_with [] = None
 fraction_with (c ∷ digits) = Some (c ∷ digits)
 
--- the literal that a text begins with, where it begins with one
+-- the literal that a text begins with, if it begins with one
 abbrev literal_at : List ℕ → Literal
 literal_at s = record {
   whole = front_digits s;
@@ -107,7 +107,7 @@ lower_is Unsigned n = refl
 lower_is Plus n = refl
 lower_is Minus n = refl
 
--- a number is both answers of a test where the two are one
+-- a number is both answers of a test if the two are one
 same_both : (b : Bool) (n : ℕ) → n ≡ cond b n n
 same_both true n = refl
 same_both false n = refl
@@ -122,7 +122,7 @@ reads_with sign (c ∷ digits) rest t each is = record {
   lowered = lower_is sign (digits_after 0 (c ∷ digits));
 }
 
--- the same where two tests tell the sign
+-- the same if two tests give the sign
 reads_sign : (minus plus : Bool) (c : ℕ) (s : List ℕ) → (minus ≡ true → c ≡ 45) → (plus ≡ true → c ≡ 43) →
     ReadsExponent (69 ∷ (c ∷ s))
     (cond minus (exponent_with Minus (front_digits s)) (cond plus (exponent_with Plus (front_digits s)) (exponent_with Unsigned (front_digits (c ∷ s)))))
@@ -131,12 +131,12 @@ reads_sign true plus c s is_45 is_43 = reads_with Minus (front_digits s) (after_
 reads_sign false true c s is_45 is_43 = reads_with Plus (front_digits s) (after_digits s) (69 ∷ (c ∷ s)) (front_are_digits s) (ap (λ x. 69 ∷ (x ∷ s)) (is_43 refl) ∙ ap (λ x. 69 ∷ (43 ∷ x)) (sym (split_text s)))
 reads_sign false false c s is_45 is_43 = reads_with Unsigned (front_digits (c ∷ s)) (after_digits (c ∷ s)) (69 ∷ (c ∷ s)) (front_are_digits (c ∷ s)) (ap (λ x. 69 ∷ x) (sym (split_text (c ∷ s))))
 
--- what stands behind the mark is read
+-- what comes after the mark is read
 reads_signed : (s : List ℕ) → ReadsExponent (69 ∷ s) (signed_exponent s) (signed_digits s)
 reads_signed [] = reads_none (69 ∷ [])
 reads_signed (c ∷ s) = reads_sign (eqb c 45) (eqb c 43) c s (eqb-true c 45) (eqb-true c 43)
 
--- the same where a test tells the mark
+-- the same if a test gives the mark
 reads_mark : (mark : Bool) (c : ℕ) (s : List ℕ) → (mark ≡ true → c ≡ 69) → ReadsExponent (c ∷ s) (cond mark (signed_exponent s) None) (cond mark (signed_digits s) (false, 0))
 reads_mark true c s is_69 = subst (λ (x : ℕ). ReadsExponent (x ∷ s) (signed_exponent s) (signed_digits s)) (sym (is_69 refl)) (reads_signed s)
 reads_mark false c s is_69 = reads_none (c ∷ s)
@@ -162,13 +162,13 @@ digit_is_no_minus c h = grind (arith, nat_tests)
 digit_is_no_plus : (c : ℕ) → is_digit c ≡ true → eqb c 43 ≡ false
 digit_is_no_plus c h = grind (arith, nat_tests)
 
--- a digit behind the mark begins an exponent without a sign
+-- a digit after the mark begins an exponent without a sign
 unsigned_exponent : (c : ℕ) (s : List ℕ) → is_digit c ≡ true → signed_exponent (c ∷ s) ≡ exponent_with Unsigned (front_digits (c ∷ s))
 unsigned_exponent c s h =
     ap (λ b. cond b (exponent_with Minus (front_digits s)) (cond (eqb c 43) (exponent_with Plus (front_digits s)) (exponent_with Unsigned (front_digits (c ∷ s))))) (digit_is_no_minus c h)
     ∙ ap (λ b. cond b (exponent_with Plus (front_digits s)) (exponent_with Unsigned (front_digits (c ∷ s)))) (digit_is_no_plus c h)
 
--- behind a sign and digits the exponent is read that they begin
+-- after a sign and digits, the exponent that they begin is read
 signed_is : (sign : ExponentSign) (digits rest : List ℕ) → IsDigits digits → signed_exponent ((spell_sign sign ++ digits) ++ rest) ≡ exponent_with sign (digits ++ front_digits rest)
 signed_is Minus digits rest is = ap (exponent_with Minus) (front_digits-append digits rest is.each)
 signed_is Plus digits rest is = ap (exponent_with Plus) (front_digits-append digits rest is.each)
@@ -187,7 +187,7 @@ fraction_of_with : (digits : List ℕ) → fraction_of (fraction_with digits) �
 fraction_of_with [] = refl
 fraction_of_with (c ∷ digits) = refl
 
--- the digits behind a point, or none
+-- the digits after a point, or none
 point_digits : (b : Bool) (s : List ℕ) → AreDigits (cond b (front_digits s) [])
 point_digits true s = front_are_digits s
 point_digits false s = All-nil IsDigit
@@ -197,7 +197,7 @@ fraction_are_digits : (t : List ℕ) → AreDigits (fraction_digits t)
 fraction_are_digits [] = All-nil IsDigit
 fraction_are_digits (c ∷ s) = point_digits (eqb c 46) s
 
--- what is dropped where there are digits behind a point
+-- what is dropped if there are digits after a point
 after_point : (digits s : List ℕ) → digits ≢ [] → drop (cond (eqb (length digits) 0) 0 (1 + length digits)) (46 ∷ (digits ++ s)) ≡ s
 after_point [] s some = absurd (some refl)
 after_point (c ∷ digits) s some =
@@ -206,7 +206,7 @@ after_point (c ∷ digits) s some =
     ∙ ap (λ k. drop k (46 ∷ ((c ∷ digits) ++ s))) e
     ∙ drop-append_seam (c ∷ digits) s
 
--- a point, its digits and the text after them are the text, where a test tells the point
+-- a point, its digits and the text after them are the text, if a test gives the point
 split_point : (point : Bool) (c : ℕ) (digits rest s : List ℕ) → (point ≡ true → c ≡ 46) → digits ++ rest ≡ s →
     c ∷ s ≡ spell_fraction (fraction_with (cond point digits [])) ++ drop (cond (eqb (length (cond point digits [])) 0) 0 (1 + length (cond point digits []))) (c ∷ s)
 split_point false c digits rest s is_46 is = refl
@@ -222,16 +222,16 @@ split_fraction : (t : List ℕ) → t ≡ spell_fraction (fraction_with (fractio
 split_fraction [] = refl
 split_fraction (c ∷ s) = split_point (eqb c 46) c (front_digits s) (after_digits s) s (eqb-true c 46) (split_text s)
 
--- digits and no fraction, or with one, are a mantissa where there is a digit
+-- digits without a fraction, or with one, are a mantissa if there is a digit
 mantissa_of : (whole digits : List ℕ) → AreDigits whole → AreDigits digits → whole ++ digits ≢ [] → IsMantissa whole (fraction_with digits)
 mantissa_of whole [] each_whole each some = record { some = λ e. some (ap (λ x. x ++ []) e); each = each_whole }
 mantissa_of whole (c ∷ digits) each_whole each some = (each_whole, record { some = λ e. cc; each = each })
 
--- the digits that are read of a text, before the point and behind it
+-- the digits that are read of a text, before the point and after it
 abbrev read_digits : List ℕ → List ℕ
 read_digits s = front_digits s ++ fraction_digits (after_digits s)
 
--- the literal that is read is one, where there is a digit
+-- the literal that is read is one, if there is a digit
 is_literal_at : (s : List ℕ) → read_digits s ≢ [] → IsLiteral (literal_at s)
 is_literal_at s some = record {
   mantissa = mantissa_of (front_digits s) (fraction_digits (after_digits s)) (front_are_digits s) (fraction_are_digits (after_digits s)) some;
@@ -276,7 +276,7 @@ reads_zero kept s none =
     ∙ ap (λ x. round_size kept x (10 ^ lowered)) zero_times
     ∙ round_zero kept (10 ^ lowered) (ten_pos lowered)
 
--- how the fraction and the exponent are spelled that a text begins with
+-- how the fraction and the exponent that a text begins with are spelled
 abbrev tail_at : List ℕ → List ℕ
 tail_at t = spell_fraction (fraction_with (fraction_digits t)) ++ spell_exponent (exponent_at (after_fraction t))
 

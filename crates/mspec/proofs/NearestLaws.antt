@@ -124,7 +124,7 @@ signed_number false kept n h = h
 signed_number true kept zero h = h
 signed_number true kept (suc n) h = record { in_range = h.in_range; few_digits = h.few_digits }
 
--- a sign and a rounded size are a number where the size is one
+-- a sign and a rounded size are a number if the size is one
 number_with_sign : (s : Bool) (kept : ℕ) (o : Option ℕ) (u : ℤ) → option_map (signed s) o ≡ Some u → ((n : ℕ) → o ≡ Some n → IsNumber kept (pos n)) → IsNumber kept u
 number_with_sign s kept None u e h = cc
 number_with_sign s kept (Some n) u e h =

@@ -23,7 +23,7 @@ cut_second ops n (Ask op k) f w =
     let rest = cut_second ops n (k (ops op w).0) f (ops op w).1 in
     (suc rest.0, rest.1)
 
--- behind some number of its operations a plan is whole
+-- after some number of its operations a plan is whole
 pub cut_whole : {W A : Type 0} (ops : Ops W) (p : Plan A) (w : W) → (n : ℕ) × (cut_short ops n p w ≡ (perform ops p w).1)
 cut_whole ops (Done a) w = (0, refl)
 cut_whole ops (Ask op k) w =

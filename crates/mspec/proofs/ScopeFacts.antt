@@ -44,7 +44,7 @@ any_cond : (a : Bool) (n m : Text) (names : List Text) → is_among (cond a (m �
 any_cond true n m names = refl
 any_cond false n m names = refl
 
--- of the names that pass a test are those that are among all and pass it
+-- among the names that pass a test are those that are among all and pass it
 among-filter : (p : Text → Bool) (names : List Text) (n : Text) → is_among (filter p names) n ≡ (p n && is_among names n)
 among-filter p [] n = and_false (p n)
 among-filter p (m ∷ names) n =
@@ -69,7 +69,7 @@ or_empty : (b : Bool) (o : Option Tree) → unwrap_or (cond b o None) empty ≡ 
 or_empty true o = refl
 or_empty false o = refl
 
--- the tree of a name, where the trees of names that pass a test are kept
+-- the tree of a name, if the trees of names that pass a test are kept
 tree-retain : (s : Scope) (p : Text → Bool) (n : Text) → unwrap_or (get (retain_keys s.trees p) n) empty ≡ cond (p n) (tree_in s n) empty
 tree-retain s p n =
     ap (λ o. unwrap_or o empty) (get-retain_keys s.trees p n (λ x e. ap p (sym (texts_exact n x e)))) ∙ or_empty (p n) (get s.trees n)
@@ -82,7 +82,7 @@ other-tree m n t s other =
     here true e = absurd (other (sym (texts_exact n m (equal_of _ e))))
     here false e = refl
 
--- a name that is let go of where its tree is bare
+-- a name that is dropped if its tree is bare
 bare-names : (m : Text) (s : Scope) (n : Text) (b : Bool) → has (cond b (record s { trees = retain_keys s.trees (λ q. not (text_eq m q)) }) s) n ≡ has s n
 bare-names m s n true = refl
 bare-names m s n false = refl
@@ -117,7 +117,7 @@ new_hides s below names n = (
       (λ _. refl),
 )
 
--- of the names in brackets those that the scope had, and of the others all
+-- those of the names in brackets that the scope had, and all of the others
 others_among : (names : List Text) (o : Option (List Text)) (n : Text) → is_among names n ≡ true → is_other (Some (common names o)) n ≡ is_other o n
 others_among names None n e = ap not e
 others_among names (Some old) n e = ap not (among-filter (is_among old) names n ∙ ap (λ b. is_among old n && b) e ∙ and-true (is_among old n))
@@ -194,7 +194,7 @@ spared-some : (p : Text → Bool) (scopes : Scopes) → AreSome scopes → AreSo
 spared-some p [] h = h
 spared-some p (s ∷ scopes) h = tt
 
--- the scope under so many levels has the name, and the name's variable in those below it is this tree
+-- the scope under this many levels has the name, and the name's variable in those below it is this tree
 abbrev Stands : Text → Tree → ℕ → Scopes → Type 0
 Stands n t d [] = ⊥
 Stands n t zero (s ∷ scopes) = (has s n ≡ true) × (tree_of scopes n ≡ t) × AreSome scopes

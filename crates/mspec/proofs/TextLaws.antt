@@ -39,7 +39,7 @@ all_after xs all = ap after_digits (sym (append-nil xs)) ∙ run_after xs [] all
 pub not_zero : (n : ℕ) → 0 < n → (n == 0) ≡ false
 not_zero n h = grind (arith, nat_tests)
 
--- behind a point, digits are the digits of a fraction
+-- after a point, digits are the digits of a fraction
 point_digits : (f : List ℕ) → All Digit f → fraction_digits (46 ∷ f) ≡ f
 point_digits f all = all_front f all
 
@@ -99,7 +99,7 @@ fraction_some k n some = cond-false _ _ _ (not_zero n some)
 pub whole_some : (n : ℕ) → 0 < n → whole_text n ≡ decimal n
 whole_some n some = cond-false _ _ _ (not_zero n some)
 
--- the point and the digits behind it, where they are not 0
+-- the point and the digits after it, if they are not 0
 pub point_some : (n : ℕ) → 0 < n → point_text n ≡ 46 ∷ fraction_text 18 n
 point_some n some = cond-false _ _ _ (not_zero n some)
 
@@ -183,7 +183,7 @@ read_back kept n v k e number =
     none : (k : ℕ) → k + 0 ≡ k
     none k = omega arith
 
--- the parts of a size before and behind the point
+-- the parts of a size before and after the point
 pub size_parts : (n : ℕ) → n < 10 ^ 36 → (n / 10 ^ 18 < 2 ^ 64) × (n % 10 ^ 18 < 10 ^ 18) × (n / 10 ^ 18 * 10 ^ 18 + n % 10 ^ 18 ≡ n)
 size_parts n below = (omega arith, omega arith, omega arith)
 
@@ -245,7 +245,7 @@ unsigned_value kept s h =
     ap (λ b. option_map (signed b) (literal_size kept (after_signs s))) h.positive
     ∙ ap (λ k. option_map (signed false) (literal_size kept (drop k s))) h.none
 
--- what is read behind one minus sign
+-- what is read after one minus sign
 minus_value : (kept : ℕ) (s : List ℕ) → IsUnsigned s → numeric_value kept (45 ∷ s) ≡ option_map (signed true) (literal_size kept s)
 unfolding numeric_value
 minus_value kept s h =
@@ -275,13 +275,13 @@ value_is_number kept s u some e =
     rounded_size : (kept p q : ℕ) (b : Bool) (u : ℤ) → 0 < kept → 0 < q → option_map (signed b) (round_size kept p q) ≡ Some u → IsNumber kept u
     rounded_size kept p q b u some below e = rounded_is_number kept (signed b p) q u some below (round_is kept p q b below ∙ e)
 
--- a number of fewer digits is one of more
+-- a number of fewer digits is also one of more
 more_digits : (fewer more : ℕ) (u : ℤ) → fewer ≤ more → IsNumber fewer u → IsNumber more u
 more_digits fewer more u h number =
     let few = number.few_digits in
     record { in_range = number.in_range; few_digits = (few.0, few.1, omega (arith, ten_monotone fewer more 1 h), few.3) }
 
--- a text that is canonical by fewer digits is so by more, with the same value
+-- a text that is canonical with fewer digits is also canonical with more, and has the same value
 pub canonical_by_more_digits : CanonicalByMoreDigits
 canonical_by_more_digits fewer more s some h canonical =
     let number : IsNumber more canonical.number = more_digits fewer more canonical.number h (value_is_number fewer s canonical.number some canonical.value) in

@@ -62,7 +62,7 @@ zero_text s all is canonical = number_text_is 0 s all is (omega arith) canonical
 whole_text_is : (n : ℕ) → 0 < n → (s : List ℕ) → All Digit s → n ≡ digits_after 0 s → n < 10 ^ 18 → IsCanonical 18 s → s ≡ whole_text n
 whole_text_is n some s all is below canonical = number_text_is n s all is below canonical ∙ text_of_whole n some ∙ sym (whole_some n some)
 
--- and digits with a 0 in front are so only where they are `0`
+-- and digits with a 0 in front are so only if they are `0`
 pub front_of_canonical : (s : List ℕ) → All Digit s → length s ≤ 18 → IsCanonical 18 s → (s ≡ 48 ∷ []) ⊎ NoZeroInFront s
 front_of_canonical s all short canonical = by_value (digits_after 0 s) refl
   where

@@ -1,8 +1,8 @@
 -- SPDX-License-Identifier: Apache-2.0
 -- Settings: accounts, the terminals that belong to them, and what they grant one another; who may read and write what.
 --
--- The standard has no accounts: this is mserve's own. An account may do all with its own globals, and with those of another
--- what a grant allows. To be let write is to be let read.
+-- The standard has no accounts: this is mserve's own. An account may do anything with its own globals, and with those of
+-- another what a grant allows. Being allowed to write includes being allowed to read.
 use Rattle.std.specs.Prelude.{ℕ, Bool, true, false, ◌&&◌, ◌||◌, List, [], slice_get, Option, option_map, unwrap_or}
 use Rattle.std.specs.List.{list_any, find}
 use Rattle.std.specs.Ordering.{nat_cmp}
@@ -27,7 +27,7 @@ pub record Account : Type 0 where
   pub name : Text
   pub steps : ℕ
 
--- the accounts in some order, that of each terminal, and the grants
+-- the accounts in some order, the account of each terminal, and the grants
 pub record Settings : Type 0 where
   pub accounts : List Account
   pub terminals : FinMap nat_cmp Account
@@ -39,7 +39,7 @@ pub record Settings : Type 0 where
 abbrev pub account_of : Settings → ℕ → Option Account
 account_of settings terminal = get settings.terminals terminal
 
--- the account at a place among them; its name and its steps, which are empty and 0 where there is none
+-- the account at a place among them; its name and its steps, which are empty and 0 if there is none
 abbrev pub account_at : Settings → ℕ → Option Account
 account_at settings place = slice_get settings.accounts place
 
@@ -60,10 +60,10 @@ allows Write asked = true
 allows Read Read = true
 allows Read Write = false
 
--- the grant lets `me` use the global of the owner so
+-- the grant lets `me` use the global of the owner in this mode
 abbrev pub lets : Text → Text → Text → Mode → Grant → Bool
 lets me owner name mode g = (text_eq owner g.from && text_eq me g.to) && (text_eq name g.global && allows g.mode mode)
 
--- an account may use a global of an owner so: the owner is the account itself, or has granted it
+-- an account may use a global of an owner in this mode: the owner is the account itself, or has granted it
 abbrev pub may : Settings → (me owner name : Text) → Mode → Bool
 may settings me owner name mode = text_eq owner me || list_any (lets me owner name mode) settings.grants

@@ -14,7 +14,7 @@ Locals = Scopes
 unfoldable pub no_locals : Locals
 no_locals = bottom ∷ []
 
--- with a level more
+-- with one more level
 unfoldable pub level_begun : Locals → Locals
 level_begun locals = with_level locals
 
@@ -81,7 +81,7 @@ abbrev pub unless : Code → Bool → Act (Unit {0})
 unless c true = give tt
 unless c false = fail c
 
--- of the variable with this name, the text at these subscripts
+-- the text at these subscripts of the variable with this name
 abbrev pub get_local : Text → List Text → Act Text
 get_local name xs s = give_some M6 (value_of s.locals name xs) s
 

@@ -13,7 +13,7 @@ character_at s (pos zero) = None
 character_at s (pos (suc n)) = slice_get s n
 character_at s (negsuc n) = None
 
--- -1 where there is no character
+-- -1 if there is no character
 abbrev pub code_or_minus_one : Option ℕ → ℤ
 code_or_minus_one None = negsuc 0
 code_or_minus_one (Some c) = pos c
@@ -22,7 +22,7 @@ code_or_minus_one (Some c) = pos c
 abbrev pub ascii_of : List ℕ → Option ℤ → ℤ
 ascii_of s place = code_or_minus_one (character_at s (unwrap_or place (pos 1)))
 
--- a number over the codes of ASCII
+-- a number above the codes of ASCII
 abbrev pub is_over_ascii : ℤ → Bool
 is_over_ascii (pos n) = nat_le 128 n
 is_over_ascii (negsuc n) = false

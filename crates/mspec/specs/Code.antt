@@ -1,8 +1,8 @@
 -- SPDX-License-Identifier: Apache-2.0
 -- The codes that end a line, and the losses that cut one short.
 --
--- Those that begin with M are of the table of error codes of ISO/IEC 11756:1999; those that begin with Z are mserve's own,
--- as the standard lets an implementation have.
+-- Those that begin with M are from the table of error codes of ISO/IEC 11756:1999; those that begin with Z are mserve's own,
+-- as the standard allows an implementation to have.
 use Rattle.std.specs.Prelude.{ℕ, List, codes}
 
 pub data Code : Type 0 where

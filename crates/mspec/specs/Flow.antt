@@ -1,5 +1,5 @@
 -- SPDX-License-Identifier: Apache-2.0
--- Flow: whose doings can show at whom. An account's values show where it grants reading; what the taker of a write grant
+-- Flow: whose actions can show at whom. An account's values show where it grants reading; what the receiver of a write grant
 -- stores and locks shows at the giver too.
 use Rattle.std.specs.Prelude.{◌≡◌, Bool, IsTrue, ◌&&◌, ◌||◌}
 use Rattle.std.specs.List.{list_any}
@@ -18,7 +18,7 @@ flows settings x y = list_any (carries x y) settings.grants
 abbrev pub Flows : Settings → Text → Text → Type 0
 Flows settings x y = IsTrue (flows settings x y)
 
--- A set of accounts that is closed in both directions: of two accounts of which one flows to the other, both are members or neither is.
+-- A set of accounts that is closed in both directions: if one of two accounts flows to the other, both are members or neither is.
 abbrev pub IsIsland : Settings → (Text → Bool) → Type 0
 IsIsland settings s = (x y : Text) → Flows settings x y → s x ≡ s y
 

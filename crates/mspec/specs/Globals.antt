@@ -2,7 +2,7 @@
 -- The globals of a store: the texts at its nodes.
 --
 -- Restates what "Global variable handling", "$DATA", "$ORDER", "SET" and "KILL" of ISO/IEC 11756:1999 say of nodes: SET gives
--- one node a text and keeps what stands below it, KILL takes a node away with all that stands below it.
+-- one node a text and keeps what is below it; KILL takes away a node with all that is below it.
 use Rattle.std.specs.Prelude.{ℕ, Bool, false, not, ◌&&◌, List, [], ◌∷◌, map, Option, is_some, codes, reverse}
 use Rattle.std.specs.List.{list_any, filter, find}
 use Rattle.std.specs.Ordering.{nat_cmp, is_le, is_lt}
@@ -17,11 +17,11 @@ use Rattle.mspec.specs.Trees.{text_eq, is_within, is_below, Direction, neighbour
 abbrev pub Globals : Type 0
 Globals = FinMap (node_cmp significant_digits) Text
 
--- m is n, or stands below it
+-- m is n, or is below it
 abbrev pub is_node_within : Node → Node → Bool
 is_node_within n m = text_eq n.account m.account && (text_eq n.name m.name && is_within n.subscripts m.subscripts)
 
--- without a node and what stands below it
+-- without a node and what is below it
 abbrev pub without_subtree : Globals → Node → Globals
 without_subtree g n = retain_keys g (λ m. not (is_node_within n m))
 
@@ -39,7 +39,7 @@ subscripts_under g n = map (λ m. m.subscripts) (filter (is_beside n) (keys g))
 abbrev pub status : Globals → Node → Bool × Bool
 status g n = (is_some (get g n), list_any (is_below n.subscripts) (subscripts_under g n))
 
--- $ORDER: the subscript after the last one, of those below which there is a text
+-- $ORDER: the subscript next to the last one in a direction, among those below which there is a text
 abbrev pub order_at : Globals → Direction → Node → Option Text
 order_at g direction n = neighbour direction (last n.subscripts) (children_in (subscripts_under g n) (front n.subscripts))
 
@@ -49,7 +49,7 @@ order_at g direction n = neighbour direction (last n.subscripts) (children_in (s
 abbrev pub routines_of : Text → Node
 routines_of account = record { account = account; name = codes "ROUTINE"; subscripts = [] }
 
--- where a routine has a line: behind its name stands a number, and nothing more
+-- where a routine has a line: after its name comes a number, and nothing more
 abbrev pub is_line_of : Text → List Text → Bool
 is_line_of name (routine ∷ place ∷ []) = text_eq name routine && is_some (canonical_value significant_digits place)
 is_line_of name subscripts = false

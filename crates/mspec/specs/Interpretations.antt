@@ -10,7 +10,7 @@ use Rattle.std.specs.Ordering.{int_eq}
 abbrev pub whole_part : ℤ → ℤ
 whole_part u = int_div u (pos (10 ^ 18))
 
--- a number is true where it is not 0
+-- a number is true if it is not 0
 abbrev pub is_true : ℤ → Bool
 is_true u = not (int_eq u (pos 0))
 

@@ -1,9 +1,9 @@
 -- SPDX-License-Identifier: Apache-2.0
 -- The bytes under which a node lies in a table, and those of a list of subscripts.
 --
--- Bytes of keys stand in the order of their nodes, and a key begins with the keys of its node's ancestors: a byte 0 ends a
--- text, of which each byte is raised by one, and a number has a fixed length. The digits that a number keeps are a parameter,
--- since old stores kept fewer.
+-- Bytes of keys are in the order of their nodes, and a key begins with the keys of its node's ancestors: each byte of a text is
+-- raised by one and a byte 0 ends it, and a number has a fixed length. The digits that a number keeps are a parameter, since old
+-- stores kept fewer.
 use Rattle.std.specs.Prelude.{◌≡◌, ℕ, zero, suc, ◌+◌, ◌/◌, ◌%◌, ◌^◌, ◌<◌, ◌≤◌, true, ◌||◌, List, [], ◌∷◌, ◌++◌, length, All, Option, Some, None, ℤ, pos, ◌+ℤ◌, unsigned_abs}
 use Rattle.std.specs.List.{flat_map}
 use Rattle.mspec.specs.Limits.{max_account_name, max_subscript, max_subscripts}
@@ -12,12 +12,12 @@ use Rattle.mspec.specs.Names.{IsName, is_letter}
 use Rattle.mspec.specs.Literal.{is_digit}
 use Rattle.mspec.specs.NodeOrder.{canonical_value}
 
--- n in so many bytes, high byte first
+-- n in this many bytes, high byte first
 abbrev pub big_endian : ℕ → ℕ → List ℕ
 big_endian zero n = []
 big_endian (suc k) n = n / 256 ^ k ∷ big_endian k (n % 256 ^ k)
 
--- the bytes of a text, each plus 1, and a 0 behind them
+-- the bytes of a text, each plus 1, and a 0 after them
 abbrev pub text_bytes : Text → List ℕ
 text_bytes [] = 0 ∷ []
 text_bytes (c ∷ s) = (c + 1) ∷ text_bytes s

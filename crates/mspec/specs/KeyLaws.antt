@@ -12,7 +12,7 @@ use Rattle.mspec.specs.NumberText.{numeric_value, number_text, IsCanonical}
 use Rattle.mspec.specs.NodeOrder.{canonical_value, text_cmp, subscripts_cmp, node_cmp, IsAncestor}
 use Rattle.mspec.specs.KeyBytes.{key_bytes, local_bytes, children_start, subtree_end}
 
--- the canonical value is the number of which the text is the canonical text, and there is one where there is such a number
+-- the canonical value is the number whose canonical text the text is, and there is one if there is such a number
 abbrev pub CanonicalValueIsTold : Type 0
 CanonicalValueIsTold =
     (kept : ℕ) (s : Text) →
@@ -23,7 +23,7 @@ pub record IsOrder {A : Type 0} (cmp : A → A → Ordering) : Type 0 where
   pub total : IsTotalOrder cmp
   pub exact : IsAntisymmetric cmp
 
--- the orders of texts, of lists of subscripts and of nodes are such
+-- the orders of texts, of lists of subscripts and of nodes are such orders
 abbrev pub NodesAreOrdered : Type 0
 NodesAreOrdered = (kept : ℕ) → IsOrder (text_cmp kept) × IsOrder (subscripts_cmp kept) × IsOrder (node_cmp kept)
 
@@ -31,7 +31,7 @@ NodesAreOrdered = (kept : ℕ) → IsOrder (text_cmp kept) × IsOrder (subscript
 abbrev pub NoneEmpty : List Text → Type 0
 NoneEmpty subscripts = All (λ s. 0 < length s) subscripts
 
--- bytes of keys stand in the order of their nodes
+-- bytes of keys are in the order of their nodes
 abbrev pub KeysKeepOrder : Type 0
 KeysKeepOrder =
     (kept : ℕ) (a b : Node) → NoneEmpty a.subscripts → NoneEmpty b.subscripts →
@@ -49,13 +49,13 @@ BeginsWith bytes front = (rest : List ℕ) × (bytes ≡ front ++ rest)
 abbrev pub IsWithin : Node → Node → Type 0
 IsWithin a b = (a ≡ b) ⊎ IsAncestor a b
 
--- a key begins with another exactly where its node is the other or below it
+-- a key begins with another exactly when its node is the other or below it
 abbrev pub KeysOfSubtreesBeginAlike : Type 0
 KeysOfSubtreesBeginAlike =
     (kept : ℕ) (a b : Node) → NoneEmpty a.subscripts → NoneEmpty b.subscripts →
     BeginsWith (key_bytes kept b) (key_bytes kept a) ↔ IsWithin a b
 
--- bytes from `low` on that stand before `high`
+-- bytes from `low` on that come before `high`
 pub record IsBetween (low high bytes : List ℕ) : Type 0 where
   pub from : is_le (slice_cmp nat_cmp low bytes) ≡ true
   pub below : slice_cmp nat_cmp bytes high ≡ Less
@@ -72,14 +72,14 @@ DescendantsAreRanges =
     (kept : ℕ) (a b : Node) → NoneEmpty a.subscripts → NoneEmpty b.subscripts →
     IsBetween (children_start (key_bytes kept a)) (subtree_end (key_bytes kept a)) (key_bytes kept b) ↔ IsAncestor a b
 
--- ---- the same of names with subscripts, as of locals
+-- ---- the same for names with subscripts, as of locals
 
 abbrev pub LocalsKeepOrder : Type 0
 LocalsKeepOrder =
     (kept : ℕ) (a b : Text) (xs ys : List Text) → NoneEmpty xs → NoneEmpty ys →
     slice_cmp nat_cmp (local_bytes kept a xs) (local_bytes kept b ys) ≡ ordering_then (slice_cmp nat_cmp a b) (subscripts_cmp kept xs ys)
 
--- the second has the first's name, and the first's subscripts with these behind them
+-- the second has the first's name, and the first's subscripts with these after them
 abbrev pub IsLocalWithin : Text → List Text → Text → List Text → List Text → Type 0
 IsLocalWithin a xs b ys more = (a ≡ b) × (ys ≡ xs ++ more)
 

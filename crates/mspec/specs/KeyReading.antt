@@ -6,7 +6,7 @@ use Rattle.mspec.specs.Node.{Text, Node}
 use Rattle.mspec.specs.NumberText.{number_text}
 use Rattle.mspec.specs.KeyBytes.{key_bytes}
 
--- the text that bytes begin with, each lowered by 1, up to a 0; and what stands behind the 0
+-- the text that bytes begin with, each lowered by 1, up to a 0; and what comes after the 0
 abbrev pub text_of : List ℕ → Text
 text_of [] = []
 text_of (zero ∷ bytes) = []
@@ -25,7 +25,7 @@ lowered n = pos n -ℤ pos (2 ^ 127)
 unfoldable pub text_of_number : List ℕ → Text
 text_of_number bytes = number_text (lowered (big_endian 0 (take 16 bytes)))
 
--- the subscripts that bytes are, at most so many
+-- the subscripts that bytes are, at most this many
 abbrev pub subscripts_of : ℕ → List ℕ → List Text
 subscripts_of zero bytes = []
 subscripts_of (suc most) [] = []

@@ -1,5 +1,5 @@
 -- SPDX-License-Identifier: Apache-2.0
--- The limits of mserve, each by its name. Where the standard has a limit, or leaves one open, it stands at the definition that uses it.
+-- The limits of mserve, each by its name. If the standard has a limit, or leaves one open, that is said at the definition that uses it.
 use Rattle.std.specs.Prelude.{ℕ}
 
 -- ---- texts
@@ -8,7 +8,7 @@ use Rattle.std.specs.Prelude.{ℕ}
 abbrev pub max_text : ℕ
 max_text = 4095
 
--- characters of a name, and of what stands after its first one
+-- characters of a name, and of what comes after its first one
 abbrev pub max_name : ℕ
 max_name = 31
 

@@ -2,7 +2,7 @@
 -- Numeric literals, as the grammar prints them.
 --
 -- Restates "Numeric literal numlit" of ISO/IEC 11756:1999, with its parts `intlit`, `mant` and `exp`: digits, with a
--- point and digits behind them or alone, and an exponent. Nothing reads here: a literal is a tree, and a text.
+-- point and digits after them or alone, and an exponent. Nothing is read here: a literal is a tree, and a text.
 use Rattle.std.specs.Prelude.{◌≡◌, ◌≢◌, ℕ, ◌+◌, ◌-◌, ◌*◌, ◌^◌, Bool, true, ◌&&◌, nat_le, List, [], ◌∷◌, ◌++◌, fold, length, All, Option, Some, None}
 
 abbrev pub is_digit : ℕ → Bool
@@ -60,7 +60,7 @@ abbrev pub IsExponent : Option Exponent → Type 0
 IsExponent None = Unit {0}
 IsExponent (Some e) = IsDigits e.digits
 
--- digits before the point may be left out only where digits follow it
+-- digits before the point may be left out only if digits follow it
 abbrev pub IsMantissa : List ℕ → Option (List ℕ) → Type 0
 IsMantissa whole None = IsDigits whole
 IsMantissa whole (Some digits) = All (λ c. is_digit c ≡ true) whole × IsDigits digits
@@ -79,7 +79,7 @@ lower Minus n = n
 lower Plus n = 0
 lower Unsigned n = 0
 
--- the digits behind the point
+-- the digits after the point
 abbrev pub fraction_of : Option (List ℕ) → List ℕ
 fraction_of None = []
 fraction_of (Some digits) = digits

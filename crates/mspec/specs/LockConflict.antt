@@ -1,8 +1,8 @@
 -- SPDX-License-Identifier: Apache-2.0
--- Locks: how often each terminal holds a name, which names exclude each other, and what taking and giving back does.
+-- Locks: how often each terminal holds a name, which names exclude each other, and what taking and giving back do.
 --
 -- Restates what "LOCK" of ISO/IEC 11756:1999 says of names: a process that holds one excludes the others from it, from what
--- stands below it and from what stands above it. That a take never waits, and the most counts of a name, are mserve's own.
+-- is below it and from what is above it. That a take never waits, and the maximum count of a name, are mserve's own.
 use Rattle.std.specs.Prelude.{◌≡◌, ℕ, ◌+◌, ◌-◌, Bool, true, not, ◌&&◌, ◌||◌, nat_eq, nat_lt, List, [], ◌∷◌, Option, Some, None, unwrap_or, if◌then◌else◌}
 use Rattle.std.specs.FinMap.{FinMap, get, insert, remove, keys, retain_keys}
 use Rattle.std.specs.List.{list_any}
@@ -32,11 +32,11 @@ lock_name_cmp = then_cmp (on (λ n. n.global) bool_cmp) (on (λ n. n.node) (node
 abbrev pub held_cmp : Held → Held → Ordering
 held_cmp = then_cmp (on (λ h. h.name) lock_name_cmp) (on (λ h. h.terminal) nat_cmp)
 
--- how often each is held. Of the program's locks each count is from 1 to 1,000,000, which its type says and this one does not.
+-- how often each is held. In the program's locks each count is from 1 to 1,000,000, which their type says and this one does not.
 abbrev pub Locks : Type 0
 Locks = FinMap held_cmp ℕ
 
--- b is a, or stands below it: it has the same kind, account and name, and the subscripts of a begin its own
+-- b is a, or is below it: it has the same kind, account and name, and its subscripts begin with those of a
 abbrev pub is_within : LockName → LockName → Bool
 is_within a b = beq a.global b.global && is_node_within a.node b.node
 
@@ -61,7 +61,7 @@ has_conflict locks h = list_any (is_conflict h) (keys locks)
 abbrev pub one_more : Locks → Held → Locks
 one_more locks h = insert locks h (count locks h + 1)
 
--- one more count for each name, as often as it stands there; none where a count would pass the most
+-- one more count for each name, as often as it occurs there; none if a count would pass the maximum
 abbrev pub counted : Locks → ℕ → List LockName → Option Locks
 counted locks t [] = Some locks
 counted locks t (n ∷ names) =
@@ -73,7 +73,7 @@ taken locks t names = if list_any (λ n. has_conflict locks (held t n)) names th
 
 -- ---- giving back
 
--- one count less, and nothing where the name is not held
+-- one count less, and nothing if the name is not held
 abbrev pub given_back : Locks → ℕ → LockName → Locks
 given_back locks t n =
     if nat_lt 1 (count locks (held t n)) then insert locks (held t n) (count locks (held t n) - 1) else remove locks (held t n)

@@ -10,6 +10,6 @@ use Rattle.std.specs.FinMap.{FinMap, from_entries}
 abbrev pub map_of : {K X V : Type 0} {R : K → K → Ordering} → (X → V) → BTreeMap K X → FinMap R V
 map_of view m = from_entries (map (λ e. (e.0, view e.1)) m.entries)
 
--- the same of a map without an order
+-- the same for a map without an order
 abbrev pub hash_map_of : {K X S V : Type 0} {R : K → K → Ordering} → (X → V) → HashMap K X S → FinMap R V
 hash_map_of view m = from_entries (map (λ e. (e.0, view e.1)) m.entries)

@@ -11,11 +11,11 @@ use Rattle.std.specs.Ordering.{nat_cmp, int_cmp, on, then_cmp}
 use Rattle.mspec.specs.Node.{Text, Node}
 use Rattle.mspec.specs.NumberText.{numeric_value, number_text}
 
--- u, where s is its text
+-- u, if s is its text
 abbrev pub where_text : Text → ℤ → Option ℤ
 where_text s u = cond (pointwise nat_eq (number_text u) s) (Some u) None
 
--- the number, in units of 10 ^ -18, of which s is the canonical text; none where it is no such text
+-- the number, in units of 10 ^ -18, whose canonical text s is; none if it is no such text
 unfoldable pub canonical_value : ℕ → Text → Option ℤ
 canonical_value kept s = option_and_then (where_text s) (numeric_value kept s)
 
@@ -48,7 +48,7 @@ place_cmp (Other s) (Other t) = slice_cmp nat_cmp s t
 abbrev pub text_cmp : ℕ → Text → Text → Ordering
 text_cmp kept = on (place kept) place_cmp
 
--- subscripts one by one, where a list of which another is the beginning stands behind it
+-- subscripts one by one; a list comes after another that is its beginning
 abbrev pub subscripts_cmp : ℕ → List Text → List Text → Ordering
 subscripts_cmp kept = slice_cmp (text_cmp kept)
 

@@ -3,7 +3,7 @@
 --
 -- Restates "Numeric data values" and "Arithmetic binary operators" of ISO/IEC 11756:1999. The standard leaves
 -- the precision and the range of numbers to the implementor. Here a number is a whole count of units of
--- 10 ^ -18, it is below 10 ^ 18 in size, and it has at most so many significant digits as are kept: 18 in the
+-- 10 ^ -18, it is below 10 ^ 18 in size, and it has at most as many significant digits as are kept: 18 in the
 -- language. Arithmetic is exact on fractions, and its result is rounded once.
 use Rattle.std.specs.Prelude.{◌≡◌, ℕ, zero, suc, ◌+◌, ◌-◌, ◌*◌, ◌/◌, ◌^◌, ◌<◌, Bool, true, false, cond, nat_le, Option, option_map, Some, None, ℤ, pos, negsuc, ◌+ℤ◌, ◌-ℤ◌, ◌*ℤ◌, neg_ℤ, unsigned_abs, int_div}
 use Rattle.std.specs.Int.{int_div_euclid}
@@ -17,7 +17,7 @@ pub record IsNumber (kept : ℕ) (u : ℤ) : Type 0 where
   pub in_range : unsigned_abs u < 10 ^ 36
   pub few_digits : (m : ℕ) × (k : ℕ) × (m < 10 ^ kept) × (unsigned_abs u ≡ m * 10 ^ k)
 
--- n, or -n where the sign is `true`
+-- n, or -n if the sign is `true`
 abbrev pub signed : Bool → ℕ → ℤ
 signed false n = pos n
 signed true n = neg_ℤ (pos n)
@@ -31,25 +31,25 @@ unfoldable pub digits_before : ℕ → ℕ → ℕ → ℕ
 digits_before zero p q = 0
 digits_before (suc d) p q = cond (nat_le (10 ^ d * q) p) (suc d) (digits_before d p q)
 
--- the unit to which p / q is rounded where so many digits are kept: a power of ten, 1 at the least
+-- the unit to which p / q is rounded if `kept` digits are kept: a power of ten, at least 1
 unfoldable pub rounding_unit : ℕ → ℕ → ℕ → ℕ
 rounding_unit kept p q = 10 ^ (digits_before 36 p q - kept)
 
--- the multiple of g nearest to p / q, of two the larger one
+-- the multiple of g nearest to p / q; of two, the larger one
 unfoldable pub nearest : ℕ → ℕ → ℕ → ℕ
 nearest g p q = (2 * p + g * q) / (2 * (g * q)) * g
 
--- p / q in units of 10 ^ -18, rounded to so many significant digits; none from 10 ^ 18 on, before or after
+-- p / q in units of 10 ^ -18, rounded to `kept` significant digits; none from 10 ^ 18 on, before or after rounding
 unfoldable pub round_size : ℕ → ℕ → ℕ → Option ℕ
 round_size kept p q =
     let u = nearest (rounding_unit kept (p * 10 ^ 18) q) (p * 10 ^ 18) q in
     cond (nat_le (10 ^ 18 * q) p) None (cond (nat_le (10 ^ 36) u) None (Some u))
 
--- the same of a fraction p / q with a sign: its size is rounded
+-- the same for a fraction p / q with a sign: its size is rounded
 unfoldable pub round : ℕ → ℤ → ℕ → Option ℤ
 round kept p q = option_map (signed (is_below_zero p)) (round_size kept (unsigned_abs p) q)
 
--- a with its sign turned where b is below zero: the numerator of a / b over the size of b
+-- a with its sign turned if b is below zero: the numerator of a / b over the size of b
 abbrev pub over_size : ℤ → ℤ → ℤ
 over_size a (pos b) = a
 over_size a (negsuc b) = neg_ℤ a
@@ -62,7 +62,7 @@ floor_quotient a b = int_div_euclid (over_size a b) (over_size b b)
 abbrev pub floor_remainder : ℤ → ℤ → ℤ
 floor_remainder a b = a -ℤ b *ℤ floor_quotient a b
 
--- The operators `+ - * / \ #` on numbers, counted in units; none where the result is too large. The divisor of the
+-- The operators `+ - * / \ #` on numbers, counted in units; none if the result is too large. The divisor of the
 -- last three is not zero. `\` is the quotient without its fraction, and `#` is what the division with floor leaves.
 abbrev pub sum_of : ℤ → ℤ → Option ℤ
 sum_of a b = round significant_digits (a +ℤ b) (10 ^ 18)

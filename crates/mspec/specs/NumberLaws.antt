@@ -17,14 +17,14 @@ distance p q u = unsigned_abs (u *ℤ pos q -ℤ p *ℤ pos (10 ^ 18))
 abbrev pub IsMultiple : ℕ → ℤ → Type 0
 IsMultiple g u = (m : ℕ) × (unsigned_abs u ≡ m * g)
 
--- u is the multiple of g at most half of g from p / q, of two the one larger in size
+-- u is the multiple of g at most half of g from p / q; of two, the one larger in size
 pub record IsNearest (g : ℕ) (p : ℤ) (q : ℕ) (u : ℤ) : Type 0 where
   pub multiple : IsMultiple g u
   pub near : 2 * distance p q u ≤ g * q
   pub larger : (v : ℤ) → IsMultiple g v → 2 * distance p q v ≤ g * q → unsigned_abs v ≤ unsigned_abs u
 
--- a fraction with d digits before its point is rounded to the multiple of 10 ^ (d - kept), and of a unit at the least,
--- that is nearest; there is no number exactly where the fraction or the multiple reaches 10 ^ 18
+-- a fraction with d digits before its point is rounded to the nearest multiple of 10 ^ (d - kept), or of a unit if that is
+-- larger; there is no number exactly when the fraction or the multiple reaches 10 ^ 18
 abbrev pub RoundingIsNearest : Type 0
 RoundingIsNearest =
     (kept : ℕ) (p : ℤ) (q a b : ℕ) → 0 < q → HasDigits p q a b →
@@ -51,7 +51,7 @@ ZeroRoundsToZero = (kept q : ℕ) → 0 < q → round kept (pos 0) q ≡ Some (p
 abbrev pub NumberRoundsToItself : Type 0
 NumberRoundsToItself = (kept : ℕ) (u : ℤ) → IsNumber kept u → round kept u (10 ^ 18) ≡ Some u
 
--- a text begins with no literal, and its size is 0, or with a longest one, of which it is the rounded value
+-- a text begins with no literal, and its size is 0, or with a longest one, and its size is the rounded value of that
 abbrev pub BeginsWith : List ℕ → Literal → Type 0
 BeginsWith s l = IsLiteral l × ((rest : List ℕ) × (s ≡ spell_literal l ++ rest))
 
@@ -90,7 +90,7 @@ abbrev pub HasCanonicalForm : List ℕ → Type 0
 HasCanonicalForm s =
     (s ≡ 48 ∷ []) ⊎ ((negative : Bool) × (l : Literal) × IsPlain l × (s ≡ cond negative (45 ∷ []) [] ++ spell_literal l))
 
--- the text of a number has that form, and no two literals of that form have one value
+-- the text of a number has that form, and no two literals of that form have the same value
 abbrev pub TextHasCanonicalForm : Type 0
 TextHasCanonicalForm = (kept : ℕ) (u : ℤ) → IsNumber kept u → HasCanonicalForm (number_text u)
 
@@ -99,7 +99,7 @@ PlainLiteralIsUnique =
     (k l : Literal) → IsPlain k → IsPlain l → numerator k * denominator l ≡ numerator l * denominator k →
     spell_literal k ≡ spell_literal l
 
--- a text that is canonical by fewer digits is so by more, with the same value
+-- a text that is canonical with fewer digits is also canonical with more, and has the same value
 abbrev pub CanonicalByMoreDigits : Type 0
 CanonicalByMoreDigits =
     (fewer more : ℕ) (s : List ℕ) → 0 < fewer → fewer ≤ more → IsCanonical fewer s → IsCanonical more s × (numeric_value more s ≡ numeric_value fewer s)

@@ -3,7 +3,7 @@
 --
 -- Restates "Numeric interpretation of data" and the canonical form of "Numeric data values" of ISO/IEC 11756:1999: the
 -- signs in front are taken off, each `-` negating, and the value is that of the longest head that is a numeric literal,
--- or 0 where no head is one. Missing digits count as 0, so that `1.`, `1E`, `.E5` and a text without a literal need no
+-- or 0 if no head is one. Missing digits count as 0, so that `1.`, `1E`, `.E5` and a text without a literal need no
 -- case of their own; NumberLaws says what is read in the words of the grammar.
 use Rattle.std.specs.Prelude.{◌≡◌, ℕ, zero, suc, ◌+◌, ◌/◌, ◌%◌, ◌*◌, ◌^◌, Bool, true, false, not, cond, ◌||◌, ◌==◌, List, [], ◌∷◌, ◌++◌, drop, length, take_while, Option, option_map, Some, ℤ, pos, negsuc, decimal}
 use Rattle.std.specs.List.{prefix_len}
@@ -20,16 +20,16 @@ front_digits s = take_while is_digit s
 abbrev pub after_digits : List ℕ → List ℕ
 after_digits s = drop (prefix_len is_digit s) s
 
--- the digits of a fraction, where the text begins with a point
+-- the digits of a fraction, if the text begins with a point
 abbrev pub fraction_digits : List ℕ → List ℕ
 fraction_digits [] = []
 fraction_digits (c ∷ s) = cond (c == 46) (front_digits s) []
 
--- the text after a fraction; a point with no digit behind it is none
+-- the text after a fraction; a point with no digit after it is none
 abbrev pub after_fraction : List ℕ → List ℕ
 after_fraction s = drop (cond (length (fraction_digits s) == 0) 0 (1 + length (fraction_digits s))) s
 
--- an exponent, behind its mark and from its mark on: is it below zero, and its size; 0 where there is none
+-- an exponent, after its mark and from its mark on: whether it is below zero, and its size; 0 if there is none
 abbrev pub signed_digits : List ℕ → Bool × ℕ
 signed_digits [] = (false, 0)
 signed_digits (c ∷ s) = cond (c == 45) (true, digits_after 0 (front_digits s)) (cond (c == 43) (false, digits_after 0 (front_digits s)) (false, digits_after 0 (front_digits (c ∷ s))))
@@ -38,7 +38,7 @@ abbrev pub front_exponent : List ℕ → Bool × ℕ
 front_exponent [] = (false, 0)
 front_exponent (c ∷ s) = cond (c == 69) (signed_digits s) (false, 0)
 
--- the size of the literal that a text without signs begins with, rounded to so many digits
+-- the size of the literal that a text without signs begins with, rounded to `kept` digits
 unfoldable pub literal_size : ℕ → List ℕ → Option ℕ
 literal_size kept s =
     let rest = after_digits s in
@@ -55,7 +55,7 @@ is_negated (c ∷ s) = cond (c == 45) (not (is_negated s)) (cond (c == 43) (is_n
 abbrev pub after_signs : List ℕ → List ℕ
 after_signs s = drop (prefix_len is_sign s) s
 
--- the numeric value of a text in units of 10 ^ -18, rounded to so many digits; none from 10 ^ 18 on
+-- the numeric value of a text in units of 10 ^ -18, rounded to `kept` digits; none from 10 ^ 18 on
 unfoldable pub numeric_value : ℕ → List ℕ → Option ℤ
 numeric_value kept s = option_map (signed (is_negated s)) (literal_size kept (after_signs s))
 
@@ -68,7 +68,7 @@ fraction_text (suc k) n = cond (n == 0) [] ((48 + n / 10 ^ k) ∷ fraction_text 
 abbrev pub whole_text : ℕ → List ℕ
 whole_text n = cond (n == 0) [] (decimal n)
 
--- the point with the digits behind it, none for 0
+-- the point with the digits after it, none for 0
 abbrev pub point_text : ℕ → List ℕ
 point_text n = cond (n == 0) [] (46 ∷ fraction_text 18 n)
 
@@ -76,7 +76,7 @@ unfoldable pub size_text : ℕ → List ℕ
 size_text n = cond (n == 0) (48 ∷ []) (whole_text (n / 10 ^ 18) ++ point_text (n % 10 ^ 18))
 
 -- the canonical text of a number in units of 10 ^ -18: no zero in front, none at the end of a fraction, no point without
--- a digit behind it, no `+`, and no sign at 0
+-- a digit after it, no `+`, and no sign at 0
 abbrev pub number_text : ℤ → List ℕ
 number_text (pos n) = size_text n
 number_text (negsuc n) = 45 ∷ size_text (suc n)

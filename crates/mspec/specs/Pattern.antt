@@ -2,7 +2,7 @@
 -- Pattern match: the texts that a pattern matches.
 --
 -- Restates "Pattern match pattern" of ISO/IEC 11756:1999, with its parts `patatom`, `repcount`, `patcode` and `strlit`. A
--- text matches where it is a joining of segments, one for each atom in turn. Nothing is sought here: how a text is cut into
+-- text matches if it is a joining of segments, one for each atom in turn. Nothing is searched for here: how a text is cut into
 -- its segments is left open, and one way of cutting is enough.
 use Rattle.std.specs.Prelude.{◌≡◌, ℕ, zero, suc, ◌≤◌, Bool, false, not, ◌&&◌, ◌||◌, ◌==◌, nat_le, List, [], ◌∷◌, ◌++◌, length, Option, Some, None}
 use Rattle.mspec.specs.Literal.{is_digit}
@@ -73,12 +73,12 @@ pub record Atom : Type 0 where
   pub count : Count
   pub repeated : Repeated
 
--- so many copies of a string, joined
+-- this many copies of a string, joined
 abbrev pub copied : ℕ → List ℕ → List ℕ
 copied zero string = []
 copied (suc n) string = string ++ copied n string
 
--- may the text be an atom's segment
+-- the text may be an atom's segment
 abbrev pub IsRepetition : Count → Repeated → List ℕ → Type 0
 IsRepetition count (members codes) text = AllAre (is_in_any codes) text × IsPermitted count (length text)
 IsRepetition count (copies string) text = (n : ℕ) × IsPermitted count n × (text ≡ copied n string)

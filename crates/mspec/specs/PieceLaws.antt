@@ -8,7 +8,7 @@ use Rattle.mspec.specs.TextFunctions.{first_place}
 abbrev pub OneList : Type 0
 OneList = (d s : List ℕ) → d ≢ [] → ArePieces d s (pieces_of d s) × ((ps qs : List (List ℕ)) → ArePieces d s ps → ArePieces d s qs → ps ≡ qs)
 
--- t stands in s behind n characters, and nowhere behind fewer
+-- t occurs in s after n characters, and nowhere after fewer
 pub record StandsFirst (t s : List ℕ) (n : ℕ) : Type 0 where
   pub before : List ℕ
   pub after : List ℕ
@@ -16,6 +16,6 @@ pub record StandsFirst (t s : List ℕ) (n : ℕ) : Type 0 where
   pub place : length before ≡ n
   pub first : (before after : List ℕ) → s ≡ before ++ (t ++ after) → n ≤ length before
 
--- the first place of a text in another is the first at which it stands there, and there is none where it stands nowhere
+-- the first place of a text in another is the first at which it occurs there, and there is none if it does not occur there
 abbrev pub FirstPlace : Type 0
 FirstPlace = (t s : List ℕ) → MatchOption (first_place t s) (Lacks t s) (λ n. StandsFirst t s n)

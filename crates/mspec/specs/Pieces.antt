@@ -12,15 +12,15 @@ join d [] = []
 join d (p ∷ []) = p
 join d (p ∷ q ∷ ps) = p ++ (d ++ join d (q ∷ ps))
 
--- d stands nowhere in s
+-- d occurs nowhere in s
 abbrev pub Lacks : List ℕ → List ℕ → Type 0
 Lacks d s = (before after : List ℕ) → s ≢ before ++ (d ++ after)
 
--- d stands in s nowhere but at its end
+-- d occurs nowhere in s but at its end
 abbrev pub OnlyAtEnd : List ℕ → List ℕ → Type 0
 OnlyAtEnd d s = (before after : List ℕ) → s ≡ before ++ (d ++ after) → after ≡ []
 
--- at least one text; the last doesn't contain d, and d stands in each other followed by d only at the end
+-- at least one text; the last doesn't contain d, and in each other followed by d, d occurs only at the end
 abbrev pub AreCut : List ℕ → List (List ℕ) → Type 0
 AreCut d [] = ⊥
 AreCut d (p ∷ []) = Lacks d p

@@ -1,8 +1,8 @@
 -- SPDX-License-Identifier: Apache-2.0
--- What a line does to that which is not its session's, as a plan: a tree of operations, each followed by what is done on
+-- What a line does to what is not its session's, as a plan: a tree of operations, each followed by what is done on
 -- its answer.
 --
--- A plan says what is done without saying where: carried out over a world it gives an answer and the world that it leaves.
+-- A plan says what is done without saying where: carried out over a world, it gives an answer and the world that it leaves.
 -- What is proved of all plans, as isolation is, needs one case for each operation and none for the language.
 use Rattle.std.specs.Prelude.{ℕ, zero, suc, Bool, List, Option}
 use Rattle.mspec.specs.Node.{Text, Node}
@@ -10,7 +10,7 @@ use Rattle.mspec.specs.Trees.{Direction}
 use Rattle.mspec.specs.Access.{Mode}
 use Rattle.mspec.specs.LockConflict.{LockName}
 
--- the operations. The lines of a routine of the own account are one, since a loop that costs no steps has no end of its own.
+-- the operations. The lines of a routine of one's own account are one operation, since a loop that costs no steps has no end of its own.
 pub data Op : Type 0 where
   May : (owner name : Text) → Mode → Op
   Value : Node → Op

@@ -64,7 +64,7 @@ abbrev pub after_all : List Call → Scopes → Scopes
 after_all [] scopes = scopes
 after_all (c ∷ calls) scopes = after_all calls (after c scopes)
 
--- whether the calls leave the levels that they enter, beside so many that were entered before, and no others
+-- whether the calls leave the levels that they enter, and `d` that were entered before, and no others
 abbrev pub is_nested : List Call → ℕ → Bool
 is_nested [] zero = true
 is_nested [] (suc d) = false

@@ -2,7 +2,7 @@
 -- The local variables of a session: a stack of scopes, the innermost on top.
 --
 -- Restates "Local variable handling", "NEW" and "KILL" of ISO/IEC 11756:1999. A scope has some names by itself: those that
--- NEW gave it, and all but some where NEW gave those in brackets; the scope at the bottom has every name. A variable is that
+-- NEW gave it, and all but some if NEW listed those in brackets; the scope at the bottom has every name. A variable is that
 -- of the topmost scope that has its name.
 use Rattle.std.specs.Prelude.{Bool, false, not, cond, ◌||◌, nat_eq, length, List, [], ◌∷◌, ◌++◌, Option, Some, None, unwrap_or}
 use Rattle.std.specs.List.{list_any, filter}
@@ -12,7 +12,7 @@ use Rattle.std.specs.FinMap.{FinMap, get, insert, retain_keys, empty, keys}
 use Rattle.mspec.specs.Node.{Text}
 use Rattle.mspec.specs.Trees.{Tree, text_eq, without, has_value, has_descendants, Direction, order_of, front, last}
 
--- the names that NEW gave it, the names that it has not where it has all but some, and the trees of variables by their names
+-- the names that NEW gave it, the names that it lacks if it has all but some, and the trees of variables by their names
 pub record Scope : Type 0 where
   pub names : List Text
   pub others : Option (List Text)
@@ -32,7 +32,7 @@ is_other (Some names) n = not (is_among names n)
 abbrev pub has : Scope → Text → Bool
 has s n = is_among s.names n || is_other s.others n
 
--- a scope without names, and that at the bottom of a new session
+-- a scope without names, and the one at the bottom of a new session
 abbrev pub entered : Scope
 entered = record { names = []; others = None; trees = empty }
 
@@ -51,7 +51,7 @@ abbrev pub tree_of : Scopes → Text → Tree
 tree_of [] n = empty
 tree_of (s ∷ below) n = cond (has s n) (tree_in s n) (tree_of below n)
 
--- the scopes with a change of that which a name's variable is of
+-- the scopes with a change of the one that a name's variable belongs to
 abbrev pub at_home : (Scope → Scope) → Text → Scopes → Scopes
 at_home f n [] = []
 at_home f n (s ∷ below) = cond (has s n) (f s ∷ below) (s ∷ at_home f n below)
@@ -75,14 +75,14 @@ assigned scopes n xs x = at_home (λ s. with_tree n (insert (tree_in s n) xs x) 
 
 -- ---- KILL
 
--- a name whose tree has no text left is let go of with its tree
+-- a name whose tree has no text left is dropped with its tree
 abbrev pub is_bare : Tree → Bool
 is_bare t = nat_eq (length (keys t)) 0
 
 abbrev pub tidied : Text → Scope → Scope
 tidied n s = cond (is_bare (tree_in s n)) (record s { trees = retain_keys s.trees (λ m. not (text_eq n m)) }) s
 
--- a name that has no tree yet stays without
+-- a name that has no tree yet stays without one
 abbrev pub kill_in : Text → List Text → Option Tree → Scope → Scope
 kill_in n xs None s = s
 kill_in n xs (Some t) s = tidied n (with_tree n (without t xs) s)
@@ -99,7 +99,7 @@ abbrev pub killed_but : (Text → Bool) → Scopes → Scopes
 killed_but spared [] = []
 killed_but spared (s ∷ below) = emptied spared s ∷ killed_but (λ n. spared n || has s n) below
 
--- KILL of all variables but those named; of none but those where no name is given
+-- KILL of all variables but those named; without a name, of all
 abbrev pub killed_except : List Text → Scopes → Scopes
 killed_except names scopes = killed_but (is_among names) scopes
 
@@ -116,12 +116,12 @@ hide names s = record { names = s.names ++ filter (λ n. not (has s n)) names; o
 abbrev pub newed : List Text → Scopes → Scopes
 newed names scopes = on_top (hide names) scopes
 
--- the names that both lists have; all where there was none
+-- the names that both lists have; all if there was no old list
 abbrev pub common : List Text → Option (List Text) → List Text
 common names None = names
 common names (Some old) = filter (is_among old) names
 
--- the top scope has all names but these, and of these those that it had; the trees of the others are empty
+-- the top scope has all names but these, and those of these that it had; the trees of the others are empty
 abbrev pub hide_others : List Text → Scope → Scope
 hide_others names s = record { names = s.names; others = Some (common names s.others); trees = retain_keys s.trees (is_among names) }
 
@@ -139,7 +139,7 @@ without_level [] = []
 without_level (s ∷ []) = s ∷ []
 without_level (s ∷ t ∷ below) = t ∷ below
 
--- what is left where all levels are closed
+-- what is left when all levels are closed
 abbrev pub outermost : Scopes → Scopes
 outermost [] = []
 outermost (s ∷ []) = s ∷ []

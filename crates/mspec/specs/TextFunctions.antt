@@ -13,7 +13,7 @@ use Rattle.mspec.specs.Code.{Code, Zarg, Zlong}
 
 -- ---- places
 
--- a place to begin at, which is the first where it is below it
+-- a place to begin at, which is the first if it is below that
 abbrev pub from_place : ℤ → ℕ
 from_place (pos n) = max n 1
 from_place (negsuc n) = 1
@@ -27,7 +27,7 @@ to_place (negsuc n) = 0
 abbrev pub from_to : {X : Type 0} → ℤ → ℤ → List X → List X
 from_to from to xs = take (to_place to + 1 - from_place from) (drop (from_place from - 1) xs)
 
--- the same, from the first where `from` is left out, and up to `from` as it is given where `to` is
+-- the same, from the first if `from` is left out, and up to `from` as it is given if `to` is left out
 abbrev pub range_of : {X : Type 0} → Option ℤ → Option ℤ → List X → List X
 range_of from to xs = let start = unwrap_or from (pos 1) in from_to start (unwrap_or to start) xs
 
@@ -72,7 +72,7 @@ follows (x ∷ s) (y ∷ t) = if x == y then follows s t else nat_lt y x
 abbrev pub made : List ℕ → Result (List ℕ) Code
 made s = if nat_le (length s) max_text then Ok s else Err Zlong
 
--- the character at a place in `to`, or nothing where it is shorter; c where there is no place
+-- the character at a place in `to`, or nothing if `to` is shorter; c if there is no place
 abbrev pub translated_at : List ℕ → ℕ → Option ℕ → List ℕ
 translated_at to c None = c ∷ []
 translated_at to c (Some k) = option_to_list (slice_get to k)
@@ -85,7 +85,7 @@ translate_of s from to = made (flat_map (λ c. translated_at to c (first_place (
 abbrev pub justify_of : List ℕ → ℤ → Result (List ℕ) Code
 justify_of s n = made (replicate (to_place n - length s) 32 ++ s)
 
--- the list with v behind k others, which are empty where the list has none
+-- the list with v after k others, which are empty where the list has none
 unfoldable pub with_piece : ℕ → List ℕ → List (List ℕ) → List (List ℕ)
 with_piece zero v [] = v ∷ []
 with_piece zero v (p ∷ ps) = v ∷ ps
@@ -96,7 +96,7 @@ with_piece (suc k) v (p ∷ ps) = p ∷ with_piece k v ps
 abbrev pub may_be_set : List ℕ → ℤ → Bool
 may_be_set d n = nat_lt 0 (length d) && (nat_le 1 (to_place n) && nat_le (to_place n) max_place)
 
--- SET of a $PIECE: the text with v as its piece at a place, behind as many delimiters as that takes
+-- SET of a $PIECE: the text with v as its piece at a place, after as many delimiters as that takes
 abbrev pub set_piece_of : List ℕ → List ℕ → Option ℤ → List ℕ → Result (List ℕ) Code
 set_piece_of s d place v =
     let n = unwrap_or place (pos 1) in

@@ -21,7 +21,7 @@ Tree = FinMap (subscripts_cmp significant_digits) Text
 abbrev pub text_eq : Text → Text → Bool
 text_eq = pointwise nat_eq
 
--- ys is xs, or stands below it
+-- ys is xs, or is below it
 abbrev pub is_within : List Text → List Text → Bool
 is_within xs ys = starts_with text_eq ys xs
 
@@ -38,21 +38,21 @@ has_descendants t xs = list_any (is_below xs) (keys t)
 
 -- ---- KILL
 
--- without a node and what stands below it
+-- without a node and what is below it
 abbrev pub without : Tree → List Text → Tree
 without t xs = retain_keys t (λ ys. not (is_within xs ys))
 
 -- ---- $ORDER
 
--- the subscript next behind xs in ys, where ys stands below xs
+-- the subscript that follows xs in ys, if ys is below xs
 abbrev pub child_of : List Text → List Text → Option Text
 child_of xs ys = if is_within xs ys then slice_get ys (length xs) else None
 
--- the subscripts next behind xs in those lists that stand below it, each as often as it stands there
+-- the subscripts that follow xs in those lists that are below it, each as often as it occurs there
 abbrev pub children_in : List (List Text) → List Text → List Text
 children_in lists xs = flat_map (λ ys. option_to_list (child_of xs ys)) lists
 
--- the same of the nodes of a variable, in order
+-- the same for the nodes of a variable, in order
 abbrev pub children : Tree → List Text → List Text
 children t xs = children_in (keys t) xs
 
@@ -67,12 +67,12 @@ abbrev pub is_empty : Text → Bool
 is_empty [] = true
 is_empty (c ∷ x) = false
 
--- the first of the subscripts behind x, or the last of those before it; the empty x stands before all, and behind all
+-- the first of the subscripts after x, or the last of those before it; the empty x comes before all, and after all
 abbrev pub neighbour : Direction → Text → List Text → Option Text
 neighbour Forward x cs = find (λ c. is_before x c) cs
 neighbour Backward x cs = find (λ c. is_empty x || is_before c x) (reverse cs)
 
--- the subscript after x behind xs, of those below which there is a text
+-- the subscript next to x in a direction, among those that follow xs and below which there is a text
 abbrev pub order_of : Tree → Direction → List Text → Text → Option Text
 order_of t direction xs x = neighbour direction x (children t xs)
 
@@ -83,7 +83,7 @@ front xs = take (length xs - 1) xs
 abbrev pub last : List Text → Text
 last xs = slice_index_or xs (length xs - 1) []
 
--- the subscripts with which $ORDER may be asked: those of a node, but that the last may be empty
+-- the subscripts with which $ORDER may be asked: those of a node, except that the last may be empty
 pub record AreOrderSubscripts (xs : List Text) : Type 0 where
   pub some : 0 < length xs
   pub few : length xs ≤ max_subscripts

@@ -3,19 +3,19 @@
 // code never calls them.
 ghost use Rattle.mspec.specs.KeyLaws.{CanonicalValueIsTold, NodesAreOrdered, KeysKeepOrder, KeysAreInjective, KeysOfSubtreesBeginAlike, SubtreesAreRanges, DescendantsAreRanges, LocalsKeepOrder, LocalSubtreesAreRanges, LocalDescendantsAreRanges};
 
-/// The canonical value of a text is the number of which it is the canonical text, and it has none exactly where it is no
+/// The canonical value of a text is the number whose canonical text it is, and the text has none exactly when it is no
 /// canonical text.
 #[tactic(auto, using(crate::proofs::NodeOrders::canonical_value_is_told))]
 pub fn canonical_value_is_told()
     ensures { CanonicalValueIsTold }
 {}
 
-/// Texts, lists of subscripts and nodes are each in a total order, in which only equal ones tie.
+/// Texts, lists of subscripts and nodes each have a total order, in which only equal ones tie.
 pub fn nodes_are_ordered()
     ensures { NodesAreOrdered }
 {}
 
-/// The bytes of keys stand in the order of their nodes.
+/// The bytes of keys are in the order of their nodes.
 #[tactic(auto, using(crate::proofs::KeyOrders::key_order))]
 pub fn keys_keep_order()
     ensures { KeysKeepOrder }
@@ -27,7 +27,7 @@ pub fn keys_are_injective()
     ensures { KeysAreInjective }
 {}
 
-/// A key begins with another exactly where its node is the other's or below it.
+/// A key begins with another exactly when its node is the other's or below it.
 pub fn keys_of_subtrees_begin_alike()
     ensures { KeysOfSubtreesBeginAlike }
 {}
@@ -42,7 +42,7 @@ pub fn descendants_are_ranges()
     ensures { DescendantsAreRanges }
 {}
 
-/// The bytes of names with subscripts stand in the order of the names, and then of the subscripts.
+/// The bytes of names with subscripts are in the order of the names, and then of the subscripts.
 #[tactic(auto, using(crate::proofs::KeyOrders::local_order))]
 pub fn locals_keep_order()
     ensures { LocalsKeepOrder }
@@ -54,7 +54,7 @@ pub fn local_subtrees_are_ranges()
     ensures { LocalSubtreesAreRanges }
 {}
 
-/// Those from the start of its children are of that name and have more subscripts behind its own.
+/// Those from the start of its children are of that name and have more subscripts after its own.
 pub fn local_descendants_are_ranges()
     ensures { LocalDescendantsAreRanges }
 {}

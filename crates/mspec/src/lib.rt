@@ -1,7 +1,7 @@
 // SPDX-License-Identifier: Apache-2.0
 //! The definitions of mserve, written apart from the code: what its numbers and texts mean.
 //!
-//! They stand in `specs/` and compute. The functions here carry the laws on them: a law is the contract of a function with
+//! They are in `specs/` and compute. The functions here carry the laws about them: a law is the contract of a function with
 //! an empty body.
 #![tactic(auto)]
 

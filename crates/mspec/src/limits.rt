@@ -30,10 +30,10 @@ pub const MAX_LINE: usize = 255;
 /// The most bytes of a line of the wire: a terminal, a space and a line.
 pub const MAX_WIRE_LINE: usize = 260;
 
-/// How many brackets may be open at a place of a text, with the bars and the operands of `@` that it lies in.
+/// How many brackets may be open at a place of a text, counting the bars and the operands of `@` that it lies in.
 pub const MAX_DEPTH: u32 = 40;
 
-/// The most levels that a line opens, indirections under evaluation among them.
+/// The most levels that a line opens, including indirections under evaluation.
 pub const MAX_LEVELS: u32 = 256;
 
 /// The most indirections under evaluation.

@@ -3,8 +3,8 @@
 // calls them.
 ghost use Rattle.mspec.specs.NumberLaws.{RoundingIsNearest, EachHasDigits, NearestIsUnique, ZeroRoundsToZero, RoundedIsNumber, NumberRoundsToItself, ReadsLongestLiteral, TextHasValue, CanonicalIsText, TextHasCanonicalForm, PlainLiteralIsUnique, CanonicalByMoreDigits};
 
-/// A fraction with d digits before its point is rounded to the multiple of 10^(d - kept), and of 10^-18 at the least, that
-/// is nearest, of two the one larger in size; there is no number exactly where the fraction or the multiple reaches 10^18.
+/// A fraction with d digits before its point is rounded to the nearest multiple of 10^(d - kept), or of 10^-18 if that is
+/// larger; of two nearest ones, to the one larger in size. There is no number exactly when the fraction or the multiple reaches 10^18.
 #[tactic(auto, using(crate::proofs::DistanceLaws::rounding_is_nearest))]
 pub fn rounding_is_nearest()
     ensures { RoundingIsNearest }
@@ -28,7 +28,7 @@ pub fn zero_rounds_to_zero()
     ensures { ZeroRoundsToZero }
 {}
 
-/// What is rounded to so many digits is a number of at most so many.
+/// What is rounded to `kept` digits is a number of at most `kept` digits.
 pub fn rounded_is_number()
     ensures { RoundedIsNumber }
 {}
@@ -39,7 +39,7 @@ pub fn number_rounds_to_itself()
     ensures { NumberRoundsToItself }
 {}
 
-/// A text without signs is read as the longest literal of the grammar that it begins with, or as 0 where it begins with
+/// A text without signs is read as the longest literal of the grammar that it begins with, or as 0 if it begins with
 /// none.
 #[tactic(auto, using(crate::proofs::LongestLiteral::reads_longest_literal))]
 pub fn reads_longest_literal()
@@ -63,14 +63,14 @@ pub fn text_has_canonical_form()
     ensures { TextHasCanonicalForm }
 {}
 
-/// No two literals of that form have one value, so the text of a number is the only one of that form with its value.
+/// No two literals of that form have the same value, so the text of a number is the only one of that form with its value.
 #[tactic(auto, using(crate::proofs::CanonicalForm::plain_literal_is_unique))]
 pub fn plain_literal_is_unique()
     ensures { PlainLiteralIsUnique }
 {}
 
-/// A text that is canonical by fewer digits is so by more, with the same value: keys of stores written by fifteen digits
-/// name the same nodes by eighteen.
+/// A text that is canonical with fewer digits is also canonical with more, and has the same value: keys of stores written
+/// with fifteen digits name the same nodes with eighteen.
 pub fn canonical_by_more_digits()
     ensures { CanonicalByMoreDigits }
 {}

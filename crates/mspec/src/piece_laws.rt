@@ -8,7 +8,7 @@ pub fn one_list()
     ensures { OneList }
 {}
 
-/// `first_place` gives the first place at which a text stands in another, and none where it stands nowhere.
+/// `first_place` gives the first place at which a text occurs in another, and none if it does not occur there.
 #[tactic(auto, using(crate::proofs::FirstPlaces::first_place_stands))]
 pub fn first_place()
     ensures { FirstPlace }

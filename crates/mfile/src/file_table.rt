@@ -14,7 +14,7 @@ pub struct FileTable {
     table: Table<FileStore<File>>,
 }
 
-// Written out, so that to let go of it is one call, which is proved once.
+// Written out, so that dropping it is one call, which is proved once.
 impl Drop for FileTable {
     fn drop(self) {
         let FileTable { table: _ } = self;
@@ -39,7 +39,7 @@ impl FileTable {
         }
     }
 
-    /// Ends the table: the log of its database is copied into the file. Where that fails, the log beside the file has what the file
+    /// Ends the table: the log of its database is copied into the file. If that fails, the log beside the file has what the file
     /// lacks, and the next opening finds it.
     ///
     /// # Errors

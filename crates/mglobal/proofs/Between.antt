@@ -69,7 +69,7 @@ all_between p every (c ∷ more) some =
     both _ _ (from_one c (canonical_value significant_digits c) (bytes more)) (before_three c (canonical_value significant_digits c) (bytes more))
     ∙ sym (every c (All-head (λ s. 0 < length s) c more some))
 
--- those behind x, and all that stands below x
+-- those after x, and all that is below x
 pub behind_between : (x : Text) → 0 < length x → (more : List Text) → NoneEmpty more → is_between (subscript_bytes significant_digits x ++ 3 ∷ []) (3 ∷ []) (bytes more) ≡ passes (is_before x) (slice_get more 0)
 behind_between x some_x [] some = grind (arith, canonical_value significant_digits x)
 behind_between x some_x (c ∷ more) some =

@@ -1,5 +1,5 @@
 -- SPDX-License-Identifier: Apache-2.0
--- Copies of routines, behind writes to the store.
+-- Copies of routines, after writes to the store.
 use Rattle.mglobal.proofs.GlobalWords.{arith, ◌≡◌, Bool, true, false, ◌||◌, List, All, slice_index_or, Result, OnOk, OnErr, sym, subst, ◌∙◌, insert, Globals, is_node_within, without_subtree, Text, Node, AreCopiesIn, IsApart, routine_at}
 use Rattle.mglobal.specs.declared.copies.RoutineCopy.{RoutineCopy}
 use Rattle.mglobal.proofs.LinesKept.{lines_put, lines_killed}
@@ -19,7 +19,7 @@ copies_killed g k copies apart are i d inside =
     let c = are i d inside in
     record { key = c.key; lines = c.lines ∙ sym (lines_killed copy.account copy.name k (apart_of k copy c.key (apart i d inside)) g) }
 
--- where a store that was written to has what it was to have, or failed and has what it had
+-- if a store that was written to has what it was to have, or failed and has what it had
 pub copies_after : {A E : Type 0} (r : Result A E) (old written new : Globals) (copies : List RoutineCopy) → OnOk r (new ≡ written) → OnErr r (new ≡ old) → AreCopiesIn old copies → AreCopiesIn written copies → AreCopiesIn new copies
 copies_after r old written new copies h e f k = grind arith
 

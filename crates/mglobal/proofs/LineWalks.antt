@@ -124,7 +124,7 @@ module _ (account name : Text) where
   none_at c [] all = refl
   none_at c (e ∷ es) all = grind (arith, All-head (λ e. order (at c) e.0 ≡ Less) e es all, none_at c es (All-tail (λ e. order (at c) e.0 ≡ Less) e es all))
 
-  -- ---- those behind a place
+  -- ---- those after a place
 
   abbrev texts : Text → List (Node × Text) → List Text
   texts = texts_behind account name
@@ -276,7 +276,7 @@ module _ (account name : Text) where
         one_step (entries g) (truth (Entries.is_sorted order (entries g)) (entries_sorted g)) x c (sym (asked x) ∙ sym e)
         ∙ ap (λ o. (if is_some (canonical_value significant_digits c) then option_to_list o else []) ++ lines_behind g account name c) (sym (get-entries g (at c)))
 
-    -- behind the empty text stand all of them
+    -- after the empty text come all of them
     pub all_lines : AreHeld g → lines_behind g account name [] ≡ lines_of g account name
     all_lines held = ap (map (λ e. e.1)) (alike (entries g) held)
       where

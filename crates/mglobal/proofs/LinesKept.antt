@@ -73,7 +73,7 @@ module _ (account name : Text) where
     no_line : line k ≡ false
     no_line = by_test (line k) (λ t. absurd (clash (is_node_within routine k) (within_routine k t) below)) (λ f. f)
 
-    -- nothing that stands in its subtree is a line
+    -- nothing that is in its subtree is a line
     not_above : (m : Node) → IsLineAt m → IsSplit k m → (xs : List Text) → k.subscripts ≡ xs → ⊥
     not_above m at split [] e =
         clash (is_node_within k routine) (joined_node k routine (name ∷ []) (split.account ∙ sym at.account_is) (split.name ∙ sym at.name_is) (ap (λ l. l ++ name ∷ []) (sym e))) above

@@ -1,10 +1,10 @@
 -- SPDX-License-Identifier: Apache-2.0
--- How many places are behind a place among the subscripts, at most: fewer behind each that is further on. So a walk to places further on
+-- How many places come after a place among the subscripts, at most: fewer after each that is further on. So a walk to places further on
 -- ends, whatever a store holds.
 use Rattle.mglobal.proofs.GlobalWords.{ℕ, zero, suc, ◌≡◌, ◌+◌, ◌*◌, ◌-◌, ◌^◌, ◌<◌, ◌≤◌, true, Option, Some, None, [], ◌∷◌, length, refl, ◌∙◌, ap, arith, ◌⊎◌, inl, inr, ℤ, unsigned_abs, slice_cmp, nat_cmp_is, Less, Equal, Greater, nat_cmp, ordering_then, cases_order, nat_tests, All-head, All-tail, raised, IsAscii, Text, canonical_value, Place, Empty, Numeric, Other, place_by, place, place_cmp, significant_digits, is_before, value_in_range, raised_below, raised_order, canonical_of_value}
 use Rattle.std.proofs.Math.Nat.{mul-le-mul_right}
 
--- ---- texts of so many characters at most, by character codes
+-- ---- texts of at most `n` characters, by character codes
 
 texts_of : ℕ → ℕ
 texts_of zero = 1
@@ -31,7 +31,7 @@ rank_below (suc n) (c ∷ s) ascii =
     let rest : rank n s < texts_of n = rank_below n s (All-tail (λ c. c < 128) c s ascii) in
     omega arith
 
--- by its first character, and else by what is behind it
+-- by its first character, and otherwise by what comes after it
 by_first : (n c d : ℕ) (s t : Text) → IsAscii s → ordering_then (nat_cmp c d) (slice_cmp nat_cmp s t) ≡ Less → (slice_cmp nat_cmp s t ≡ Less → rank n s < rank n t)
     → ((c ≡ d) ⊎ ((c < d) ⊎ (d < c))) → suc c * texts_of n + rank n s < suc d * texts_of n + rank n t
 by_first n c d s t ascii e behind (inr (inl before)) = grind (arith, mul-le-mul_right (texts_of n) before, rank_below n s ascii)
@@ -99,7 +99,7 @@ fits (c ∷ s) ascii few = by_value (canonical_value significant_digits (c ∷ s
     by_value (Some u) e = value_in_range significant_digits (c ∷ s) u (canonical_of_value significant_digits (c ∷ s) u e).0
     by_value None e = (ascii, few)
 
--- ---- behind a text
+-- ---- after a text
 
 pub places_left : Text → ℕ
 places_left s = all_places - place_rank (place significant_digits s)

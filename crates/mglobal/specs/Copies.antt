@@ -6,7 +6,7 @@ use Rattle.mspec.specs.Node.{Node}
 use Rattle.mglobal.specs.Lines.{routine_at}
 use Rattle.mglobal.specs.declared.copies.RoutineCopy.{RoutineCopy}
 
--- a copy has the lines of its routine as they stand in a store, and its key is that of the node above them
+-- a copy has the lines of its routine as they are in a store, and its key is that of the node above them
 pub record IsCopyIn (g : Globals) (copy : RoutineCopy) : Type 0 where
   pub key : copy.key ≡ routine_at copy.account copy.name
   pub lines : copy.lines.value.items ≡ lines_of g copy.account copy.name
@@ -14,6 +14,6 @@ pub record IsCopyIn (g : Globals) (copy : RoutineCopy) : Type 0 where
 abbrev pub AreCopiesIn : Globals → List RoutineCopy → Type 0
 AreCopiesIn g copies = All (IsCopyIn g) copies
 
--- neither node is the other or stands below it
+-- neither node is the other or is below it
 abbrev pub IsApart : Node → RoutineCopy → Type 0
 IsApart n copy = (is_node_within n copy.key || is_node_within copy.key n) ≡ false

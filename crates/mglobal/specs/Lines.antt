@@ -1,5 +1,5 @@
 -- SPDX-License-Identifier: Apache-2.0
--- The lines of a routine behind a place, one after another.
+-- The lines of a routine after a place, one after another.
 use Rattle.std.specs.Prelude.{Bool, ◌&&◌, List, [], ◌∷◌, map, is_some, if◌then◌else◌, codes}
 use Rattle.std.specs.FinMap.{entries, get}
 use Rattle.std.specs.List.{filter}
@@ -21,17 +21,17 @@ line_at account name place = record { account = account; name = codes "ROUTINE";
 abbrev pub is_line : Text → Text → Node → Bool
 is_line account name m = is_beside (routines_of account) m && is_line_of name m.subscripts
 
--- a line whose number stands behind x
+-- a line whose number comes after x
 abbrev pub is_line_behind : Text → Text → Text → Node → Bool
 is_line_behind account name x m = is_line account name m && passes (is_before x) (child_under (routine_at account name) m)
 
 abbrev pub texts_behind : Text → Text → Text → List (Node × Text) → List Text
 texts_behind account name x es = map (λ e. e.1) (filter (λ e. is_line_behind account name x e.0) es)
 
--- those behind x
+-- those after x
 abbrev pub lines_behind : Globals → Text → Text → Text → List Text
 lines_behind g account name x = texts_behind account name x (entries g)
 
--- the text of the line at a place, where that is a number
+-- the text of the line at a place, if that is a number
 abbrev pub line_in : Globals → Text → Text → Text → List Text
 line_in g account name place = if is_some (canonical_value significant_digits place) then option_to_list (get g (line_at account name place)) else []

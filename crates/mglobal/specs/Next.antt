@@ -1,5 +1,5 @@
 -- SPDX-License-Identifier: Apache-2.0
--- The node that comes next in a walk over the subscripts next behind a node.
+-- The node that comes next in a walk over the subscripts directly after those of a node.
 use Rattle.std.specs.Prelude.{◌≡◌, ℕ, Bool, ◌||◌, List, Option}
 use Rattle.mspec.specs.Globals.{Globals, is_between, next_key, previous_key}
 use Rattle.mspec.specs.KeyBytes.{key_bytes, IsStored}
@@ -8,12 +8,12 @@ use Rattle.mspec.specs.Number.{significant_digits}
 use Rattle.mspec.specs.Trees.{Direction, Forward, Backward, is_before, is_empty}
 use Rattle.mkey.specs.Under.{passes, child_under}
 
--- whether a subscript stands on the side of x that the walk goes to; the empty x stands before all, and behind all
+-- whether a subscript is on the side of x that the walk goes to; the empty x comes before all, and after all
 abbrev pub is_onward : Direction → Text → Text → Bool
 is_onward Forward x c = is_before x c
 is_onward Backward x c = is_empty x || is_before c x
 
--- the keys from `low` on and before `high` are those of the nodes below n whose subscript there stands on that side
+-- the keys from `low` on and before `high` are those of the nodes below n whose subscript there is on that side
 abbrev pub BoundsOnward : Direction → Node → Text → List ℕ → List ℕ → Type 0
 BoundsOnward direction n x low high = (m : Node) → IsStored m → is_between low high (key_bytes significant_digits m) ≡ passes (is_onward direction x) (child_under n m)
 

@@ -15,7 +15,7 @@ use std::alloc::Global;
 ///
 /// # Errors
 ///
-/// Those of the store: `Memory` for want of memory, and `Store`, which a steady one never answers.
+/// Those of the store: `Memory` if memory runs out, and `Store`, which a steady one never answers.
 pub fn status<S: NodeStore>(store: &mut S, alloc: Global, key: &NodeKey) -> Result<Data, StoreFault>
     ensures value { S.sound → IfOk result (λ found. found.value ≡ (status (S.content store.old) key.now).0) }
     ensures descendants { S.sound → IfOk result (λ found. found.descendants ≡ (status (S.content store.old) key.now).1) }
@@ -46,13 +46,13 @@ fn nearest<S: NodeStore>(
     }
 }
 
-/// The subscript next to the last one, of those in its place at which there is a text or a node below. An empty last subscript begins
-/// the walk, at the first or from the last, and none ends it. One that is a number is given as a number.
+/// The subscript next to the last one, among those in its place at which there is a text or a node below. An empty last subscript
+/// begins the walk, at the first or from the last, and a result of none ends it. A subscript that is a number is given as a number.
 ///
 /// # Errors
 ///
-/// Those of the store: `Memory` for want of memory, and `Store`, which a steady one never answers; also where the key that was
-/// found is no node's.
+/// Those of the store: `Memory` if memory runs out, and `Store`, which a steady one never answers; also `Store` if the key that
+/// was found is not that of a node.
 pub fn neighbour<S: NodeStore>(
     store: &mut S,
     alloc: Global,

@@ -30,8 +30,8 @@ pub fn key_of(
     }
 }
 
-// The bounds of the keys below the node above, on that side of the last subscript to which the walk goes. Forward they begin behind
-// all that stands below the present subscript.
+// The bounds of the keys below the node above, on the side of the last subscript to which the walk goes. Forward, they begin after
+// all that is below the present subscript.
 pub fn bounds(
     alloc: Global,
     account: &[u8],

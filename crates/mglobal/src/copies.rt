@@ -16,7 +16,7 @@ use std::alloc::Global;
 use std::rc::Rc;
 use std::slice::from_ref;
 
-// The most copies that are kept: more routines than one that runs calls in turn, for the most part.
+// The most copies that are kept: for the most part, more routines than a running one calls in turn.
 const MOST_COPIES: usize = 32;
 
 // The lines of an account's routine, with the key of the node above them.
@@ -27,7 +27,7 @@ pub(crate) struct RoutineCopy {
     lines: Rc<Vec<Bytes7>>,
 }
 
-// Written out, so that to let go of it is one call, which is proved once.
+// Written out, so that dropping it is one call, which is proved once.
 impl Drop for RoutineCopy {
     fn drop(self) {
         let RoutineCopy {
@@ -39,7 +39,7 @@ impl Drop for RoutineCopy {
     }
 }
 
-// Whether one of two nodes is the other, or stands below it.
+// Whether one of two nodes is the other, or is below it.
 fn touches(one: &NodeKey, other: &NodeKey) -> bool
     ensures { result ≡ (is_node_within one.now other.now || is_node_within other.now one.now) }
 {
@@ -47,7 +47,7 @@ fn touches(one: &NodeKey, other: &NodeKey) -> bool
     other.starts_with(one) || one.starts_with(other)
 }
 
-// Lets go of the copies that a write to a node, or below it, may change.
+// Drops the copies that a write to a node, or below it, may change.
 pub(crate) fn forget(copies: &mut Vec<RoutineCopy>, written: &NodeKey)
     ensures others { (globals : Globals) → AreCopiesIn globals copies.old.items → AreCopiesIn globals copies.new.items }
     ensures apart { All (IsApart written.now) copies.new.items }
@@ -59,7 +59,7 @@ pub(crate) fn forget(copies: &mut Vec<RoutineCopy>, written: &NodeKey)
     );
 }
 
-// The lines of a routine of which there is a copy, held once more.
+// The lines of a routine of which there is a copy, as one more reference to them.
 pub(crate) fn find(
     copies: &[RoutineCopy],
     account: &Bytes7,
@@ -105,7 +105,7 @@ fn copy_of(
     })
 }
 
-// Keeps a copy of a routine where there is memory for it, in place of the oldest one where there are many.
+// Keeps a copy of a routine if there is memory for it, in place of the oldest one if there are many.
 pub(crate) fn keep(
     alloc: Global,
     copies: &mut Vec<RoutineCopy>,

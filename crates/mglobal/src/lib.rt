@@ -1,7 +1,7 @@
 // SPDX-License-Identifier: Apache-2.0
 //! What the language asks of globals, over any store of nodes.
 //!
-//! The definitions are `mspec`'s `Globals`: `status` of $DATA, `order_at` of $ORDER and `lines_of` of routines.
+//! The definitions are `mspec`'s `Globals`: `status` for $DATA, `order_at` for $ORDER and `lines_of` for routines.
 #![tactic(auto)]
 
 mod ask;

@@ -24,7 +24,7 @@ fn subs_of(alloc: Global, name: &Bytes7, place: &Bytes7) -> Result<Vec<Value>, A
     Ok(subs)
 }
 
-// The subscript behind a place of a routine. A store that is sound names none that is not behind it.
+// The subscript after a place of a routine. A sound store names none that is not after it.
 fn next_place<S: NodeStore>(
     store: &mut S,
     alloc: Global,
@@ -65,7 +65,7 @@ fn next_place<S: NodeStore>(
     }
 }
 
-// The text of the line at a place, where the place is a number and the line has a text.
+// The text of the line at a place, if the place is a number and the line has a text.
 fn line_text<S: NodeStore>(
     store: &mut S,
     alloc: Global,
@@ -90,7 +90,7 @@ fn line_text<S: NodeStore>(
     store.get(&key)
 }
 
-// Adds a line that is there.
+// Adds a line, if there is one.
 fn add(lines: &mut Vec<Bytes7>, text: Option<Bytes7>) -> Result<(), AllocError>
     ensures { OnOk result (lines.new.items ≡ lines.old.items ++ option_to_list text) }
 {
@@ -101,12 +101,12 @@ fn add(lines: &mut Vec<Bytes7>, text: Option<Bytes7>) -> Result<(), AllocError>
 }
 
 /// The lines of an account's routine: the texts at `^ROUTINE(name, n)` in the order of the numbers `n`. Nodes with more subscripts, and
-/// those whose second is no number, are no lines.
+/// those whose second subscript is not a number, are not lines.
 ///
 /// # Errors
 ///
-/// Those of the store: `Memory` for want of memory, and `Store`, which a steady one never answers; also where the place that was found is
-/// not behind the one before it.
+/// Those of the store: `Memory` if memory runs out, and `Store`, which a steady one never answers; also `Store` if the place that was
+/// found is not after the one before it.
 pub fn routine<S: NodeStore>(
     store: &mut S,
     alloc: Global,
@@ -135,7 +135,7 @@ pub fn routine<S: NodeStore>(
 ///
 /// # Errors
 ///
-/// Those of `routine`, and `Memory` where there is no memory for a count of those who hold the lines.
+/// Those of `routine`, and `Memory` if there is no memory for a count of those that hold the lines.
 pub fn shared_routine<S: NodeStore>(
     store: &mut S,
     alloc: Global,

@@ -10,15 +10,15 @@ use std::alloc::Global;
 use std::marker::Model;
 use std::rc::Rc;
 
-/// A store with copies of routines that were read of it, so that a routine is read once and not at each DO. A call that may change a
-/// routine lets go of its copy first. It has what the store has, and is as sound and as steady.
+/// A store with copies of routines that were read from it, so that a routine is read once and not at each DO. A call that may change a
+/// routine drops its copy first. It has what the store has, and is as sound and as steady.
 pub struct RoutineCache<S: NodeStore> {
     store: S,
     copies: Vec<RoutineCopy>,
     alloc: Global,
 }
 
-// Written out, so that to let go of it is one call, which is proved once.
+// Written out, so that dropping it is one call, which is proved once.
 impl<S: NodeStore + Drop> Drop for RoutineCache<S> {
     fn drop(self) {
         let RoutineCache {

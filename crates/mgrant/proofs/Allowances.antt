@@ -40,7 +40,7 @@ placed_more old globals name place is gs within p at mode =
     map-append (placed globals) gs (record { permit = p; mode = mode } ∷ [])
     ∙ (λ i. seen_by_more old globals gs is.kept within i ++ (record { from = p.from; to = p.to; global = named i; mode = mode_of mode }) ∷ [])
 
--- the name is that of a place just where the place is its own
+-- the name is that of a place exactly if the place is its own
 pub place_test : (globals : List Text) (name : Text) (place i : ℕ) → IsPlaceOf globals name place → i < length globals → text_eq name (text_in globals i) ≡ (place == i)
 place_test globals name place i is within =
     elim (cases_Bool (text_eq name (text_in globals i))) [

@@ -10,7 +10,7 @@ any_more p q more xs e =
     let (k, x, within, at, is) = Any-from_list_any p xs e in
     list_any_at q xs k x within (more (get_or xs k x) (subst (λ y. p y ≡ true) (sym at) is))
 
--- the ends of edges are places, where what edges lead to is one
+-- the ends of edges are places, if what edges lead to is one
 pub targets_within : (n : ℕ) (edges : List Edge) → ((x y : ℕ) → list_any (leads x y) edges ≡ true → y < n) → All (λ e. e.target < n) edges
 targets_within n edges far k d within =
     let e = get_or edges k d in

@@ -130,7 +130,7 @@ small c e =
       | inr digit ↦ let k = leb-true c 57 (and_parts (nat_le 48 c) (nat_le c 57) digit).1 in omega (arith, k)
     ]
 
--- a name has letters and digits alone, and where there is none it is empty
+-- a name has only letters and digits, and if there is none it is empty
 pub name_small : (names : List Text) → are_names names ≡ true → (i : ℕ) → All (λ c. c < 128) (text_in names i)
 name_small names good i =
     elim (cases_lt i (length names)) [
@@ -138,7 +138,7 @@ name_small names good i =
       | inr outside ↦ subst (All (λ c. c < 128)) (sym (ap (λ o. unwrap_or o []) (slice_get_past names i outside))) (λ k d within. absurd (omega (arith, within)))
     ]
 
--- an account's name is that of a place just where the place is its own, also of a place that has no name
+-- an account's name is that of a place exactly if the place is its own, even for a place that has no name
 pub me_test : (names : List Text) → are_names names ≡ true → (me i : ℕ) → i < length names → text_eq (text_in names me) (text_in names i) ≡ (me == i)
 me_test names good me i within =
     elim (cases_lt me (length names)) [

@@ -46,7 +46,7 @@ abbrev pub has_only : List Text → Members → Bool
 has_only keys no_members = true
 has_only keys (member k d ms) = list_any (text_eq k) keys && has_only keys ms
 
--- what each value of a list is read as, where each can be
+-- what each value of a list is read as, if each can be
 abbrev pub each_read : {X : Type 0} → (Data → Option X) → Items → Option (List X)
 each_read read no_items = Some []
 each_read read (item d ds) = option_and_then (λ x. option_map (λ xs. x ∷ xs) (each_read read ds)) (read d)
@@ -113,7 +113,7 @@ abbrev pub written_with : Option (List WrittenAccount) → Option (List WrittenG
 written_with (Some accounts) (Some grants) = Some (record { accounts = accounts; grants = grants })
 written_with _ _ = None
 
--- what a document says, where it has the shape
+-- what a document says, if it has the right shape
 abbrev pub written : Members → Option Written
 written doc =
     if has_only document_keys doc then written_with (entries_in written_account (get_member (codes "account") doc)) (entries_in written_grant (get_member (codes "grant") doc))
@@ -121,7 +121,7 @@ written doc =
 
 -- ---- the faults
 
--- a name: a letter or `%`, with at most 30 letters or digits behind it
+-- a name: a letter or `%`, followed by at most 30 letters or digits
 abbrev pub is_name : Text → Bool
 is_name [] = false
 is_name (c ∷ cs) = is_name_start c && (list_all is_name_rest cs && nat_le (length cs) max_name_rest)

@@ -28,7 +28,7 @@ pub record Placed : Type 0 where
 abbrev pub placed : List Text → Given → Placed
 placed globals g = record { from = g.permit.from; to = g.permit.to; global = text_in globals g.permit.global; mode = mode_of g.mode }
 
--- the grant lets `me` use the global of the owner so
+-- the grant lets `me` use the global of the owner in this mode
 abbrev pub lets_at : (me owner : ℕ) → Text → access.Mode → Placed → Bool
 lets_at me owner name mode g = (owner == g.from && me == g.to) && (text_eq name g.global && access.allows g.mode mode)
 
@@ -62,7 +62,7 @@ pub record AreKept (globals : List Text) (gs : List Given) (allowed : Allowed) :
   pub in_range : All (λ g. g.permit.global < length globals) gs
   pub allowance : IsAllowance gs allowed
 
--- a name has a place among texts, of which it may be a new one
+-- a name has a place among texts, and may be a new one among them
 pub record IsInterned (old : List Text) (name : Text) (r : List Text × ℕ) : Type 0 where
   pub here : slice_get r.0 r.1 ≡ Some name
   pub kept : (i : ℕ) → i < length old → slice_get r.0 i ≡ slice_get old i

@@ -1,5 +1,5 @@
 -- SPDX-License-Identifier: Apache-2.0
--- The entries of a document, as the code keeps them, seen as what was written; and what a reading of settings answers.
+-- The entries of a document, as the code keeps them, seen as what was written; and what a reading of settings returns.
 use Rattle.std.specs.Prelude.{◌≡◌, ◌⊎◌, ℕ, ◌+◌, ◌≤◌, ℤ, pos, List, [], ◌∷◌, ◌++◌, map, length, slice_get, slice_index_or, All, Bool, true, false, if◌then◌else◌, Option, Some, None, Result, MatchResult}
 use Rattle.std.specs.Ordering.{int_eq}
 use denote.Ref.{Bor}
@@ -58,7 +58,7 @@ pub record IsNumberWithin (most : ℕ) (z : ℤ) (n : ℕ) : Type 0 where
 abbrev pub Claim : Type 0
 Claim = ℤ × ℕ
 
--- what one account claims, behind earlier claims; and what accounts claim, from a place on
+-- what one account claims, after earlier claims; and what accounts claim, from a place on
 abbrev pub claims_at : ℕ → List ℤ → List Claim → List Claim
 claims_at place ts seen = seen ++ map (λ t. (t, place)) ts
 

@@ -35,7 +35,7 @@ settings_view names steps terminals grants = record {
   grants = map (named names) grants;
 }
 
--- both accounts of the grant are among so many
+-- both accounts of the grant are among `count` accounts
 pub record IsAmong (count : ℕ) (g : Placed) : Type 0 where
   pub from : g.from < count
   pub to : g.to < count

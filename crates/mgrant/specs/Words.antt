@@ -17,7 +17,7 @@ Places = HashMap Bytes ℕ (BuildHasherDefault FoldHasher)
 abbrev pub texts_of : List Bytes → List Text
 texts_of vs = map (λ v. v.items) vs
 
--- the text at a place, which is empty where there is none
+-- the text at a place, which is empty if there is none
 abbrev pub text_in : List Text → ℕ → Text
 text_in texts i = unwrap_or (slice_get texts i) []
 
@@ -30,7 +30,7 @@ pub record IsIndex (texts : List Text) (places : Places) : Type 0 where
   pub found : (text : Text) (i : ℕ) → found_at places text ≡ Some i → slice_get texts i ≡ Some text
   pub each : (text : Text) (i : ℕ) → slice_get texts i ≡ Some text → found_at places text ≡ Some i
 
--- the text stands at that place, and at no other
+-- the text is at that place, and at no other
 pub record IsPlaceOf (texts : List Text) (text : Text) (i : ℕ) : Type 0 where
   pub here : slice_get texts i ≡ Some text
   pub alone : (j : ℕ) → slice_get texts j ≡ Some text → j ≡ i

@@ -36,7 +36,7 @@ pub(crate) fn names_of(alloc: Global, accounts: &[AccountEntry]) -> Result<Words
     Ok(names)
 }
 
-// A whole number as one from 1 on, where it is that and no more than the bound.
+// A whole number, if it is at least 1 and no more than the bound.
 fn number_within(n: i64, most: u32) -> Option<u32>
     ensures { MatchOption result (is_within 1 most n ≡ false) (IsNumberWithin most n) }
 {
@@ -46,7 +46,7 @@ fn number_within(n: i64, most: u32) -> Option<u32>
     Some(n as u32)
 }
 
-// Gives terminals to the account of a place, unless one of them is no terminal or has an account.
+// Gives terminals to the account at a place, unless one of them is not a terminal or has an account.
 fn claim(terminals: &mut Vec<Option<usize>>, listed: &[i64], place: usize) -> bool
     requires { vec_len terminals.old ≡ 10000 }
     ensures claimed { (seen : List Claim) → HasTerminals seen terminals.old.items → MatchBool result (HasTerminals (claims_at place listed.now seen) terminals.new.items) (are_terminals (numbers (claims_at place listed.now seen)) ≡ false) }
@@ -64,7 +64,7 @@ fn claim(terminals: &mut Vec<Option<usize>>, listed: &[i64], place: usize) -> bo
     true
 }
 
-// So many terminals, all without accounts.
+// `count` terminals, all without accounts.
 #[tactic(auto, using(crate::proofs::Parts::no_terminals, crate::proofs::Parts::none_more))]
 fn unclaimed(alloc: Global, count: usize) -> Result<Vec<Option<usize>>, AllocError>
     ensures none { IfOk result (λ terminals. HasTerminals [] terminals.items) }
@@ -77,7 +77,7 @@ fn unclaimed(alloc: Global, count: usize) -> Result<Vec<Option<usize>>, AllocErr
     Ok(terminals)
 }
 
-// The places of the accounts of the terminals.
+// The places of the terminals' accounts.
 pub(crate) fn terminals_of(
     alloc: Global,
     accounts: &[AccountEntry],
@@ -108,7 +108,7 @@ pub(crate) fn steps_of(alloc: Global, accounts: &[AccountEntry]) -> Result<Vec<u
     Ok(steps)
 }
 
-// The mode of a name.
+// The mode that a text names.
 fn mode_named(text: &[u8]) -> Option<Mode>
     ensures { option_map mode_of result ≡ mode_named text.now }
 {
@@ -119,7 +119,7 @@ fn mode_named(text: &[u8]) -> Option<Mode>
     }
 }
 
-// Where a grant is between, and its mode.
+// The places that a grant is between, and its mode.
 #[derive(Clone, Copy)]
 pub(crate) struct Placing {
     from: usize,
@@ -127,7 +127,7 @@ pub(crate) struct Placing {
     mode: Mode,
 }
 
-// The places of a grant's accounts, and its mode, where it is good.
+// The places of a grant's accounts, and its mode, if it is good.
 #[tactic(auto, using(crate::proofs::Places::place_any, crate::proofs::Parts::granted))]
 fn places_of(names: &Words, entry: &GrantEntry) -> Option<Placing>
     ensures { MatchOption result (is_grant names.now (grant_view entry.now) ≡ false) (IsPlacing names.now (grant_view entry.now)) }

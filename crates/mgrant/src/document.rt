@@ -63,7 +63,7 @@ fn value_at<'a>(table: &'a Table, key: &str) -> Option<&'a Value>
     table.get(key)
 }
 
-// The text at a key, where there is one.
+// The text at a key, if there is one.
 fn text_at(alloc: Global, table: &Table, key: &str) -> Result<Option<Vec<u8>>, AllocError>
     ensures { IfOk result (λ o. option_map (λ v. v.items) o ≡ text_at key.now (table_view table.now)) }
 {
@@ -76,7 +76,7 @@ fn text_at(alloc: Global, table: &Table, key: &str) -> Result<Option<Vec<u8>>, A
     }
 }
 
-// The whole number at a key, where there is one.
+// The whole number at a key, if there is one.
 fn integer_at(table: &Table, key: &str) -> Option<i64>
     ensures { result ≡ integer_at key.now (table_view table.now) }
 {
@@ -86,7 +86,7 @@ fn integer_at(table: &Table, key: &str) -> Option<i64>
     }
 }
 
-// The whole numbers of a list, if all of it are.
+// The whole numbers of a list, if all that is in it are.
 #[tactic(auto, using(crate::proofs::EachRead::none_read))]
 fn integers(alloc: Global, values: &Vec<Value>) -> Result<Option<Vec<i64>>, AllocError>
     ensures { IfOk result (λ o. option_map (λ v. v.items) o ≡ each_read as_integer (array_view values.now)) }
@@ -101,7 +101,7 @@ fn integers(alloc: Global, values: &Vec<Value>) -> Result<Option<Vec<i64>>, Allo
     Ok(Some(all))
 }
 
-// The list of whole numbers at a key, where there is one.
+// The list of whole numbers at a key, if there is one.
 fn integers_at(alloc: Global, table: &Table, key: &str) -> Result<Option<Vec<i64>>, AllocError>
     ensures { IfOk result (λ o. option_map (λ v. v.items) o ≡ integers_at key.now (table_view table.now)) }
 {
@@ -122,7 +122,7 @@ trait Entry: Sized {
 
     ghost written: { Members → Option Written };
 
-    // What a table says of an entry, where it has the keys of one.
+    // What a table says of an entry, if it has the keys of one.
     fn read(alloc: Global, table: &Table) -> Result<Option<Self>, AllocError>
         ensures { IfOk result (λ o. option_map seen o ≡ written (table_view table.now)) };
 }
@@ -232,7 +232,7 @@ fn list_at<E: Entry + Drop>(
     }
 }
 
-// What a document says, where it has the shape.
+// What a document says, if it has the right shape.
 pub(crate) fn read_entries(alloc: Global, table: &Table) -> Result<Option<Entries>, AllocError>
     ensures { IfOk result (λ o. option_map entries_view o ≡ written (table_view table.now)) }
 {

@@ -6,13 +6,13 @@ ghost use Rattle.mgrant.specs.declared.fault.SettingsFault.TheVariants.{Memory};
 use std::alloc::{AllocError, AllocFailed};
 use thiserror::Error;
 
-/// Why no settings were read: the first of these that has a cause in the document, but that want of memory may come at any place.
+/// Why no settings were read: the first of these that has a cause in the document, except that memory may run out at any place.
 #[derive(Clone, Copy, Debug, PartialEq, Eq, Error)]
 pub enum SettingsFault {
-    /// The bytes are no TOML document.
+    /// The bytes are not a TOML document.
     #[error("Toml")]
     Toml,
-    /// A key is missing, of another type, or none of the format's; or a list has more than 9,999 entries.
+    /// A key is missing, of another type, or not one of the format's; or a list has more than 9,999 entries.
     #[error("Shape")]
     Shape,
     /// An account's name is not 1 to 16 letters or digits, or is given twice.
@@ -24,10 +24,10 @@ pub enum SettingsFault {
     /// Steps are not 1 to 1,000,000.
     #[error("Steps")]
     Steps,
-    /// A grant is of or to an unknown account, of an account to itself, of a global that is no name, or of an unknown mode.
+    /// A grant is from or to an unknown account, from an account to itself, of a global that is not a name, or of an unknown mode.
     #[error("Grant")]
     Grant,
-    /// Want of memory.
+    /// Out of memory.
     #[error("Memory")]
     Memory,
 }

@@ -26,7 +26,7 @@ impl Edge {
     }
 }
 
-// Marks a place, and lists it where it was not marked before.
+// Marks a place, and lists it if it was not marked before.
 fn mark(marks: &mut Vec<bool>, order: &mut Vec<usize>, place: usize) -> Result<(), AllocError>
     requires { place < vec_len marks.old }
     ensures marked { OnOk result (marks.new.items ≡ slice_set marks.old.items place true) }
@@ -40,7 +40,7 @@ fn mark(marks: &mut Vec<bool>, order: &mut Vec<usize>, place: usize) -> Result<(
     Ok(())
 }
 
-// The steps from a place, of steps in the order of where they begin.
+// The steps from a place, among steps sorted by where they begin.
 fn steps_from(edges: &[Edge], place: usize) -> &[Edge]
     requires { IsNonDecreasingBy (λ e. e.source) edges.now }
     ensures { IsRun edges.now place result.now }
@@ -94,7 +94,7 @@ fn spread(edges: &[Edge], marks: &mut Vec<bool>, order: &mut Vec<usize>) -> Resu
     Ok(())
 }
 
-// Which of so many places chains of steps lead to from one of them.
+// Which of `count` places chains of steps lead to from one of them.
 pub(crate) fn reached(
     alloc: Global,
     edges: Vec<Edge>,
@@ -119,7 +119,7 @@ pub(crate) fn reached(
     Ok(marks)
 }
 
-// Whether a chain of steps between so many places leads from one place to another.
+// Whether a chain of steps between `count` places leads from one place to another.
 #[tactic(auto, using(std::proofs::lemmas::List::get_or_default))]
 pub(crate) fn leads(
     alloc: Global,

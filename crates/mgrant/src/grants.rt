@@ -48,7 +48,7 @@ impl Model for Grants {
     ghost invariant = { λ grants. AreKept grants.globals grants.list.items grants.allowed };
 }
 
-// The place of a global's name among the others, of which it may be a new one.
+// The place of a global's name among the others. The name may be a new one.
 fn interned(globals: Words, name: Vec<u8>) -> Result<(Words, usize), AllocError>
     ensures { IfOk result (IsInterned globals name.items) }
 {
@@ -61,7 +61,7 @@ fn interned(globals: Words, name: Vec<u8>) -> Result<(Words, usize), AllocError>
     }
 }
 
-// The wider of two modes, where there is an earlier one.
+// The wider of two modes, if there is an earlier one.
 fn wider(earlier: Option<Mode>, mode: Mode) -> Mode
     ensures { (asked : access.Mode) → access.allows (mode_of result) asked ≡ (allows_so earlier asked || access.allows (mode_of mode) asked) }
 {
@@ -133,7 +133,7 @@ impl Grants {
         }
     }
 
-    // With one more grant behind the others.
+    // With one more grant after the others.
     pub fn with(
         self,
         from: usize,
@@ -160,7 +160,7 @@ impl Grants {
         })
     }
 
-    // Whether one of the grants lets an account use a global of the owner so. Takes no memory.
+    // Whether one of the grants lets an account use a global of the owner in this mode. Takes no memory.
     #[tactic(auto, using(crate::proofs::Allowances::lets_none))]
     pub fn allow(&self, to: usize, from: usize, global: &[u8], mode: Mode) -> bool
         ensures { result ≡ list_any (lets_at to from global.now (mode_of mode)) self.now }

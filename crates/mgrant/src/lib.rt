@@ -1,8 +1,8 @@
 // SPDX-License-Identifier: Apache-2.0
 //! Settings: accounts, their terminals and steps, and what they grant one another, read from a TOML document.
 //!
-//! The definitions that the contracts cite stand in `mspec`: `Access` (settings, and who may do what) and `Flow` (whose doings
-//! can show at whom). What a document says and what is wrong with it stands in `specs/Document.antt`, and what an island is in
+//! The definitions that the contracts cite are in `mspec`: `Access` (settings, and who may do what) and `Flow` (whose doings
+//! can show at whom). What a document says, and what is wrong with it, is defined in `specs/Document.antt`, and islands are defined in
 //! `specs/Islands.antt`.
 #![tactic(auto)]
 

@@ -15,7 +15,7 @@ fn is_word(c: u8) -> bool
     c.is_ascii_alphanumeric()
 }
 
-// Whether these are letters and digits alone.
+// Whether these are only letters and digits.
 fn are_words(text: &[u8]) -> bool
     ensures { result ≡ list_all is_name_rest text.now }
 {
@@ -38,7 +38,7 @@ pub(crate) fn is_account_name(text: &[u8]) -> bool
     !text.is_empty() && text.len() <= MAX_ACCOUNT_NAME && are_words(text)
 }
 
-// Whether this is a name: a letter or `%` with at most 30 letters or digits behind it.
+// Whether this is a name: a letter or `%`, followed by at most 30 letters or digits.
 #[tactic(auto, using(crate::proofs::NameTests::name_is, crate::proofs::NameTests::name_test))]
 pub(crate) fn is_name(text: &[u8]) -> bool
     ensures test { result ≡ is_name text.now }

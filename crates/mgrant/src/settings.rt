@@ -25,7 +25,7 @@ use std::marker::Model;
 use toml::Table;
 
 /// The accounts with their steps, the account of each terminal, and the grants between accounts. Contracts see them as the
-/// settings of the definitions. An `AccountId` is of the settings that gave it: of others it names another account or none.
+/// settings of the definitions. An `AccountId` belongs to the settings that gave it: in others it names another account or none.
 pub struct Settings {
     names: Words,
     steps: Vec<u32>,
@@ -33,7 +33,7 @@ pub struct Settings {
     grants: Grants,
 }
 
-// Written out, so that to let go of it is one call, which is proved once.
+// Written out, so that dropping it is one call, which is proved once.
 impl Drop for Settings {
     fn drop(self) {
         let Settings {
@@ -58,7 +58,7 @@ impl Model for Settings {
     ghost invariant = { λ s. AreSettings s.names s.steps.items s.terminals.items s.grants };
 }
 
-// The table that the bytes are.
+// The bytes as a table.
 fn document(alloc: Global, bytes: &[u8]) -> Result<Table, SettingsFault>
     ensures ok { IfOk result (λ t. Reads bytes.now (table_view t)) }
     ensures err { IfErr result (λ e. (e ≡ Memory) ⊎ IsRefused bytes.now e) }
@@ -94,7 +94,7 @@ fn assembled(alloc: Global, entries: &Entries) -> Result<Settings, SettingsFault
     })
 }
 
-// The steps at a place, or 0 where there is none.
+// The steps at a place, or 0 if there is none.
 fn steps_at(steps: &[u32], place: usize) -> u32
     ensures { result ≡ unwrap_or (slice_get steps.now place) 0 }
 {
@@ -130,7 +130,7 @@ fn marked(alloc: Global, marks: &[bool]) -> Result<Vec<AccountId>, AllocError>
 impl Settings {
     /// The settings of a TOML document: a list `account` of tables with the keys `name` (1 to 16 letters or digits), `terminals`
     /// (numbers from 1 to 9,999) and `steps` (1 to 1,000,000), and a list `grant` of tables with the keys `from`, `to` (names of
-    /// accounts), `global` (a name) and `mode` (`read` or `write`). Each list may be absent, and has at most 9,999 entries. Else
+    /// accounts), `global` (a name) and `mode` (`read` or `write`). Each list may be absent, and has at most 9,999 entries. Otherwise
     /// the first fault of the document, in the order of `SettingsFault`; or `Memory`, which may come at any place.
     pub fn read(alloc: Global, bytes: &[u8]) -> Result<Settings, SettingsFault>
         ensures ok { IfOk result (IsRead bytes.now) }
@@ -155,7 +155,7 @@ impl Settings {
         }
     }
 
-    /// The account of a name. Takes no memory.
+    /// The account with this name. Takes no memory.
     #[tactic(auto, using(std::proofs::lemmas::Option::slice_get_within, crate::proofs::Seen::named_seen, crate::proofs::Seen::unnamed_seen, crate::proofs::Seen::length_seen))]
     pub fn account_named(&self, name: &[u8]) -> Option<AccountId>
         ensures account { option_and_then (access.account_at self.now) result ≡ access.account_named self.now name.now }
@@ -167,7 +167,7 @@ impl Settings {
         }
     }
 
-    /// The name of an account, 1 to 16 letters or digits; empty for an id of other settings that names none here. Takes no memory.
+    /// The name of an account, 1 to 16 letters or digits; empty for an id from other settings that names none here. Takes no memory.
     pub fn name_of(&self, id: AccountId) -> &[u8]
         ensures name { result.now ≡ access.name_at self.now id }
         ensures ascii { All (λ c. c < 128) result.now }
@@ -185,8 +185,8 @@ impl Settings {
         steps_at(&self.steps, id.place())
     }
 
-    /// Whether an account may use a global of the owner so: the owner is the account itself, or has granted it. A name of no
-    /// account is answered as an account that grants nothing. Takes no memory.
+    /// Whether an account may use a global of the owner in this mode: the owner is the account itself, or has granted it. A name
+    /// that no account has is treated as an account that grants nothing. Takes no memory.
     pub fn may(&self, me: AccountId, owner_name: &[u8], global: &[u8], mode: Mode) -> bool
         ensures { result ≡ access.may self.now (access.name_at self.now me) owner_name.now global.now (mode_of mode) }
     {
@@ -201,8 +201,8 @@ impl Settings {
     }
 
     /// Whether what one account does can show at another: they are the same, or a chain of grants leads from the one to the
-    /// other, where a grant to write leads both ways. An id that names none here is reached by no account. Fails by want of
-    /// memory alone.
+    /// other, in which a grant to write leads both ways. An id that names none here is reached by no account. Fails only if memory
+    /// runs out.
     pub fn reaches(&self, alloc: Global, from: AccountId, to: AccountId) -> Result<bool, AllocError>
         ensures { IfOk result (λ b. IsTrue b ↔ Reaches self.now (access.name_at self.now from) (access.name_at self.now to)) }
     {
@@ -219,9 +219,9 @@ impl Settings {
         Ok(leads(alloc, edges, count, start, end)?)
     }
 
-    /// The island of an account, in the order of the settings: the least set of accounts that has it and that no grant ties to
-    /// others, so that they may be kept on a machine of their own. None for an id that names none here. Fails by want of memory
-    /// alone.
+    /// The island of an account, in the order of the settings: the least set of accounts that contains it and that no grant ties to
+    /// others, so that they may be kept on a machine of their own. No accounts for an id that names none here. Fails only if memory
+    /// runs out.
     #[tactic(auto, using(crate::proofs::IslandsFound::none_at))]
     pub fn island_of(&self, alloc: Global, account: AccountId) -> Result<Vec<AccountId>, AllocError>
         ensures { IfOk result (λ ids. IsIslandAt self.now (access.name_at self.now account) ids.items) }

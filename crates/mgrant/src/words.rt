@@ -9,7 +9,7 @@ use std::alloc::{AllocError, Global};
 use std::collections::HashMap;
 use std::marker::Model;
 
-// Texts of which none is there twice, in the order in which they came. A text's place is found by hashing it.
+// Texts, none of which is there twice, in the order in which they came. A text's place is found by hashing it.
 #[derive(Drop)]
 pub(crate) struct Words {
     list: Vec<Vec<u8>>,
@@ -45,7 +45,7 @@ impl Words {
         self.list.len()
     }
 
-    // The text at a place, or an empty one where there is none.
+    // The text at a place, or an empty one if there is none.
     pub fn at(&self, place: usize) -> &[u8]
         ensures { result.now ≡ text_in self.now place }
     {
@@ -64,7 +64,7 @@ impl Words {
         self.places.get(text).copied()
     }
 
-    // With one more text behind the others.
+    // With one more text after the others.
     pub fn with(self, text: Vec<u8>) -> Result<Words, AllocError>
         requires { list_any (text_eq text.items) self ≡ false }
         ensures { IfOk result (λ words. words ≡ self ++ text.items ∷ []) }

@@ -25,7 +25,7 @@ head_below (suc k) (b ∷ bytes) are =
     let rest = head_below k bytes (rest_bytes b bytes are) in
     omega (arith, pow-suc 256 k, mul-add-lt b (256 ^ k) (head_number k bytes) 256 first rest)
 
--- the first of two lists stands before the second where its head is the less
+-- the first of two lists comes before the second if its head is less
 pub less_by_head : (k : ℕ) (xs ys : List ℕ) → AreBytes xs → AreBytes ys → head_number k xs < head_number k ys → slice_cmp nat_cmp xs ys ≡ Less
 unfolding head_number
 less_by_head zero xs ys are_x are_y less = absurd (omega arith)
@@ -93,7 +93,7 @@ head_parts (suc j) k (suc t) (b ∷ bytes) e =
     let place : b * 256 ^ t ≡ b * (256 ^ j * 256 ^ k) = ap (λ w. b * w) (ap (λ n. 256 ^ n) fewer ∙ pow-add 256 j k) in
     omega arith
 
--- lists stand in the order of their heads where those differ
+-- lists are in the order of their heads if those differ
 pub head_decides : (k : ℕ) (xs ys : List ℕ) (order : Ordering) → AreBytes xs → AreBytes ys → order ≡ nat_cmp (head_number k xs) (head_number k ys) → is_ne order ≡ true → order ≡ slice_cmp nat_cmp xs ys
 head_decides k xs ys Less are_x are_y e differ = sym (less_by_head k xs ys are_x are_y (ranked _ _ Less e))
 head_decides k xs ys Equal are_x are_y e differ = absurd (cc)

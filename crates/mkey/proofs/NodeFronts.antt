@@ -14,7 +14,7 @@ both_true false b e = absurd (cc)
 
 -- ---- one node within another
 
--- a node is another, or stands below it, exactly where the test says so
+-- a node is another, or is below it, exactly if the test says so
 pub record IsSplit (n m : Node) : Type 0 where
   pub account : n.account ≡ m.account
   pub name : n.name ≡ m.name
@@ -33,7 +33,7 @@ joined_node n m more account name e =
 
 -- ---- the bytes of their keys
 
--- the key of a node within another is the other's with the subscripts behind it
+-- the key of a node within another is the other's with the subscripts after it
 pub key_within : (n m : Node) → is_node_within n m ≡ true → key m ≡ key n ++ subscripts_bytes significant_digits (drop (length n.subscripts) m.subscripts)
 key_within n m e =
     let split = split_node n m e in
@@ -43,7 +43,7 @@ key_within n m e =
 pub key_behind : (n m : Node) → is_node_within n m ≡ true → drop (length (key n)) (key m) ≡ subscripts_bytes significant_digits (drop (length n.subscripts) m.subscripts)
 key_behind n m e = ap (drop (length (key n))) (key_within n m e) ∙ drop-append_seam (key n) (subscripts_bytes significant_digits (drop (length n.subscripts) m.subscripts))
 
--- a key begins with another's exactly where its node is within the other
+-- a key begins with another's exactly if its node is within the other
 pub starts_node : (n m : Node) → NoneEmpty n.subscripts → NoneEmpty m.subscripts → (r : Bool) → r ≡ starts_with nat_eq (key m) (key n) → r ≡ is_node_within n m
 starts_node n m some_n some_m r e =
     let of_bytes = starts_is Decides-eqb (key m) (key n) r e in
@@ -51,7 +51,7 @@ starts_node n m some_n some_m r e =
     (λ t. of_within n m ((keys_of_subtrees_begin_alike significant_digits n m some_n some_m).0 (drop (length (key n)) (key m), of_bytes.0 t)))
     (λ t. of_bytes.1 (subscripts_bytes significant_digits (drop (length n.subscripts) m.subscripts)) (key_within n m t))
 
--- ---- the subscript of one behind the other
+-- ---- the subscript of one after the other
 
 pub within_parts : (n m : Node) → is_node_within n m ≡ true → (is_beside n m ≡ true) × (is_within n.subscripts m.subscripts ≡ true)
 within_parts n m e = apart (text_eq n.account m.account) (text_eq n.name m.name) (is_within n.subscripts m.subscripts) e

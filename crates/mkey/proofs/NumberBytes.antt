@@ -56,7 +56,7 @@ pub bytes_of_number : (u : ℤ) (n : ℕ) → n ≡ raised u → n < 256 ^ 16 �
 unfolding number_bytes
 bytes_of_number u n is below = bytes_of_fitting 16 n below ∙ ap (big_endian 16) is
 
--- the bytes of two numbers, one behind the other
+-- the bytes of two numbers, one after the other
 pub joined_bytes : (k j t n m : ℕ) → t ≡ k + j → n < 256 ^ k → m < 256 ^ j → big_endian t (n * 256 ^ j + m) ≡ big_endian k n ++ big_endian j m
 joined_bytes zero j t n m e below low =
     let none : n ≡ 0 = omega arith in

@@ -12,7 +12,7 @@ same_truth true b f g = sym (f refl)
 same_truth false true f g = g refl
 same_truth false false f g = refl
 
--- the bytes begin with those of another list exactly where the list begins with the other
+-- the bytes begin with those of another list exactly if the list begins with the other
 pub within_bytes : (xs ys : List Text) → NoneEmpty xs → NoneEmpty ys → (r : Bool) → r ≡ starts_with nat_eq (subscripts_bytes significant_digits ys) (subscripts_bytes significant_digits xs) → r ≡ is_within xs ys
 within_bytes xs ys some_x some_y r e =
     let low : List ℕ = subscripts_bytes significant_digits xs in
@@ -24,7 +24,7 @@ within_bytes xs ys some_x some_y r e =
     (λ t. of_bytes.1 (subscripts_bytes significant_digits (drop (length xs) ys))
     (ap (subscripts_bytes significant_digits) (of_lists.0 t) ∙ flat_map-append (subscript_bytes significant_digits) xs (drop (length xs) ys)))
 
--- ---- the bound behind all that begin with a list
+-- ---- the bound after all that begin with a list
 
 its_bytes : subscripts_bytes significant_digits (beyond ∷ []) ≡ 2 ∷ 255 ∷ 0 ∷ []
 unfolding canonical_value numeric_value literal_size round round_size nearest rounding_unit digits_before size_text digits
@@ -39,7 +39,7 @@ beyond_key xs bytes subs e = (All-push (λ s. 0 < length s) xs beyond (some_all 
 pub key_of_subs : (xs : List Text) (bytes : List ℕ) → AreSubs xs → bytes ≡ subscripts_bytes significant_digits xs → IsSubsKeyOf xs bytes
 key_of_subs xs bytes subs e = (some_all xs subs, sym e)
 
--- ---- the subscript next behind a list
+-- ---- the subscript next after a list
 
 pub split_within : (xs ys : List Text) → is_within xs ys ≡ true → ys ≡ xs ++ drop (length xs) ys
 split_within xs ys h = (starts_is bytes_decides ys xs (is_within xs ys) refl).0 h
@@ -55,7 +55,7 @@ bytes_behind xs ys h =
 pub child_is : (xs ys : List Text) → is_within xs ys ≡ true → child_of xs ys ≡ slice_get (drop (length xs) ys) 0
 child_is xs ys h = ap (λ b. if b then slice_get ys (length xs) else None) h ∙ at_front ys (length xs)
 
--- what is read behind the bytes of xs is the child of ys
+-- what is read after the bytes of xs is the child of ys
 module _ (xs ys : List Text) (subs : AreSubs ys) (h : is_within xs ys ≡ true) (rest : List ℕ) (is : rest ≡ subscripts_bytes significant_digits (drop (length xs) ys)) where
   pub child_read : (o : Option Text) → MatchOption o (BeginsWithNo IsSub (subscript_bytes significant_digits) rest) (IsFirst rest) → o ≡ child_of xs ys
   child_read o found = here o found (drop (length xs) ys) (split_within xs ys h) is ∙ sym (child_is xs ys h)
@@ -82,7 +82,7 @@ none_of_bytes (s ∷ xs) =
 pub head_seen : (head : ℕ) (bytes seen : List ℕ) (own xs : List Text) → head ≡ head_number 32 bytes → subscripts_bytes significant_digits own ≡ bytes → own ≡ xs → seen ≡ subscripts_bytes significant_digits xs → head ≡ head_number 32 seen
 head_seen head bytes seen own xs of_bytes are is seen_are = of_bytes ∙ ap (head_number 32) (sym are ∙ ap (subscripts_bytes significant_digits) is ∙ sym seen_are)
 
--- keys stand in the order of their heads where those differ
+-- keys are in the order of their heads if those differ
 pub keys_by_head : (xs ys : List Text) (a b : List ℕ) (order : Ordering) → NoneEmpty xs → NoneEmpty ys → a ≡ subscripts_bytes significant_digits xs → b ≡ subscripts_bytes significant_digits ys → AreBytes a → AreBytes b → order ≡ nat_cmp (head_number 32 a) (head_number 32 b) → is_ne order ≡ true → order ≡ subscripts_cmp significant_digits xs ys
 keys_by_head xs ys a b order some_x some_y is_a is_b are_a are_b e differ =
     head_decides 32 a b order are_a are_b e differ ∙ ap₂ (slice_cmp nat_cmp) is_a is_b ∙ subscripts_order significant_digits xs ys some_x some_y

@@ -84,7 +84,7 @@ pub number_begins : (kept : ℕ) (rest : List ℕ) (v : ℤ) (s : Text) → Begi
 unfolding number_bytes
 number_begins kept rest v s front canonical = number_found kept rest (raised v) v s front.fits front.is refl canonical
 
--- where fewer digits are kept, fewer texts are numbers, and these have the bytes that they have where more are kept
+-- if fewer digits are kept, fewer texts are numbers, and these have the bytes that they have if more are kept
 pub no_number_of_more : (fewer more : ℕ) (rest : List ℕ) → 0 < fewer → fewer ≤ more → NoSub more (1 ∷ rest) → NoSub fewer (1 ∷ rest)
 no_number_of_more fewer more rest some few none s behind sub e =
     let at = numeric fewer s rest behind e in
@@ -107,7 +107,7 @@ no_other_text kept t v is other s sub canonical = other (subst IsSub (sym (canon
 pub canonical_text : (kept : ℕ) (t : Text) (v : ℤ) → t ≡ number_text v → IsNumber kept v → IsCanonical kept t
 canonical_text kept t v is number = subst (IsCanonical kept) (sym is) (record { number = v; value = text_has_value kept v number; text = refl })
 
--- a text of a number has the number as its value where it is canonical
+-- a text of a number has the number as its value if it is canonical
 pub text_where_canonical : (kept : ℕ) (t : Text) (v : ℤ) → t ≡ number_text v → IsNumber 18 v → 0 < kept → kept ≤ 18 → IsCanonical kept t → canonical_value kept t ≡ Some v
 text_where_canonical kept t v is number some few canonical =
     let more = canonical_by_more_digits kept 18 t some few canonical in

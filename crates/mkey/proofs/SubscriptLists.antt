@@ -16,14 +16,14 @@ All-drop-back : {X : Type 0} (P : X → Type 0) (xs ys : List X) → All P (xs +
 All-drop-back P [] ys all = all
 All-drop-back P (x ∷ xs) ys all = All-drop-back P xs ys (All-tail P x (xs ++ ys) all)
 
--- the subscript behind others is one too
+-- the subscript after others is one too
 pub sub_behind : (xs ys : List Text) (s : Text) (more : List Text) → AreSubs ys → ys ≡ xs ++ (s ∷ more) → IsSub s
 sub_behind xs ys s more all e =
     let each : All IsSubscript (s ∷ more) = All-drop-back IsSubscript xs (s ∷ more) (subst (All IsSubscript) e all.0.each) in
     let ascii : All IsAscii (s ∷ more) = All-drop-back IsAscii xs (s ∷ more) (subst (All IsAscii) e all.1) in
     (All-head IsSubscript s more each, All-head IsAscii s more ascii)
 
--- subscripts that were read, and something behind them
+-- subscripts that were read, and something after them
 module _ (kept : ℕ) (xs ys : List Text) (rest bytes : List ℕ) (subs : All IsSub xs) (all : AreSubs ys) (is : bytes ≡ subscripts_bytes kept xs ++ rest) (e : bytes ≡ subscripts_bytes kept ys) (some : 0 < length rest) where
   -- one more subscript begins there
   one_behind : ((s : Text) (more : List Text) → ys ≡ xs ++ s ∷ more → rest ≡ subscripts_bytes kept (s ∷ more) → ⊥) → ⊥

@@ -8,7 +8,7 @@ pub match_map : {A : Type 0} {P P' : Type 0} {Q Q' : A → Type 0} (o : Option A
 match_map None f g h = f h
 match_map (Some a) f g h = g a h
 
--- the bytes of a text, without the 0 behind them
+-- the bytes of a text, without the 0 after them
 abbrev pub raised_text : Text → List ℕ
 raised_text t = map (λ c. c + 1) t
 
@@ -16,7 +16,7 @@ ended : (t : Text) → text_bytes t ≡ raised_text t ++ 0 ∷ []
 ended [] = refl
 ended (c ∷ t) = ap (λ b. (c + 1) ∷ b) (ended t)
 
--- what is left from i on, where something is
+-- what is left from i on, if something is
 next : (bytes : List ℕ) (i : ℕ) → i < length bytes → drop i bytes ≡ get_or bytes i 0 ∷ drop (i + 1) bytes
 next bytes i inside = drop-cons bytes i 0 inside ∙ ap (λ n. get_or bytes i 0 ∷ drop n bytes) (sym (add-one i))
 
@@ -36,7 +36,7 @@ text_found bytes t i inside zero is = record {
       ∙ ap (λ b. b ++ drop (i + 1) bytes) (sym (ended t));
 }
 
--- a text that bytes begin with, behind what was read of it
+-- a text that bytes begin with, after what was read of it
 record Rest (t s : Text) (tail rest : List ℕ) : Type 0 where
   more : Text
   text : s ≡ t ++ more

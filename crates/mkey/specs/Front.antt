@@ -5,7 +5,7 @@ use Rattle.mspec.specs.Act.{Text}
 use Rattle.mspec.specs.Number.{significant_digits}
 use Rattle.mspec.specs.KeyBytes.{number_bytes, subscript_bytes, IsSubscript, AreSubscripts, IsAscii}
 
--- the bytes begin with these, which are `count` of them
+-- the bytes begin with these `count` bytes
 pub record IsFront (bytes front : List ℕ) (count : ℕ) : Type 0 where
   pub fits : count ≤ length bytes
   pub is : bytes ≡ front ++ drop count bytes
@@ -18,7 +18,7 @@ BeginsWithNo P bytes_of bytes = (s : Text) (rest : List ℕ) → P s → bytes �
 abbrev pub IsSub : Text → Type 0
 IsSub s = IsSubscript s × IsAscii s
 
--- the first subscript of a store that the bytes are
+-- the subscript of a store that the bytes begin with
 abbrev pub IsFirst : List ℕ → Text → Type 0
 IsFirst bytes s = IsSub s × ((count : ℕ) × IsFront bytes (subscript_bytes significant_digits s) count)
 

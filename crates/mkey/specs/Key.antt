@@ -15,11 +15,11 @@ use Rattle.mspec.proofs.KeyRanges.{keys_are_injective}
 abbrev pub IsKeyOf : Node → List ℕ → Type 0
 IsKeyOf n bytes = IsStored n × (key_bytes significant_digits n ≡ bytes)
 
--- the same where numbers keep so many digits
+-- the same when numbers keep `kept` digits
 abbrev pub IsKeyBy : ℕ → Node → List ℕ → Type 0
 IsKeyBy kept n bytes = IsStored n × (key_bytes kept n ≡ bytes)
 
--- so many digits the numbers of a store of version 1 kept
+-- how many digits the numbers of a store of version 1 kept
 abbrev pub old_digits : ℕ
 old_digits = 15
 

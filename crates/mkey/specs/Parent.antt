@@ -11,6 +11,6 @@ pub record IsParent (above below : Node) : Type 0 where
   pub name : above.name ≡ below.name
   pub longer : (s : Text) × (below.subscripts ≡ above.subscripts ++ s ∷ [])
 
--- so many of the bytes are the key of the node next above this one
+-- the first `start` bytes are the key of the node next above this one
 abbrev pub IsLastAt : Node → List ℕ → ℕ → Type 0
 IsLastAt n bytes start = (above : Node) × IsParent above n × (key_bytes significant_digits above ≡ take start bytes)

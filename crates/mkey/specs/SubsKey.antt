@@ -20,11 +20,11 @@ IsSubsKeyOf xs bytes = NoneEmpty xs × (subscripts_bytes significant_digits xs �
 abbrev pub IsSubsKey : List ℕ → Type 0
 IsSubsKey bytes = (xs : List Text) × IsSubsKeyOf xs bytes
 
--- a text behind all subscripts of a store
+-- a text that comes after all subscripts of a store
 abbrev pub beyond : Text
 beyond = 254 ∷ []
 
--- a list behind all that begin with this one and are subscripts of a store
+-- a list that comes after all that begin with this one and are subscripts of a store
 abbrev pub behind_below : List Text → List Text
 behind_below xs = xs ++ beyond ∷ []
 

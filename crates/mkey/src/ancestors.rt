@@ -8,10 +8,10 @@ ghost use Rattle.mspec.specs.Number.{significant_digits};
 
 use crate::decoding::behind;
 
-// How many bytes a number has behind its tag.
+// How many bytes a number has after its tag.
 const NUMBER_BYTES: usize = 16;
 
-// Where the first 0 stands.
+// Where the first 0 is.
 fn first_zero(bytes: &[u8]) -> Option<usize>
     ensures value { result ≡ position (λ b. b == 0) bytes.now }
     ensures inside { IfSome result (λ end. end < length bytes.now) }
@@ -19,7 +19,7 @@ fn first_zero(bytes: &[u8]) -> Option<usize>
     bytes.iter().position(|byte| *byte == 0)
 }
 
-// How many bytes the text has that the bytes begin with, the 0 behind it counted.
+// How many bytes there are in the text that the bytes begin with, including the 0 after it.
 fn text_len(bytes: &[u8]) -> usize
     ensures text { (s rest : List ℕ) → bytes.now ≡ text_bytes s ++ rest → result ≡ length (text_bytes s) }
     ensures fits { result ≤ length bytes.now }
@@ -30,7 +30,7 @@ fn text_len(bytes: &[u8]) -> usize
     }
 }
 
-// How many bytes the subscript has that the bytes begin with where the tag of a number is put in front of them.
+// How many bytes there are in the subscript that the bytes begin with once the tag of a number is put in front of them.
 fn number_len(bytes: &[u8]) -> usize
     ensures subscript { (s rest : List ℕ) → 1 ∷ bytes.now ≡ subscript_bytes significant_digits s ++ rest → result ≡ length (subscript_bytes significant_digits s) }
     ensures fits { result ≤ 1 + length bytes.now }
@@ -39,7 +39,7 @@ fn number_len(bytes: &[u8]) -> usize
     1 + bytes.len().min(NUMBER_BYTES)
 }
 
-// How many bytes the subscript has that the bytes begin with.
+// How many bytes there are in the subscript that the bytes begin with.
 fn subscript_len(bytes: &[u8]) -> usize
     ensures subscript { (s rest : List ℕ) → bytes.now ≡ subscript_bytes significant_digits s ++ rest → result ≡ length (subscript_bytes significant_digits s) }
     ensures fits { result ≤ length bytes.now }
@@ -52,7 +52,7 @@ fn subscript_len(bytes: &[u8]) -> usize
     }
 }
 
-// The bytes of a key behind those of its account and its name.
+// The bytes of a key after those of its account and its name.
 fn behind_names(bytes: &[u8]) -> &[u8]
     ensures subscripts { (n : Node) → key_bytes significant_digits n ≡ bytes.now → result.now ≡ subscripts_bytes significant_digits n.subscripts }
     ensures fits { length result.now ≤ length bytes.now }
@@ -61,7 +61,7 @@ fn behind_names(bytes: &[u8]) -> &[u8]
     behind(local, text_len(local))
 }
 
-// Where the last subscript of a key begins, or None where the key has none.
+// Where the last subscript of a key begins, or None if the key has none.
 pub fn last_subscript(bytes: &[u8]) -> Option<usize>
     ensures { (n : Node) → key_bytes significant_digits n ≡ bytes.now → MatchOption result (n.subscripts ≡ []) (IsLastAt n bytes.now) }
 {

@@ -20,7 +20,7 @@ use mnum::{Bytes7, Num, is_canonical_by, is_name};
 use mspec::limits::MAX_SUBSCRIPTS;
 use std::alloc::{AllocError, Global};
 
-// Room for most texts of keys.
+// Enough space for most texts of keys.
 const SHORT_TEXT: usize = 32;
 
 // The digits that a number of the language keeps, and those that it kept in stores of version 1.
@@ -28,13 +28,13 @@ pub const DIGITS: u32 = 18;
 
 const OLD_DIGITS: u32 = 15;
 
-// Room for each text of a number: eighteen digits, a sign and a point.
+// Enough space for every text of a number: eighteen digits, a sign and a point.
 const NUMBER_TEXT: usize = 20;
 
-// The numbers that eight bytes can be, so many.
+// How many numbers eight bytes can be.
 const WORD: u128 = 1 << 64;
 
-// What stands behind the first `count` bytes.
+// What follows the first `count` bytes.
 pub fn behind(bytes: &[u8], count: usize) -> &[u8]
     requires { count ≤ length bytes.now }
     ensures { result.now ≡ drop count bytes.now }
@@ -42,7 +42,7 @@ pub fn behind(bytes: &[u8], count: usize) -> &[u8]
     &bytes[count..]
 }
 
-// The text of these bytes, beside a count; None where one of them is over 127.
+// The text of these bytes, with a count; None if one of them is over 127.
 fn counted(bytes: Vec<u8>, count: usize) -> Option<(Bytes7, usize)>
     ensures { MatchOption result
         (All (λ c. c < 128) bytes.items → ⊥)
@@ -54,7 +54,7 @@ fn counted(bytes: Vec<u8>, count: usize) -> Option<(Bytes7, usize)>
     }
 }
 
-// The text that the bytes begin with, and how many of them are its own; None where they begin with no text.
+// The text that the bytes begin with, and how many of them are its own; None if they begin with no text.
 fn read_text(alloc: Global, bytes: &[u8]) -> Result<Option<(Bytes7, usize)>, AllocError>
     ensures { IfOk result (λ found. MatchOption found
         (BeginsWithNo IsAscii text_bytes bytes.now)
@@ -94,7 +94,7 @@ fn lowered(number: u128) -> Option<Num>
     }
 }
 
-// The text of these bytes as a subscript, beside a count; None where it is none.
+// The text of these bytes as a subscript, with a count; None if it is none.
 fn sub_of(bytes: Vec<u8>, count: usize) -> Option<(Bytes7, usize)>
     ensures { MatchOption result
         (IsSub bytes.items → ⊥)
@@ -112,7 +112,7 @@ fn sub_of(bytes: Vec<u8>, count: usize) -> Option<(Bytes7, usize)>
     }
 }
 
-// Whether a text that is canonical is so by this many digits.
+// Whether a text that is canonical is still so when only this many digits are kept.
 fn is_kept(text: &[u8], kept: u32) -> bool
     requires canonical { IsCanonical significant_digits text.now }
     requires some_kept { 0 < kept }
@@ -122,7 +122,7 @@ fn is_kept(text: &[u8], kept: u32) -> bool
     kept == DIGITS || is_canonical_by(text, kept)
 }
 
-// The subscript that is this number, beside a count; None where fewer digits are kept than the number has.
+// The subscript that is this number, with a count; None if fewer digits are kept than the number has.
 fn numeric_sub(
     alloc: Global,
     number: Num,
@@ -281,7 +281,7 @@ fn read_name(alloc: Global, bytes: &[u8]) -> Result<Option<(Bytes7, usize)>, All
     }
 }
 
-// The parts of the node whose key these bytes are where numbers keep so many digits.
+// The parts of the node whose key these bytes are when numbers keep `kept` digits.
 #[tactic(auto, using(crate::proofs::SubscriptLists::node_found))]
 fn read_by(
     alloc: Global,
@@ -307,13 +307,13 @@ fn read_by(
     Ok(Some((account, name, subs)))
 }
 
-/// The account, the global's name and the subscripts of the node whose key these bytes are, or None where they are the key of
-/// no node of a store: of no account name of 1 to 16 letters or digits, global name of 1 to 31 characters and list of subscripts
-/// that `subs_ok` takes.
+/// The account, the global's name and the subscripts of the node whose key these bytes are, or None if they are the key of no
+/// node of a store: of no account name of 1 to 16 letters or digits, global name of 1 to 31 characters and list of subscripts
+/// that `subs_ok` accepts.
 ///
 /// # Errors
 ///
-/// `AllocError` for want of memory.
+/// `AllocError` if it runs out of memory.
 pub fn read(alloc: Global, bytes: &[u8]) -> Result<Option<(Bytes7, Bytes7, Subs)>, AllocError>
     ensures { IfOk result (λ found. MatchOption found
         ((n : Node) → IsStored n → key_bytes significant_digits n ≡ bytes.now → ⊥)
@@ -323,12 +323,12 @@ pub fn read(alloc: Global, bytes: &[u8]) -> Result<Option<(Bytes7, Bytes7, Subs)
 }
 
 impl NodeKey {
-    /// The parts of the node whose key these bytes are in a store of version 1, where numbers keep fifteen digits, or None where
-    /// they are the key of no node there. As `read`, by fewer digits: a text of sixteen to eighteen digits is no number there.
+    /// The parts of the node whose key these bytes are in a store of version 1, where numbers keep fifteen digits, or None if they
+    /// are the key of no node there. Like `read`, with fewer digits: a text of sixteen to eighteen digits is no number there.
     ///
     /// # Errors
     ///
-    /// `AllocError` for want of memory.
+    /// `AllocError` if it runs out of memory.
     pub fn read_v1(
         alloc: Global,
         bytes: &[u8],

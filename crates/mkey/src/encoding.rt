@@ -1,5 +1,5 @@
 // SPDX-License-Identifier: Apache-2.0
-// The bytes of texts, numbers and subscripts. A subscript that is a number is put as it is, and no text of it is made.
+// The bytes of texts, numbers and subscripts. A subscript that is a number is written as it is, and no text of it is made.
 ghost use Rattle.std.specs.Prelude.{◌≡◌, ℤ, ◌+◌, ◌*◌, ◌^◌, ◌<◌, ◌≤◌, ◌∷◌, ◌++◌, All, OnOk, length, unsigned_abs, vec_len, vec_capacity};
 ghost use Rattle.mspec.specs.KeyBytes.{text_bytes, raised, number_bytes, subscript_bytes, subscripts_bytes, IsSubscript, AreSubscripts, IsAscii};
 ghost use Rattle.mspec.specs.Number.{significant_digits};
@@ -12,10 +12,10 @@ use std::alloc::AllocError;
 // Numbers are raised by this, so that none is below zero.
 pub const RAISE: u128 = 1 << 127;
 
-// A number takes so many bytes, and a text no more than that beside its own.
+// A number takes this many bytes, and a text no more than that besides its own.
 pub const NUMBER_ROOM: usize = 17;
 
-// The bytes of a text, each plus 1, and a 0 behind them.
+// The bytes of a text, each plus 1, and a 0 after them.
 pub fn push_text(out: &mut Vec<u8>, text: &[u8])
     requires ascii { IsAscii text.now }
     requires room { vec_len out.old + length text.now + 1 ≤ vec_capacity out.old }
@@ -40,7 +40,7 @@ fn raise(units: i128) -> u128
     }
 }
 
-// The bytes of a number, behind the tag of one.
+// The bytes of a number, with the tag of one in front.
 fn push_number(out: &mut Vec<u8>, units: i128)
     requires room { vec_len out.old + 17 ≤ vec_capacity out.old }
     requires range { unsigned_abs units < 10 ^ 36 }
@@ -48,7 +48,7 @@ fn push_number(out: &mut Vec<u8>, units: i128)
 {
     out.push_reserved(1);
     let bytes = raise(units).to_be_bytes();
-    // the room is there
+    // the space is there
     let _put = out.extend_from_slice(&bytes);
 }
 
@@ -91,7 +91,7 @@ pub fn push_values(out: &mut Vec<u8>, subs: &[Value]) -> Result<(), AllocError>
     Ok(())
 }
 
-// The same of texts.
+// The same for texts.
 pub fn push_texts(out: &mut Vec<u8>, subs: &[Bytes7]) -> Result<(), AllocError>
     ensures { OnOk result (out.new.items ≡ out.old.items ++ subscripts_bytes significant_digits subs.now) }
 {
@@ -101,7 +101,7 @@ pub fn push_texts(out: &mut Vec<u8>, subs: &[Bytes7]) -> Result<(), AllocError>
     Ok(())
 }
 
-// How much room a subscript may take.
+// How much space a subscript may take.
 #[tactic(auto, using(mvalue::proofs::AsciiNumbers::text_ascii))]
 fn value_room(value: &Value) -> usize
     requires { IsSubscript value.now }
@@ -114,7 +114,7 @@ fn value_room(value: &Value) -> usize
     }
 }
 
-// How much room subscripts may take.
+// How much space subscripts may take.
 pub fn values_room(subs: &[Value]) -> usize
     requires { AreSubscripts subs.now }
     ensures at_most { result ≤ 15 * 272 }
@@ -127,7 +127,7 @@ pub fn values_room(subs: &[Value]) -> usize
     total
 }
 
-// The same of texts.
+// The same for texts.
 pub fn texts_room(subs: &[Bytes7]) -> usize
     requires { AreSubscripts subs.now }
     ensures at_most { result ≤ 15 * 272 }

@@ -12,8 +12,8 @@ use std::marker::Model;
 // The bytes of half a head.
 const HALF_BYTES: usize = 16;
 
-// The first thirty-two bytes, with zeros behind fewer: all that two subscripts that are numbers have, but for the last digits of
-// the second. Contracts see the number that they are.
+// The first thirty-two bytes, followed by zeros if there are fewer: all that two subscripts that are numbers have, except for the
+// last digits of the second. Contracts see the number that they are.
 #[derive(Debug, Drop)]
 pub struct Head {
     front: Half,
@@ -53,8 +53,8 @@ impl Head {
     }
 }
 
-// Sixteen bytes as a number. It is held as two words, since a number of sixteen bytes would lie at a multiple of sixteen, with a
-// gap in each key.
+// Sixteen bytes as a number. It is held as two words, since a number of sixteen bytes would be placed at a multiple of sixteen,
+// which leaves a gap in each key.
 #[derive(Debug, Drop)]
 struct Half {
     high: u64,
@@ -94,7 +94,7 @@ impl Half {
     }
 }
 
-// The number that the first eight bytes are, with zeros behind fewer.
+// The number that the first eight bytes are, followed by zeros if there are fewer.
 #[tactic(auto, using(std::proofs::lemmas::List::nil_from_length, crate::proofs::Heads::head_nil))]
 fn word(bytes: &[u8]) -> u64
     ensures { result ≡ head_number 8 bytes.now }
@@ -120,7 +120,7 @@ fn short_word(bytes: &[u8]) -> u64
     number
 }
 
-// The same number of the bytes behind the first eight.
+// The same number for the bytes after the first eight.
 fn second_word(bytes: &[u8]) -> u64
     ensures { result ≡ head_number 8 (drop 8 bytes.now) }
 {
@@ -130,7 +130,7 @@ fn second_word(bytes: &[u8]) -> u64
     word(behind(bytes, WORD_BYTES))
 }
 
-// The half of the bytes behind the first sixteen.
+// The half for the bytes after the first sixteen.
 fn back_half(bytes: &[u8]) -> Half
     ensures { result ≡ head_number 16 (drop 16 bytes.now) }
 {

@@ -28,7 +28,7 @@ use std::alloc::{AllocError, Global};
 use std::cmp::Ordering;
 use std::marker::Model;
 
-// What stands behind a key in the bounds of the nodes below it.
+// What comes after a key in the bounds of the nodes below it.
 const FIRST_TAG: u8 = 1;
 
 const BEHIND_TAGS: u8 = 3;
@@ -48,7 +48,7 @@ impl Model for NodeKey {
     ghost view = { λ key. key.of_node.0 };
 }
 
-// The bytes of an account's name and of a global's, with room for so many more behind them, and for one that follows a key.
+// The bytes of an account's name and of a global's, with space for `room` more after them, and for one that follows a key.
 fn begun(alloc: Global, account: &[u8], name: &Bytes7, room: usize) -> Result<Vec<u8>, AllocError>
     requires account { IsAccountName account.now }
     requires name { IsName name.now }
@@ -78,7 +78,7 @@ impl NodeKey {
     ///
     /// # Errors
     ///
-    /// `Sub` exactly where `subs_ok` is false, and `Memory`.
+    /// `Sub` exactly if `subs_ok` is false, and `Memory`.
     pub fn build(
         alloc: Global,
         account: &Bytes7,
@@ -99,11 +99,11 @@ impl NodeKey {
         Ok(NodeKey { bytes })
     }
 
-    /// The same of subscripts that are values, as the language has them: a number is put into the key as it is.
+    /// The same for subscripts that are values, as the language has them: a number is put into the key as it is.
     ///
     /// # Errors
     ///
-    /// `Sub` exactly where `values_ok` is false, and `Memory`.
+    /// `Sub` exactly if `values_ok` is false, and `Memory`.
     pub fn build_values(
         alloc: Global,
         account: &[u8],
@@ -128,7 +128,7 @@ impl NodeKey {
     ///
     /// # Errors
     ///
-    /// `AllocError` for want of memory.
+    /// `AllocError` if it runs out of memory.
     pub fn copy(&self) -> Result<NodeKey, AllocError>
         ensures key { IfOk result (λ key. key ≡ self.now) }
         ensures stored { IsStored self.now }
@@ -137,8 +137,7 @@ impl NodeKey {
         Ok(NodeKey { bytes })
     }
 
-    /// The key of the node with one subscript less, in this one's memory, or None where the node has no subscript. Takes no
-    /// memory.
+    /// The key of the node with one subscript fewer, in this one's memory, or None if the node has no subscript. Takes no memory.
     pub fn into_parent(self) -> Option<NodeKey>
         ensures { MatchOption result (self.subscripts ≡ []) (λ above. IsParent above self) }
     {
@@ -148,8 +147,8 @@ impl NodeKey {
         Some(NodeKey { bytes })
     }
 
-    /// The bytes of the key. They stand in the order of nodes, and begin with the bytes of another key exactly where this
-    /// node is the other or below it. Takes no memory.
+    /// The bytes of the key. They are in the order of nodes, and begin with the bytes of another key exactly if this node is the
+    /// other or below it. Takes no memory.
     pub fn as_bytes(&self) -> &[u8]
         ensures bytes { result.now ≡ key_bytes significant_digits self.now }
         ensures stored { IsStored self.now }
@@ -157,7 +156,7 @@ impl NodeKey {
         self.bytes.as_slice()
     }
 
-    // The bytes of the key with one more behind them.
+    // The bytes of the key with one more after them.
     fn followed_by(&self, alloc: Global, byte: u8) -> Result<Vec<u8>, AllocError>
         ensures bytes { IfOk result (λ bytes. bytes.items ≡ key_bytes significant_digits self.now ++ byte ∷ []) }
         ensures stored { IsStored self.now }
@@ -169,12 +168,12 @@ impl NodeKey {
         Ok(bytes)
     }
 
-    /// The end of the keys of the node and of the nodes below it, which are those that begin with this key: they stand from
+    /// The end of the keys of the node and of the nodes below it. These keys are those that begin with this key: they are from
     /// this key on and before that end.
     ///
     /// # Errors
     ///
-    /// `AllocError` for want of memory.
+    /// `AllocError` if it runs out of memory.
     pub fn after_subtree(&self, alloc: Global) -> Result<Vec<u8>, AllocError>
         ensures bytes { IfOk result (λ end. end.items ≡ subtree_end (key_bytes significant_digits self.now)) }
         ensures subtree { IfOk result (λ end. BoundsKeysOf (IsWithin self.now) (key_bytes significant_digits self.now) end.items) }
@@ -188,7 +187,7 @@ impl NodeKey {
     ///
     /// # Errors
     ///
-    /// `AllocError` for want of memory.
+    /// `AllocError` if it runs out of memory.
     pub fn into_after_subtree(self) -> Result<Vec<u8>, AllocError>
         ensures { IfOk result (λ end. end.items ≡ subtree_end (key_bytes significant_digits self)) }
     {
@@ -208,7 +207,7 @@ impl NodeKey {
     ///
     /// # Errors
     ///
-    /// `AllocError` for want of memory.
+    /// `AllocError` if it runs out of memory.
     pub fn children_start(&self, alloc: Global) -> Result<Vec<u8>, AllocError>
         ensures { IfOk result (λ low. low.items ≡ children_start (key_bytes significant_digits self.now)) }
     {
@@ -216,11 +215,11 @@ impl NodeKey {
         Ok(low)
     }
 
-    /// The bounds of the keys of the nodes below this one: they stand from the first on and before the second.
+    /// The bounds of the keys of the nodes below this one: the keys are from the first bound on and before the second.
     ///
     /// # Errors
     ///
-    /// `AllocError` for want of memory.
+    /// `AllocError` if it runs out of memory.
     pub fn child_bounds(&self, alloc: Global) -> Result<(Vec<u8>, Vec<u8>), AllocError>
         ensures low { IfOk result (λ bounds. bounds.0.items ≡ children_start (key_bytes significant_digits self.now)) }
         ensures high { IfOk result (λ bounds. bounds.1.items ≡ subtree_end (key_bytes significant_digits self.now)) }
@@ -232,12 +231,12 @@ impl NodeKey {
         Ok((low, high))
     }
 
-    /// The subscript next behind this node's in the node whose key these bytes are, where that node stands below this one. One that is a
-    /// number comes as a number, which takes no memory. Of bytes that are no key nothing is said.
+    /// The subscript that comes next after this node's in the node whose key these bytes are, if that node is below this one. If it
+    /// is a number, it comes as a number, which takes no memory. Nothing is said of bytes that are no key.
     ///
     /// # Errors
     ///
-    /// `AllocError` for want of memory.
+    /// `AllocError` if it runs out of memory.
     pub fn child_in(&self, alloc: Global, bytes: &[u8]) -> Result<Option<Value>, AllocError>
         ensures child { IfOk result (λ child. (m : Node) → IsKeyOf m bytes.now → child ≡ child_under self.now m) }
         ensures sub { IfOk result (λ child. IfSome child IsSub) }
@@ -251,7 +250,7 @@ impl NodeKey {
     }
 }
 
-// Keys stand in the order of their nodes, and are equal where those are.
+// Keys are in the order of their nodes, and are equal if those are.
 
 impl PartialEq for NodeKey {
     ghost eq = { eq_by_cmp (node_cmp significant_digits) };

@@ -1,8 +1,8 @@
 // SPDX-License-Identifier: Apache-2.0
-//! The bytes under which a node lies in a table, and the order of subscripts.
+//! The bytes under which a node is stored in a table, and the order of subscripts.
 //!
-//! Bytes of keys stand in the order of their nodes, and the keys that begin with a key are those of its node and of the nodes
-//! below it. The definitions that the contracts cite stand in `mspec`: `NodeOrder` (the order of texts and of nodes) and
+//! The bytes of keys are in the order of their nodes, and the keys that begin with a given key are those of its node and of the
+//! nodes below it. The definitions that the contracts cite are in `mspec`: `NodeOrder` (the order of texts and of nodes) and
 //! `KeyBytes` (the bytes); their laws are `key_laws` there.
 #![tactic(auto)]
 

@@ -51,7 +51,7 @@ impl AccountName {
         Some(AccountName::of_name(text))
     }
 
-    /// The account's name that these bytes are, which are one. Takes no memory.
+    /// The account's name that these bytes are; they must be one. Takes no memory.
     pub fn of_name(text: &[u8]) -> AccountName
         requires { IsAccountName text.now }
         ensures { result ≡ text.now }
@@ -70,7 +70,7 @@ impl AccountName {
         self.bytes.as_slice()
     }
 
-    /// The same name once more. Takes no memory.
+    /// A second copy of the same name. Takes no memory.
     pub fn copy(&self) -> AccountName
         ensures { result ≡ self.now }
     {

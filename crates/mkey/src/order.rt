@@ -19,7 +19,7 @@ pub fn first_word(bytes: &[u8]) -> u64
     ])
 }
 
-/// The order of two runs of bytes, as that of slices, which looks at one byte at a time. Takes no memory.
+/// The order of two runs of bytes. It is the order of slices, which looks at one byte at a time. Takes no memory.
 pub fn compare(left: &[u8], right: &[u8]) -> Ordering
     ensures { result ≡ slice_cmp nat_cmp left.now right.now }
 {

@@ -10,7 +10,7 @@ use std::cmp::Ordering;
 // The units of 1.
 const UNIT: i128 = 1_000_000_000_000_000_000;
 
-// The number that the text writes, where it is one to eighteen digits without a zero in front, or `0`: the short way of small
+// The number that the text writes, if it is one to eighteen digits without a leading zero, or `0`: the short way for small
 // whole numbers.
 #[tactic(auto, using(crate::proofs::ShortTexts::short_values))]
 fn short_canonical(text: &[u8]) -> Option<u64>
@@ -26,7 +26,7 @@ fn short_canonical(text: &[u8]) -> Option<u64>
     short_whole(text)
 }
 
-// The number of which the text is the canonical text, in units of 10^-18, or None where it is no such text.
+// The number whose canonical text this is, in units of 10^-18, or None if it is no such text.
 pub fn canonical(text: &[u8]) -> Option<i128>
     ensures value { result ≡ canonical_value significant_digits text.now }
     ensures range { IfSome result (λ u. unsigned_abs u < 10 ^ 36) }
@@ -43,7 +43,7 @@ pub fn canonical(text: &[u8]) -> Option<i128>
     }
 }
 
-/// Whether the text is the canonical text of a number, and stands among the subscripts by that. Takes no memory.
+/// Whether the text is the canonical text of a number, and takes its place among the subscripts by that number. Takes no memory.
 pub fn is_numeric(text: &Bytes7) -> bool
     ensures { result ≡ is_some (canonical_value significant_digits text.now) }
 {

@@ -49,7 +49,7 @@ pub fn is_subscript(text: &Bytes7) -> bool
     !text.as_bytes().is_empty() && is_short(text)
 }
 
-// The same of a value. Each number has so many.
+// The same for a value. Each number has that many.
 #[tactic(auto, using(crate::proofs::NumericValues::number_is_sub))]
 fn is_value_subscript(value: &Value) -> bool
     ensures { IsTrue result ↔ IsSubscript value.now }
@@ -78,14 +78,14 @@ pub fn subs_ok(subs: &[Bytes7]) -> bool
     subs.len() <= MAX_SUBSCRIPTS && subs.iter().all(|text| is_subscript(text))
 }
 
-/// The same of values, as the language has them. Takes no memory.
+/// The same for values, as the language has them. Takes no memory.
 pub fn values_ok(subs: &[Value]) -> bool
     ensures { IsTrue result ↔ AreSubscripts subs.now }
 {
     subs.len() <= MAX_SUBSCRIPTS && subs.iter().all(|value| is_value_subscript(value))
 }
 
-/// Whether these can be the subscripts of a walk: as those of a node, at least one, and the last may be empty. Takes no memory.
+/// Whether these can be the subscripts of a walk: like those of a node, but at least one, and the last may be empty. Takes no memory.
 pub fn order_values_ok(subs: &[Value]) -> bool
     ensures { IsTrue result ↔ AreOrderSubscripts subs.now }
 {

@@ -23,13 +23,13 @@ use std::alloc::{AllocError, Global};
 use std::cmp::Ordering;
 use std::marker::Model;
 
-// What stands behind the bytes of subscripts in the bound of those that begin with them: more than any other subscript's.
+// What comes after the bytes of subscripts in the bound of those that begin with them: more than any other subscript's.
 const BEYOND: [u8; 3] = [2, 255, 0];
 
 /// The key of a list of subscripts, in the order of subscripts. Contracts see it as the list.
 #[derive(Debug, Drop)]
 pub struct SubsKey {
-    // tells most keys apart without a look at the bytes, which lie elsewhere
+    // tells most keys apart without looking at the bytes, which are elsewhere
     head: Head,
     bytes: Vec<u8>,
     ghost of_subs: { IsSubsKey bytes.items } by { IsSubsKey-prop bytes.items },
@@ -58,7 +58,7 @@ impl SubsKey {
     ///
     /// # Errors
     ///
-    /// `AllocError` for want of memory.
+    /// `AllocError` if it runs out of memory.
     pub fn build(alloc: Global, subs: &[Value]) -> Result<SubsKey, AllocError>
         requires { AreSubscripts subs.now }
         ensures key { IfOk result (λ key. key ≡ subs.now) }
@@ -69,12 +69,12 @@ impl SubsKey {
         Ok(SubsKey::of_bytes(bytes))
     }
 
-    /// A bound of the keys of subscripts that begin with these: it stands behind all of them, and before all others that stand
-    /// behind one of them.
+    /// A bound of the keys of subscripts that begin with these: it comes after all of them, and before all others that come
+    /// after one of them.
     ///
     /// # Errors
     ///
-    /// `AllocError` for want of memory.
+    /// `AllocError` if it runs out of memory.
     pub fn behind_below(alloc: Global, subs: &[Value]) -> Result<SubsKey, AllocError>
         requires { AreSubscripts subs.now }
         ensures key { IfOk result (λ key. key ≡ behind_below subs.now) }
@@ -94,8 +94,8 @@ impl SubsKey {
         self.as_bytes().is_empty()
     }
 
-    /// The bytes of the key. They stand in the order of subscripts, and begin with the bytes of another key exactly where the
-    /// list begins with the other's. Takes no memory.
+    /// The bytes of the key. They are in the order of subscripts, and begin with the bytes of another key exactly if the list
+    /// begins with the other's. Takes no memory.
     pub fn as_bytes(&self) -> &[u8]
         ensures bytes { result.now ≡ subscripts_bytes significant_digits self.now }
         ensures subs { NoneEmpty self.now }
@@ -107,7 +107,7 @@ impl SubsKey {
     ///
     /// # Errors
     ///
-    /// `AllocError` for want of memory.
+    /// `AllocError` if it runs out of memory.
     pub fn copy(&self) -> Result<SubsKey, AllocError>
         ensures { IfOk result (λ key. key ≡ self.now) }
     {
@@ -122,12 +122,12 @@ impl SubsKey {
         self.as_bytes().starts_with(above.as_bytes())
     }
 
-    /// The subscript next behind those of another list, where the list begins with the other and goes on. One that is a number comes
-    /// as a number, which takes no memory.
+    /// The subscript that comes next after those of another list, if the list begins with the other and goes on. If it is a number,
+    /// it comes as a number, which takes no memory.
     ///
     /// # Errors
     ///
-    /// `AllocError` for want of memory.
+    /// `AllocError` if it runs out of memory.
     #[inline]
     #[tactic(auto, using(crate::proofs::SubsKeys::bytes_behind, crate::proofs::SubsKeys::child_read))]
     pub fn child_of(&self, alloc: Global, above: &SubsKey) -> Result<Option<Value>, AllocError>
@@ -142,7 +142,7 @@ impl SubsKey {
     }
 }
 
-// Keys stand in the order of their subscripts, and are equal where those are.
+// Keys are in the order of their subscripts, and are equal if those are.
 
 impl PartialEq for SubsKey {
     ghost eq = { eq_by_cmp (subscripts_cmp significant_digits) };

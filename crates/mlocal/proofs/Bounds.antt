@@ -38,7 +38,7 @@ cmp-front : (k xs ys : List Text) → R (k ++ xs) (k ++ ys) ≡ R xs ys
 cmp-front [] xs ys = refl
 cmp-front (x ∷ k) xs ys = ap (λ o. ordering_then o (R (k ++ xs) (k ++ ys))) (tied_itself (text_cmp_total significant_digits) x) ∙ cmp-front k xs ys
 
--- ---- the text behind all subscripts
+-- ---- the text after all subscripts
 
 beyond_place : place significant_digits beyond ≡ Other beyond
 unfolding canonical_value numeric_value literal_size round round_size nearest rounding_unit digits_before size_text digits
@@ -89,7 +89,7 @@ before_between : (x : Text) (d : List Text) → is_between [] (x ∷ []) d ≡ p
 before_between x [] = refl
 before_between x (c ∷ d) = is_greater (C x c) d ∙ ap is_lt (sym ((text_cmp_total significant_digits).antisymm c x))
 
--- ---- the subscript next behind a list
+-- ---- the subscript that follows a list
 
 passes_both : (p : Text → Bool) (b : Bool) (o : Option Text) → (b && passes p o) ≡ passes p (cond b o None)
 passes_both p true o = refl
@@ -101,7 +101,7 @@ child-drop p xs ys = ap (λ o. is_within xs ys && passes p o) (sym (at_front ys 
 subs_behind : (xs ys : List Text) → AreSubs ys → All IsSub (drop (length xs) ys)
 subs_behind xs ys subs = All-drop IsSub (length xs) ys (λ k d inside. (subs.0.each k d inside, subs.1 k d inside))
 
--- those below a list, where each subscript passes the test
+-- those below a list, if each subscript passes the test
 pub below_all : (p : Text → Bool) → ((s : Text) → IsSub s → p s ≡ true) → (xs ys : List Text) → AreSubs ys → is_between xs (behind_below xs) ys ≡ has_child p xs ys
 below_all p every xs ys subs =
     ap (λ low. is_between low (behind_below xs) ys) (sym (append-nil xs))
@@ -109,7 +109,7 @@ below_all p every xs ys subs =
     ∙ ap (λ b. is_within xs ys && b) (all_between p every (drop (length xs) ys) (subs_behind xs ys subs))
     ∙ child-drop p xs ys
 
--- those whose subscript there stands behind another
+-- those whose subscript there comes after another
 pub below_behind : (xs : List Text) (x : Text) (ys : List Text) → AreSubs ys → is_between (behind_below (xs ++ x ∷ [])) (behind_below xs) ys ≡ has_child (is_before x) xs ys
 below_behind xs x ys subs =
     ap (λ low. is_between low (behind_below xs) ys) (append_assoc xs (x ∷ []) (beyond ∷ []))
@@ -117,7 +117,7 @@ below_behind xs x ys subs =
     ∙ ap (λ b. is_within xs ys && b) (behind_between x (drop (length xs) ys) (subs_behind xs ys subs))
     ∙ child-drop (is_before x) xs ys
 
--- those whose subscript there stands before another
+-- those whose subscript there comes before another
 pub below_before : (xs : List Text) (x : Text) (ys : List Text) → is_between xs (xs ++ x ∷ []) ys ≡ has_child (λ c. is_before c x) xs ys
 below_before xs x ys =
     ap (λ low. is_between low (xs ++ x ∷ []) ys) (sym (append-nil xs))
@@ -125,7 +125,7 @@ below_before xs x ys =
     ∙ ap (λ b. is_within xs ys && b) (before_between x (drop (length xs) ys))
     ∙ child-drop (λ c. is_before c x) xs ys
 
--- ---- a node, and what stands below it
+-- ---- a node, and what is below it
 
 all_from : (d : List Text) → All IsSub d → is_from [] (beyond ∷ []) d ≡ true
 all_from [] all = refl
@@ -139,7 +139,7 @@ from_within xs ys subs =
     ∙ ap (λ b. is_within xs ys && b) (all_from (drop (length xs) ys) (subs_behind xs ys subs))
     ∙ and-true (is_within xs ys)
 
--- ---- what has more subscripts stands behind
+-- ---- what has more subscripts comes after
 
 pub more_behind : (xs : List Text) (x : Text) (ys : List Text) → R xs (xs ++ x ∷ ys) ≡ Less
 more_behind xs x ys = ap (λ k. R k (xs ++ x ∷ ys)) (sym (append-nil xs)) ∙ cmp-front xs [] (x ∷ ys)

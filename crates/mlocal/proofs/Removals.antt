@@ -8,7 +8,7 @@ use Rattle.mlocal.proofs.Own.{retained}
 abbrev R : List Text → List Text → Ordering
 R = subscripts_cmp significant_digits
 
--- ---- a key more is taken out
+-- ---- one more key is taken out
 
 pub one_more : (a b : Bool) (o : Option Text) → cond a None (cond b None o) ≡ cond (b || a) None o
 one_more true true o = refl
@@ -70,7 +70,7 @@ all_among (e ∷ es) q x all found = here (is_eq (R q e.0)) refl found (all_amon
     here true is f rest = let same : q ≡ e.0 = same_key q e.0 (R q e.0) refl is in rw same (All-head AreSomeSubs e.0 (keys_of es) all)
     here false is f rest = rest f
 
--- what is left at a key where the node and those below it are taken out
+-- what is left at a key if the node and those below it are taken out
 left_at : (k : List Text) (es : Entries) (q : List Text) → All AreSomeSubs (keys_of es)
     → cond (is_one_of (taken (is_from k (behind_below k)) es) q) None (lookup (λ k. is_eq (R q k)) es) ≡ cond (not (is_within k q)) (lookup (λ k. is_eq (R q k)) es) None
 left_at k es q all = here (lookup (λ k. is_eq (R q k)) es) refl

@@ -25,7 +25,7 @@ any_found p q (k ∷ ks) all alike = here (p k) (q k) (alike k (All-head AreSubs
     here true b e h = ap (λ c. c || list_any q ks) e
     here false b e h = h ∙ ap (λ c. c || list_any q ks) e
 
--- ---- the subscripts next behind a list
+-- ---- the subscripts that follow a list
 
 abbrev subs_of : List Text → List (List Text) → List Text
 subs_of xs ks = flat_map (λ ys. option_to_list (child_of xs ys)) ks
@@ -124,7 +124,7 @@ pub some_map : {X Y : Type 0} (f : X → Y) (o : Option X) → is_some o ≡ is_
 some_map f None = refl
 some_map f (Some x) = refl
 
--- ---- the first behind a bound, where what lies past a node has no subscript there
+-- ---- the first after a bound, where what lies past a node has no subscript there
 
 abbrev R : List Text → List Text → Ordering
 R = subscripts_cmp significant_digits
@@ -133,7 +133,7 @@ passed : (o : Option Text) → passes (λ c. true) o ≡ false → o ≡ None
 passed None e = refl
 passed (Some c) e = cc
 
--- what stands at the end of those below a list or behind it is not below it
+-- what is at the end of those below a list or after it is not below it
 past_below : (xs k : List Text) → AreSubs k → not (is_le (R (behind_below xs) k)) ≡ false → child_of xs k ≡ None
 past_below xs k subs e =
     passed (child_of xs k) (sym (each_below (λ c. true) (λ s sub. refl) xs k subs) ∙ ap (λ b. is_lt (R xs k) && b) e ∙ and_right (is_lt (R xs k)) false refl)

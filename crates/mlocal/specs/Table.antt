@@ -17,11 +17,11 @@ NamedTrees = FinMap (slice_cmp nat_cmp) Tree
 abbrev pub tree_at : NamedTrees → Text → Tree
 tree_at ts n = unwrap_or (get ts n) empty
 
--- a name whose tree has no text left is let go of
+-- a name whose tree has no text left is dropped
 abbrev pub tidied_at : Text → NamedTrees → NamedTrees
 tidied_at n ts = cond (is_bare (tree_at ts n)) (retain_keys ts (λ m. not (text_eq n m))) ts
 
--- a name that has no tree yet stays without
+-- a name that has no tree yet stays without one
 abbrev pub kill_at : Text → List Text → Option Tree → NamedTrees → NamedTrees
 kill_at n xs None ts = ts
 kill_at n xs (Some t) ts = tidied_at n (insert ts n (without t xs))

@@ -11,15 +11,15 @@ use Rattle.mspec.specs.Number.{significant_digits}
 use Rattle.mspec.specs.Trees.{child_of}
 pub use Rattle.mkey.specs.Under.{passes}
 
--- whether a key stands behind one
+-- whether a key comes after `low`
 abbrev pub is_behind : List Text → List Text → Bool
 is_behind low xs = range_contains (subscripts_cmp significant_digits) (Excluded low) Unbounded xs
 
--- whether a key stands behind one and before another
+-- whether a key comes after `low` and before `high`
 abbrev pub is_between : List Text → List Text → List Text → Bool
 is_between low high xs = range_contains (subscripts_cmp significant_digits) (Excluded low) (Excluded high) xs
 
--- whether a key stands at one, or behind it and before another
+-- whether a key is at `low` or after it, and before `high`
 abbrev pub is_from : List Text → List Text → List Text → Bool
 is_from low high xs = range_contains (subscripts_cmp significant_digits) (Included low) (Excluded high) xs
 
@@ -27,6 +27,6 @@ is_from low high xs = range_contains (subscripts_cmp significant_digits) (Includ
 abbrev pub is_one_of : List (List Text) → List Text → Bool
 is_one_of found xs = list_any (λ k. is_eq (subscripts_cmp significant_digits k xs)) found
 
--- whether the subscript next behind xs passes a test
+-- whether the subscript that follows xs passes a test
 abbrev pub has_child : (Text → Bool) → List Text → List Text → Bool
 has_child p xs ys = passes p (child_of xs ys)

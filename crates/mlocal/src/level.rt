@@ -15,13 +15,13 @@ use mvalue::Value;
 use std::alloc::{AllocError, Global};
 use std::marker::Model;
 
-// The scope of a level. It takes memory from the level's first NEW on: most levels have none, and to open and to close one costs
+// The scope of a level. It takes memory from the level's first NEW on: most levels have none, and opening and closing one costs
 // next to nothing. Contracts see it as the scope.
 pub(crate) struct Level {
     scope: Option<Box<Scope>>,
 }
 
-// Written out, so that to let go of it is one call, which is proved once.
+// Written out, so that dropping it is one call, which is proved once.
 impl Drop for Level {
     fn drop(self) {
         let Level { scope: _ } = self;
@@ -69,7 +69,7 @@ impl Level {
         }
     }
 
-    // Gives a node a value. For want of memory the scope is as it was.
+    // Gives a node a value. If memory runs out, the scope is as it was.
     pub(crate) fn set(
         &mut self,
         alloc: Global,
@@ -88,7 +88,7 @@ impl Level {
         }
     }
 
-    // Gives a variable without subscripts a value. For want of memory the scope is as it was.
+    // Gives a variable without subscripts a value. If memory runs out, the scope is as it was.
     pub(crate) fn set_own(
         &mut self,
         alloc: Global,
@@ -105,7 +105,7 @@ impl Level {
         }
     }
 
-    // Takes the texts of a node and of the nodes below it away, where `end` is the bound behind them. For want of memory the scope
+    // Takes away the texts of a node and of the nodes below it, where `end` is the bound after them. If memory runs out, the scope
     // is as it was.
     pub(crate) fn kill(
         &mut self,
@@ -125,7 +125,7 @@ impl Level {
         }
     }
 
-    // Takes the texts of all names away but these and those that a level above has. Takes no memory.
+    // Takes away the texts of all names except these and those that a level above has. Takes no memory.
     #[tactic(auto, using(crate::proofs::Levels::none_emptied))]
     pub(crate) fn keep_spared(&mut self, names: &[Name], above: &[Level])
         ensures { self.new ≡ emptied (λ n. is_among names.now n || list_any (has_name n) above.now) self.old }
@@ -135,7 +135,7 @@ impl Level {
         }
     }
 
-    // Has these names too, with empty trees. For want of memory the scope is as it was.
+    // Gives the scope these names too, with empty trees. If memory runs out, the scope is as it was.
     pub(crate) fn hide(&mut self, alloc: Global, names: &[Name]) -> Result<(), AllocError>
         ensures ok { OnOk result (self.new ≡ hide names.now self.old) }
         ensures err { OnErr result (self.new ≡ self.old) }
@@ -149,8 +149,8 @@ impl Level {
         Ok(())
     }
 
-    // Has all names but these, and of these those that it had. The trees of the others are empty. For want of memory the scope is as
-    // it was.
+    // Gives the scope all names but these, and those of these that it had. The trees of the others are empty. If memory runs out,
+    // the scope is as it was.
     pub(crate) fn hide_others(&mut self, alloc: Global, names: Vec<Name>) -> Result<(), AllocError>
         ensures ok { OnOk result (self.new ≡ hide_others names.items self.old) }
         ensures err { OnErr result (self.new ≡ self.old) }
@@ -166,7 +166,7 @@ impl Level {
     }
 }
 
-// A scope that has no name, in memory of its own, as the first NEW of a level needs it. Rare and large, so it is not drawn in.
+// A scope that has no name, in memory of its own, as the first NEW of a level needs it. Rare and large, so it is not inlined.
 #[cold]
 #[inline(never)]
 fn boxed(alloc: Global) -> Result<Box<Scope>, AllocError>
@@ -175,7 +175,7 @@ fn boxed(alloc: Global) -> Result<Box<Scope>, AllocError>
     Ok(Box::new(alloc, Scope::new(alloc))?)
 }
 
-// Whether a level of these has the name.
+// Whether one of these levels has the name.
 fn any_has(levels: &[Level], name: &Name) -> bool
     ensures { result ≡ list_any (has_name name.now) levels.now }
 {

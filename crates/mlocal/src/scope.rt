@@ -19,7 +19,7 @@ use mvalue::Value;
 use std::alloc::{AllocError, Global};
 use std::marker::Model;
 
-// The names that NEW gave a scope, the names that it has not where it has all but some, and its variables by their names.
+// The names that NEW gave a scope, the names that it lacks if it has all but some, and its variables by their names.
 // Contracts see it as the scope of the definitions.
 pub(crate) struct Scope {
     names: Vec<Name>,
@@ -27,7 +27,7 @@ pub(crate) struct Scope {
     trees: Table,
 }
 
-// Written out, so that to let go of it is one call, which is proved once.
+// Written out, so that dropping it is one call, which is proved once.
 impl Drop for Scope {
     fn drop(self) {
         let Scope {
@@ -80,7 +80,7 @@ impl Scope {
         }
     }
 
-    // Whether it has the name by itself. Not drawn in, so that the walk over levels, most of which have no name, stays short.
+    // Whether it has the name by itself. Not inlined, so that the walk over levels, most of which have no name, stays short.
     #[inline(never)]
     #[tactic(auto, using(crate::proofs::Views::yes_or, crate::proofs::Views::no_or))]
     pub(crate) fn has(&self, name: &Name) -> bool
@@ -137,7 +137,7 @@ impl Scope {
         }
     }
 
-    // The subscript next to the last of these, of those below which there is a text.
+    // The subscript next to the last of these, among those below which there is a text.
     pub(crate) fn order(
         &self,
         alloc: Global,
@@ -154,7 +154,7 @@ impl Scope {
         }
     }
 
-    // Gives a node a value. For want of memory the scope is as it was.
+    // Gives a node a value. If memory runs out, the scope is as it was.
     pub(crate) fn set(
         &mut self,
         alloc: Global,
@@ -170,7 +170,7 @@ impl Scope {
         self.trees.set(alloc, name, key, value)
     }
 
-    // Gives a variable without subscripts a value. For want of memory the scope is as it was.
+    // Gives a variable without subscripts a value. If memory runs out, the scope is as it was.
     pub(crate) fn set_own(
         &mut self,
         alloc: Global,
@@ -184,8 +184,8 @@ impl Scope {
         self.trees.set_own(alloc, name, value)
     }
 
-    // Takes the texts of a node and of the nodes below it away, where `end` is the bound behind them, and lets go of the name if no
-    // text is left. For want of memory the scope is as it was.
+    // Takes away the texts of a node and of the nodes below it, where `end` is the bound after them, and drops the name if no text
+    // is left. If memory runs out, the scope is as it was.
     pub(crate) fn kill(
         &mut self,
         alloc: Global,
@@ -200,14 +200,14 @@ impl Scope {
         self.trees.kill(alloc, name, key, end)
     }
 
-    // Takes the texts of all names away but these and those that a level above has. Takes no memory.
+    // Takes away the texts of all names except these and those that a level above has. Takes no memory.
     pub(crate) fn keep_spared(&mut self, names: &[Name], above: &[Level])
         ensures { self.new ≡ emptied (λ n. is_among names.now n || list_any (has_name n) above.now) self.old }
     {
         self.trees.keep_spared(names, above);
     }
 
-    // Those of the names that it has not yet.
+    // Those of the names that it does not have yet.
     fn new_names(&self, alloc: Global, names: &[Name]) -> Result<Vec<Name>, AllocError>
         ensures { IfOk result (λ fresh. fresh.items ≡ filter (λ n. not (has self.now n)) names.now) }
     {
@@ -220,7 +220,7 @@ impl Scope {
         Ok(fresh)
     }
 
-    // Has these names too, with empty trees. For want of memory the scope is as it was.
+    // Gives the scope these names too, with empty trees. If memory runs out, the scope is as it was.
     pub(crate) fn hide(&mut self, alloc: Global, names: &[Name]) -> Result<(), AllocError>
         ensures ok { OnOk result (self.new ≡ hide names.now self.old) }
         ensures err { OnErr result (self.new ≡ self.old) }
@@ -232,7 +232,7 @@ impl Scope {
         Ok(())
     }
 
-    // Has all names but these, and of these those that it had. The trees of the others are empty.
+    // Gives the scope all names but these, and those of these that it had. The trees of the others are empty.
     pub(crate) fn hide_others(&mut self, names: Vec<Name>)
         ensures { self.new ≡ hide_others names.items self.old }
     {

@@ -24,7 +24,7 @@ pub struct Locals {
     levels: Vec<Level>,
 }
 
-// Written out, so that to let go of it is one call, which is proved once.
+// Written out, so that dropping it is one call, which is proved once.
 impl Drop for Locals {
     fn drop(self) {
         let Locals {
@@ -52,7 +52,7 @@ impl Model for Locals {
 }
 
 impl Locals {
-    /// The locals of a new session, which takes no memory: one scope, which has every name, and no text.
+    /// The locals of a new session: one scope, which has every name, and no text. Takes no memory.
     pub fn new(alloc: Global) -> Locals
         ensures { result ≡ bottom ∷ [] }
     {
@@ -67,7 +67,7 @@ impl Locals {
     ///
     /// # Errors
     ///
-    /// `AllocError` for want of memory; the locals are then as they were.
+    /// `AllocError` if it runs out of memory; the locals are then as they were.
     pub fn enter(&mut self) -> Result<(), AllocError>
         ensures ok { OnOk result (self.new ≡ with_level self.old) }
         ensures err { OnErr result (self.new ≡ self.old) }
@@ -76,7 +76,7 @@ impl Locals {
         Ok(())
     }
 
-    /// Closes the level opened last, with what its scope has; does nothing where none is open. Takes no memory.
+    /// Closes the level opened last, with what its scope has; does nothing if none is open. Takes no memory.
     pub fn leave(&mut self)
         ensures { self.new ≡ without_level self.old }
     {
@@ -91,18 +91,18 @@ impl Locals {
         self.levels.clear();
     }
 
-    /// The value of a variable without subscripts, where it has one. A number that was assigned is one still. Takes no memory.
+    /// The value of a variable without subscripts, if it has one. A number that was assigned is still a number. Takes no memory.
     pub fn own(&self, name: &Name) -> Option<&Value>
         ensures { option_map (λ value. value.now) result ≡ value_at self.now name.now [] }
     {
         self.scope_of(name).own(name)
     }
 
-    /// The value at a node, where the name's variable has one there. A number that was assigned is one still.
+    /// The value at a node, if the name's variable has one there. A number that was assigned is still a number.
     ///
     /// # Errors
     ///
-    /// `AllocError` for want of memory.
+    /// `AllocError` if it runs out of memory.
     pub fn get(&self, name: &Name, subs: &[Value]) -> Result<Option<&Value>, AllocError>
         requires { AreSubscripts subs.now }
         ensures { IfOk result (λ found. option_map (λ value. value.now) found ≡ value_at self.now name.now subs.now) }
@@ -118,7 +118,7 @@ impl Locals {
     ///
     /// # Errors
     ///
-    /// `AllocError` for want of memory.
+    /// `AllocError` if it runs out of memory.
     pub fn data(&self, name: &Name, subs: &[Value]) -> Result<Data, AllocError>
         requires { AreSubscripts subs.now }
         ensures value { IfOk result (λ found. found.value ≡ is_value self.now name.now subs.now) }
@@ -127,12 +127,12 @@ impl Locals {
         self.scope_of(name).data(self.alloc, name, subs)
     }
 
-    /// The subscript next to the last of these, of those in its place below which the name's variable has a text. An empty last
-    /// subscript begins the walk, at the first or from the last, and none ends it. One that is a number comes as a number.
+    /// The subscript next to the last of these, among those in its place below which the name's variable has a text. An empty last
+    /// subscript begins the walk, at the first or from the last, and `None` ends it. A subscript that is a number comes as a number.
     ///
     /// # Errors
     ///
-    /// `AllocError` for want of memory.
+    /// `AllocError` if it runs out of memory.
     pub fn order(
         &self,
         name: &Name,
@@ -149,7 +149,7 @@ impl Locals {
     ///
     /// # Errors
     ///
-    /// `AllocError` for want of memory; the locals are then as they were.
+    /// `AllocError` if it runs out of memory; the locals are then as they were.
     pub fn set(&mut self, name: &Name, subs: &[Value], value: Value) -> Result<(), AllocError>
         requires { AreSubscripts subs.now }
         ensures ok { OnOk result (self.new ≡ assigned self.old name.now subs.now value) }
@@ -169,7 +169,7 @@ impl Locals {
     ///
     /// # Errors
     ///
-    /// `AllocError` for want of memory; the locals are then as they were.
+    /// `AllocError` if it runs out of memory; the locals are then as they were.
     pub fn set_own(&mut self, name: &Name, value: Value) -> Result<(), AllocError>
         ensures ok { OnOk result (self.new ≡ assigned self.old name.now [] value) }
         ensures err { OnErr result (self.new ≡ self.old) }
@@ -180,11 +180,11 @@ impl Locals {
         }
     }
 
-    /// Takes the texts of a node and of the nodes below it away.
+    /// Takes away the texts of a node and of the nodes below it.
     ///
     /// # Errors
     ///
-    /// `AllocError` for want of memory; the locals are then as they were.
+    /// `AllocError` if it runs out of memory; the locals are then as they were.
     pub fn kill(&mut self, name: &Name, subs: &[Value]) -> Result<(), AllocError>
         requires { AreSubscripts subs.now }
         ensures ok { OnOk result (self.new ≡ killed self.old name.now subs.now) }
@@ -198,7 +198,7 @@ impl Locals {
         }
     }
 
-    /// Takes the texts of all variables away that can be seen, but those of these names. Takes no memory.
+    /// Takes away the texts of all variables that can be seen, except those of these names. Takes no memory.
     pub fn kill_except(&mut self, names: &[Name])
         ensures { self.new ≡ killed_except names.now self.old }
     {
@@ -210,7 +210,7 @@ impl Locals {
     ///
     /// # Errors
     ///
-    /// `AllocError` for want of memory; the locals are then as they were.
+    /// `AllocError` if it runs out of memory; the locals are then as they were.
     pub fn new_vars(&mut self, names: &[Name]) -> Result<(), AllocError>
         ensures ok { OnOk result (self.new ≡ newed names.now self.old) }
         ensures err { OnErr result (self.new ≡ self.old) }
@@ -222,12 +222,12 @@ impl Locals {
         self.levels[count - 1].hide(self.alloc, names)
     }
 
-    /// Gives the top scope all names but these, and of these those that it had, until its level ends. The variables of the
+    /// Gives the top scope all names but these, and those of these that it had, until its level ends. The variables of the
     /// others have no text.
     ///
     /// # Errors
     ///
-    /// `AllocError` for want of memory; the locals are then as they were.
+    /// `AllocError` if it runs out of memory; the locals are then as they were.
     pub fn new_except(&mut self, names: Vec<Name>) -> Result<(), AllocError>
         ensures ok { OnOk result (self.new ≡ newed_except names.items self.old) }
         ensures err { OnErr result (self.new ≡ self.old) }
@@ -240,7 +240,7 @@ impl Locals {
         self.levels[count - 1].hide_others(self.alloc, names)
     }
 
-    // The scope that a name's variable is of, to read from.
+    // The scope that a name's variable belongs to, to read from.
     fn scope_of(&self, name: &Name) -> &Scope
         ensures { tree_in result.now name.now ≡ tree_of self.now name.now }
     {
@@ -251,7 +251,7 @@ impl Locals {
     }
 }
 
-// Takes the texts of all variables of these levels away that no level above hides, but those of these names.
+// Takes away the texts of all variables of these levels that no level above hides, except those of these names.
 fn spare(levels: &mut Vec<Level>, names: &[Name])
     ensures { levels.new.items ≡ killed_up (is_among names.now) levels.old.items }
 {

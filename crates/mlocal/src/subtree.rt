@@ -15,7 +15,7 @@ use std::alloc::{AllocError, Global};
 use std::collections::BTreeMap;
 use std::ops::Bound;
 
-// Copies of the keys that stand at one, or behind it and before another.
+// Copies of the keys from `low` on that are before `high`.
 pub(crate) fn keys_from(
     alloc: Global,
     values: &BTreeMap<SubsKey, Value>,
@@ -33,7 +33,7 @@ pub(crate) fn keys_from(
     Ok(found)
 }
 
-// Takes out what stands at these keys. Takes no memory.
+// Takes out what is at these keys. Takes no memory.
 pub(crate) fn remove_all(values: &mut BTreeMap<SubsKey, Value>, found: &[SubsKey])
     ensures taken { (q : _) → get (subscripts_cmp significant_digits) values.new q ≡ cond (is_one_of found.now q) None (get (subscripts_cmp significant_digits) values.old q) }
     ensures subs { All AreSomeSubs (keys values.old) → All AreSomeSubs (keys values.new) }

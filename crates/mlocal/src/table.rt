@@ -27,12 +27,12 @@ const PLACES: usize = 64;
 // The variables of a scope by their names. Contracts see it as the finite map from names to trees.
 pub(crate) struct Table {
     variables: IndexMap<Name, Variable>,
-    // by the place of a name: where in the map the name of that place stands that was put last. It is looked at first, and passed
-    // over if another name stands there, or none
+    // by the place of a name: the index in the map of the name with that place that was set last, or moved by a KILL. It is looked at
+    // first, and passed over if another name is there, or none
     hints: [u16; PLACES],
 }
 
-// Written out, so that to let go of it is one call, which is proved once.
+// Written out, so that dropping it is one call, which is proved once.
 impl Drop for Table {
     fn drop(self) {
         let Table {
@@ -80,7 +80,7 @@ impl Table {
         }
     }
 
-    // Gives a node a value. For want of memory the variables are as they were.
+    // Gives a node a value. If memory runs out, the variables are as they were.
     pub(crate) fn set(
         &mut self,
         alloc: Global,
@@ -106,7 +106,7 @@ impl Table {
         }
     }
 
-    // Gives a variable without subscripts a value. For want of memory the variables are as they were.
+    // Gives a variable without subscripts a value. If memory runs out, the variables are as they were.
     pub(crate) fn set_own(
         &mut self,
         alloc: Global,
@@ -131,7 +131,7 @@ impl Table {
         }
     }
 
-    // Puts the variable of a name that has none. For want of memory the variables are as they were.
+    // Adds the variable of a name that has none. If memory runs out, the variables are as they were.
     #[tactic(auto, using(crate::proofs::Tables::added))]
     fn add(&mut self, name: &Name, variable: Variable) -> Result<(), AllocError>
         ensures ok { OnOk result (self.new ≡ insert self.old name.now variable) }
@@ -142,8 +142,8 @@ impl Table {
         Ok(())
     }
 
-    // Takes the texts of a node and of the nodes below it away, where `end` is the bound behind them, and lets go of the name if no
-    // text is left; the last name then stands where it stood. For want of memory the variables are as they were.
+    // Takes away the texts of a node and of the nodes below it, where `end` is the bound after them, and drops the name if no text
+    // is left; the last name then moves to its index. If memory runs out, the variables are as they were.
     pub(crate) fn kill(
         &mut self,
         alloc: Global,
@@ -167,7 +167,7 @@ impl Table {
         Ok(())
     }
 
-    // Lets the hint of the name that stands here say so.
+    // Sets the hint of the name at this index to the index.
     fn hint_at(&mut self, index: usize)
         ensures { self.new ≡ self.old }
     {
@@ -177,7 +177,7 @@ impl Table {
         }
     }
 
-    // Takes the variables of all names away but these and those that a level above has. Takes no memory.
+    // Takes away the variables of all names except these and those that a level above has. Takes no memory.
     pub(crate) fn keep_spared(&mut self, names: &[Name], above: &[Level])
         ensures { self.new ≡ retain_keys self.old (λ n. is_among names.now n || list_any (has_name n) above.now) }
     {
@@ -188,7 +188,7 @@ impl Table {
         );
     }
 
-    // Takes the variables of these names away. Takes no memory.
+    // Takes away the variables of these names. Takes no memory.
     pub(crate) fn drop_names(&mut self, names: &[Name])
         ensures { self.new ≡ retain_keys self.old (λ n. not (is_among names.now n)) }
     {
@@ -199,7 +199,7 @@ impl Table {
         );
     }
 
-    // Takes the variables of all but these names away. Takes no memory.
+    // Takes away the variables of all names but these. Takes no memory.
     pub(crate) fn keep_names(&mut self, names: &[Name])
         ensures { self.new ≡ retain_keys self.old (is_among names.now) }
     {
@@ -222,7 +222,7 @@ fn place_of(name: &Name) -> usize
     (first + 4 * last + count) % PLACES
 }
 
-// The hint that a name stands here. Where it stands past those that there are, any other does.
+// The hint that a name is at this index. If there is no hint for the index, any other will do.
 fn hint_of(index: usize) -> u16 {
     u16::try_from(index).unwrap_or(0)
 }
@@ -234,7 +234,7 @@ fn index_of(variables: &IndexMap<Name, Variable>, hint: u16, name: &Name) -> Opt
     ensures unique { IsUnique (pointwise nat_eq) variables.now }
 {
     let hinted = usize::from(hint);
-    // the length is what says that each name stands once
+    // the length is what says that each name occurs once
     let _count = variables.len();
     if let Some((key, _)) = variables.get_index(hinted) {
         if key == name {
@@ -244,7 +244,7 @@ fn index_of(variables: &IndexMap<Name, Variable>, hint: u16, name: &Name) -> Opt
     index_by_hash(variables, name)
 }
 
-// Where the map finds a name. Not drawn in, so that a look-up by a hint stays short.
+// Where the map finds a name. Not inlined, so that a lookup by a hint stays short.
 #[inline(never)]
 #[tactic(auto, using(crate::proofs::Tables::found_there))]
 fn index_by_hash(variables: &IndexMap<Name, Variable>, name: &Name) -> Option<usize>

@@ -30,11 +30,11 @@ use std::ops::Bound;
 pub(crate) struct Variable {
     // its own value; most variables have no other
     own: Option<Value>,
-    // the values at nodes with subscripts, by these
+    // the values at nodes with subscripts, by their subscripts
     values: BTreeMap<SubsKey, Value>,
 }
 
-// Written out, so that to let go of it is one call, which is proved once.
+// Written out, so that dropping it is one call, which is proved once.
 impl Drop for Variable {
     fn drop(self) {
         let Variable { own: _, values: _ } = self;
@@ -95,7 +95,7 @@ impl Variable {
         self.own = Some(value);
     }
 
-    // Gives a node a value. For want of memory the variable is as it was.
+    // Gives a node a value. If memory runs out, the variable is as it was.
     pub(crate) fn set(&mut self, key: SubsKey, value: Value) -> Result<(), AllocError>
         requires { AreSubs key }
         ensures ok { OnOk result (self.new ≡ insert self.old key value) }
@@ -109,8 +109,8 @@ impl Variable {
         Ok(())
     }
 
-    // Takes the texts of a node and of the nodes below it away, where `end` is the bound behind them. It looks at no other node.
-    // For want of memory the variable is as it was.
+    // Takes away the texts of a node and of the nodes below it, where `end` is the bound after them. It looks at no other node.
+    // If memory runs out, the variable is as it was.
     pub(crate) fn kill(
         &mut self,
         alloc: Global,
@@ -145,7 +145,7 @@ impl Variable {
         })
     }
 
-    // The subscript next to the last of these, of those below which there is a text.
+    // The subscript next to the last of these, among those below which there is a text.
     pub(crate) fn order(
         &self,
         alloc: Global,
@@ -162,7 +162,7 @@ impl Variable {
         }
     }
 
-    // The first key behind those whose subscript there is the last of these, or stands before it. It may lie past the node: then
+    // The first key after those whose subscript there is the last of these, or comes before it. It may lie past the node: then
     // it has no subscript there.
     fn behind(
         &self,
@@ -182,7 +182,7 @@ impl Variable {
         Ok(first_behind(&self.values, &start))
     }
 
-    // The last key of those whose subscript there stands before the last of these, or of all where that is empty.
+    // The last key of those whose subscript there comes before the last of these, or of all if that is empty.
     fn before(
         &self,
         alloc: Global,
@@ -203,7 +203,7 @@ impl Variable {
     }
 }
 
-// The subscript next behind a list in the key that was found.
+// The subscript that follows a list in the key that was found.
 fn child(
     alloc: Global,
     above: &SubsKey,
@@ -218,7 +218,7 @@ fn child(
     }
 }
 
-// The first key that stands behind one.
+// The first key after `low`.
 #[tactic(auto, using(crate::proofs::Walks::none_is))]
 fn first_behind<'a>(values: &'a BTreeMap<SubsKey, Value>, low: &SubsKey) -> Option<&'a SubsKey>
     requires subs { All AreSomeSubs (keys values.now) }
@@ -235,7 +235,7 @@ fn first_behind<'a>(values: &'a BTreeMap<SubsKey, Value>, low: &SubsKey) -> Opti
     }
 }
 
-// The last key that stands behind one and before another.
+// The last key after `low` and before `high`.
 #[tactic(auto, using(crate::proofs::Walks::none_last))]
 fn last_between<'a>(
     values: &'a BTreeMap<SubsKey, Value>,

@@ -98,11 +98,11 @@ module _ {S : Type 0} (m : IndexMap LockName Holding S) (n : LockName) (t : ℕ)
   pub by_itself : is_other t (index.get name_eq m n) ≡ true → has_conflict (locks_of m) (held t n) ≡ true
   by_itself = by_name n (within_itself n)
 
-  -- where no name is held, none conflicts
+  -- if no name is held, none conflicts
   pub by_no_name : length m.entries ≡ 0 → has_conflict (locks_of m) (held t n) ≡ false
   by_no_name none = conflict_is m (held t n) ∙ ap (list_any conflicts_with) (nil_from_length m.entries none)
 
-  -- where none of these is another's, none conflicts
+  -- if none of these is another's, none conflicts
   pub by_none : IsUnique name_eq m → list_any (under_other n t) m.entries ≡ false → is_other t (index.get name_eq m n) ≡ false
       → ((i : ℕ) → i < length n.node.subscripts → is_other t (index.get name_eq m (name_above i n)) ≡ false) → has_conflict (locks_of m) (held t n) ≡ false
   by_none unique below itself above = conflict_is m (held t n) ∙ false_from_ne_true (list_any conflicts_with m.entries) refuted

@@ -46,7 +46,7 @@ twice_written m l n k v w first second q = second q ∙ ap (cond (name_eq k q) w
 pub none_is : (a : Tally) → is_none a ≡ true → a ≡ no_names
 none_is a e = grind arith
 
--- the same, where both or neither have it
+-- the same, if both or neither have it
 pub rest_is : (b : Bool) (t : ℕ) (x y : Tally) → cond b (with_one t x) x ≡ cond b (with_one t y) y → x ≡ y
 rest_is b t x y h = grind arith
 

@@ -88,11 +88,11 @@ held_locks h g n w unique unique' none one u =
 
 -- ---- all of a terminal
 
--- none of the first so many is the terminal's
+-- none of the first `i` entries is the terminal's
 abbrev pub NoneBefore : ℕ → ℕ → List Entry → Type 0
 NoneBefore t i es = (j : ℕ) (e : Entry) → j < i → slice_get es j ≡ Some e → nat_eq e.1.terminal t ≡ false
 
--- what stands at a place within
+-- what is at a place within
 pub place : (es : List Entry) (i : ℕ) → i < length es → (e : Entry) × (slice_get es i ≡ Some e)
 place [] i inside = absurd (omega (arith, inside))
 place (d ∷ es) i inside = (get_or (d ∷ es) i d, slice_get-get_or (d ∷ es) i d inside)
@@ -100,7 +100,7 @@ place (d ∷ es) i inside = (get_or (d ∷ es) i d, slice_get-get_or (d ∷ es) 
 pub swap_length : (es fs : List Entry) (i : ℕ) (d : Entry) → i < length es → fs ≡ swap_remove es i d → length fs + 1 ≡ length es
 swap_length es fs i d inside is = grind (arith, common_steps)
 
--- what stands before the place that is taken out stays there
+-- what is before the place that is taken out stays there
 swap_before : (es : List Entry) (i j : ℕ) (d e : Entry) → j < i → i < length es → slice_get (swap_remove es i d) j ≡ Some e → slice_get es j ≡ Some e
 swap_before es i j d e before inside at =
     let short : j < length (swap_remove es i d) = slice_get_within (swap_remove es i d) j e at in

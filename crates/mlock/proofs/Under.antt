@@ -58,11 +58,11 @@ of_under a b i less =
     and_from (is_within a b) (not (is_within b a)) (of_inside a b i)
     (ap not (false_from_ne_true (is_within b a) (λ back. let short : length b.node.subscripts ≤ length a.node.subscripts = longer b a (inside b a back) in absurd (omega (arith, short, less)))))
 
--- nothing stands above a name without subscripts
+-- nothing is above a name without subscripts
 pub none_above : (n b : LockName) → b.node.subscripts ≡ [] → is_under n b ≡ false
 none_above n b none = false_from_ne_true (is_under n b) (λ e. let less = (under n b e).1 in let short : length b.node.subscripts ≡ 0 = ap length none in absurd (omega (arith, less, short)))
 
--- no name stands below itself
+-- no name is below itself
 pub not_itself : (n : LockName) → is_under n n ≡ false
 not_itself n = false_from_ne_true (is_under n n) (λ e. let less = (under n n e).1 in absurd (omega (arith, less)))
 

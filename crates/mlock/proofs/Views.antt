@@ -52,7 +52,7 @@ other_is h t is = ap (λ b. cond b (Some h.count) None) (no h.terminal t is)
 
 -- ---- one holding is changed
 
--- the holding, where there is one, is this terminal's
+-- the holding, if there is one, is this terminal's
 abbrev pub IsOwn : ℕ → Option Holding → Type 0
 IsOwn t None = ⊤
 IsOwn t (Some h) = h.terminal ≡ t

@@ -5,7 +5,7 @@ use Rattle.mspec.specs.LockConflict.{LockName}
 use Rattle.mkey.specs.Parent.{IsParent}
 use Rattle.mlock.specs.declared.locks.Holding.{Holding}
 
--- the name with so many of its subscripts
+-- the name with its first `i` subscripts
 abbrev pub name_above : ℕ → LockName → LockName
 name_above i n = record { global = n.global; node = record { account = n.node.account; name = n.node.name; subscripts = take i n.node.subscripts } }
 

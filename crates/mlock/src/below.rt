@@ -1,5 +1,5 @@
 // SPDX-License-Identifier: Apache-2.0
-// What is kept of the names above those that are held: for each the tally of what is held below it.
+// What is kept about the names above those that are held: for each, the tally of what is held below it.
 ghost use Rattle.std.specs.Prelude.{◌≡◌, true, not, IfOk, OnOk, if◌then◌else◌};
 ghost use Rattle.mspec.specs.LockConflict.{LockName as Name};
 ghost use Rattle.mlock.specs.Tallies.{name_eq, is_under, is_only, with_one, tally_at, HasEntry, HasRoom};
@@ -20,7 +20,7 @@ pub fn is_others_below(below: &IndexMap<LockName, Tally>, terminal: u32, name: &
     }
 }
 
-// Makes an entry for each name above this one, with the tally that it has or that of no name.
+// Makes an entry for each name above this one, with the tally that it has, or that of no name.
 pub fn make_room_above(
     below: &mut IndexMap<LockName, Tally>,
     name: LockName,
@@ -36,7 +36,7 @@ pub fn make_room_above(
     make_room_above(below, above)
 }
 
-// Makes an entry for the name, with the tally that it has or that of no name.
+// Makes an entry for the name, with the tally that it has, or that of no name.
 fn make_room(below: &mut IndexMap<LockName, Tally>, name: &LockName) -> Result<(), AllocError>
     ensures same { (n : Name) → tally_at below.new n ≡ tally_at below.old n }
     ensures keeps { (n : Name) → HasEntry below.old n → HasEntry below.new n }
@@ -74,7 +74,7 @@ fn add(below: &mut IndexMap<LockName, Tally>, terminal: u32, name: &LockName)
     }
 }
 
-// Takes a name that the terminal held off the tally of each name above it. Takes no memory.
+// Removes a name that the terminal held from the tally of each name above it. Takes no memory.
 pub fn take_off_above(below: &mut IndexMap<LockName, Tally>, terminal: u32, name: LockName)
     requires { (n : Name) → is_under n name ≡ true → (rest : Counts) × (with_one terminal rest ≡ tally_at below.old n) }
     ensures { (n : Name) → tally_at below.old n ≡ (if is_under n name then with_one terminal (tally_at below.new n) else tally_at below.new n) }
@@ -86,7 +86,7 @@ pub fn take_off_above(below: &mut IndexMap<LockName, Tally>, terminal: u32, name
     take_off_above(below, terminal, above)
 }
 
-// Takes a name that the terminal held off the tally of this name, and the entry away if that was the last.
+// Removes a name that the terminal held from the tally of this name, and the entry too if that was the last.
 fn take_off(below: &mut IndexMap<LockName, Tally>, terminal: u32, name: &LockName)
     requires { (rest : Counts) × (with_one terminal rest ≡ tally_at below.old name.now) }
     ensures { (n : Name) → tally_at below.old n ≡ (if name_eq name.now n then with_one terminal (tally_at below.new n) else tally_at below.new n) }

@@ -1,5 +1,5 @@
 // SPDX-License-Identifier: Apache-2.0
-// Whether a name conflicts with those that are held: what stands below it is counted, and each name above it is looked up.
+// Whether a name conflicts with those that are held: what is below it is counted, and each name above it is looked up.
 ghost use Rattle.std.specs.Prelude.{◌≡◌, ◌<◌, ℕ, true, false, length, IfOk};
 ghost use Rattle.indexmap.specs.IndexMap.{get};
 ghost use Rattle.mspec.specs.LockConflict.{held as lock, has_conflict};
@@ -14,7 +14,7 @@ use crate::tally::Tally;
 use indexmap::IndexMap;
 use std::alloc::AllocError;
 
-// Whether another terminal holds a name that conflicts with this one. Where no name is held, none is looked up.
+// Whether another terminal holds a name that conflicts with this one. If no name is held, none is looked up.
 pub fn conflicts(
     holdings: &IndexMap<LockName, Holding>,
     below: &IndexMap<LockName, Tally>,

@@ -1,5 +1,5 @@
 // SPDX-License-Identifier: Apache-2.0
-// The names that are held, each with its holder, beside what is kept of the names above them.
+// The names that are held, each with its holder, beside what is kept about the names above them.
 ghost use Rattle.std.specs.Prelude.{◌≡◌, ◌<◌, ◌≤◌, ℕ, Some, None, OnOk, OnErr, MatchOption, IfSome, slice_get, swap_remove, length};
 ghost use Rattle.std.specs.FinMap.{insert, remove};
 ghost use Rattle.indexmap.specs.IndexMap.{get, index_map_len, IsUnique};
@@ -15,7 +15,7 @@ use crate::tally::Tally;
 use indexmap::IndexMap;
 use std::alloc::AllocError;
 
-// Where the name stands, and who holds it how often.
+// Where the name is, who holds it, and how often.
 pub fn find(holdings: &IndexMap<LockName, Holding>, name: &LockName) -> Option<(usize, Holding)>
     ensures { MatchOption result (get name_eq holdings.now name.now ≡ None) (λ found. slice_get holdings.now.entries found.0 ≡ Some (name.now, found.1)) }
 {
@@ -23,7 +23,7 @@ pub fn find(holdings: &IndexMap<LockName, Holding>, name: &LockName) -> Option<(
     Some((index, *holding))
 }
 
-// The terminal holds a name once that no terminal held.
+// The terminal comes to hold, once, a name that no terminal held.
 pub fn hold(
     holdings: &mut IndexMap<LockName, Holding>,
     below: &mut IndexMap<LockName, Tally>,
@@ -39,7 +39,7 @@ pub fn hold(
     let key = name.copy()?;
     let levels = name.copy()?;
     let walk = name.copy()?;
-    // the length is what says that one name more can be counted
+    // the length is what says that one more name can be counted
     let _len = holdings.len();
     make_room_above(below, levels)?;
     holdings.insert(key, Holding { terminal, count: 1 })?;
@@ -47,7 +47,7 @@ pub fn hold(
     Ok(())
 }
 
-// The holder of a name holds it so often.
+// The holder of a name holds it as often as `holding` says.
 pub fn set_count(holdings: &mut IndexMap<LockName, Holding>, index: usize, holding: Holding)
     requires within { index < index_map_len holdings.old }
     requires own { IfSome (slice_get holdings.old.entries index) (λ e. e.1.terminal ≡ holding.terminal) }
@@ -57,7 +57,7 @@ pub fn set_count(holdings: &mut IndexMap<LockName, Holding>, index: usize, holdi
     holdings[index] = holding;
 }
 
-// Nobody holds the name at this place any more; the last takes its place. Takes no memory.
+// Nobody holds the name at this place any more; the last name takes its place. Takes no memory.
 pub fn let_go(
     holdings: &mut IndexMap<LockName, Holding>,
     below: &mut IndexMap<LockName, Tally>,
@@ -74,7 +74,7 @@ pub fn let_go(
     }
 }
 
-// Whose the name at this place is.
+// Who holds the name at this place.
 fn holder_at(holdings: &IndexMap<LockName, Holding>, index: usize) -> u32
     requires { index < index_map_len holdings.now }
     ensures { (e : Name × Held) → slice_get holdings.now.entries index ≡ Some e → result ≡ e.1.terminal }
@@ -82,7 +82,7 @@ fn holder_at(holdings: &IndexMap<LockName, Holding>, index: usize) -> u32
     holdings[index].terminal
 }
 
-// Lets go of all that the terminal holds. Takes no memory.
+// Releases all that the terminal holds. Takes no memory.
 pub fn release(
     holdings: &mut IndexMap<LockName, Holding>,
     below: &mut IndexMap<LockName, Tally>,

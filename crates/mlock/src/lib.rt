@@ -1,7 +1,7 @@
 // SPDX-License-Identifier: Apache-2.0
 //! The locks of the terminals.
 //!
-//! What taking and giving back does is `LockConflict` of `mspec`; contracts see `Locks` as its locks.
+//! What taking and giving back do is defined in `LockConflict` of `mspec`; contracts see `Locks` as its locks.
 #![tactic(auto)]
 
 mod below;

@@ -29,7 +29,7 @@ pub struct Locks {
     below: IndexMap<LockName, Tally>,
 }
 
-// Written out, so that to let go of it is one call, which is proved once.
+// Written out, so that dropping it is one call, which is proved once.
 impl Drop for Locks {
     fn drop(self) {
         let Locks {
@@ -83,12 +83,12 @@ impl Locks {
         }
     }
 
-    /// Takes all the names for the terminal, or none: each counts as often as it stands there. False where one conflicts with a
-    /// name that another terminal holds, or where a count would pass 1,000,000; then nothing changes.
+    /// Takes all the names for the terminal, or none: each counts as often as it occurs there. False if one conflicts with a
+    /// name that another terminal holds, or if a count would pass 1,000,000; then nothing changes.
     ///
     /// # Errors
     ///
-    /// `AllocError` for want of memory; the locks are then as they were.
+    /// `AllocError` if it runs out of memory; the locks are then as they were.
     pub fn take(&mut self, terminal: u32, names: &[LockName]) -> Result<bool, AllocError>
         ensures taken { IfOk result (λ all. taken self.old terminal names.now ≡ (if all then Some self.new else None)) }
         ensures refused { IfOk result (λ all. all ≡ false → self.new ≡ self.old) }
@@ -109,7 +109,7 @@ impl Locks {
         conflicts(&self.holdings, &self.below, terminal, name)
     }
 
-    // One count more of each name, of which no other terminal holds one; false where a count would pass the most.
+    // One more count of each name, none of which another terminal holds; false if a count would pass the maximum.
     fn count_all(&mut self, terminal: u32, names: &[LockName]) -> Result<bool, AllocError>
         requires { All (IsFree self.old terminal) names.now }
         ensures counted { IfOk result (λ all. counted self.old terminal names.now ≡ (if all then Some self.new else None)) }
@@ -135,7 +135,7 @@ impl Locks {
         }
     }
 
-    // One count more of a name that no other terminal holds; false where it has the most.
+    // One more count of a name that no other terminal holds; false if it has the maximum.
     fn count_one(&mut self, terminal: u32, name: &LockName) -> Result<bool, AllocError>
         requires { IsFree self.old terminal name.now }
         ensures room { IfOk result (λ more. more ≡ nat_lt (count self.old (lock terminal name.now)) max_count) }
@@ -155,7 +155,7 @@ impl Locks {
         Ok(true)
     }
 
-    /// Gives one count of the name back; where the terminal does not hold it, nothing changes. Takes no memory.
+    /// Gives one count of the name back; if the terminal does not hold it, nothing changes. Takes no memory.
     pub fn give_back(&mut self, terminal: u32, name: &LockName)
         ensures { self.new ≡ given_back self.old terminal name.now }
     {

@@ -46,7 +46,7 @@ impl LockName {
         })
     }
 
-    // The name with one subscript less, in this one's memory, or None where it has no subscript.
+    // The name with one subscript fewer, in this one's memory, or None if it has no subscript.
     pub(crate) fn into_parent(self) -> Option<LockName>
         ensures { MatchOption result (self.node.subscripts ≡ []) (λ above. IsAbove above self) }
     {
@@ -58,7 +58,7 @@ impl LockName {
     }
 }
 
-// Names stand without `^` before those with it, and then in the order of their nodes.
+// Names without `^` come before those with it, and then in the order of their nodes.
 
 impl PartialEq for LockName {
     ghost eq = { eq_by_cmp lock_name_cmp };

@@ -2,8 +2,8 @@
 // How many names are held, and whether by one terminal alone.
 ghost use Rattle.std.specs.Prelude.{◌≡◌, ◌+◌, ◌*◌, ◌≤◌, ℕ, nat_eq};
 
-/// Of some names that are held: how many they are, the sum of their terminals, and the sum of the squares of these. All are of
-/// one terminal exactly where both sums are as if they were.
+/// For some names that are held: how many there are, the sum of their terminals, and the sum of the squares of these. All are of
+/// one terminal exactly if both sums are as if they were.
 #[derive(Clone, Copy)]
 pub(crate) struct Tally {
     pub names: u64,
@@ -14,7 +14,7 @@ pub(crate) struct Tally {
 impl Tally {
     ghost use Rattle.mlock.specs.Tallies.{no_names, with_one, is_only, is_none, HasRoom};
 
-    /// Of no name.
+    /// The tally of no name.
     pub fn none() -> Tally
         ensures { result ≡ no_names }
     {
@@ -25,14 +25,14 @@ impl Tally {
         }
     }
 
-    /// Whether it is of no name.
+    /// Whether it is the tally of no name.
     pub fn is_none(self) -> bool
         ensures { result ≡ is_none self }
     {
         self.names == 0 && self.terminals == 0 && self.squares == 0
     }
 
-    /// With one name more, which the terminal holds.
+    /// With one more name, which the terminal holds.
     pub fn with_one(self, terminal: u32) -> Tally
         requires { HasRoom self }
         ensures { result ≡ with_one terminal self }

@@ -86,7 +86,7 @@ gone_rows n k row is one =
     none (x ∷ []) h = refl
     none (x ∷ y ∷ rows) h = absurd (omega arith)
 
--- ---- a chunk that is made two
+-- ---- a chunk that is split in two
 
 module _ (head tail : List Row) where
   abbrev pub halves : List (List Row) → ℕ → List (List Row)

@@ -5,7 +5,7 @@ use Rattle.mmemory.proofs.Nests.{around}
 use Rattle.mmemory.proofs.Splits.{up_left, up_right, rows_passed, rows_failed, parts_passed, parts_failed, edge_map}
 use Rattle.mmemory.proofs.Some.{chunks_some}
 
--- what stands in a chunk of a sorted tree is sorted
+-- what is in a chunk of a sorted tree is sorted
 pub falls_chunk : (test : Row → Bool) (n : List (List Row)) (k : ℕ) → Falls test (joined n) → Falls test (get_or n k [])
 falls_chunk test n k up = up_left _ (get_or n k []) _ (up_right _ (joined (take k n)) _ (subst (Falls test) (around (λ r. r) [] refl n k) up))
 

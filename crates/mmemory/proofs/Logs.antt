@@ -43,7 +43,7 @@ order_less log all u was new are is old = ∥∥₁_map old (λ h n. elim (cases
 pub when_ok : {X E A : Type 0} (r : Result X E) (a b : A) → IsOk r → (if is_ok r then a else b) ≡ a
 when_ok r a b ok = ap (λ t. if t then a else b) ok
 
--- one more change in a log that had room
+-- one more change in a log that had space
 pub pushed : {X E : Type 0} (old room new : List Undo) (u : Undo) (r : Result X E) → IsOk r → room ≡ old → new ≡ (if is_ok r then room ++ u ∷ [] else room) → new ≡ old ++ u ∷ []
 pushed old room new u r ok same is = is ∙ when_ok r _ _ ok ∙ ap (λ l. l ++ u ∷ []) same
 
@@ -113,7 +113,7 @@ module _ (log more : List Undo) (trees : List Tree) (v t : ℕ) (y x : Tree) (st
 pub within_more : (marks : List ℕ) (log more : List Undo) (u : Undo) → more ≡ log ++ u ∷ [] → All (λ n. n ≤ length log) marks → All (λ n. n ≤ length more) marks
 within_more marks log more u is all k d low = omega (arith, all k d low, ap length is, length-append log (u ∷ []))
 
--- a log with more room is the same log
+-- a log with more space is the same log
 module _ (h : Held) (log : List Undo) (same : log ≡ h.log.items) where
   pub order_same : ∥ AreInOrder log (now h) ∥₁
   order_same = subst (λ l. ∥ AreInOrder l (now h) ∥₁) (sym same) h.ordered

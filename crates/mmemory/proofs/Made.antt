@@ -135,7 +135,7 @@ join_made chunks k first second was new tail rest low f s room rest_is t w rows_
         → joined_at k (nest chunks) ≡ set (remove (nest chunks) (k + 1)) k (get_or (nest chunks) k [] ++ get_or (nest chunks) (k + 1) [])
     tested a b = rw (lt-ltb (k + 1) (length (nest chunks)) a, le-leb _ 128 b)
 
--- ---- a chunk that is made two
+-- ---- a chunk that is split in two
 
 pub halves_made : (chunks kept made : List Chunk) (k : ℕ) (was new tail : Chunk) → kept ≡ chunks → k < length chunks → was ≡ get_or kept k was → chunk_rows was ≡ chunk_rows new ++ chunk_rows tail
     → made ≡ insert (set kept k new) (k + 1) tail → HalvedAt (nest chunks) (nest made) k

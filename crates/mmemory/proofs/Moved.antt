@@ -1,5 +1,5 @@
 -- SPDX-License-Identifier: Apache-2.0
--- A place of a chunk that is made two.
+-- A place of a chunk that is split in two.
 use Rattle.mmemory.proofs.MemoryWords.{◌≡◌, ℕ, zero, suc, ◌+◌, ◌-◌, ◌<◌, ◌≤◌, Bool, true, false, leb, cond, List, [], ◌∷◌, ◌++◌, length, take, drop, get_or, refl, sym, ap, subst, ◌∙◌, arith, add-one, append_assoc, leb-true, leb-false, take-append-le, drop-append-le, length-append, take-append-add, drop-append-add, Row, joined, Held, Place, Tree, rows_at, Plain, plain, no_plain, tree_nest, HalvedAt, IsMoved, is_moved, Keeps, nest_at, IsShaped, shape_at, before, after, Writes}
 use Rattle.mmemory.proofs.Shown.{shown_at}
 use Rattle.mmemory.proofs.Logs.{same_count, same_shape, then_wrote}
@@ -60,7 +60,7 @@ module _ (old new : List (List Row)) (k row : ℕ) (two : HalvedAt old new k) (l
       go true e = in_head (leb-true row (length two.head) e)
       go false e = in_tail (row - length two.head) (let more : length two.head < row = leb-false row (length two.head) e in omega arith)
 
--- the rows around a place of a tree of which a chunk was made two
+-- the rows around a place of a tree of which a chunk was split in two
 pub moved_at : (old new : Held) (t : ℕ) (p q : Place) (found : Tree) (rows : List Row) → Keeps old new → HalvedAt (nest_at old t) (nest_at new t) p.chunk → t < length old.trees.items
     → p.chunk < length (nest_at old t) → p.row ≤ length (rows_at (nest_at old t) p) → found ≡ get_or new.trees.items t found → rows ≡ rows_at (tree_nest found) p
     → (q.chunk, q.row) ≡ is_moved p.chunk p.row (length rows) → IsMoved (nest_at old t) (nest_at new t) p.chunk p.row (q.chunk, q.row)

@@ -30,7 +30,7 @@ whole n p =
     sewn : (a b c d : List Row) → a ++ ((b ++ c) ++ d) ≡ (a ++ b) ++ (c ++ d)
     sewn a b c d = simp append_assoc
 
--- ---- what follows a place, and what stands before it
+-- ---- what follows a place, and what comes before it
 
 pub drop_at : {A : Type 0} (xs : List A) (k : ℕ) (x : A) → slice_get xs k ≡ Some x → drop k xs ≡ x ∷ drop (k + 1) xs
 drop_at [] k x found = absurd (cc)

@@ -5,7 +5,7 @@ use Rattle.mmemory.proofs.Shown.{drop_past}
 use Rattle.mmemory.proofs.Nests.{up_to_place, take_past}
 use Rattle.mmemory.proofs.Some.{AreSome, no_chunk}
 
--- a place behind the rows of its chunk
+-- a place after the rows of its chunk
 pub past_after : (n : List (List Row)) (p : Place) → length (rows_at n p) ≤ p.row → after n p ≡ joined (drop (p.chunk + 1) n)
 past_after n p past = rw (drop_past p.row (rows_at n p) past) refl
 

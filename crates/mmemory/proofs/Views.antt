@@ -110,7 +110,7 @@ module _ (old new : State) (tree : ℕ) (it : Plain) (low : tree < 2 ^ 32) (h : 
       ∙ versioned_object (with_tree (rows_of old) catalog_tree objects) _ tree old.version [] edit (omega arith) forest_is in
       record { sound = refl; is = λ i. record (view_of new base marks now) { trees = all i; shape = kinds i; reals = bits i } }
 
--- ---- what stands beside the transaction
+-- ---- what there is beside the transaction
 
 pub map_same : {X : Type 0} (f g : ℕ → X) (bound : ℕ) (xs : List ℕ) → All (λ m. m ≤ bound) xs → ((m : ℕ) → m ≤ bound → f m ≡ g m) → map f xs ≡ map g xs
 map_same f g bound [] all same = refl

@@ -1,5 +1,5 @@
 -- SPDX-License-Identifier: Apache-2.0
--- What stands around the place of a search gives the words of the contracts.
+-- What is around the place of a search gives the words of the contracts.
 use Rattle.mmemory.proofs.MemoryWords.{◌≡◌, ℤ, Bool, true, false, not, List, [], ◌∷◌, ◌++◌, filter, reverse, drop, get_or, refl, sym, ap, subst, ◌∙◌, Ordering, Less, Equal, Greater, is_lt, is_gt, is_eq, true≢false, AllByRecursion, Order, Row, value_cmp, entry_cmp, prefix_cmp, rowid, has_rowid, IsAscending, IsTable, IsIndex, from_key, up_to_key, put_row, insert_entry, without_rowid, remove_entry, ascending_weaker, all_weaker, filter_all, filter_none, AtMost, IsSortedTree, prefix_cmp_follows, not_true, Place, joined, before, after, Falls, Splits, Skips}
 use Rattle.std.specs.Cmp.{IsTotalOrder}
 use Rattle.std.proofs.lemmas.Cmp.{alike_right}

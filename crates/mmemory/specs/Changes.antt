@@ -16,7 +16,7 @@ pub record Makes (old new : Plain) (step : Step) (rows : List Row) : Type 0 wher
   pub heading_is : heading new ≡ heading old
   pub rows_are : plain_rows new ≡ rows
 
--- a chunk is two
+-- a chunk is split in two
 pub record HalvedAt (old new : List (List Row)) (k : ℕ) : Type 0 where
   pub head : List Row
   pub tail : List Row
@@ -48,7 +48,7 @@ Halves (Take p) old new = Unit {0}
 Halves (Begin at row) old new = Unit {0}
 Halves (Split at head) old new = HalvedAt old new at
 
--- where a row stands after that
+-- where a row is after that
 abbrev pub is_moved : ℕ → ℕ → ℕ → ℕ × ℕ
 is_moved chunk row head = if leb row head then (chunk, row) else (chunk + 1, row - head)
 

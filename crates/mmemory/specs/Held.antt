@@ -43,7 +43,7 @@ pub record Writes (old new : Held) (tree : ℕ) (rows : List Row) : Type 0 where
   pub rows_are : rows_of (now new) ≡ with_tree (rows_of (now old)) tree rows
   pub version_is : new.version ≡ old.version
 
--- trees that are not there come behind the others
+-- trees that are not there come after the others
 pub record Pads (old new : Held) (tree : ℕ) : Type 0 where
   pub keeps : KeepsPast old new
   pub trees_are : (now new).trees ≡ (now old).trees ++ replicate (tree + 1 - length old.trees.items) no_plain

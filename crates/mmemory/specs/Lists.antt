@@ -20,7 +20,7 @@ taken at rows = if ltb at (length rows) && ltb 1 (length rows) then remove rows 
 abbrev pub over : ℕ → (List Row → List Row) → List (List Row) → List (List Row)
 over k f chunks = set chunks k (f (get_or chunks k []))
 
--- the chunks with one joined to the one behind it, if both fit into one
+-- the chunks with one joined to the one after it, if both fit into one
 abbrev pub joined_at : ℕ → List (List Row) → List (List Row)
 joined_at k chunks =
     if ltb (k + 1) (length chunks) && leb (length (get_or chunks k []) + length (get_or chunks (k + 1) [])) 128

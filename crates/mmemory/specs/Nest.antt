@@ -26,7 +26,7 @@ after_row n p row = back n p.chunk row
 abbrev pub after : List (List Row) → Place → List Row
 after n p = after_row n p p.row
 
--- the row at a place is the next one of a list of rows, which stands behind another
+-- the row at a place is the next one of a list of rows, which comes after another list
 pub record ComesNext (n : List (List Row)) (p : Place) (front back : List Row) (row : Row) : Type 0 where
   pub same : before n p ≡ front
   pub from_it : after n p ≡ back

@@ -1,5 +1,5 @@
 -- SPDX-License-Identifier: Apache-2.0
--- A search by halves over the rows of a tree.
+-- A binary search over the rows of a tree.
 use Rattle.std.specs.Prelude.{◌≡◌, ℕ, ◌+◌, Bool, true, false, not, List, ◌∷◌, slice_get, Some}
 use Rattle.std.specs.Ordering.{is_lt, is_gt, is_eq}
 use Rattle.std.specs.List.{AllByRecursion}
@@ -28,11 +28,11 @@ pub record IsEdge {T : Type 0} (test : T → Bool) (parts : List T) (at : ℕ) :
   pub last : (k : ℕ) (part : T) → k + 1 ≡ at → slice_get parts k ≡ Some part → test part ≡ true
   pub first : (part : T) → slice_get parts at ≡ Some part → test part ≡ false
 
--- what stands before a row that passes passes too
+-- each row before one that passes passes too
 abbrev pub Falls : (Row → Bool) → List Row → Type 0
 Falls test = IsAscending (λ a b. test b ≡ true → test a ≡ true)
 
--- the one rows pass, and the others fail
+-- the rows in front pass, and the others fail
 pub record Splits (test : Row → Bool) (front back : List Row) : Type 0 where
   pub passed : AllByRecursion (λ row. test row ≡ true) front
   pub failed : AllByRecursion (λ row. test row ≡ false) back

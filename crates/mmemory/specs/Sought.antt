@@ -8,7 +8,7 @@ use Rattle.mmemory.specs.Nest.{before, after, after_row, rows_at}
 use Rattle.mmemory.specs.Plain.{tree_nest}
 use Rattle.mmemory.specs.Probe.{passes, meets, Splits, Skips}
 
--- the place of what is sought, where it stands or would stand
+-- the place of what is sought, where it is or would be
 pub record IsSought (t : Tree) (probe : Probe) (p : Place) (hit : Bool) : Type 0 where
   pub splits : Splits (passes probe) (before (tree_nest t) p) (after (tree_nest t) p)
   pub skips : Skips (meets probe) (after (tree_nest t) p) (after_row (tree_nest t) p (cond hit (p.row + 1) p.row)) hit

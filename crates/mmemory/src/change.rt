@@ -12,6 +12,6 @@ pub(crate) enum Change {
     Take(Place),
     /// A row goes in as a chunk of its own.
     Begin(usize, Packed),
-    /// One chunk is made two, of which the first keeps that many rows.
+    /// One chunk is split in two, of which the first keeps that many rows.
     Split(usize, usize),
 }

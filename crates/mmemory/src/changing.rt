@@ -63,7 +63,7 @@ impl Tree {
         Ok(Step::DropChunk(at))
     }
 
-    // Makes two chunks of one, of which the first keeps that many rows.
+    // Splits one chunk in two, of which the first keeps that many rows.
     fn split(&mut self, alloc: Global, at: usize, head: usize) -> Result<Step, AllocError>
         requires chunk { at < length (tree_nest self.old) }
         requires some { 0 < head }

@@ -1,5 +1,5 @@
 // SPDX-License-Identifier: Apache-2.0
-// Some rows that stand together.
+// Some rows that are kept together.
 ghost use Rattle.std.specs.Prelude.{◌≡◌, ◌≢◌, ◌+◌, ◌<◌, ◌≤◌, [], ◌∷◌, ◌++◌, length, slice_set, slice_index_or, vec_capacity, IfOk, OnErr};
 ghost use Rattle.std.specs.List.{remove};
 ghost use Rattle.mmemory.specs.Lists.{put_in, taken};
@@ -13,11 +13,11 @@ use std::mem;
 
 pub(crate) const CHUNK_LIMIT: usize = 128;
 
-// So much room is left in a chunk that rows fill from one end.
+// This much space is left in a chunk that rows fill from one end.
 const ROOM_LEFT: usize = 16;
 
-/// Up to 128 rows, with room for all of them from the start. How the first of them begins and the
-/// marks of all lead a search, and nothing that is proved rests on them.
+/// Up to 128 rows, with space for all of them from the start. The beginning of the first row and the
+/// marks of all rows lead a search, and nothing that is proved rests on them.
 #[derive(Drop)]
 pub(crate) struct Chunk {
     pub rows: Vec<Packed>,
@@ -77,7 +77,7 @@ impl Chunk {
         }
     }
 
-    // Takes a row out that is not the only one.
+    // Takes out a row that is not the only one.
     pub(crate) fn take(&mut self, at: usize) -> Packed
         requires within { at < length self.old.rows.items }
         requires others { 1 < length self.old.rows.items }
@@ -99,7 +99,7 @@ impl Chunk {
         }
     }
 
-    // Puts a row in place of another, which it gives.
+    // Puts a row in place of another, and returns the other.
     pub(crate) fn set(&mut self, at: usize, row: Packed) -> Packed
         requires { at < length self.old.rows.items }
         ensures rows { self.new.rows.items ≡ slice_set self.old.rows.items at row }
@@ -112,7 +112,7 @@ impl Chunk {
         old
     }
 
-    // Takes the rows from a place on off.
+    // Splits off the rows from a place on.
     pub(crate) fn split(&mut self, alloc: Global, at: usize) -> Result<Chunk, AllocError>
         requires some { 0 < at }
         requires rows { at < length self.old.rows.items }
@@ -129,7 +129,7 @@ impl Chunk {
         Ok(Chunk::of_rows(rows, marks))
     }
 
-    // Takes the rows of the chunk behind it.
+    // Takes over the rows of the chunk after it.
     pub(crate) fn join(&mut self, tail: Chunk)
         requires { length self.old.rows.items + length tail.rows.items ≤ 128 }
         ensures { self.new.rows.items ≡ self.old.rows.items ++ tail.rows.items }

@@ -3,7 +3,7 @@
 use crate::place::Place;
 use sqlite_trees::store::Direction;
 
-/// Forward it has the rows from its place on left, and backward those before it.
+/// Going forward, it has the rows from its place on left; going backward, those before it.
 #[derive(Clone, Copy, Debug)]
 pub(crate) struct Cursor {
     pub tree: usize,

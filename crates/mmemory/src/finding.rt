@@ -1,5 +1,5 @@
 // SPDX-License-Identifier: Apache-2.0
-// Where the rows of a tree stand.
+// Where the rows of a tree are.
 ghost use Rattle.std.specs.Prelude.{◌≡◌, ◌⊎◌, ◌<◌, ◌≤◌, [], ◌∷◌, ◌++◌, length, take, IfSome, IfNone};
 ghost use Rattle.mmemory.specs.Nest.{before, after, rows_at, ComesNext};
 ghost use Rattle.mmemory.specs.Plain.{tree_nest, tree_rows};
@@ -96,7 +96,7 @@ impl Tree {
         self.row_before(end)
     }
 
-    // Where what is sought stands or would stand, and whether it stands there.
+    // Where what is sought is or would be, and whether it is there.
     pub(crate) fn seek(&self, probe: Probe<'_>) -> (Place, bool)
         requires { Falls (passes probe) (tree_rows self.now) }
         ensures { IsSought self.now probe.entry result.0 result.1 }

@@ -2,7 +2,7 @@
 // What a search tests next.
 ghost use Rattle.std.specs.Prelude.{◌<◌, ◌≤◌};
 
-/// So many parts are believed to be below what is sought, and so many not above it.
+/// How many parts are believed to be below what is sought, and how many not above it.
 #[derive(Clone, Copy)]
 pub(crate) struct Guess {
     pub below: usize,

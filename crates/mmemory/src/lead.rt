@@ -14,7 +14,7 @@ fn bytes_of(number: i64) -> [u8; 8] {
     (number ^ i64::MIN).to_be_bytes()
 }
 
-// Some bytes from a place on as a number, with zeros behind the last.
+// Some bytes from a place on as a number, with zeros after the last.
 fn part(bytes: &[u8], from: usize, count: usize) -> u128 {
     let mut part = 0u128;
     for at in 0..count {

@@ -1,8 +1,8 @@
 // SPDX-License-Identifier: Apache-2.0
 //! A store in memory for a connection of `sqlite`.
 //!
-//! Trees are changed in place, and a log says how to take each change back. That times hardly grow
-//! with the tables is measured, and not proved.
+//! Trees are changed in place, and a log says how to take each change back. It is measured, and not
+//! proved, that times hardly grow with the tables.
 #![tactic(auto)]
 
 mod alter;

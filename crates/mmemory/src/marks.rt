@@ -6,7 +6,7 @@ use crate::packed::Packed;
 use sqlite_value::value::ValueRef;
 use std::alloc::{AllocError, Global};
 
-/// Of each row of a chunk four bytes of its first column, after those that all rows begin with.
+/// For each row of a chunk, four bytes of its first column, after those that all rows begin with.
 #[derive(Drop)]
 pub(crate) struct Marks {
     skip: usize,
@@ -14,7 +14,7 @@ pub(crate) struct Marks {
 }
 
 impl Marks {
-    // The marks of no row, with room for some.
+    // The marks of no row, with space for some.
     pub(crate) fn new(alloc: Global, room: usize) -> Result<Marks, AllocError> {
         Ok(Marks {
             skip: 0,

@@ -24,7 +24,7 @@ pub struct Memory {
     pub(crate) cursors: Vec<Option<Cursor>>,
 }
 
-// Written out, so that to let go of it is one call, which is proved once.
+// Written out, so that dropping it is one call, which is proved once.
 impl Drop for Memory {
     fn drop(self) {
         let Memory {
@@ -55,7 +55,7 @@ impl Memory {
         }
     }
 
-    // A cursor at the first row that is not below a key, or behind the last that is not above it.
+    // A cursor at the first row that is not below a key, or after the last that is not above it.
     fn placed(&self, tree: usize, key: &Row, direction: Direction) -> Cursor
         ensures { let now = current self.now in left_of now result ≡ sought (order_of (shape_in (headings now) tree)) direction key.now (rows_of now tree) }
     {

@@ -6,7 +6,7 @@ ghost use Rattle.mmemory.specs.Held.{now, moment};
 use crate::held::Held;
 use crate::undoing::undo;
 
-// A log as long as this is given back at the commit.
+// A log longer than this is given back at the commit.
 const LONG_LOG: usize = 1024;
 
 impl Held {

@@ -1,8 +1,8 @@
 // SPDX-License-Identifier: Apache-2.0
-// Where a row stands.
+// Where a row is.
 ghost use Rattle.std.specs.Prelude.{◌^◌, ◌<◌};
 
-/// A row of a chunk. `row` may be the chunk's length: then the place is behind its last row.
+/// A row of a chunk. `row` may be the chunk's length: then the place is after its last row.
 #[derive(Clone, Copy, Debug)]
 pub(crate) struct Place {
     pub chunk: usize,

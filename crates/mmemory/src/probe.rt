@@ -1,5 +1,5 @@
 // SPDX-License-Identifier: Apache-2.0
-// A search by halves.
+// A binary search.
 ghost use Rattle.std.specs.Prelude.{◌≡◌, ◌≤◌, [], length, get_or};
 ghost use Rattle.mmemory.specs.Plain.{chunk_rows};
 ghost use Rattle.mmemory.specs.Probe.{passes, meets, IsEdge};

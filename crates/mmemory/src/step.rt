@@ -12,7 +12,7 @@ pub(crate) enum Step {
     SetRow(usize, usize, Packed),
     DropChunk(usize),
     PutChunk(usize, Chunk),
-    /// The chunk takes the rows of the one behind it.
+    /// The chunk takes over the rows of the one after it.
     Join(usize),
     /// The REAL columns and the description.
     Label(u64, Row),

@@ -6,7 +6,7 @@ use crate::chunk::Chunk;
 use sqlite_trees::store::Shape;
 use sqlite_value::row::Row;
 
-/// `spare` chunks are in the log that may come back, and the list has room for them.
+/// The log has `spare` chunks that may come back, and the list has space for them.
 #[derive(Drop)]
 pub(crate) struct Tree {
     pub shape: Shape,

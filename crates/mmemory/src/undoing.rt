@@ -1,5 +1,5 @@
 // SPDX-License-Identifier: Apache-2.0
-// Changes taken back. What does not fit changes nothing, and none needs memory.
+// Changes that are taken back. One that does not fit changes nothing, and none needs memory.
 ghost use Rattle.std.specs.Prelude.{◌≡◌, set};
 ghost use Rattle.mmemory.specs.Lists.{put_in, taken, over, joined_at};
 ghost use Rattle.mmemory.specs.Plain.{plain, with_chunks, put_back, chunk_rows, tree_nest, undone_step};

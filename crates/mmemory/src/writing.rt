@@ -14,7 +14,7 @@ use crate::place::Place;
 use crate::undo::Undo;
 use std::alloc::AllocError;
 
-// The place of a row, after its chunk was made two.
+// The place of a row, after its chunk was split in two.
 fn moved(place: Place, head: usize) -> Place
     requires { place.chunk + 1 < 2 ^ 63 }
     ensures { (result.chunk, result.row) ≡ is_moved place.chunk place.row head }
@@ -44,7 +44,7 @@ impl Held {
         Ok(())
     }
 
-    // Makes two chunks of a full one, and gives the place in them.
+    // Splits a full chunk in two, and gives the place in them.
     fn halve(&mut self, tree: usize, place: Place) -> Result<Place, AllocError>
         requires tree { tree < length self.old.trees.items }
         requires chunk { place.chunk < length (nest_at self.old tree) }

@@ -69,7 +69,7 @@ some_digits b h = omega arith
 pub some_units : (b sb : ℕ) → 0 < b → 0 < b * 10 ^ (18 - sb)
 some_units b sb some = mul-pos some (ten_pos (18 - sb))
 
--- an exact quotient of digits with zeros behind them
+-- an exact quotient of digits with zeros after them
 pub exact_quotient : (a b sa sb k v : ℕ) → sa ≤ 18 → sb ≤ 18 → 0 < b → sb ≤ sa + k → sa + k - sb ≤ 18 → v ≡ a * 10 ^ k → v < 10 ^ 18 → v % b ≡ 0
     → Some (v / b * 10 ^ (18 - (sa + k - sb))) ≡ round_size 18 (a * 10 ^ (18 - sa)) (b * 10 ^ (18 - sb))
 exact_quotient a b sa sb k v ha hb some near few value small none =

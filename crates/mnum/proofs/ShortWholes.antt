@@ -11,7 +11,7 @@ pub record IsShort (s : List ℕ) : Type 0 where
 pub test_differs : (x y : ℕ) → (x ≡ y → ⊥) → IsTrue (not (nat_eq x y))
 test_differs x y h = grind (arith, nat_tests)
 
--- they are where no 0 is in front
+-- they are if no 0 is in front
 pub canonical_front : (s : List ℕ) → IsShort s → (get_or s 0 0 ≡ 48 → ⊥) → IsCanonical 18 s
 canonical_front [] short front = absurd (omega (arith, short.some))
 canonical_front (c ∷ s) short front = whole_is_canonical c s short.digits front short.short

@@ -10,7 +10,7 @@ use Rattle.mnum.proofs.Ranges.{units_number}
 digit_starts : (c : ℕ) (s : List ℕ) → is_digit c ≡ true → starts_number (c ∷ s) ≡ true
 digit_starts c s h = grind (arith, nat_tests)
 
--- digits or a point stand in front of a literal
+-- a literal begins with digits or a point
 mantissa_starts : (whole : List ℕ) (fraction : Option (List ℕ)) (rest : List ℕ) → IsMantissa whole fraction → starts_number (whole ++ (spell_fraction fraction ++ rest)) ≡ true
 mantissa_starts [] None rest h = absurd (h.some refl)
 mantissa_starts [] (Some digits) rest h = refl

@@ -6,7 +6,7 @@ use Rattle.mnum.proofs.NumWords.{ℕ, ◌≡◌, ◌≢◌, ◌⊎◌, inl, inr,
 cancel : (a c w : ℕ) → 0 < w → a * w ≡ c * w → a ≡ c
 cancel a c w some e = let both : a * w + 0 ≡ c * w + 0 = omega arith in (same_from_place a 0 c 0 w some some both).0
 
--- digits that do not end in 0 are no more than eighteen where eighteen with zeros behind them are as much
+-- digits that do not end in 0 are no more than eighteen if eighteen with zeros after them are as much
 pub too_many : (d j m k : ℕ) → d * 10 ^ j ≡ m * 10 ^ k → d % 10 ≢ 0 → m < 10 ^ 18 → d < 10 ^ 18
 too_many d j m k e last few =
     ⊎_elim

@@ -30,7 +30,7 @@ whole_kept n small = omega (arith, ints)
 pub whole_negated : (n : ℕ) → n < 10 ^ 18 → to_z w64 (of_z w64 (pos 0 -ℤ to_z w64 n)) ≡ signed true n
 whole_negated n small = omega (arith, ints)
 
--- where no places are counted
+-- if no places are counted
 pub all_whole : (d p : ℕ) → p ≡ 0 → d ≡ d / 10 ^ p
 all_whole d p none = let one : d ≡ d / 1 = omega arith in one ∙ ap (λ k. d / 10 ^ k) (sym none)
 

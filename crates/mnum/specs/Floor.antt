@@ -1,5 +1,5 @@
 -- SPDX-License-Identifier: Apache-2.0
--- What a fraction is to its first digits, and a division with floor to one of the sizes.
+-- How a fraction relates to its first digits, and a division with floor to one of the sizes.
 use Rattle.std.specs.Prelude.{◌≡◌, ℕ, ◌+◌, ◌-◌, ◌*◌, ◌^◌, ◌<◌, ◌≤◌, ◌⊎◌, ◌==◌, Bool, cond}
 
 -- n is the whole part of p / q * 10 ^ places
@@ -11,6 +11,6 @@ pub record IsFloor (n places p q : ℕ) : Type 0 where
 abbrev pub IsFine : ℕ → ℕ → ℕ → ℕ → ℕ → Type 0
 IsFine kept n places p q = (n * q ≡ p * 10 ^ places) ⊎ ((10 ^ kept ≤ n) ⊎ (18 < places))
 
--- the size of what a division with floor leaves, where a division of the sizes leaves `left`
+-- the size of the remainder of a division with floor, if a division of the sizes leaves `left`
 abbrev pub floor_left : Bool → ℕ → ℕ → ℕ
 floor_left same_sign left divisor = cond (left == 0) 0 (cond same_sign left (divisor - left))

@@ -13,10 +13,10 @@ use crate::powers::power;
 use crate::rounding::rounded;
 use std::cmp::Ordering;
 
-// 10 ^ 18: a number has fewer digits than this, counted in its own places.
+// 10 ^ 18: the digits of a number, counted in its own places, are below this.
 const DIGITS_END: u64 = 1_000_000_000_000_000_000;
 
-// Below this, four zeros behind the digits leave them below 10 ^ 18.
+// Below this, four zeros after the digits leave them below 10 ^ 18.
 const SPREAD_END: u64 = 100_000_000_000_000;
 
 // `digits` with zeros after it: as many as are wanted, or until it has 38 digits.
@@ -40,7 +40,7 @@ fn raised(digits: u64, want: u32) -> (u128, u32)
     (value, zeros)
 }
 
-// `digits` with four zeros after it, where it is below 10 ^ 18 then, and how many there are.
+// `digits` with four zeros after it, if it is below 10 ^ 18 then, and how many there are.
 fn spread(digits: u64) -> (u64, u32)
     requires { digits < 10 ^ 18 }
     ensures value { result.0 ≡ digits * 10 ^ result.1 }
@@ -54,7 +54,7 @@ fn spread(digits: u64) -> (u64, u32)
     }
 }
 
-// The number of these digits, without zeros behind its point.
+// The number of these digits, without zeros at the end of its fraction.
 #[tactic(auto, using(crate::proofs::UnitDigits::stripped))]
 fn shortened(digits: u64, places: u32, negative: bool) -> Num
     requires digits_below { digits < 10 ^ 18 }
@@ -74,7 +74,7 @@ fn shortened(digits: u64, places: u32, negative: bool) -> Num
     }
 }
 
-// The size of what a division with floor leaves, from what a division of the sizes leaves.
+// The size of the remainder of a division with floor, from the remainder of a division of the sizes.
 fn floored(left: u128, divisor: u128, same_sign: bool) -> u128
     requires { left < divisor }
     ensures value { result ≡ floor_left same_sign left divisor }
@@ -113,7 +113,7 @@ fn put(place: &mut Num, outcome: Result<Num, Over>) -> Result<(), Over>
     Ok(())
 }
 
-// The same of a division.
+// The same for a division.
 fn put_quotient(place: &mut Num, outcome: Result<Num, ArithFault>) -> Result<(), ArithFault>
     ensures value { (divisor : ℤ) (x : Option ℤ) → IsOutcome divisor x outcome → Leaves divisor x place.new result }
     ensures never_over { IfErr outcome (λ e. e ≡ ArithFault.Zero) → IfErr result (λ e. e ≡ ArithFault.Zero) }
@@ -122,7 +122,7 @@ fn put_quotient(place: &mut Num, outcome: Result<Num, ArithFault>) -> Result<(),
     Ok(())
 }
 
-// The digits with their sign, as a machine's number.
+// The digits with their sign, as a machine number.
 fn signed_digits(n: &Num) -> i64
     ensures value { result ≡ signed n.now.negative n.now.digits }
     ensures below { unsigned_abs result < 10 ^ 18 }
@@ -131,7 +131,8 @@ fn signed_digits(n: &Num) -> i64
     if n.negative { -digits } else { digits }
 }
 
-// The same two numbers, with as many places each: None where one of them has no room for them. Nothing is divided or rounded.
+// The same two numbers, both with the same number of places: None if one of them cannot have that many. Nothing is divided or
+// rounded.
 #[inline]
 fn at_common_places(first: &Num, second: &Num) -> Option<(Num, Num)>
     ensures { IfSome result (λ r. (r.0.places ≡ r.1.places) × (units r.0 ≡ units first.now) × (units r.1 ≡ units second.now) × (0 < second.now.digits → 0 < r.1.digits)) }
@@ -145,7 +146,7 @@ fn at_common_places(first: &Num, second: &Num) -> Option<(Num, Num)>
     }
 }
 
-// The number as one of its methods leaves it, which changes it where it stands.
+// The number as one of its methods leaves it; the method changes it in place.
 macro_rules! changed {
     ($number:expr, $method:ident, $other:expr) => {{
         let mut number = $number;
@@ -167,7 +168,7 @@ impl Num {
         }
     }
 
-    // The digits where so many places are counted.
+    // The digits when `places` places are counted.
     #[tactic(auto, using(crate::proofs::Sums::places_value, crate::proofs::Sums::places_below))]
     fn at_places(self, places: u32) -> u128
         requires near { self.places ≤ places }
@@ -179,7 +180,7 @@ impl Num {
         self.digits as u128 * power(places - self.places)
     }
 
-    // The same number with so many places, where its digits stay below 10 ^ 18.
+    // The same number with `places` places, if its digits stay below 10 ^ 18.
     #[inline]
     #[tactic(auto, using(crate::proofs::Sums::places_value))]
     fn widened(&self, places: u32) -> Option<Num>
@@ -222,7 +223,7 @@ impl Num {
         }
     }
 
-    // `add` at places that differ, or past the short way.
+    // `add` for places that differ, or beyond the short way.
     #[inline(never)]
     fn add_at_places(self, other: Num) -> Result<Num, Over>
         ensures { MatchResult result (λ r. sum_of (units self) (units other) ≡ Some (units r)) (λ _. sum_of (units self) (units other) ≡ None) }
@@ -237,11 +238,11 @@ impl Num {
         numbered(rounded(sum, places, 18), negative)
     }
 
-    /// Adds a number, and rounds once. A number that is changed where it stands need not be moved. What it is after an error is left open.
+    /// Adds a number, and rounds once. A number that is changed in place need not be moved. What it is after an error is left open.
     ///
     /// # Errors
     ///
-    /// `Over` exactly where the sum reaches 10^18 in size, before or after rounding.
+    /// `Over` exactly if the sum reaches 10^18 in size, before or after rounding.
     pub fn add_assign(&mut self, other: &Num) -> Result<(), Over>
         ensures { MatchResult result (λ _. sum_of (units self.old) (units other.now) ≡ Some (units self.new)) (λ _. sum_of (units self.old) (units other.now) ≡ None) }
     {
@@ -262,7 +263,7 @@ impl Num {
     ///
     /// # Errors
     ///
-    /// `Over` exactly where it reaches 10^18 in size, before or after rounding.
+    /// `Over` exactly if it reaches 10^18 in size, before or after rounding.
     pub fn add(self, other: Num) -> Result<Num, Over>
         ensures { MatchResult result (λ r. sum_of (units self) (units other) ≡ Some (units r)) (λ _. sum_of (units self) (units other) ≡ None) }
     {
@@ -273,7 +274,7 @@ impl Num {
     ///
     /// # Errors
     ///
-    /// `Over` exactly where it reaches 10^18 in size, before or after rounding.
+    /// `Over` exactly if it reaches 10^18 in size, before or after rounding.
     pub fn sub(self, other: Num) -> Result<Num, Over>
         ensures { MatchResult result (λ r. difference_of (units self) (units other) ≡ Some (units r)) (λ _. difference_of (units self) (units other) ≡ None) }
     {
@@ -284,14 +285,14 @@ impl Num {
     ///
     /// # Errors
     ///
-    /// `Over` exactly where the difference reaches 10^18 in size, before or after rounding.
+    /// `Over` exactly if the difference reaches 10^18 in size, before or after rounding.
     pub fn sub_assign(&mut self, other: &Num) -> Result<(), Over>
         ensures { MatchResult result (λ _. difference_of (units self.old) (units other.now) ≡ Some (units self.new)) (λ _. difference_of (units self.old) (units other.now) ≡ None) }
     {
         self.add_assign(&other.neg())
     }
 
-    // `quot` at places that differ; the divisor is not zero.
+    // `quot` for places that differ; the divisor is not zero.
     #[inline(never)]
     fn quot_at_places(self, other: Num) -> Result<Num, ArithFault>
         requires { 0 < other.digits }
@@ -307,7 +308,7 @@ impl Num {
     ///
     /// # Errors
     ///
-    /// `Zero` exactly for a zero divisor; else `Over` exactly where the quotient reaches 10^18 in size.
+    /// `Zero` exactly for a zero divisor; otherwise `Over` exactly if the quotient reaches 10^18 in size.
     pub fn quot_assign(&mut self, other: &Num) -> Result<(), ArithFault>
         ensures { Leaves (units other.now) (whole_quotient_of (units self.old) (units other.now)) self.new result }
     {
@@ -327,14 +328,14 @@ impl Num {
     ///
     /// # Errors
     ///
-    /// `Zero` exactly for a zero divisor; else `Over` exactly where the quotient reaches 10^18 in size.
+    /// `Zero` exactly for a zero divisor; otherwise `Over` exactly if the quotient reaches 10^18 in size.
     pub fn quot(self, other: Num) -> Result<Num, ArithFault>
         ensures { IsOutcome (units other) (whole_quotient_of (units self) (units other)) result }
     {
         changed!(self, quot_assign, other)
     }
 
-    // `rem` at places that differ; the divisor is not zero.
+    // `rem` for places that differ; the divisor is not zero.
     #[inline(never)]
     fn rem_at_places(self, other: Num) -> Result<Num, ArithFault>
         requires { 0 < other.digits }
@@ -348,7 +349,7 @@ impl Num {
         divided(rounded(left, places, 18), other.negative)
     }
 
-    /// Divides by a number with floor, the operator `#`: what is left stays, rounded once. It has the sign of the divisor, and where it
+    /// Divides by a number with floor, the operator `#`: the remainder is left, rounded once. It has the sign of the divisor, and if it
     /// is rounded it can equal the divisor. What the number is after an error is left open.
     ///
     /// # Errors
@@ -375,8 +376,8 @@ impl Num {
         put_quotient(self, self.rem_at_places(*other))
     }
 
-    /// What is left of a division with floor, the operator `#`, rounded once: it has the sign of the divisor, and where it
-    /// is rounded it can equal the divisor.
+    /// The remainder of a division with floor, the operator `#`, rounded once: it has the sign of the divisor, and if it is
+    /// rounded it can equal the divisor.
     ///
     /// # Errors
     ///
@@ -400,7 +401,7 @@ impl Num {
         }
     }
 
-    // `mul` past the short way.
+    // `mul` beyond the short way.
     #[inline(never)]
     fn mul_rounded(self, other: Num) -> Result<Num, Over>
         ensures { MatchResult result (λ r. product_of (units self) (units other) ≡ Some (units r)) (λ _. product_of (units self) (units other) ≡ None) }
@@ -416,7 +417,7 @@ impl Num {
     ///
     /// # Errors
     ///
-    /// `Over` exactly where the product reaches 10^18 in size, before or after rounding.
+    /// `Over` exactly if the product reaches 10^18 in size, before or after rounding.
     pub fn mul_assign(&mut self, other: &Num) -> Result<(), Over>
         ensures { MatchResult result (λ _. product_of (units self.old) (units other.now) ≡ Some (units self.new)) (λ _. product_of (units self.old) (units other.now) ≡ None) }
     {
@@ -435,14 +436,14 @@ impl Num {
     ///
     /// # Errors
     ///
-    /// `Over` exactly where it reaches 10^18 in size, before or after rounding.
+    /// `Over` exactly if it reaches 10^18 in size, before or after rounding.
     pub fn mul(self, other: Num) -> Result<Num, Over>
         ensures { MatchResult result (λ r. product_of (units self) (units other) ≡ Some (units r)) (λ _. product_of (units self) (units other) ≡ None) }
     {
         changed!(self, mul_assign, other)
     }
 
-    // `div` of digits that leave something, with zeros behind them too; the divisor is not zero.
+    // `div` for digits that leave a remainder, even with zeros after them; the divisor is not zero.
     #[inline(never)]
     fn div_rounded(self, other: Num) -> Result<Num, ArithFault>
         requires { 0 < other.digits }
@@ -461,7 +462,7 @@ impl Num {
     ///
     /// # Errors
     ///
-    /// `Zero` exactly for a zero divisor; else `Over` exactly where the quotient reaches 10^18 in size, before or after
+    /// `Zero` exactly for a zero divisor; otherwise `Over` exactly if the quotient reaches 10^18 in size, before or after
     /// rounding.
     #[tactic(auto, using(crate::proofs::Quotients::quotient_rounded, crate::proofs::Quotients::some_digits, crate::proofs::Quotients::some_units, crate::proofs::Quotients::exact_quotient))]
     pub fn div_assign(&mut self, other: &Num) -> Result<(), ArithFault>
@@ -487,7 +488,7 @@ impl Num {
     ///
     /// # Errors
     ///
-    /// `Zero` exactly for a zero divisor; else `Over` exactly where the quotient reaches 10^18 in size, before or after
+    /// `Zero` exactly for a zero divisor; otherwise `Over` exactly if the quotient reaches 10^18 in size, before or after
     /// rounding.
     pub fn div(self, other: Num) -> Result<Num, ArithFault>
         ensures { IsOutcome (units other) (quotient_of (units self) (units other)) result }

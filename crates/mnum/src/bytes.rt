@@ -13,7 +13,7 @@ use std::hash::{Hash, Hasher};
 use std::marker::Model;
 
 /// A text of ASCII characters: bytes that are each under 128. Contracts see it as its list of bytes. It may have more than
-/// `MAX_TEXT` characters: what makes a text of the language refuses it then.
+/// `MAX_TEXT` characters: whatever makes a text of the language then refuses it.
 #[derive(Debug, Drop)]
 pub struct Bytes7 {
     bytes: Vec<u8>,
@@ -34,7 +34,7 @@ impl Bytes7 {
     ///
     /// # Errors
     ///
-    /// Hands the bytes back, as they were, exactly where one of them is over 127.
+    /// Hands the bytes back, as they were, exactly if one of them is over 127.
     pub fn new(bytes: Vec<u8>) -> Result<Bytes7, Vec<u8>>
         ensures when { IsOk result ↔ All (λ c. c < 128) bytes.items }
         ensures text { IfOk result (λ text. text ≡ bytes.items) }
@@ -59,7 +59,7 @@ impl Bytes7 {
     ///
     /// # Errors
     ///
-    /// `AllocError` for want of memory.
+    /// `AllocError` if it runs out of memory.
     pub fn copy(&self) -> Result<Bytes7, AllocError>
         ensures { IfOk result (λ text. text ≡ self.now) }
     {
@@ -80,7 +80,7 @@ impl Bytes7 {
     ///
     /// # Errors
     ///
-    /// `AllocError` for want of memory.
+    /// `AllocError` if it runs out of memory.
     pub fn from_slice(alloc: Global, bytes: &[u8]) -> Result<Bytes7, AllocError>
         requires { All (λ c. c < 128) bytes.now }
         ensures { IfOk result (λ text. text ≡ bytes.now) }
@@ -93,7 +93,7 @@ impl Bytes7 {
     ///
     /// # Errors
     ///
-    /// `AllocError` for want of memory; the text is then as it was.
+    /// `AllocError` if it runs out of memory; the text is then as it was.
     pub fn push(&mut self, byte: u8) -> Result<(), AllocError>
         requires { byte < 128 }
         ensures ok { OnOk result (self.new ≡ self.old ++ byte ∷ []) }
@@ -107,7 +107,7 @@ impl Bytes7 {
     ///
     /// # Errors
     ///
-    /// `AllocError` for want of memory; the text is then as it was.
+    /// `AllocError` if it runs out of memory; the text is then as it was.
     pub fn append(&mut self, bytes: &[u8]) -> Result<(), AllocError>
         requires { All (λ c. c < 128) bytes.now }
         ensures ok { OnOk result (self.new ≡ self.old ++ bytes.now) }
@@ -117,7 +117,7 @@ impl Bytes7 {
     }
 }
 
-// Texts are equal where their bytes are, and stand in the order of the dictionary.
+// Texts are equal if their bytes are, and are in dictionary order.
 
 impl PartialEq for Bytes7 {
     ghost eq = { pointwise nat_eq };

@@ -1,7 +1,7 @@
 // SPDX-License-Identifier: Apache-2.0
 //! Numbers of eighteen significant digits, exact in their arithmetic and rounded once, texts of seven-bit characters, and names.
 //!
-//! A number is a whole count of units of 10^-18, below 10^18 in size. The definitions that the contracts cite stand in
+//! A number is a whole count of units of 10^-18, below 10^18 in size. The definitions that the contracts cite are in
 //! `mspec`: `Number` (rounding and the operators), `NumberText` (the value of a text, and the text of a number).
 #![tactic(auto)]
 

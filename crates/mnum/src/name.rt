@@ -22,21 +22,21 @@ fn starts_name(c: u8) -> bool
     c.is_ascii_alphabetic() || c == b'%'
 }
 
-// Whether the character can stand behind the first one: a letter or a digit.
+// Whether the character can come after the first one: a letter or a digit.
 fn continues_name(c: u8) -> bool
     ensures { result ≡ is_name_rest c }
 {
     c.is_ascii_alphanumeric()
 }
 
-/// Whether these are letters and digits alone, as behind the first character of a name. Takes no memory.
+/// Whether these are letters and digits alone, as after the first character of a name. Takes no memory.
 pub fn continue_name(text: &[u8]) -> bool
     ensures { IsTrue result ↔ All (λ c. is_name_rest c ≡ true) text.now }
 {
     text.iter().all(|c| continues_name(*c))
 }
 
-/// Whether this is a name: a letter or `%` with at most 30 letters or digits behind it. Takes no memory.
+/// Whether this is a name: a letter or `%` with at most 30 letters or digits after it. Takes no memory.
 pub fn is_name(text: &Bytes7) -> bool
     ensures { IsTrue result ↔ IsName text.now }
 {
@@ -47,7 +47,7 @@ pub fn is_name(text: &Bytes7) -> bool
     starts_name(characters[0]) && continue_name(&characters[1..])
 }
 
-/// A name: a letter or `%` with at most 30 letters or digits behind it. Contracts see it as its list of bytes, and what
+/// A name: a letter or `%` with at most 30 letters or digits after it. Contracts see it as its list of bytes, and whatever
 /// gives its text says that this is a name.
 #[derive(Debug, Drop)]
 pub struct Name {
@@ -70,7 +70,7 @@ impl Name {
     ///
     /// # Errors
     ///
-    /// Hands the text back exactly where it is no name.
+    /// Hands the text back exactly if it is no name.
     pub fn new(text: Bytes7) -> Result<Name, Bytes7>
         ensures when { IsOk result ↔ IsName text }
         ensures name { IfOk result (λ name. name ≡ text) }
@@ -83,11 +83,11 @@ impl Name {
         }
     }
 
-    /// The name of these bytes, which are one.
+    /// The name that these bytes are; they must be one.
     ///
     /// # Errors
     ///
-    /// `AllocError` for want of memory.
+    /// `AllocError` if it runs out of memory.
     #[tactic(auto, using(crate::proofs::NameTexts::name_is_ascii))]
     pub fn from_slice(alloc: Global, bytes: &[u8]) -> Result<Name, AllocError>
         requires { IsName bytes.now }
@@ -117,7 +117,7 @@ impl Name {
     ///
     /// # Errors
     ///
-    /// `AllocError` for want of memory.
+    /// `AllocError` if it runs out of memory.
     pub fn copy(&self) -> Result<Name, AllocError>
         ensures { IfOk result (λ name. name ≡ self.now) }
     {
@@ -126,7 +126,7 @@ impl Name {
     }
 }
 
-// Names are equal where their texts are, and stand in the order of the dictionary.
+// Names are equal if their texts are, and are in dictionary order.
 
 impl PartialEq for Name {
     ghost eq = { pointwise nat_eq };

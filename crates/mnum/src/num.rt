@@ -7,7 +7,7 @@ ghost use Rattle.std.specs.Prelude.{◌^◌, ◌<◌, ◌≤◌};
 /// several representations.
 #[derive(Clone, Copy, Debug)]
 pub struct Num {
-    // `digits` units of 10 ^ -places, negated where `negative` says so
+    // `digits` units of 10 ^ -places, negated if `negative` says so
     pub(crate) digits: u64,
     pub(crate) places: u32,
     pub(crate) negative: bool,

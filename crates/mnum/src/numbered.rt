@@ -8,7 +8,7 @@ ghost use Rattle.mspec.specs.Number.{signed};
 use crate::num::{ArithFault, Num, Over};
 use crate::size::Size;
 
-// The number of that size, negated where `negative` says so, or Over where there is no size.
+// The number of that size, negated if `negative` says so, or Over if there is no size.
 pub fn numbered(size: Option<Size>, negative: bool) -> Result<Num, Over>
     ensures { let number = option_map (signed negative) (option_map size_units size) in
         MatchResult result (λ n. number ≡ Some (units n)) (λ _. number ≡ None) }
@@ -23,7 +23,7 @@ pub fn numbered(size: Option<Size>, negative: bool) -> Result<Num, Over>
     }
 }
 
-// The same of a division whose divisor is not zero.
+// The same for a division whose divisor is not zero.
 pub fn divided(size: Option<Size>, negative: bool) -> Result<Num, ArithFault>
     ensures { let number = option_map (signed negative) (option_map size_units size) in
         MatchResult result (λ n. number ≡ Some (units n)) (λ e. (e ≡ ArithFault.Over) × (number ≡ None)) }

@@ -28,7 +28,7 @@ fn is_decimal(c: u8) -> bool
     c.is_ascii_digit()
 }
 
-// Goes on with the digits that the text begins with, and says how many they are.
+// Goes on with the digits that the text begins with, and says how many there are.
 pub fn read_digits(head: Head, text: &[u8]) -> (Head, usize)
     requires few { head.digits < 10 ^ 19 }
     requires room { head.dropped + length text.now < 2 ^ 64 }
@@ -52,7 +52,7 @@ pub fn read_digits(head: Head, text: &[u8]) -> (Head, usize)
     (head, text.len())
 }
 
-// The number that the text's first digits write, or some number from 10 ^ 20 on where that is so large.
+// The number that the text's first digits write, or some number from 10 ^ 20 on if that one is so large too.
 #[tactic(auto, using(crate::proofs::Scans::front_is))]
 fn read_capped(text: &[u8]) -> u128
     ensures below { result < 10 ^ 21 }
@@ -70,7 +70,7 @@ fn read_capped(text: &[u8]) -> u128
     number
 }
 
-// The exponent that the text begins with after its mark: is it negative, and its size.
+// The exponent that the text begins with after its mark: whether it is negative, and its size.
 fn read_exponent(text: &[u8]) -> (bool, u128)
     ensures below { result.1 < 10 ^ 21 }
     ensures sign { result.0 ≡ (front_exponent text.now).0 }
@@ -128,7 +128,7 @@ fn scaled(head: Head, raise: u128, lower: u128, kept: u32) -> Option<Size>
     }
 }
 
-// Goes on with the digits of a fraction, where the text begins with a point.
+// Goes on with the digits of a fraction, if the text begins with a point.
 fn read_fraction(head: Head, text: &[u8]) -> (Head, usize)
     requires few { head.digits < 10 ^ 19 }
     requires room { head.dropped + length text.now < 2 ^ 64 }
@@ -144,7 +144,7 @@ fn read_fraction(head: Head, text: &[u8]) -> (Head, usize)
     read_digits(head, &text[1..])
 }
 
-// What follows a fraction of so many digits.
+// What follows a fraction of `fraction` digits.
 fn tail_of(text: &[u8], fraction: usize) -> &[u8]
     requires { fraction ≡ length (fraction_digits text.now) }
     ensures { result.now ≡ after_fraction text.now }
@@ -205,7 +205,7 @@ fn read_signs(text: &[u8]) -> (bool, usize)
     (negated, text.len())
 }
 
-/// The number that the text writes, or None exactly where it is not at most eighteen digits and nothing else: the short way of
+/// The number that the text writes, or None exactly if it is not at most eighteen digits and nothing else: the short way for
 /// small whole numbers. Takes no memory.
 pub fn short_whole(text: &[u8]) -> Option<u64>
     ensures some { IfSome result (λ n. (n < 10 ^ 18) × (n ≡ digits_after 0 text.now) × All (λ c. is_digit c ≡ true) text.now) }
@@ -238,11 +238,11 @@ pub fn value_of(text: &[u8], kept: u32) -> Result<Num, Over>
 
 impl Num {
     /// The numeric value of a text of any bytes: its signs are taken off, each `-` negating, and the longest numeric
-    /// literal that it then begins with is rounded; 0 where it begins with none. Time is linear in its length.
+    /// literal that it then begins with is rounded; 0 if it begins with none. Time is linear in its length.
     ///
     /// # Errors
     ///
-    /// `Over` exactly where the value reaches 10^18 in size, before or after rounding.
+    /// `Over` exactly if the value reaches 10^18 in size, before or after rounding.
     #[tactic(auto, using(mspec::proofs::WholeTexts::value_of_digits))]
     pub fn from_text(text: &[u8]) -> Result<Num, Over>
         ensures { MatchResult result (λ n. numeric_value significant_digits text.now ≡ Some (units n)) (λ _. numeric_value significant_digits text.now ≡ None) }

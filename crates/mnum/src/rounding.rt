@@ -26,7 +26,7 @@ fn excess(n: u128, places: u32, kept: u32) -> u32
     dropped
 }
 
-// Digits with so many zeros behind them, where they are below 10^18 then.
+// Digits with `zeros` zeros after them, if they are below 10^18 then.
 fn with_zeros(digits: u128, zeros: u32) -> Option<Size>
     requires few { zeros ≤ 18 }
     requires near { digits * 10 ^ zeros ≤ 10 ^ 18 }
@@ -43,7 +43,7 @@ fn with_zeros(digits: u128, zeros: u32) -> Option<Size>
     }
 }
 
-// A fraction whose first digits are n, of which `places` stand after the point, rounded to `kept` digits.
+// A fraction whose first digits are n, of which `places` come after the point, rounded to `kept` digits.
 pub fn rounded(n: u128, places: u32, kept: u32) -> Option<Size>
     requires some_kept { 0 < kept }
     requires kept_at_most { kept ≤ 18 }

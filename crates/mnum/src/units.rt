@@ -14,10 +14,10 @@ const TWOS: u128 = 1 << 18;
 
 const FIVES: u64 = 3_814_697_265_625;
 
-// What the fives times this leave is 1, of numbers of 64 bits.
+// The fives times this are 1 in numbers of 64 bits.
 const INVERSE: u64 = 13_940_676_669_711_910_505;
 
-// So many numbers have 64 bits.
+// This many numbers have 64 bits.
 const WORD: u128 = 1 << 64;
 
 const _: () = prove!(TWOS * FIVES as u128 == UNIT);
@@ -25,7 +25,7 @@ const _: () = prove!(TWOS * FIVES as u128 == UNIT);
 const _: () = prove!(FIVES.wrapping_mul(INVERSE) == 1);
 
 impl Num {
-    /// The number of so many units of 10^-18, or None exactly where there is none: where they are 10^36 or more in size, or have
+    /// The number of `count` units of 10^-18, or None exactly if there is none: if the count is 10^36 or more in size, or has
     /// more than eighteen significant digits. Takes no memory.
     pub fn from_units(count: i128) -> Option<Num>
         ensures { MatchOption result (IsNumber significant_digits count → ⊥) (λ n. units n ≡ count) }
@@ -34,8 +34,8 @@ impl Num {
         let size = count.unsigned_abs();
         let mut digits = size;
         let mut places: u32 = 18;
-        // Of a whole number this is the quotient: a division takes tens of nanoseconds at this length. Of any other it is some number, and
-        // the product tells.
+        // For a whole number this is the quotient: a division takes tens of nanoseconds at this length. For any other it is just some
+        // number, which the product shows.
         let whole = (size / TWOS % WORD) as u64;
         let whole = whole.wrapping_mul(INVERSE) as u128;
         if whole * UNIT == size {

@@ -21,7 +21,8 @@ impl Num {
         }
     }
 
-    // The digits before the point, and those behind it. Most numbers are whole, and a division takes as long as all else of their texts.
+    // The digits before the point, and those after it. Most numbers are whole, and a division takes as long as all the rest of their
+    // texts.
     #[inline]
     #[tactic(auto, using(crate::proofs::WholeParts::all_whole, crate::proofs::WholeParts::no_fraction, std::proofs::lemmas::Nat::mod_below, mspec::proofs::Powers::ten_pos))]
     pub(crate) fn parts(self) -> (u64, u64)

@@ -84,11 +84,11 @@ impl Num {
     }
 
     /// Appends the canonical text of the number: no zero in front, none at the end of a fraction, no point without a digit
-    /// behind it, no `+`, and no sign at 0.
+    /// after it, no `+`, and no sign at 0.
     ///
     /// # Errors
     ///
-    /// `AllocError` for want of memory; `out` is then as it was.
+    /// `AllocError` if it runs out of memory; `out` is then as it was.
     #[tactic(auto, using(crate::proofs::Prints::text_of_digits))]
     pub fn write(self, out: &mut Vec<u8>) -> Result<(), AllocError>
         ensures ok { OnOk result (out.new.items ≡ out.old.items ++ number_text (units self)) }
@@ -106,7 +106,7 @@ impl Num {
     pub fn is_text(self, text: &[u8]) -> bool
         ensures { result ≡ pointwise nat_eq (number_text (units self)) text.now }
     {
-        // most texts of no number are told by their first byte
+        // most texts that are no number are recognized by their first byte
         if !starts_canonical(text) {
             return false;
         }
@@ -131,7 +131,7 @@ pub fn is_canonical_by(text: &[u8], kept: u32) -> bool
     requires kept_at_most { kept ≤ 18 }
     ensures { IsTrue result ↔ IsCanonical kept text.now }
 {
-    // most subscripts that are no numbers are told by their first byte
+    // most subscripts that are no numbers are recognized by their first byte
     if !starts_canonical(text) {
         return false;
     }
@@ -141,7 +141,7 @@ pub fn is_canonical_by(text: &[u8], kept: u32) -> bool
     }
 }
 
-// Whether the text is one to eighteen digits and nothing else: the short way of small whole numbers.
+// Whether the text is one to eighteen digits and nothing else: the short way for small whole numbers.
 fn is_short_digits(text: &[u8]) -> bool
     ensures some { IsTrue result → 0 < length text.now }
     ensures short { IsTrue result → length text.now ≤ 18 }

@@ -91,7 +91,7 @@ put_in_gap (e ∷ es) n t (suc i) le gap x key text =
 
 -- ---- the entries after it
 
--- an insert that had room
+-- an insert that had space
 pub had_room : (b : Bool) (xs ys : List Entry) → b ≡ true → (if b then xs else ys) ≡ xs
 had_room b xs ys e = ap (λ r. if r then xs else ys) e
 

@@ -34,7 +34,7 @@ turned o h = grind arith
 turned_back : (o : Ordering) → is_lt o ≡ false → is_le (ordering_reverse o) ≡ true
 turned_back o h = grind arith
 
--- `a <= b` where not `b < a`
+-- `a <= b` if not `b < a`
 pub from_on : (a b : List ℕ) → is_lt (slice_cmp nat_cmp b a) ≡ false → is_le (slice_cmp nat_cmp a b) ≡ true
 from_on a b e = ap is_le (nat_list_cmp_total.antisymm a b) ∙ turned_back _ e
 
@@ -129,7 +129,7 @@ module _ (low high : List ℕ) where
   backward_none (e ∷ es) none =
       backward-cons e es ∙ ap (λ o. option_or o (one e)) (backward_none es (λ k d in_range. none (suc k) d (omega arith))) ∙ one_none e (none 0 e (omega arith))
 
-  -- where a key is out of bounds that stands before the upper one, so are those before it
+  -- if a key that comes before the upper bound is out of bounds, so are those before it
   below_out : (e f : Entry) → slice_cmp nat_cmp (bytes_of e) (bytes_of f) ≡ Less → is_before high f ≡ true → is_between low high (bytes_of f) ≡ false → is_between low high (bytes_of e) ≡ false
   below_out e f lt before out = false_from_ne_true _ (λ in_bounds.
       let from = at_most low (bytes_of e) (bytes_of f) (first _ _ in_bounds) lt in

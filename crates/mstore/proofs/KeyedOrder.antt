@@ -14,7 +14,7 @@ In : List (List ℕ) → List ℕ → Type 0
 In [] k = ⊥
 In (q ∷ ks) k = (k ≡ q) ⊎ In ks k
 
--- each before those behind it
+-- each before those after it
 AreRising : List (List ℕ) → Type 0
 AreRising [] = ⊤
 AreRising (k ∷ ks) = ((q : List ℕ) → In ks q → is_below k q ≡ true) × AreRising ks
@@ -33,7 +33,7 @@ not_back r s h e = grind arith
 below_back : (k q : List ℕ) → is_below k q ≡ true → is_below q k ≡ false
 below_back k q e = not_back (slice_cmp nat_cmp q k) (slice_cmp nat_cmp k q) (nat_list_cmp_total.antisymm q k) e
 
--- what holds of the first and of those behind it
+-- what holds of the first and of those after it
 each_of : (P : List ℕ → Type 0) (k : List ℕ) (ks : List (List ℕ)) → P k → ((q : List ℕ) → In ks q → P q) → (q : List ℕ) → (q ≡ k) ⊎ In ks q → P q
 each_of P k ks here later q (inl same) = subst P (sym same) here
 each_of P k ks here later q (inr is) = later q is

@@ -30,7 +30,7 @@ node_at k is = ap node_of (sym is.1.1) ∙ keys_are_read significant_digits is.0
 pub same_of : (m n : Node) → eq_by_cmp (node_cmp significant_digits) m n ≡ true → m ≡ n
 same_of m n e = node_cmp_exact significant_digits m n ((Equal-is (node_cmp significant_digits m n)).0 e)
 
--- keys are equal exactly where their nodes are
+-- keys are equal exactly if their nodes are
 same_keys : (k : List ℕ) (is : IsKey k) (n : Node) → NoneEmpty n.subscripts → eq_by_cmp (node_cmp significant_digits) n (node_of k) ≡ is_eq (slice_cmp nat_cmp k (key n))
 same_keys k is n some =
     ap (eq_by_cmp (node_cmp significant_digits) n) (node_at k is)

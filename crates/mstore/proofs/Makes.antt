@@ -26,7 +26,7 @@ version_is : (command_of (understood schema (sql Version)) ≡ Insert 1 version_
 unfolding understood everything
 version_is = (refl, (refl, refl))
 
--- both tables stand, and no node
+-- both tables are there, and no node
 pub record HasTables (db : Database) : Type 0 where
   pub schema_is : db.schema ≡ schema
   pub empty : db.trees 0 ≡ []

@@ -6,7 +6,7 @@ use Rattle.std.proofs.Common.{find, true≢false}
 pub at_itself : (r : Row) (k : List ℕ) → key_of r ≡ k → is_at k r ≡ true
 at_itself r k same = subst (λ q. is_at q r ≡ true) same (bytes_eq_refl (key_of r))
 
--- where the key stands, if it does
+-- where the key is, if it is there
 pub lookup_some : (rows : List Row) (k v : List ℕ) → lookup rows k ≡ Some v → (r : Row) × Has rows r × (key_of r ≡ k) × (value_of r ≡ v)
 lookup_some rows k v h = go (find (is_at k) rows) refl h
   where

@@ -1,10 +1,10 @@
 -- SPDX-License-Identifier: Apache-2.0
--- What stands from a key on and before the bytes that come next after it: the key alone.
+-- What there is from a key on and before the bytes that come next after it: the key alone.
 use Rattle.mstore.proofs.Words.{◌≡◌, ◌≢◌, ◌⊎◌, ◌<◌, ℕ, true, false, List, [], ◌∷◌, ◌++◌, refl, sym, ap, subst, ◌∙◌, inl, inr, arith, Equal, Greater, and_parts, and_from, false_from_ne_true, cases_order, nat_cmp_is, slice_cmp, ordering_then, Content, in_bounds, PutsAt, RemovesWithin, MovesKey, true≢false, is_lt, is_le}
 use Rattle.std.proofs.Common.{nat_cmp}
 use Rattle.mspec.proofs.KeyRanges.{same_bytes}
 
--- a list from k on, and before k with a 0 behind it
+-- a list from k on, and before k with a 0 after it
 pub alone : (k q : List ℕ) → is_le (slice_cmp nat_cmp k q) ≡ true → is_lt (slice_cmp nat_cmp q (k ++ 0 ∷ [])) ≡ true → q ≡ k
 alone [] [] from below = refl
 alone [] (b ∷ q) from below = absurd (by_first (cases_order b 0))

@@ -6,7 +6,7 @@ use Rattle.mstore.proofs.Texts.{which_is, which_command, at_name}
 use Rattle.mstore.proofs.Answer.{rows_from, rows_to}
 use Rattle.mstore.proofs.States.{asks_plain, no_row_is, query_row_stays}
 
--- a value is equal to a text where it is that text
+-- a value is equal to a text only if it is that text
 equal_text : (v : Value) (t : List ℕ) → is_true (binary (Compare Eq Binary) v (Text t)) ≡ true → v ≡ Text t
 unfolding binary value_cmp
 equal_text Null t h = absurd cc

@@ -1,5 +1,5 @@
 -- SPDX-License-Identifier: Apache-2.0
--- What a connection holds where its database is that of a table, and what a call leaves of it.
+-- What a connection holds if its database is that of a table, and what a call leaves of it.
 use Rattle.std.specs.Prelude.{◌≡◌, ◌≢◌, ◌⊎◌, ◌||◌, ℕ, pos, List, ◌∷◌, [], codes, Bool, false, Option, Some, None, IsTrue}
 use Rattle.std.specs.List.{list_any}
 use Rattle.sqlite_schema.specs.declared.schema.Schema.{Schema}
@@ -60,7 +60,7 @@ holds g h = content (state g h)
 abbrev pub stored : {S : Type 0} → Ghosts S → Held S → Globals
 stored g h = globals_by key_of value_of ((state g h).now.trees 0)
 
--- what the calls say holds where the store is memory and was a table
+-- what the calls say holds if the store is memory and was a table
 abbrev pub IsSound : {S : Type 0} → Ghosts S → Held S → Type 0
 IsSound g h = IsMemory g × IsStore (state g h)
 
@@ -113,12 +113,12 @@ HasVersion db v = (r : Row) × Has (db.trees 2) r × (column r 1 ≡ version_nam
 abbrev pub HasNoVersion : Database → Type 0
 HasNoVersion db = (r : Row) → Has (db.trees 2) r → column r 1 ≢ version_name
 
--- the row shows the version, and there is none where no row gives one
+-- the row shows the version, and there is none if no row gives one
 abbrev pub ShowsVersion : Database → Option Row → Type 0
 ShowsVersion db None = HasNoVersion db
 ShowsVersion db (Some row) = (v : Value) × (row ≡ v ∷ []) × HasVersion db v
 
--- both tables stand, with the version and no node
+-- both tables are there, with the version and no node
 pub record IsBare (db : Database) : Type 0 where
   pub schema_is : db.schema ≡ schema
   pub empty : db.trees 0 ≡ []

@@ -34,7 +34,7 @@ entries_of es = map entry_of es
 abbrev pub held : List Entry → Globals
 held es = from_entries (entries_of es)
 
--- the entries of nodes of a store, in the order of the nodes, of which each stands once, with texts of at most 4,095 characters
+-- the entries of nodes of a store, in the order of the nodes, each of which occurs once, with texts of at most 4,095 characters
 pub record AreEntries (es : List Entry) : Type 0 where
   pub sorted : is_sorted (node_cmp significant_digits) (entries_of es) ≡ true
   pub stored : All (λ e. IsStored e.key) es
@@ -45,22 +45,22 @@ pub record IsAt (es : List Entry) (node : Node) (i : ℕ) : Type 0 where
   pub in_range : i < length es
   pub of_node : HoldsAt (λ e. e.key ≡ node) es i
 
--- the node would stand at place i: the nodes before it are less, and those from it on greater
+-- the node would be at place i: the nodes before it are less, and those from it on greater
 abbrev pub IsGapFor : List Entry → Node → ℕ → Type 0
 IsGapFor es node i = IsPartitionPoint (λ e. node_cmp significant_digits e.key node ≡ Less) (λ e. node_cmp significant_digits e.key node ≡ Greater) es i
 
 abbrev pub bytes_of : Entry → List ℕ
 bytes_of e = key_bytes significant_digits e.key
 
--- the key stands before these bytes
+-- the key comes before these bytes
 abbrev pub is_before : List ℕ → Entry → Bool
 is_before bytes e = is_lt (slice_cmp nat_cmp (bytes_of e) bytes)
 
--- so many keys stand before these bytes, and the others do not
+-- the first i keys come before these bytes, and the others do not
 abbrev pub IsPlaceOf : List Entry → List ℕ → ℕ → Type 0
 IsPlaceOf es bytes i = IsPartitionPoint (λ e. is_before bytes e ≡ true) (λ e. is_before bytes e ≡ false) es i
 
--- the key of an entry, where it stands within the bounds
+-- the key of an entry, if it is within the bounds
 abbrev pub key_within : List ℕ → List ℕ → Option Entry → Option (List ℕ)
 key_within low high None = None
 key_within low high (Some e) = if is_between low high (bytes_of e) then Some (bytes_of e) else None

@@ -29,7 +29,7 @@ pub record IsOldCalm (s : State) : Type 0 where
   pub live : IsLive s
   pub version : HasVersion s.now old_version
 
--- inside a transaction, both tables stand, and the rows are a map, whatever their keys
+-- inside a transaction, both tables are there, and the rows are a map, whatever their keys
 pub record IsWorking (s : State) : Type 0 where
   pub inside : IsTrue s.in_transaction
   pub schema_is : s.now.schema ≡ schema
@@ -39,7 +39,7 @@ pub record IsWorking (s : State) : Type 0 where
 abbrev pub RanInside : List ℕ → List ℕ → List ℕ → State → State → Type 0
 RanInside text first second old new = (count : ℕ) × ExecutesInside 0 text (Blob first ∷ Blob second ∷ []) old new (Ok count)
 
--- the map, where what stood at one key stands at another
+-- the map, with what was at one key now at another
 pub record MovesKey (old new : Content) (from to v : List ℕ) : Type 0 where
   pub at : from ≢ to → new to ≡ Some v
   pub gone : from ≢ to → new from ≡ None
@@ -61,7 +61,7 @@ pub record ShowContent (c : Content) (shown : List Row) : Type 0 where
   pub each : (k v : List ℕ) → c k ≡ Some v → ((n : Node) × IsKeyBy old_digits n k) × Has shown (Blob k ∷ Blob v ∷ [])
   pub only : (k v : List ℕ) → Has shown (Blob k ∷ Blob v ∷ []) → c k ≡ Some v
 
--- what stood at a node's key by fifteen digits stands at its key of this version, or is still to be moved; and nothing else stands
+-- what was at a node's key by fifteen digits is at its key of this version, or is still to be moved; and nothing else is there
 pub record IsMoving (old new : Content) (left : List Row) : Type 0 where
   pub forth : (n : Node) (v : List ℕ) → IsStored n → old (key_bytes old_digits n) ≡ Some v
       → (new (key_bytes significant_digits n) ≡ Some v) ⊎ ((new (key_bytes old_digits n) ≡ Some v) × Has left (Blob (key_bytes old_digits n) ∷ Blob v ∷ []))

@@ -39,7 +39,7 @@ IsValue v = (length v ≤ max_text) × IsAscii v
 abbrev pub IsInForm : List ℕ → List ℕ → Type 0
 IsInForm k v = IsKey k × IsValue v
 
--- the same where the numbers of keys keep so many digits
+-- the same when the numbers of keys keep `kept` digits
 abbrev pub IsInFormBy : ℕ → List ℕ → List ℕ → Type 0
 IsInFormBy kept k v = ((n : Node) × IsKeyBy kept n k) × IsValue v
 
@@ -56,12 +56,12 @@ AreNodes = AreRows IsInForm
 
 -- ---- what an answer shows of them
 
--- the row shows the value, and there is none where there is no value
+-- the row shows the value, and there is none if there is no value
 abbrev pub ShowsValue : Option (List ℕ) → Option Row → Type 0
 ShowsValue found None = found ≡ None
 ShowsValue found (Some row) = (v : List ℕ) × (row ≡ Blob v ∷ []) × (found ≡ Some v)
 
--- the row shows the key that is sought, and there is none where there is no such key
+-- the row shows the key that is sought, and there is none if there is no such key
 abbrev pub ShowsKey : Bool → Content → List ℕ → List ℕ → Option Row → Type 0
 ShowsKey down m low high None = HasNone m low high
 ShowsKey down m low high (Some row) = (k : List ℕ) × (row ≡ Blob k ∷ []) × IsNearest down m low high k

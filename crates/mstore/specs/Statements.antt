@@ -15,7 +15,7 @@ pub data Statement : Type 0 where
   NodeTable : Statement
   MetaTable : Statement
   Version : Statement
-  -- the value at a key; a value put at a key, or in the place of the one there; the rows of a range of keys taken away
+  -- the value at a key; a value put at a key, or in the place of the one there; the rows of a range of keys removed
   Get : Statement
   Put : Statement
   Kill : Statement
@@ -49,7 +49,7 @@ RefusesOne schema = (text : List ℕ) × Has statements text × (fault : Compile
 
 -- ---- what came of one
 
--- the row of an answer, and none where the answer has none
+-- the row of an answer, and none if the answer has none
 abbrev pub Gives : Result Row Error → Option Row → Type 0
 Gives answer None = answer ≡ Err QueryReturnedNoRows
 Gives answer (Some row) = answer ≡ Ok row

@@ -26,7 +26,7 @@ abbrev pub digits_of : Version → ℕ
 digits_of First = old_digits
 digits_of Second = significant_digits
 
--- The rows hold these globals where the numbers of keys keep so many digits: each row is a node's, with its text, and the
+-- The rows hold these globals when the numbers of keys keep `kept` digits: each row is a node's, with its text, and the
 -- text at each node is the one at its key.
 pub record HoldBy (kept : ℕ) (rows : List Row) (g : Globals) : Type 0 where
   pub each : (r : Row) → Has rows r → IsInFormBy kept (key_of r) (value_of r)

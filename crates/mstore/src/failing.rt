@@ -17,18 +17,18 @@ pub enum StoreCall {
     Prev,
 }
 
-/// A store around another, of which one call answers `Store` and changes nothing: the nth of a kind. Each other call is passed on.
+/// A store around another. One of its calls, the nth of a kind, answers `Store` and changes nothing. Each other call is passed on.
 /// It has what the store beneath has, and is as sound; it is not steady.
 ///
-/// Contracts see its fields: the store beneath, the kind of call, and how many calls of that kind are left up to the one that
-/// fails, that one counted.
+/// Contracts see its fields: the store beneath, the kind of call, and how many calls of that kind are left up to and including
+/// the one that fails.
 pub struct Failing<S: NodeStore> {
     store: S,
     call: StoreCall,
     left: u32,
 }
 
-// Written out, so that to let go of it is one call, which is proved once.
+// Written out, so that dropping it is one call, which is proved once.
 impl<S: NodeStore + Drop> Drop for Failing<S> {
     fn drop(self) {
         let Failing {
@@ -59,7 +59,7 @@ impl<S: NodeStore> Failing<S> {
         if self.left == 0 { 1 } else { 0 }
     }
 
-    // Counts a call, and tells whether it is the one that fails.
+    // Counts a call, and says whether it is the one that fails.
     fn fails(&mut self, call: StoreCall) -> bool
         ensures due { IsTrue result ↔ (call ≡ self.old.call) × (self.old.left ≡ 1) }
         ensures counted { call ≡ self.old.call → self.new ≡ record self.old { left = self.old.left - 1 } }

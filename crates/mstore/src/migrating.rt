@@ -16,7 +16,7 @@ use sqlite::{Alter, Connection, Row, Transaction, params};
 use sqlite_value::value::ValueRef;
 use std::alloc::{AllocError, Global};
 
-// The bytes with a 0 behind them, which come next after them.
+// The bytes with a 0 after them, which are the next bytes in order.
 fn next_after(alloc: Global, key: &[u8]) -> Result<Vec<u8>, AllocError>
     ensures { IfOk result (λ next. next.items ≡ key.now ++ 0 ∷ []) }
 {
@@ -26,7 +26,7 @@ fn next_after(alloc: Global, key: &[u8]) -> Result<Vec<u8>, AllocError>
     Ok(next)
 }
 
-// The key that a node has now, of its key by fifteen digits.
+// The key that a node has now, from its key by fifteen digits.
 fn new_key(alloc: Global, old: &[u8]) -> Result<NodeKey, StoreFault>
     ensures { IfOk result (λ key. IsKeyBy old_digits key old.now) }
 {
@@ -125,8 +125,8 @@ fn move_rows<S: Alter>(
     Ok(())
 }
 
-/// Moves what each of the rows shows, which are all that a store of version 1 has, and gives the store this version; or leaves
-/// it as it is.
+/// Moves what each of the rows shows, and gives the store this version; or leaves it as it is. The rows are all that a store of
+/// version 1 has.
 pub(crate) fn migrate<S: Alter>(
     alloc: Global,
     conn: &mut Connection<S>,

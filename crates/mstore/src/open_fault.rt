@@ -9,16 +9,17 @@ use thiserror::Error;
 /// Why no table was opened.
 #[derive(Clone, Copy, Debug, PartialEq, Eq, Error)]
 pub enum OpenFault {
-    /// A row is not a node's: its key does not read, or its value is no BLOB of at most 4,095 bytes, each ASCII.
+    /// A row is not a node's: its key cannot be read, or its value is no BLOB of at most 4,095 bytes, each ASCII.
     #[error("BadKey")]
     BadKey,
-    /// The tables are not those of this version.
+    /// The tables are those of no version that is opened: one of them is missing, their columns do not take a statement, or the row
+    /// `version` names neither version, or is missing.
     #[error("BadVersion")]
     BadVersion,
-    /// The database refused, or holds more than the two tables, or them otherwise made.
+    /// The database refused, has neither of the two tables but others, or has both with further tables or made in another way.
     #[error("Store")]
     Store,
-    /// Want of memory.
+    /// Out of memory.
     #[error("Memory")]
     Memory,
 }

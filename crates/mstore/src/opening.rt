@@ -1,5 +1,5 @@
 // SPDX-License-Identifier: Apache-2.0
-// How a database that is there is read.
+// How an existing database is read.
 ghost use Rattle.std.specs.Prelude.{◌≡◌, ◌≢◌, ◌↔◌, List, IsTrue, IfOk, OnOk, OnErr, Err, false};
 ghost use Rattle.std.specs.List.{AllByRecursion};
 ghost use Rattle.sqlite.specs.Held.{state};
@@ -110,7 +110,7 @@ fn read_all<S: Alter>(conn: &mut Connection<S>) -> Result<Vec<Row>, StoreFault>
     }
 }
 
-// The row that gives the version, where there is one.
+// The row that gives the version, if there is one.
 fn find_version<S: Alter>(conn: &mut Connection<S>) -> Result<Option<Row>, StoreFault>
     ensures mode { conn.old.in_transaction ≡ false → conn.new.in_transaction ≡ false }
     ensures stays { IsMemory S.Store → IsCalm (state S.Store conn.old) → Stays (state S.Store conn.old) (state S.Store conn.new) }
@@ -170,7 +170,7 @@ fn has_table(schema: &Schema, name: &[u8]) -> bool
         .any(|table| same_name(table.name.as_slice(), name))
 }
 
-// Why a database is refused that has tables, and not those that are made here.
+// Why a database is refused that has tables, but not those that are made here.
 fn refusal<S: Alter>(conn: &mut Connection<S>) -> OpenFault
     ensures stays { IsMemory S.Store → IsIdle (state S.Store conn.old) → Stays (state S.Store conn.old) (state S.Store conn.new) }
     ensures version { IsMemory S.Store → IsIdle (state S.Store conn.old) → result ≡ OpenFault.BadVersion → RefusesColumns (state S.Store conn.old).now.schema }

@@ -20,7 +20,7 @@ pub(crate) struct Entry {
     pub text: Bytes7,
 }
 
-// Written out, so that to let go of it is one call, which is proved once.
+// Written out, so that dropping it is one call, which is proved once.
 impl Drop for Entry {
     fn drop(self) {
         let Entry { key: _, text: _ } = self;
@@ -33,7 +33,7 @@ pub struct Plain {
     entries: Vec<Entry>,
 }
 
-// Written out, so that to let go of it is one call, which is proved once.
+// Written out, so that dropping it is one call, which is proved once.
 impl Drop for Plain {
     fn drop(self) {
         let Plain { entries: _ } = self;
@@ -66,7 +66,7 @@ impl Plain {
     }
 }
 
-// Where the entry of a node stands, or where it would go.
+// Where the entry of a node is, or where it would go.
 fn search(entries: &[Entry], key: &NodeKey) -> Result<usize, usize>
     requires { AreEntries entries.now }
     ensures found { IfOk result (IsAt entries.now key.now) }
@@ -80,7 +80,7 @@ fn search(entries: &[Entry], key: &NodeKey) -> Result<usize, usize>
     )
 }
 
-// How many keys stand before these bytes.
+// How many keys come before these bytes.
 fn place_of(entries: &[Entry], bytes: &[u8]) -> usize
     requires { AreEntries entries.now }
     ensures bound { result ≤ length entries.now }
@@ -93,7 +93,7 @@ fn place_of(entries: &[Entry], bytes: &[u8]) -> usize
     )
 }
 
-// The key of an entry, where there is one and its key stands within the bounds.
+// The key of an entry, if there is one and its key is within the bounds.
 fn key_within(
     alloc: Global,
     entry: Option<&Entry>,

@@ -25,7 +25,7 @@ pub(crate) const PREV: &str = "SELECT k FROM node WHERE k >= ?1 AND k < ?2 ORDER
 // For a store of version 1, whose rows are moved by the two that put and take away.
 pub(crate) const SET: &str = "UPDATE meta SET n = 2 WHERE name = 'version'";
 
-// What went wrong, of which nothing but want of memory is told apart.
+// What went wrong. Only running out of memory is told apart.
 pub(crate) fn fault_of(error: &Error) -> StoreFault
     ensures { (result ≡ StoreFault.Memory) ↔ (error.now ≡ Error.SqliteFailure ErrorCode.OutOfMemory) }
 {
@@ -104,7 +104,7 @@ pub(crate) fn store_value<S: Alter>(
     done(conn.execute(PUT, params![key, value]))
 }
 
-// Takes the rows of a range of keys away.
+// Removes the rows of a range of keys.
 pub(crate) fn remove_range<S: Alter>(
     conn: &mut Connection<S>,
     low: &[u8],

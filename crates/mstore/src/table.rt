@@ -25,13 +25,13 @@ use std::alloc::Global;
 use std::marker::Model;
 use std::rt::HostRuntime;
 
-/// A store in the table `node` of a database. What is said of its content holds where its connection is in memory.
+/// A store in the table `node` of a database. What is said of its content holds if its connection is in memory.
 pub struct Table<S: Alter> {
     conn: Connection<S>,
     alloc: Global,
 }
 
-// Written out, so that to let go of it is one call, which is proved once.
+// Written out, so that dropping it is one call, which is proved once.
 impl<S: Alter + Drop> Drop for Table<S> {
     fn drop(self) {
         let Table { conn: _, alloc: _ } = self;
@@ -57,7 +57,7 @@ impl Table<Memory> {
     ghost use Rattle.mstore.specs.InMemory.{over_memory};
     ghost use Rattle.mstore.specs.Database.{IsMemory, HasVersion, this_version, stored};
 
-    /// An empty table in memory, of which holds what is said of a table's content.
+    /// An empty table in memory, for which what is said of a table's content holds.
     ///
     /// # Errors
     ///
@@ -84,12 +84,12 @@ impl Table<Memory> {
 impl Table<FileStore<File>> {
     ghost use Rattle.mstore.specs.declared.open_fault.OpenFault.TheVariants.{Store};
 
-    /// The table in a file, which is made where there is none. The log of the database stands beside the file, and a
-    /// statement that has returned is in it, also where the process is killed.
+    /// The table in a file, which is created if it does not exist. The log of the database is beside the file, and a
+    /// statement that has returned is in it, even if the process is killed.
     ///
     /// # Errors
     ///
-    /// Those of `adopt`. A file that is no database, or that another process has open, is `Store`, and so is `:memory:`.
+    /// Those of `adopt`. A file that is no database, or that another process has open, gives `Store`, and so does `:memory:`.
     pub fn open_file(rt: &HostRuntime, path: &str) -> Result<Table<FileStore<File>>, OpenFault>
         ensures { path.now ≡ codes ":memory:" → result ≡ Err Store }
     {
@@ -110,14 +110,15 @@ impl<S: Alter> Table<S> {
 
     /// Takes a connection whose database is a table of this version, with exactly its rows, or has no table and gets it. A table of
     /// version 1, whose numbers kept fifteen digits, becomes one of this version in one transaction, with the same text at each
-    /// node: a node whose key is another now goes there.
+    /// node: a node that now has another key goes to that key.
     ///
     /// # Errors
     ///
-    /// With the connection, and its database unchanged, the version too: `BadVersion` where one of `node` and `meta` is missing,
-    /// where their columns do not take a statement of this crate, where there is no row `version` or one of another version than
-    /// these two; and else `BadKey` where a row is not a node's by the digits of the version; `Memory`; and `Store` where the
-    /// database refuses, where a transaction is open, and where there is more than the two tables or they are otherwise made.
+    /// Each comes with the connection, whose database is unchanged, including the version: `BadVersion` if just one of `node` and
+    /// `meta` is there, if their columns do not take a statement of this crate, or if there is no row `version` or one of another
+    /// version than these two; otherwise `BadKey` if a row is not a node's by the digits of the version; `Memory`; and `Store` if the
+    /// database refuses, if a transaction is open, if there are tables but neither of the two, or if both take the statements but
+    /// there are further tables, or they are made in another way.
     pub fn adopt(
         alloc: Global,
         mut conn: Connection<S>,

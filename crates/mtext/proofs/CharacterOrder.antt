@@ -9,6 +9,6 @@ use Rattle.std.proofs.lemmas.Cmp.{same_from_slice_cmp}
 abbrev is_greater : Ordering → Bool
 is_greater o = eqb (ordering_index o) 2
 
--- one text follows another exactly where the comparison of slices says `Greater`
+-- one text follows another exactly if the comparison of slices says `Greater`
 pub follows_is : (s t : List ℕ) (o : Ordering) → o ≡ slice_cmp nat_cmp s t → eqb (ordering_index o) 2 ≡ follows s t
 follows_is = same_from_slice_cmp nat_cmp is_greater follows refl (λ _ _. refl) (λ _ _. refl) (λ x y xs ys o h. grind (arith, nat_tests))

@@ -43,7 +43,7 @@ pieces_counted c (x ∷ s) = counted_step c x s (eqb x c) refl (pieces_counted c
 pub counted_to : (p : ℕ → Bool) (s : List ℕ) (a b : ℕ) → a ≤ b → count_by p (take b s) ≡ count_by p (take a s) + count_by p (slice_range s a b)
 counted_to p s a b h = ap (count_by p) (front_and_part s a b h) ∙ sum_by-append (λ y. cond (p y) 1 0) (take a s) (slice_range s a b)
 
--- ---- the place behind a delimiter
+-- ---- the place after a delimiter
 
 passed : (c x : ℕ) (s : List ℕ) (n at : ℕ) → x ≡ c → IsBehind (c ∷ []) s n at → IsBehind (c ∷ []) (x ∷ s) (suc n) (suc at)
 passed c x s n at same behind =
@@ -87,7 +87,7 @@ behind_next c (x ∷ s) (suc k) within here =
     subst (λ (m : ℕ). IsBehind (c ∷ []) (x ∷ s) m (suc (suc k))) same
     (later c x s (count_by (is_byte c) (take k s)) (suc k) (eqb x c) refl (behind_next c s k (omega arith) here))
 
--- the place behind a delimiter stands behind as many pieces as there are delimiters up to it
+-- the place after a delimiter is after as many pieces as there are delimiters up to it
 pub behind_delimiter : (c : ℕ) (s : List ℕ) (k n : ℕ) → k < length s → get_or s k 0 ≡ c → count_by (is_byte c) (take k s) + 1 ≡ n → IsBehind (c ∷ []) s n (k + 1)
 behind_delimiter c s k n within here counted =
     let number : suc (count_by (is_byte c) (take k s)) ≡ n = omega arith in

@@ -3,7 +3,7 @@
 use Rattle.mtext.proofs.TextWords.{◌≡◌, ℕ, zero, suc, ◌+◌, ◌-◌, Bool, true, false, List, [], ◌∷◌, ◌++◌, length, take, drop, Option, Some, None, refl, sym, ap, subst, ◌∙◌, arith, cond, option_map, unwrap_or, min, ℤ, pos, take_rest, drop_min, drop-append_seam, take-append_seam, IsFirst, IsFirstByte, Passes, is_byte, OccursAt, FindsNeedle, NoneBefore, OccursAt-part, OccursAt-from_part, OccursAt-split, begins_with, first_place, from_place, find_of, begins_split, begins_append, length-append}
 use Rattle.memchr.proofs.lemmas.FindLemmas.{IsFirst-agree, IsFirst-wider, OccursAt-byte, byte-OccursAt}
 
--- what stands behind the front of a text occurs there
+-- what comes after the front of a text occurs there
 pub occurs_behind : (before t after : List ℕ) → OccursAt (before ++ (t ++ after)) t (length before)
 occurs_behind before t after =
     OccursAt-from_part (before ++ (t ++ after)) t (length before) (omega (arith, length-append before (t ++ after), length-append t after))
@@ -59,7 +59,7 @@ first_place_is t (x ∷ s) r finds = first_in_more t s x (begins_with t (x ∷ s
 pub in_rest : (s t : List ℕ) (at : ℕ) (r : Option ℕ) → FindsNeedle (take (length s - at) (drop at s)) t 0 r → FindsNeedle (drop at s) t 0 r
 in_rest s t at r finds = subst (λ u. FindsNeedle u t 0 r) (take_rest s at) finds
 
--- $FIND by a search behind the places before `from`
+-- $FIND by a search after the places before `from`
 pub find_is : (s t : List ℕ) (from : Option ℤ) (start n : ℕ) (r : Option ℕ) → start ≡ from_place (unwrap_or from (pos 1))
     → n ≡ min (start - 1) (length s) → FindsNeedle (take (length s - n) (drop n s)) t 0 r
     → unwrap_or (option_map (λ k. start + k + length t) r) 0 ≡ find_of s t from

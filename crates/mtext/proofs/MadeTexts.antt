@@ -1,5 +1,5 @@
 -- SPDX-License-Identifier: Apache-2.0
--- Texts that are made part by part, and refused where they are too long.
+-- Texts that are made part by part, and refused if they are too long.
 use Rattle.mtext.proofs.TextWords.{◌≡◌, ℕ, zero, suc, ◌+◌, ◌*◌, ◌≤◌, ◌<◌, Bool, List, [], ◌∷◌, ◌++◌, length, refl, sym, ap, subst, ◌∙◌, arith, add-one, cond, Option, Some, None, Result, Ok, Err, slice_get, MatchOption, IsErr, IsErrAnd, IsOk, option_copied, option_to_list, HoldsAt, Bor, append_assoc, append-nil, repeat, le-leb, lt-leb, max_text, made, translated_at, first_place, translation, Answers, length-append}
 use Rattle.std.proofs.lemmas.Option.{slice_get_past, slice_get-get_or}
 use Rattle.mspec.specs.Code.{Zlong}
@@ -14,7 +14,7 @@ residual_is : {X E : Type 0} (r : Result X E) (e : E) → IsErr r × IsErrAnd r 
 residual_is (Ok x) e h = let no' = h.0 in cc
 residual_is (Err x) e h = ap Err h.1
 
--- a text that fits may want memory
+-- a text that fits may run out of memory
 wants_memory : (s : List ℕ) → length s ≤ max_text → Answers (made s) (Err Memory)
 wants_memory s fits = subst (λ r. IsOk r) (sym (is_made s fits)) refl
 

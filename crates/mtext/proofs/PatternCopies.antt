@@ -27,7 +27,7 @@ none_fewer text string starts place within e =
     let same : e.0 ≡ place = omega arith in
     sym (ap (λ k. get_or starts k false) same) ∙ e.2
 
--- one copy more stands before the place
+-- one copy more is before the place
 pub one_more : (text string : List ℕ) (starts : List Bool) (place n : ℕ) → IsBefore text string place →
     IsCopiedTo text string starts (place - length string) n → IsCopiedTo text string starts place (suc n)
 one_more text string starts place n before e =

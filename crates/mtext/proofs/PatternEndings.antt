@@ -1,5 +1,5 @@
 -- SPDX-License-Identifier: Apache-2.0
--- Where the segment of an atom must end: behind so many repetitions, or behind the longest run of characters of its classes.
+-- Where the segment of an atom must end: after this many repetitions, or after the longest run of characters of its classes.
 use Rattle.mtext.proofs.TextWords.{append-nil, ◌≡◌, ◌≢◌, ℕ, zero, suc, ◌+◌, ◌-◌, ◌≤◌, ◌<◌, ◌↔◌, Bool, true, false, cond, List, [], ◌∷◌, ◌++◌, length, take, drop, Option, Some, Bor, slice_get, refl, sym, ap, subst, ◌∙◌, arith, append_assoc, take-append-drop, length-take-le, length-drop, prefix_len, drop_at, append_cancel_left, append_cancel_right, prefix_len-le-length, AllAre, Atom, Count, IsAtMost, IsPermitted, IsRepetition, Matches, is_in_any, members, copies, copied, Repeats, IsEnding, IsOtherwise, IsBarred, NoneBegins, members_atom, copies_atom, length-append, drop-drop, take_all}
 use Rattle.mspec.proofs.Basics.{nothing_copied}
 use Rattle.mspec.specs.Pattern as plain
@@ -43,7 +43,7 @@ whole_run p s all = ap (prefix_len p) (sym (append-nil s)) ∙ run_front p s [] 
 
 -- ---- counts
 
--- where only one number is permitted
+-- if only one number is permitted
 pub is_the_number : (count : Count) (number n : ℕ) → count.least ≡ number → count.most ≡ Some number → IsPermitted count n → n ≡ number
 is_the_number count number n least most permitted =
     let few : n ≤ number = subst (λ (m : Option ℕ). IsAtMost m n) most permitted.1 in
@@ -65,7 +65,7 @@ front_take text front rest n cut size =
     append_cancel_right (take n text) front rest
     (ap (λ (t : List ℕ). take n text ++ t) (sym (front_drop text front rest n cut size)) ∙ take-append-drop n text ∙ cut)
 
--- a segment of members with another match behind it
+-- a segment of members with another match after it
 members_then : (codes : List plain.PatternCode) (count : Count) (others : List Atom) (text : List ℕ) (n : ℕ) → n ≤ length text → AllAre (is_in_any codes) (take n text)
     → IsPermitted count n → Matches others (drop n text) → Matches (members_atom count codes ∷ others) text
 members_then codes count others text n within all permitted m =
@@ -144,12 +144,12 @@ no_copies string count others text number least most lacks m =
     let front : m.0 ≡ copied number string = m.3.2 ∙ ap (λ (k : ℕ). copied k string) n in
     lacks m.1 (m.2 ∙ ap (λ (t : List ℕ). t ++ m.1) front)
 
--- so many copies of nothing are nothing
+-- any number of copies of nothing is nothing
 pub nothing_stands : (string text : List ℕ) (number : ℕ) → length string ≡ 0 → (0 ≤ length text) × (text ≡ copied number string ++ drop 0 text)
 nothing_stands [] text number none = (omega arith, ap (λ (t : List ℕ). t ++ text) (sym (nothing_copied number)))
 nothing_stands (c ∷ string) text number none = absurd (omega arith)
 
--- one copy more stands, or none does
+-- there is one copy more, or none
 pub one_copy_more : (string text : List ℕ) (i at : ℕ) → at ≤ length text → text ≡ copied i string ++ drop at text → drop at text ≡ string ++ drop (length string) (drop at text)
     → (at + length string ≤ length text) × (text ≡ copied (i + 1) string ++ drop (at + length string) text)
 one_copy_more string text i at within stand here =

@@ -20,7 +20,7 @@ IsLatest starts least place (Some s) = (s + least < place) × (get_or starts s f
 pub latest_new : (starts : List Bool) (least place : ℕ) → least ≤ place → get_or starts (place - least) false ≡ true → IsLatest starts least (place + 1) (Some (place - least))
 latest_new starts least place h is = (omega arith, is, λ k above below. absurd (omega arith))
 
--- no place is marked behind those that were none before, up to the next
+-- no place is marked after those that were none before, up to the next
 none_next : (starts : List Bool) (least place k : ℕ) → (k + least < place → get_or starts k false ≡ false) → (least ≤ place → get_or starts (place - least) false ≡ false)
     → k + least < place + 1 → get_or starts k false ≡ false
 none_next starts least place k before not_here below =

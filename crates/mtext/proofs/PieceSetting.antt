@@ -13,7 +13,7 @@ with_piece_at zero v p (x ∷ ps) qs e = cc
 with_piece_at (suc k) v p [] qs e = absurd cc
 with_piece_at (suc k) v p (x ∷ ps) qs e = ap (λ (t : List (List ℕ)). x ∷ t) (with_piece_at k v p ps qs e)
 
--- behind the last
+-- after the last
 with_piece_past : (k : ℕ) (v : List ℕ) (ps : List (List ℕ)) → length ps ≤ k → with_piece k v ps ≡ ps ++ (replicate (k - length ps) [] ++ v ∷ [])
 unfolding with_piece
 with_piece_past zero v [] le = refl
@@ -43,7 +43,7 @@ closed_empty : (d : List ℕ) (j : ℕ) → closed d (replicate j []) ≡ repeat
 closed_empty d zero = refl
 closed_empty d (suc j) = ap (λ t. d ++ t) (closed_empty d j)
 
--- empty pieces and one more, behind others
+-- empty pieces and one more, after others
 join_padded : (d v : List ℕ) (ps : List (List ℕ)) (j : ℕ) → ps ≢ [] → join d (ps ++ (replicate j [] ++ v ∷ [])) ≡ join d ps ++ (repeat (suc j) d ++ v)
 join_padded d v ps zero some = join_more d v ps [] some ∙ ap (λ t. join d ps ++ (t ++ v)) (sym (append-nil d))
 join_padded d v ps (suc j) some =

@@ -11,7 +11,7 @@ cons_are : (d p rest : List ℕ) (ps : List (List ℕ)) → OnlyAtEnd d (p ++ d)
 cons_are d p rest [] ends are = absurd are.cut
 cons_are d p rest (q ∷ ps) ends are = record { joined = ap (λ t. p ++ (d ++ t)) are.joined; cut = (ends, are.cut) }
 
--- d stands only at the end of the text up to the first d in s
+-- d is only at the end of the text up to the first d in s
 ends_at_first : (d s : List ℕ) (k : ℕ) → FindsNeedle s d 0 (Some k) → OnlyAtEnd d (take k s ++ d)
 ends_at_first d s k finds before [] e = refl
 ends_at_first d s k finds before (y ∷ after) e =
@@ -53,7 +53,7 @@ take_one_more ps qs p n e = take-add n 1 ps ∙ ap (λ (t : List (List ℕ)). ta
 drop_one_more : (ps qs : List (List ℕ)) (p : List ℕ) (n : ℕ) → drop n ps ≡ p ∷ qs → drop (n + 1) ps ≡ qs
 drop_one_more ps qs p n e = sym (drop-drop 1 n ps) ∙ ap (drop 1) e
 
--- a piece and what follows it, behind others
+-- a piece and what follows it, after others
 pub join_behind : (d : List ℕ) (fronts : List (List ℕ)) (p : List ℕ) (qs : List (List ℕ)) → join d (fronts ++ p ∷ qs) ≡ closed d fronts ++ join d (p ∷ qs)
 join_behind d [] p qs = refl
 join_behind d (a ∷ []) p qs = sym (ap (λ t. t ++ join d (p ∷ qs)) (append-nil (a ++ d)) ∙ append_assoc a d (join d (p ∷ qs)))
@@ -93,7 +93,7 @@ behind_last d s n at some behind finds =
 
 -- ---- the pieces up to one
 
--- the text up to the end of the piece behind the first n
+-- the text up to the end of the piece after the first n
 pub end_found : (d s : List ℕ) (n at k : ℕ) → d ≢ [] → IsBehind d s n at → FindsNeedle (drop at s) d 0 (Some k) → take (at + k) s ≡ join d (take (n + 1) (pieces_of d s))
 end_found d s n at k some behind finds =
     let r = drop at s in
@@ -102,7 +102,7 @@ end_found d s n at k some behind finds =
     take-add at k s ∙ ap (λ t. t ++ take k r) behind.front
     ∙ sym (ap (join d) (take_one_more ps (pieces_of d (drop (k + length d) r)) (take k r) n e) ∙ join_behind d (take n ps) (take k r) [])
 
--- so many pieces are all, where there are no more
+-- this many pieces are all, if there are no more
 pub end_of_text : (d s : List ℕ) (n : ℕ) → d ≢ [] → length (pieces_of d s) ≤ n + 1 → take (length s) s ≡ join d (take (n + 1) (pieces_of d s))
 end_of_text d s n some few = take-length s ∙ sym (ap (join d) (take_all (n + 1) (pieces_of d s) few) ∙ join_pieces d s some)
 

@@ -1,5 +1,5 @@
 -- SPDX-License-Identifier: Apache-2.0
--- Where the segment of the first atom of a pattern ends in a text, if that is known by the atom and the one behind it.
+-- Where the segment of the first atom of a pattern ends in a text, if that is known from the atom and the one after it.
 use Rattle.std.specs.Prelude.{◌≡◌, ℕ, ◌≤◌, ◌↔◌, Bool, false, List, [], ◌∷◌, length, drop, Option, Some, None}
 use Rattle.mspec.specs.Pattern as plain
 use Rattle.mspec.specs.Pattern.{Matches, is_in_any}
@@ -27,7 +27,7 @@ IsFirstOf None atoms = atoms ≡ []
 IsFirstOf (Some lent) [] = ⊥
 IsFirstOf (Some lent) (atom ∷ atoms) = IsLent lent atom
 
--- the segment of the atom ends behind so many characters, or nowhere, in whatever way the others match
+-- the segment of the atom ends after this many characters, or nowhere, whichever way the others match
 abbrev pub IsEnding : List ℕ → plain.Atom → List plain.Atom → Ending → Type 0
 IsEnding text atom atoms (ending.Behind at) = (at ≤ length text) × (Matches (atom ∷ atoms) text ↔ Matches atoms (drop at text))
 IsEnding text atom atoms ending.Nowhere = Matches (atom ∷ atoms) text → ⊥

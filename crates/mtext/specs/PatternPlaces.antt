@@ -1,5 +1,5 @@
 -- SPDX-License-Identifier: Apache-2.0
--- The patterns of the code as plain ones, and the places of a text: how many of its characters stand before them. A list of
+-- The patterns of the code as plain ones, and the places of a text: how many of its characters come before them. A list of
 -- marks has one for each place from 0 to the text's length.
 use Rattle.std.specs.Prelude.{◌≡◌, ℕ, ◌+◌, ◌-◌, ◌≤◌, Bool, true, false, List, map, take, length, get_or, slice_range, Decides, Option, Some, None}
 use Rattle.mspec.specs.Pattern as plain
@@ -36,7 +36,7 @@ atom_of atom = record { count = count_of atom.count; repeated = repeated_of atom
 abbrev pub atoms_of : List Atom → List plain.Atom
 atoms_of atoms = map atom_of atoms
 
--- a repetition stands between one of the marked places and this one
+-- a repetition is between one of the marked places and this one
 abbrev pub IsEnd : List ℕ → plain.Count → plain.Repeated → List Bool → ℕ → Type 0
 IsEnd text count what starts place =
     (start : ℕ) × (start ≤ place) × (get_or starts start false ≡ true) × IsRepetition count what (slice_range text start place)
@@ -51,21 +51,21 @@ pub record AreMatched (text : List ℕ) (atoms : List plain.Atom) (marks : List 
   pub size : length marks ≡ length text + 1
   pub each : (place : ℕ) → place ≤ length text → Decides (get_or marks place false) (Matches atoms (take place text))
 
--- what may be repeated stands from `first` on: is the latest start that is far enough behind the place also near enough
+-- what may be repeated extends from `first` on: whether the latest start that is far enough back is also near enough
 abbrev pub IsNear : Option ℕ → Option ℕ → ℕ → ℕ → Type 0
 IsNear most None first place = ⊥
 IsNear most (Some start) first place = (first ≤ start) × plain.IsAtMost most (place - start)
 
--- the string stands right before the place
+-- the string is right before the place
 abbrev pub IsBefore : List ℕ → List ℕ → ℕ → Type 0
 IsBefore text string place = (length string ≤ place) × (slice_range text (place - length string) place ≡ string)
 
--- so many copies stand between one of the marked places and this one
+-- `number` copies are between one of the marked places and this one
 abbrev pub IsCopiedTo : List ℕ → List ℕ → List Bool → ℕ → ℕ → Type 0
 IsCopiedTo text string starts place number =
     (start : ℕ) × (start ≤ place) × (get_or starts start false ≡ true) × (slice_range text start place ≡ plain.copied number string)
 
--- the fewest such copies, of those that are at least so many
+-- the fewest such copies, of those that are at least `least`
 abbrev pub IsFewest : List ℕ → List ℕ → ℕ → List Bool → ℕ → Option ℕ → Type 0
 IsFewest text string least starts place None = (n : ℕ) → least ≤ n → IsCopiedTo text string starts place n → ⊥
 IsFewest text string least starts place (Some number) =

@@ -1,14 +1,14 @@
 // SPDX-License-Identifier: Apache-2.0
-// Delimiters of one character: the short way of `cutting`. Their number in a whole block of a text is counted at once.
+// Delimiters of one character: the short way for `cutting`. Their number in a whole block of a text is counted at once.
 ghost use Rattle.std.specs.Prelude.{◌≡◌, ◌+◌, ◌<◌, ◌≤◌, [], ◌∷◌, count_by, length, take, IfOk, IfErr};
 ghost use Rattle.memchr.specs.Find.{is_byte};
 ghost use Rattle.mspec.specs.Pieces.{pieces_of};
 ghost use Rattle.mtext.specs.Cuts.{IsBehind};
 
-// The characters that are counted at once: few enough that their number is a byte, so that many are compared together.
+// How many characters are counted at once: few enough that their number fits a byte, so that many are compared together.
 const COUNTED: usize = 224;
 
-// Those of a block that is passed over.
+// How many a block that is passed over has.
 const BLOCK: usize = 64;
 
 /// How many characters of a block are this one.
@@ -24,7 +24,7 @@ fn occurrences(character: u8, block: &[u8]) -> usize
     found as usize
 }
 
-/// How many delimiters part the pieces of a text.
+/// How many delimiters separate the pieces of a text.
 #[tactic(auto, using(crate::proofs::CharacterPieces::counted_to))]
 pub(crate) fn delimiters(character: u8, text: &[u8]) -> usize
     ensures count { length (pieces_of (character ∷ []) text.now) ≡ result + 1 }
@@ -40,7 +40,7 @@ pub(crate) fn delimiters(character: u8, text: &[u8]) -> usize
     passed
 }
 
-/// The place behind whole blocks that have fewer delimiters than are sought, and how many are left to be sought.
+/// The place after whole blocks that have fewer delimiters than are sought, and how many are left to be sought.
 #[tactic(auto, using(crate::proofs::CharacterPieces::counted_to))]
 fn pass_blocks(character: u8, text: &[u8], count: usize) -> (usize, usize)
     requires { 0 < count }
@@ -61,11 +61,11 @@ fn pass_blocks(character: u8, text: &[u8], count: usize) -> (usize, usize)
     (at, left)
 }
 
-/// The place behind the first `count` pieces of a text and their delimiters.
+/// The place after the first `count` pieces of a text and their delimiters.
 ///
 /// # Errors
 ///
-/// How many delimiters the text has too few.
+/// How many delimiters the text lacks.
 pub(crate) fn skip(character: u8, text: &[u8], count: usize) -> Result<usize, usize>
     ensures behind { IfOk result (λ at. IsBehind (character ∷ []) text.now count at) }
     ensures missing { IfErr result (λ n. length (pieces_of (character ∷ []) text.now) + n ≡ count + 1) }

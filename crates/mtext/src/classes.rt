@@ -75,14 +75,14 @@ impl Classes {
         }
     }
 
-    /// Is the byte a character of the set.
+    /// Whether the byte is a character of the set.
     pub(crate) fn contains(self, byte: u8) -> bool
         ensures { result ≡ is_in_set self byte }
     {
         byte < 128 && self.kinds >> kind(byte) & 1 == 1
     }
 
-    /// Have the two sets a character in common.
+    /// Whether the two sets have a character in common.
     #[tactic(auto, using(crate::proofs::ClassKinds::apart))]
     pub(crate) fn meets(self, other: Classes) -> bool
         ensures { result ≡ false → (c : ℕ) → is_in_set other c ≡ true → is_in_set self c ≡ false }

@@ -10,7 +10,7 @@ use crate::delimiter::Delimiter;
 use crate::places::range;
 use memchr::memmem::Finder;
 
-/// $LENGTH with a delimiter: how many pieces `text` has by `delimiter`, and 0 where that is empty. Takes no memory.
+/// $LENGTH with a delimiter: how many pieces `text` has by `delimiter`, and 0 if that is empty. Takes no memory.
 #[tactic(auto, using(crate::proofs::PieceSteps::empty_is, crate::proofs::PieceSteps::no_pieces))]
 pub fn pieces(text: &[u8], delimiter: &[u8]) -> usize
     ensures { result ≡ piece_count text.now delimiter.now }
@@ -24,7 +24,7 @@ pub fn pieces(text: &[u8], delimiter: &[u8]) -> usize
     }
 }
 
-/// How many delimiters part the pieces of a text.
+/// How many delimiters separate the pieces of a text.
 #[tactic(auto, using(crate::proofs::PieceSteps::behind_last, crate::proofs::FoundPlaces::in_rest))]
 fn delimiters(finder: &Finder, text: &[u8]) -> usize
     requires { finder.now ≢ [] }
@@ -40,11 +40,11 @@ fn delimiters(finder: &Finder, text: &[u8]) -> usize
     passed
 }
 
-/// The place behind the first `count` pieces of a text and their delimiters.
+/// The place after the first `count` pieces of a text and their delimiters.
 ///
 /// # Errors
 ///
-/// How many delimiters the text has too few.
+/// How many delimiters the text lacks.
 #[tactic(auto, using(crate::proofs::PieceSteps::behind_last, crate::proofs::FoundPlaces::in_rest))]
 fn skip_texts(finder: &Finder, text: &[u8], count: usize) -> Result<usize, usize>
     requires { finder.now ≢ [] }
@@ -62,11 +62,11 @@ fn skip_texts(finder: &Finder, text: &[u8], count: usize) -> Result<usize, usize
     Ok(at)
 }
 
-/// The same by any delimiter.
+/// The same for any delimiter.
 ///
 /// # Errors
 ///
-/// How many delimiters the text has too few.
+/// How many delimiters the text lacks.
 pub(crate) fn skip(delimiter: &Delimiter, text: &[u8], count: usize) -> Result<usize, usize>
     requires { delimiter_text delimiter.now ≢ [] }
     ensures behind { IfOk result (λ at. IsBehind (delimiter_text delimiter.now) text.now count at) }
@@ -79,7 +79,7 @@ pub(crate) fn skip(delimiter: &Delimiter, text: &[u8], count: usize) -> Result<u
     }
 }
 
-/// The end of the first `count` pieces of a text and one more, or of the text where it has fewer.
+/// The end of the first `count` pieces of a text and one more, or of the text if it has fewer.
 #[tactic(auto, using(crate::proofs::PieceSteps::behind_last, crate::proofs::PieceSteps::end_of_text, crate::proofs::FoundPlaces::in_rest))]
 pub(crate) fn end_of(delimiter: &Delimiter, text: &[u8], count: usize) -> usize
     requires { delimiter_text delimiter.now ≢ [] }
@@ -95,9 +95,9 @@ pub(crate) fn end_of(delimiter: &Delimiter, text: &[u8], count: usize) -> usize
     }
 }
 
-/// $PIECE: the pieces of `text` by `delimiter` from place `from` up to place `to`, with their delimiters between them. `from`
-/// is 1 where it is left out, and `to` is `from` as it was given; a `from` below 1 then counts as 1. Empty where `to` is below
-/// `from`, where no such piece is there, and where `delimiter` is empty.
+/// $PIECE: the pieces of `text` by `delimiter` from place `from` up to place `to`, with their delimiters between them. If left
+/// out, `from` is 1, and `to` is `from` as it was given; a `from` below 1 then counts as 1. Empty if `to` is below `from`, if
+/// there is no such piece, and if `delimiter` is empty.
 ///
 /// A part of `text`; takes no memory.
 #[tactic(auto, using(crate::proofs::PieceSteps::empty_is, crate::proofs::PieceSteps::none_by_nothing))]

@@ -1,5 +1,5 @@
 // SPDX-License-Identifier: Apache-2.0
-// Delimiters, made ready to be sought.
+// Delimiters, prepared for being searched for.
 ghost use Rattle.std.specs.Prelude.{◌≡◌};
 ghost use Rattle.memchr.specs.Find.{FindsNeedle};
 ghost use Rattle.mtext.specs.Cuts.{delimiter_text};

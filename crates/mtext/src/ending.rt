@@ -1,5 +1,5 @@
 // SPDX-License-Identifier: Apache-2.0
-// Pattern match in one pass: the short way of `pattern`, for atoms whose segments can end at one place only.
+// Pattern match in one pass: the short way for `pattern`, for atoms whose segments can end at one place only.
 ghost use Rattle.std.specs.Prelude.{◌≡◌, ◌≢◌, ℕ, ◌<◌, ◌≤◌, List, ◌++◌, true, length, take, drop, Decides, MatchOption, Some};
 ghost use Rattle.std.specs.List.{prefix_len};
 ghost use Rattle.mspec.specs.Pattern as plain;
@@ -31,7 +31,7 @@ pub struct LentAtom<'a> {
 /// Where the segment of the first atom of a pattern ends, whichever way the others match.
 #[derive(Clone, Copy, Debug, PartialEq, Eq, Drop)]
 pub enum Ending {
-    /// Behind so many characters.
+    /// After this many characters.
     Behind(usize),
     /// Nowhere: the text does not match.
     Nowhere,
@@ -39,7 +39,7 @@ pub enum Ending {
     Open,
 }
 
-// The number of repetitions, where there is only one.
+// The number of repetitions, if there is only one.
 fn only_number(count: Count) -> Option<usize>
     ensures { MatchOption result (Unit {0}) (λ n. (count.least ≡ n) × (count.most ≡ Some n)) }
 {
@@ -49,7 +49,7 @@ fn only_number(count: Count) -> Option<usize>
     }
 }
 
-// Are so many repetitions permitted.
+// Whether `number` repetitions are permitted.
 fn permits(count: Count, number: usize) -> bool
     ensures { Decides result (IsPermitted (count_of count) number) }
 {
@@ -68,14 +68,14 @@ fn run(text: &[u8], set: Classes) -> usize
     text.len()
 }
 
-// Do so many characters of the classes stand at the front of a text.
+// Whether there are `number` characters of the classes at the front of a text.
 fn has_members(text: &[u8], set: Classes, number: usize) -> bool
     ensures { Decides result ((number ≤ length text.now) × AllAre (is_in_set set) (take number text.now)) }
 {
     number <= text.len() && run(&text[..number], set) == number
 }
 
-// The place behind so many copies of a string at the front of a text.
+// The place after `number` copies of a string at the front of a text.
 fn behind_copies(text: &[u8], string: &[u8], number: usize) -> Option<usize>
     requires { 0 < length string.now }
     ensures { MatchOption result ((rest : List ℕ) → text.now ≢ copied number string.now ++ rest) (λ at. (at ≤ length text.now) × (text.now ≡ copied number string.now ++ drop at text.now)) }
@@ -90,7 +90,7 @@ fn behind_copies(text: &[u8], string: &[u8], number: usize) -> Option<usize>
     Some(at)
 }
 
-// Is what an atom matches sure not to begin with a character of the classes.
+// Whether what an atom matches is sure not to begin with a character of the classes.
 fn is_apart(repeated: LentRepeated, set: Classes) -> bool
     ensures { result ≡ true → (count : plain.Count) (what : plain.Repeated) → Repeats repeated.entry what → 0 < count.least
         → (text : List ℕ) → IsRepetition count what text → IsOtherwise (is_in_set set) text }
@@ -104,7 +104,7 @@ fn is_apart(repeated: LentRepeated, set: Classes) -> bool
     }
 }
 
-// Is what the next atom matches, or the end of the text, sure not to begin so.
+// Whether what the next atom matches, or the end of the text, is sure not to begin so.
 fn is_barred(next: Option<LentAtom>, set: Classes) -> bool
     ensures { result ≡ true → (atoms : List plain.Atom) → IsFirstOf next.entry atoms → NoneBegins (is_in_set set) atoms }
 {
@@ -114,7 +114,7 @@ fn is_barred(next: Option<LentAtom>, set: Classes) -> bool
     }
 }
 
-// Of members: so many, or the longest run of them, where what follows begins with none.
+// For members: as many as the count says, or the longest run of them, if what follows begins with none.
 fn ending_of_members(text: &[u8], set: Classes, count: Count, next: Option<LentAtom>) -> Ending
     ensures { (codes : List plain.PatternCode) (others : List plain.Atom) → Repeats (LentRepeated.Members set) (plain.members codes) → IsFirstOf next.entry others
         → IsEnding text.now (members_atom (count_of count) codes) others result }
@@ -137,7 +137,7 @@ fn ending_of_members(text: &[u8], set: Classes, count: Count, next: Option<LentA
     }
 }
 
-// Of copies of a string: so many.
+// For copies of a string: as many as the count says.
 fn ending_of_copies(text: &[u8], string: &[u8], count: Count) -> Ending
     ensures { (others : List plain.Atom) → IsEnding text.now (copies_atom (count_of count) string.now) others result }
 {
@@ -153,9 +153,9 @@ fn ending_of_copies(text: &[u8], string: &[u8], count: Count) -> Ending
     }
 }
 
-/// Where the segment of an atom at the front of a text ends, if the atom and the next one say so: where the atom's count is a
-/// single number, or where it is of classes and what follows begins with none of their characters, so that it takes the longest
-/// run of them. Takes no memory.
+/// Where the segment of an atom at the front of a text ends, if the atom and the next one say so. They do if the atom's count is
+/// a single number, or if the atom is of classes and what follows begins with none of their characters, so that it takes the
+/// longest run of them. Takes no memory.
 pub fn segment_end(text: &[u8], atom: LentAtom, next: Option<LentAtom>) -> Ending
     ensures { (first : plain.Atom) (others : List plain.Atom) → IsLent atom.entry first → IsFirstOf next.entry others → IsEnding text.now first others result }
 {

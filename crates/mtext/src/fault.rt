@@ -18,11 +18,11 @@ pub enum TextFault {
     Memory,
 }
 
-/// Lets so many characters be a text.
+/// Lets `length` characters be a text.
 ///
 /// # Errors
 ///
-/// `TooLong` exactly where they are more than 4,095.
+/// `TooLong` exactly if there are more than 4,095.
 pub fn check_length(length: usize) -> Result<(), TextFault>
     ensures { MatchResult result (λ _. length ≤ max_text) (λ fault. (fault ≡ TextFault.TooLong) × (max_text < length)) }
 {

@@ -7,8 +7,8 @@ use crate::places::{begin_at, range, within};
 use memchr::memmem;
 use std::cmp::Ordering;
 
-/// $EXTRACT: the characters of `text` from place `from` up to place `to`. `from` is 1 where it is left out, and `to` is `from`
-/// as it was given; a `from` below 1 then counts as 1. Empty where `to` is below `from`, or no such character is there.
+/// $EXTRACT: the characters of `text` from place `from` up to place `to`. If left out, `from` is 1, and `to` is `from` as it was
+/// given; a `from` below 1 then counts as 1. Empty if `to` is below `from`, or there is no such character.
 ///
 /// A part of `text`; takes no memory.
 pub fn extract(text: &[u8], from: Option<i64>, to: Option<i64>) -> &[u8]
@@ -19,8 +19,8 @@ pub fn extract(text: &[u8], from: Option<i64>, to: Option<i64>) -> &[u8]
     &rest[..within(count, rest)]
 }
 
-/// $FIND: the place behind the first `what` that begins in `text` at place `from` or later, or 0 where there is none. `from`
-/// is 1 where it is left out or below 1. The empty text is found at `from`, also past the end of `text`. Takes no memory.
+/// $FIND: the place after the first `what` that begins in `text` at place `from` or later, or 0 if there is none. `from` is 1
+/// if it is left out or below 1. The empty text is found at `from`, even past the end of `text`. Takes no memory.
 pub fn find(text: &[u8], what: &[u8], from: Option<i64>) -> u64
     ensures { result ≡ find_of text.now what.now from }
 {
@@ -32,7 +32,7 @@ pub fn find(text: &[u8], what: &[u8], from: Option<i64>) -> u64
     }
 }
 
-/// The operator `[`: whether `text` contains `what`, as each text contains the empty one. Takes no memory.
+/// The operator `[`: whether `text` contains `what`; each text contains the empty one. Takes no memory.
 #[tactic(auto, using(crate::proofs::FoundPlaces::first_place_is))]
 pub fn contains(text: &[u8], what: &[u8]) -> bool
     ensures { result ≡ contains text.now what.now }

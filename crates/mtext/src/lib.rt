@@ -1,7 +1,7 @@
 // SPDX-License-Identifier: Apache-2.0
 //! The functions and operators of texts: pieces, characters, searches, the texts that they make, and pattern match.
 //!
-//! The definitions that the contracts cite stand in `mspec`: `Pieces`, `TextFunctions` and `Pattern`. Places are counted from
+//! The definitions that the contracts cite are in `mspec`: `Pieces`, `TextFunctions` and `Pattern`. Places are counted from
 //! 1, and are whole numbers of any size. An argument that the language lets a program leave out is an `Option`.
 #![tactic(auto)]
 

@@ -25,7 +25,7 @@ use mnum::Bytes7;
 use mspec::limits::{MAX_PLACE, MAX_TEXT};
 use std::alloc::{AllocError, Global};
 
-/// The character that stands for one in a translation, or none where it goes.
+/// The character that replaces one in a translation, or none if it is left out.
 #[tactic(auto, using(crate::proofs::FoundPlaces::character_place_is, crate::proofs::MadeTexts::got_is))]
 fn translated(character: u8, from: &[u8], to: &[u8]) -> Option<u8>
     ensures { option_to_list result ≡ translated_at to.now character (first_place (character ∷ []) from.now) }
@@ -36,7 +36,7 @@ fn translated(character: u8, from: &[u8], to: &[u8]) -> Option<u8>
     }
 }
 
-/// How many characters a translation has, which is never longer than what it is of.
+/// How many characters a translation has. It is never longer than what it translates.
 fn translated_length(characters: &[u8], from: &[u8], to: &[u8]) -> usize
     ensures { result ≡ length (translation characters.now from.now to.now) }
 {
@@ -69,12 +69,12 @@ fn translation(
     Ok(out)
 }
 
-/// $TRANSLATE: `text` with each character that is in `from` replaced by the one at its first place there in `to`, or left out
-/// where `to` is shorter.
+/// $TRANSLATE: `text` with each character that is in `from` replaced by the one that `to` has at its first place in `from`, or
+/// left out if `to` is shorter.
 ///
 /// # Errors
 ///
-/// `TooLong` exactly where the result would have more than 4,095 characters; for any other `Memory`, where there is none.
+/// `TooLong` exactly if the result would have more than 4,095 characters; for any other result `Memory`, if there is none.
 #[tactic(auto, using(crate::proofs::MadeTexts::is_made, crate::proofs::MadeTexts::wanting, crate::proofs::MadeTexts::translation_is_short, crate::proofs::MadeTexts::same_translation))]
 pub fn translate(
     alloc: Global,
@@ -97,7 +97,7 @@ pub fn translate(
 ///
 /// # Errors
 ///
-/// `TooLong` exactly where the result would have more than 4,095 characters; for any other `Memory`, where there is none.
+/// `TooLong` exactly if the result would have more than 4,095 characters; for any other result `Memory`, if there is none.
 pub fn justify(alloc: Global, text: &Bytes7, width: i64) -> Result<Bytes7, TextFault>
     ensures { Answers (justify_of text.now width) result }
 {
@@ -134,7 +134,7 @@ fn spliced(
     Ok(out)
 }
 
-/// A text with so many delimiters at its end and a value behind them, as long as memory suffices.
+/// A text with `count` delimiters at its end and a value after them, as long as memory suffices.
 fn extended(
     alloc: Global,
     text: &[u8],
@@ -155,7 +155,7 @@ fn extended(
     Ok(out)
 }
 
-/// A text with so many delimiters at its end and a value behind them.
+/// A text with `count` delimiters at its end and a value after them.
 fn padded(
     alloc: Global,
     text: &[u8],
@@ -175,7 +175,7 @@ fn padded(
     Ok(extended(alloc, text, delimiter, count, value)?)
 }
 
-/// A text with another piece behind so many.
+/// A text with another piece after the first `before`.
 #[tactic(auto, using(crate::proofs::PieceSetting::set_past))]
 fn replaced(
     alloc: Global,
@@ -200,13 +200,13 @@ fn replaced(
     }
 }
 
-/// SET of a $PIECE: `text` with `value` as its piece by `delimiter` at a place, which is 1 where it is left out. A text of
+/// SET of a $PIECE: `text` with `value` as its piece by `delimiter` at a place, which is 1 if it is left out. A text of
 /// fewer pieces first gets as many delimiters at its end as that takes.
 ///
 /// # Errors
 ///
-/// `Arg` exactly where the place is not from 1 to 500 or `delimiter` is empty; else `TooLong` exactly where the result would
-/// have more than 4,095 characters; else `Memory`, where there is none.
+/// `Arg` exactly if the place is not from 1 to 500 or `delimiter` is empty; otherwise `TooLong` exactly if the result would
+/// have more than 4,095 characters; otherwise `Memory`, if there is none.
 pub fn set_piece(
     alloc: Global,
     text: &Bytes7,

@@ -20,13 +20,13 @@ pub enum PatternCode {
     L,
     /// The digits.
     N,
-    /// The 33 others, of which the space is one.
+    /// The 33 others, including the space.
     P,
     /// The upper case letters.
     U,
 }
 
-/// How often an atom repeats: `least` times at least and `most` at most, where there is a greatest count.
+/// How often an atom repeats: at least `least` times, and at most `most` times if there is a greatest count.
 #[derive(Clone, Copy, Debug, PartialEq, Eq, Drop)]
 pub struct Count {
     pub least: usize,
@@ -56,7 +56,7 @@ pub struct Pattern {
 }
 
 impl PatternCode {
-    // Is the byte a character of the class.
+    // Whether the byte is a character of the class.
     fn contains(self, byte: u8) -> bool
         ensures { result ≡ is_in (code_of self) byte }
     {
@@ -73,7 +73,7 @@ impl PatternCode {
 }
 
 impl Count {
-    // Is so much not above the greatest count.
+    // Whether the number is not above the greatest count.
     pub(crate) fn is_at_most(self, number: usize) -> bool
         ensures { Decides result (IsAtMost self.most number) }
     {
@@ -83,7 +83,7 @@ impl Count {
         }
     }
 
-    // Is there a number, and is it not above the greatest count.
+    // Whether there is a number, and it is not above the greatest count.
     fn has_at_most(self, number: Option<usize>) -> bool
         ensures { MatchOption number (result ≡ false) (λ n. Decides result (IsAtMost self.most n)) }
     {
@@ -94,14 +94,14 @@ impl Count {
     }
 }
 
-// Is the byte a character of one of the classes.
+// Whether the byte is a character of one of the classes.
 fn is_of_any(codes: &[PatternCode], byte: u8) -> bool
     ensures { result ≡ is_in_any (codes_of codes.now) byte }
 {
     codes.iter().any(|code| code.contains(byte))
 }
 
-// Is the latest start not before `first`, and no more characters before the place than are permitted.
+// Whether the latest start is not before `first`, and no more characters before the place than are permitted.
 fn is_near(latest: Option<usize>, first: usize, count: Count, place: usize) -> bool
     requires { IfSome latest (λ start. start ≤ place) }
     ensures { Decides result (IsNear count.most latest first place) }
@@ -139,7 +139,7 @@ fn ends_of_members(
     Ok(ends)
 }
 
-// Does the string stand right before the place.
+// Whether the string is right before the place.
 fn stands_before(text: &[u8], string: &[u8], place: usize) -> bool
     requires { place ≤ length text.now }
     ensures { Decides result (IsBefore text.now string.now place) }
@@ -147,7 +147,7 @@ fn stands_before(text: &[u8], string: &[u8], place: usize) -> bool
     place >= string.len() && &text[place - string.len()..place] == string
 }
 
-// Do so many copies of a string stand between one of the starts and the place.
+// Whether `number` copies of a string are between one of the starts and the place.
 fn has_copies(text: &[u8], string: &[u8], number: usize, starts: &[bool], place: usize) -> bool
     requires size { length starts.now ≡ length text.now + 1 }
     requires within { place ≤ length text.now }
@@ -163,7 +163,7 @@ fn has_copies(text: &[u8], string: &[u8], number: usize, starts: &[bool], place:
     starts[start]
 }
 
-// The fewest copies between one of the starts and the place, of so many as `least` or more, from those at the places before.
+// The fewest copies, but at least `least`, between one of the starts and the place, found from those at the places before.
 fn fewest_copies(
     text: &[u8],
     string: &[u8],
@@ -234,7 +234,7 @@ fn ends_of(
     requires { length starts.now ≡ length text.now + 1 }
     ensures { IfOk result (λ ends. AreEnds text.now (count_of atom.now.count) (repeated_of atom.now.repeated) starts.now ends.items) }
 {
-    // so no atom looks for copies that are longer, with those of the atoms before it, than the text
+    // so no atom looks for copies that, together with those of the atoms before it, are longer than the text
     if starts.iter().all(|mark| !*mark) {
         return Vec::from_slice(alloc, starts);
     }
@@ -265,16 +265,16 @@ fn first_marks(alloc: Global, text: &[u8]) -> Result<Vec<bool>, AllocError>
     Ok(marks)
 }
 
-/// Does the text match the pattern: is it a joining of segments, one for each atom, each a permitted number of characters
-/// of the atom's classes or of copies of its string. A byte over 127 is of no class. Where a greatest count is below the
-/// least nothing matches.
+/// Whether the text matches the pattern: whether it is a joining of segments, one for each atom, each a permitted number of
+/// characters of the atom's classes or of copies of its string. A byte over 127 is in no class. If a greatest count is below
+/// the least, nothing matches.
 ///
-/// Time is at most the square of the text's length, and beside it for each atom the text's length times the atom's. Memory
+/// Time is at most the square of the text's length, and in addition, for each atom, the text's length times the atom's. Memory
 /// is a few words for each place of the text.
 ///
 /// # Errors
 ///
-/// `AllocError` for want of memory.
+/// `AllocError` if it runs out of memory.
 pub fn matches(alloc: Global, pattern: &Pattern, text: &[u8]) -> Result<bool, AllocError>
     ensures { IfOk result (λ answer. Decides answer (Matches (atoms_of pattern.now.atoms.items) text.now)) }
 {

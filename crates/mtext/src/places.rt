@@ -3,7 +3,7 @@
 ghost use Rattle.std.specs.Prelude.{◌≡◌, ◌+◌, ◌-◌, ◌≤◌, ◌<◌, ◌^◌, pos, length, min, unwrap_or};
 ghost use Rattle.mspec.specs.TextFunctions.{from_place, to_place};
 
-/// A place to begin at, which is the first where it is left out or below 1.
+/// A place to begin at, which is the first if it is left out or below 1.
 pub(crate) fn begin_at(place: Option<i64>) -> usize
     ensures value { result ≡ from_place (unwrap_or place (pos 1)) }
     ensures low { 1 ≤ result }
@@ -13,7 +13,7 @@ pub(crate) fn begin_at(place: Option<i64>) -> usize
     if place < 1 { 1 } else { place as usize }
 }
 
-/// A place to end at: before the first, where the number is below 1.
+/// A place to end at: before the first, if the number is below 1.
 pub(crate) fn end_at(place: i64) -> usize
     ensures value { result ≡ to_place place }
     ensures high { result < 2 ^ 63 }
@@ -21,8 +21,8 @@ pub(crate) fn end_at(place: i64) -> usize
     if place < 0 { 0 } else { place as usize }
 }
 
-/// How many stand before a range, and how many the range has where they suffice. `from` is 1 where it is left out, and `to`
-/// is `from` as it was given.
+/// How many come before a range, and how many the range has if there are enough. If left out, `from` is 1, and `to` is `from`
+/// as it was given.
 pub(crate) fn range(from: Option<i64>, to: Option<i64>) -> (usize, usize)
     ensures before { result.0 ≡ from_place (unwrap_or from (pos 1)) - 1 }
     ensures count { result.1 ≡ to_place (unwrap_or to (unwrap_or from (pos 1))) + 1 - from_place (unwrap_or from (pos 1)) }
@@ -32,7 +32,7 @@ pub(crate) fn range(from: Option<i64>, to: Option<i64>) -> (usize, usize)
     (first - 1, (last + 1).saturating_sub(first))
 }
 
-/// The place in a text behind so many of its characters, or its end.
+/// The place in a text after `count` of its characters, or its end.
 pub(crate) fn within(count: usize, text: &[u8]) -> usize
     ensures { result ≡ min count (length text.now) }
 {

@@ -24,7 +24,7 @@ pub zero_text : number_text (pos 0 *ℤ pos (10 ^ 18)) ≡ truth_text false
 unfolding size_text digits
 zero_text = refl
 
--- numbers are equal where their texts are
+-- numbers are equal when their texts are
 pub same_number : (m n : Num) → is_eq (int_cmp (units m) (units n)) ≡ pointwise nat_eq (number_text (units m)) (number_text (units n))
 same_number m n =
     same_from_decides (int_eq (units m) (units n)) (pointwise nat_eq (number_text (units m)) (number_text (units n))) (Decides-int_eq (units m) (units n)) (

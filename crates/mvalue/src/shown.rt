@@ -1,5 +1,5 @@
 // SPDX-License-Identifier: Apache-2.0
-// The text of a value, lent where the value has one.
+// The text of a value, lent if the value has one.
 ghost use Rattle.std.specs.Prelude.{◌≡◌};
 
 use mnum::Bytes7;
@@ -28,7 +28,7 @@ impl<'a> Model for Shown<'a> {
 }
 
 impl<'a> Shown<'a> {
-    /// A text that another has. Takes no memory.
+    /// A text that belongs to another. Takes no memory.
     pub fn lent(text: &'a Bytes7) -> Shown<'a>
         ensures { result ≡ text.now }
     {

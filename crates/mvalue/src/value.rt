@@ -18,7 +18,7 @@ pub struct Value {
     kind: Kind,
 }
 
-// Written out, so that to let go of it is one call, which is proved once.
+// Written out, so that dropping it is one call, which is proved once.
 impl Drop for Value {
     fn drop(self) {
         let Value { kind: _ } = self;
@@ -98,7 +98,7 @@ impl Value {
     ///
     /// # Errors
     ///
-    /// `AllocError` for want of memory, which a count below 10^18 needs none of.
+    /// `AllocError` if it runs out of memory, of which a count below 10^18 needs none.
     pub fn of_count(alloc: Global, count: u64) -> Result<Value, AllocError>
         ensures value { IfOk result (λ value. value ≡ number_text (pos count *ℤ pos (10 ^ 18))) }
         ensures always { count < 10 ^ 18 → IsOk result }
@@ -114,7 +114,7 @@ impl Value {
     ///
     /// # Errors
     ///
-    /// `AllocError` for want of memory.
+    /// `AllocError` if it runs out of memory.
     pub fn of_bytes(alloc: Global, bytes: &[u8]) -> Result<Value, AllocError>
         requires { All (λ c. c < 128) bytes.now }
         ensures { IfOk result (λ value. value ≡ bytes.now) }
@@ -154,7 +154,7 @@ impl Value {
     ///
     /// # Errors
     ///
-    /// `AllocError` for want of memory, which only a number needs.
+    /// `AllocError` if it runs out of memory, which only a number needs.
     pub fn into_text(self, alloc: Global) -> Result<Bytes7, AllocError>
         ensures { IfOk result (λ text. text ≡ self) }
     {
@@ -165,11 +165,11 @@ impl Value {
         }
     }
 
-    /// The text of the value, printed where it is a number.
+    /// The text of the value, printed if it is a number.
     ///
     /// # Errors
     ///
-    /// `AllocError` for want of memory, which only a number needs.
+    /// `AllocError` if it runs out of memory, which only a number needs.
     pub fn shown(&self, alloc: Global) -> Result<Shown<'_>, AllocError>
         ensures { IfOk result (λ shown. shown ≡ self.now) }
     {
@@ -183,7 +183,7 @@ impl Value {
     ///
     /// # Errors
     ///
-    /// `AllocError` for want of memory.
+    /// `AllocError` if it runs out of memory.
     pub fn write(&self, out: &mut Vec<u8>) -> Result<(), AllocError>
         ensures { OnOk result (out.new.items ≡ out.old.items ++ self.now) }
     {
@@ -197,7 +197,7 @@ impl Value {
     ///
     /// # Errors
     ///
-    /// `AllocError` for want of memory; the text is then as it was.
+    /// `AllocError` if it runs out of memory; the text is then as it was.
     pub fn append_to(&self, text: &mut Bytes7) -> Result<(), AllocError>
         ensures ok { OnOk result (text.new ≡ text.old ++ self.now) }
         ensures err { OnErr result (text.new ≡ text.old) }
@@ -208,11 +208,11 @@ impl Value {
         }
     }
 
-    /// A second value of the same text. A number is copied without memory.
+    /// A second value with the same text. A number is copied without memory.
     ///
     /// # Errors
     ///
-    /// `AllocError` for want of memory, which only a text needs.
+    /// `AllocError` if it runs out of memory, which only a text needs.
     #[inline]
     pub fn copy(&self) -> Result<Value, AllocError>
         ensures { IfOk result (λ value. value ≡ self.now) }
@@ -227,7 +227,7 @@ impl Value {
     ///
     /// # Errors
     ///
-    /// `Over` exactly where the number would be 10^18 or more in size, which that of a number never is.
+    /// `Over` exactly if the number would be 10^18 or more in size, which that of a number never is.
     #[inline]
     pub fn number(&self) -> Result<Num, Over>
         ensures { MatchResult result (λ n. numeric_value significant_digits self.now ≡ Some (units n)) (λ _. numeric_value significant_digits self.now ≡ None) }
@@ -238,7 +238,7 @@ impl Value {
         }
     }
 
-    /// Whether two values are one text. Takes no memory.
+    /// Whether two values are the same text. Takes no memory.
     pub fn equals(&self, other: &Value) -> bool
         ensures { result ≡ pointwise nat_eq self.now other.now }
     {

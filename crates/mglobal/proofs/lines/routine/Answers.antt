@@ -28,7 +28,7 @@ none_is : {A : Type 0} (r : Option A) → ((x : A) → r ≡ Some x → ⊥) →
 none_is None h = refl
 none_is (Some x) h = absurd (h x refl)
 
--- nothing stands behind the last place
+-- nothing comes after the last place
 pub returns-clause-lines : goal.returns-clause-lines
 returns-clause-lines g c sound =
     let globals = g.S.NodeStore.content c.args.store.now in
@@ -40,7 +40,7 @@ returns-clause-lines g c sound =
     sym (append-nil c.loop-place.lines.items) ∙ ap (λ l. c.loop-place.lines.items ++ l) (sym (no_more account name globals c.loop-place.place none))
     ∙ c.loop-place.invariant.lines sound (subst AreHeld same (c.in_ok-next.ensures.held sound))
 
--- the next place is behind this one
+-- the next place is after this one
 pub loop-place-smaller : goal.loop-place-smaller
 loop-place-smaller g c =
     let sub = rw c.in-Some.is at c.in_ok-next.ensures.sub in

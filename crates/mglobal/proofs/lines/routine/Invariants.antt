@@ -3,7 +3,7 @@ use Rattle.mglobal.proofs.GlobalWords.{◌≡◌, ◌≤◌, ◌++◌, length, l
 use Rattle.mglobal.proofs.PlacesLeft.{places_left}
 use Rattle.mglobal.proofs.lines.routine.Given as goal
 
--- the lines so far, and those behind the place, are all
+-- the lines so far, and those after the place, are all
 abbrev pub invariant-loop-place : goal.invariant-loop-place
 invariant-loop-place g l = record {
   place : length l.place ≤ 255;
@@ -12,6 +12,6 @@ invariant-loop-place g l = record {
   lines : g.S.NodeStore.sound → AreHeld (g.S.NodeStore.content l.initial.store) → l.lines.items ++ lines_behind (g.S.NodeStore.content l.initial.store) l.account l.name l.place ≡ lines_of (g.S.NodeStore.content l.initial.store) l.account l.name;
 }
 
--- each place is behind the one before
+-- each place is after the one before
 abbrev pub decreases-loop-place : goal.decreases-loop-place
 decreases-loop-place g l = places_left l.place

@@ -18,7 +18,7 @@ returns-in-Ok-clause-put c u =
     held_set c.self.inside.entries.items c.self.invariant c.args.key.now c.args.text.now c.in-Ok.at _ (ap (λ e. e.key) c.index_mut.ensures.value ∙ at.of_node c.index_mut.result.now) c.in_ok-text.ensures at
     ∙ ap (λ g. finite.insert g c.args.key.now c.args.text.now) c.self.view_is
 
--- a new entry is put between those before it and those behind it
+-- a new entry is put between those before it and those after it
 pub invariant_of-self-in-Continue-branch-3 : goal.invariant_of-self-in-Continue-branch-3
 invariant_of-self-in-Continue-branch-3 c =
     let le = subst (λ es. c.in-Err.place ≤ length es) c.deref.ensures.value c.in-Err.ensures.bound in

@@ -1,5 +1,5 @@
 -- SPDX-License-Identifier: Apache-2.0
--- Texts that are kept, behind calls of the store.
+-- Texts that are kept, after calls of the store.
 use Rattle.mcache.proofs.CacheWords.{◌≡◌, ◌≢◌, ◌≤◌, ℕ, Bool, true, false, cond, not, List, length, All, Some, None, Contains, nat_eq, refl, sym, ap, ◌∙◌, subst, inl, inr, Ordering, false_from_ne_true, All-filter, get, insert, entries, entries-insert, get-insert, starts_with, Text, Node, IsHeld, AreHeld, IsKeptAt, IsIn, IsInOr, AreOf}
 use Rattle.mstore.proofs.Holding.{entries_cut, put_held}
 use Rattle.std.proofs.lemmas.Cmp.{eq_by_cmp_equiv}
@@ -18,7 +18,7 @@ use Rattle.mcache.specs.NodeTexts.{Entry}
 abbrev order : Node → Node → Ordering
 order = node_cmp significant_digits
 
--- ---- what a store holds, behind a write
+-- ---- what a store holds, after a write
 
 held_put : (g : Globals) (n : Node) (t : Text) → IsStored n → length t ≤ max_text → AreHeld g → AreHeld (insert g n t)
 held_put g n t stored short held = subst (All IsHeld) (sym (entries-insert (node_cmp_total significant_digits) g n t)) (put_held n t (record { node = stored; text = short }) (entries g) held)
@@ -28,7 +28,7 @@ held_killed g n held =
     subst (All IsHeld) (sym (entries_cut (node_cmp_total significant_digits) (node_cmp_exact significant_digits) g (λ m. not (is_node_within n m))))
     (All-filter (λ e. not (is_node_within n e.0)) IsHeld (entries g) held)
 
--- ---- what a store has at a node, behind a write elsewhere
+-- ---- what a store has at a node, after a write elsewhere
 
 got_other : (g : Globals) (n m : Node) (t : Text) → m ≢ n → get (insert g n t) m ≡ get g m
 got_other g n m t other =
@@ -51,14 +51,14 @@ module _ {g : Globals} {read : Bool} {es : List Entry} (were : AreOf g read es) 
       let same : of.node ≡ n = one_node of.node n bytes of.stored stored (of.key ∙ at.2.0) (sym is) in
       sym (subst (λ m. get g m ≡ Some at.0.1) same of.text ∙ ap Some at.2.1)
 
-  -- and where it finds something, it is known what the store may hold
+  -- and if it finds something, it is known what the store may hold
   pub is_held : (bytes : List ℕ) (text : Text) → IsKeptAt es bytes text → AreHeld g
   is_held bytes text at = were.held (were.after at.0 at.1)
 
   pub in_them : (after : List Entry) → IsIn after es → AreOf g read after
   in_them after in_es = record { each = λ e c. were.each e (in_es e c); after = λ e c. were.after e (in_es e c); held = were.held }
 
-  -- behind a read of the store
+  -- after a read of the store
   pub read_now : (now : Globals) → now ≡ g → AreHeld g → AreOf now true es
   read_now now is held = record {
     each = λ e c. let of = were.each e c in record { node = of.node; stored = of.stored; key = of.key; text = ap (λ x. get x of.node) is ∙ of.text };
@@ -77,7 +77,7 @@ module _ {g : Globals} {read : Bool} {es : List Entry} (were : AreOf g read es) 
     held = were.held;
   }
 
-  -- behind a write of a node whose text is not kept
+  -- after a write of a node whose text is not kept
   pub behind_put : (n : Node) (bytes : List ℕ) (text : Text) (after : List Entry) → IsStored n → length text ≤ max_text → bytes ≡ key_bytes significant_digits n → IsIn after es → ((e : Entry) → Contains after e → e.0.items ≢ bytes) → AreOf (insert g n text) read after
   behind_put n bytes text after stored short is in_es gone = record {
     each = λ e c.
@@ -87,7 +87,7 @@ module _ {g : Globals} {read : Bool} {es : List Entry} (were : AreOf g read es) 
     held = λ known. held_put g n text stored short (were.held known);
   }
 
-  -- behind a kill, where nothing is kept of what it took away
+  -- after a kill, if nothing is kept of what it took away
   pub behind_kill : (n : Node) (bytes : List ℕ) (after : List Entry) → IsStored n → bytes ≡ key_bytes significant_digits n → IsIn after es → ((e : Entry) → Contains after e → starts_with nat_eq e.0.items bytes ≡ false) → AreOf (without_subtree g n) read after
   behind_kill n bytes after stored is in_es gone = record {
     each = λ e c.

@@ -5,7 +5,7 @@ use Rattle.mtree.specs.declared.tree.Line.{Line}
 use Rattle.mtree.specs.declared.tree.RoutineLine.{RoutineLine}
 
 module _ {n : ℕ} {lines : List (Entry Line)} {routine_lines : List (Entry RoutineLine)} (were : AreTrees n lines routine_lines) (text : Text) where
-  -- behind a look-up, the making of room, and the keeping
+  -- after a look-up, the making of room, and the keeping
   pub with_line : (tree : Line) (looked room kept : List (Entry Line)) (others : List (Entry RoutineLine)) → IsWithin looked lines → IsWithin room looked → IsWithin others routine_lines → length room + length others < n → IsWithinOr kept room text tree → length kept ≤ length room + 1 → line_at text ≡ Some (line_tree tree) → AreTrees n kept others
   with_line tree looked room kept others l r o less k one is = record {
     some = were.some;

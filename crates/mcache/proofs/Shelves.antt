@@ -49,7 +49,7 @@ module _ {T : Type 0} where
   pub found : {E : Type 0} (es : List (Entry T)) (text : Text) (tree : Rc T Global) (r : Result (Rc T Global) E) (o : Option (Rc T Global)) → Some tree ≡ lookup (λ k. pointwise nat_eq text k.items) es → MatchResult r (λ copy. copy.value ≡ tree.value) (λ _. ⊥ → ⊥) → o ≡ result_ok r → IfSome o (λ t. IsKept es text t.value)
   found es text tree r o at same is = held_again es text tree r o same is (kept_at es text tree (sym at))
 
-  -- so is what stands first under that text
+  -- so is what is first under that text
   first_at : (es : List (Entry T)) (e : Entry T) → slice_get es 0 ≡ Some e → Contains es e
   first_at es e at = subst (Contains es) (get_or_from_slice_get es 0 e e at) (Contains-get_or es 0 e (slice_get_within es 0 e at))
 

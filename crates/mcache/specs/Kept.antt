@@ -32,7 +32,7 @@ module _ {T : Type 0} where
   abbrev pub IsWithinOr : List (Entry T) → List (Entry T) → Text → T → Type 0
   IsWithinOr after before text tree = (e : Entry T) → Contains after e → Contains before e ⊎ IsOf text tree e
 
--- each tree that is kept is that of its text, and they are no more than there are entries
+-- each tree that is kept is that of its text, and there are no more of them than entries
 pub record AreTrees (entries : ℕ) (lines : List (Entry Line)) (routine_lines : List (Entry RoutineLine)) : Type 0 where
   pub some : 0 < entries
   pub few : length lines + length routine_lines ≤ entries

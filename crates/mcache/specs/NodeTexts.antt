@@ -30,7 +30,7 @@ IsIn after before = (e : Entry) → Contains after e → Contains before e
 abbrev pub IsInOr : List Entry → List Entry → List ℕ → Text → Type 0
 IsInOr after before bytes text = (e : Entry) → Contains after e → Contains before e ⊎ IsAt bytes text e
 
--- among the keys is each of an entry's that begins with these bytes
+-- each key of an entry that begins with these bytes is among the keys
 abbrev pub IsAmong : List (Vec ℕ Global) → List ℕ → Type 0
 IsAmong keys bytes = (k : Vec ℕ Global) × Contains keys k × (k.items ≡ bytes)
 

@@ -13,20 +13,20 @@ use std::marker::Model;
 use std::num::NonZeroUsize;
 use std::rc::Rc;
 
-/// A store with the texts of so many nodes, so that a node that was read or set lately is read without the store beneath. What is
-/// not there is not kept. It has what the store beneath has, and is as sound and as steady.
+/// A store with the texts of a given number of nodes, so that a node that was recently read or set is read without the store beneath.
+/// What is not there is not kept. It has what the store beneath has, and is as sound and as steady.
 pub struct Cached<S: NodeStore> {
     store: S,
     entries: Entries,
-    // Whether the store was read or set: that tells that what the store holds are nodes and texts that a store may hold, which a
-    // read that is answered without the store has to tell too.
+    // Whether the store was read, or took a text. That tells that what the store holds are nodes and texts that a store may hold, and a read
+    // that is answered without the store has to tell this too.
     told: bool,
     // How many texts the store was asked for since one that is kept was read.
     missed: usize,
     alloc: Global,
 }
 
-// Written out, so that to let go of it is one call, which is proved once.
+// Written out, so that dropping it is one call, which is proved once.
 impl<S: NodeStore + Drop> Drop for Cached<S> {
     fn drop(self) {
         let Cached {
@@ -52,21 +52,21 @@ impl<S: NodeStore> Model for Cached<S> {
     ghost invariant = { λ cached. S.sound → AreOf (S.content cached.store) cached.told cached.entries.entries };
 }
 
-// Of how many texts one is kept if none of those that are kept is read again.
+// One in this many texts is kept after as many reads in a row as there are entries, none of a text that is kept.
 const ONE_IN: usize = 16;
 
-// Whether a text that the store was asked for is kept, after so many in a row. A walk through more nodes than there are entries reads none
-// again before its text is gone, so it does not pay for them all; the first read that finds a text has the next ones kept again.
+// Whether a text that the store was asked for is kept, after `missed` in a row. A walk through more nodes than there are entries reads none
+// again before its text is gone, so it does not pay for them all. After the first read that finds a text, the next ones are kept again.
 fn is_wanted(missed: usize, entries: usize) -> bool {
     missed < entries || missed.is_multiple_of(ONE_IN)
 }
 
 impl<S: NodeStore> Cached<S> {
-    /// The store, with no text kept yet, and with so many entries.
+    /// The store, with no text kept yet, and with this many entries.
     ///
     /// # Errors
     ///
-    /// The store, for want of memory.
+    /// The store, if memory runs out.
     pub fn new(alloc: Global, store: S, entries: usize) -> Result<Cached<S>, S>
         requires { 0 < entries }
         ensures cached { IfOk result (λ cached. cached ≡ cached_store store entries) }

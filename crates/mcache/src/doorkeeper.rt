@@ -1,5 +1,5 @@
 // SPDX-License-Identifier: Apache-2.0
-// Texts that came lately.
+// Texts that came recently.
 use std::alloc::{AllocError, Global};
 use std::hash::{BuildHasher, BuildHasherDefault, FoldHasher};
 use std::mem;
@@ -7,8 +7,9 @@ use std::mem;
 // How many texts are remembered at most.
 const PLACES: usize = 1024;
 
-// Marks of texts that came lately and were not kept, each at the place that its hash gives: so a text that comes again is told from one
-// that comes once. A later text may take its place, and two texts may have one mark; that costs time, and shows in no answer.
+// Marks of texts that came recently and were not kept, each at the place that its hash gives, so that a text that comes again is told
+// apart from one that comes once. A later text may take its place, and two texts may have the same mark; that costs time, and shows in
+// no answer.
 #[derive(Drop)]
 pub(crate) struct Doorkeeper {
     marks: Vec<u32>,
@@ -24,7 +25,7 @@ impl Doorkeeper {
         Ok(Doorkeeper { marks })
     }
 
-    // Whether the text came lately. From now on it did. Takes no memory.
+    // Whether the text came recently. From now on, it did. Takes no memory.
     pub(crate) fn note(&mut self, text: &[u8]) -> bool {
         let hash = BuildHasherDefault::<FoldHasher>::new().hash_one(text);
         let mark = (hash >> 32) as u32;

@@ -10,7 +10,7 @@ use std::alloc::{AllocError, Global};
 
 pub(crate) type Entries = LruCache<Vec<u8>, Bytes7>;
 
-// A copy of the text that is kept at a key, where there is one, and memory for it.
+// A copy of the text that is kept at a key, if there is one, and memory for it.
 pub(crate) fn find(entries: &mut Entries, key: &[u8]) -> Option<Bytes7>
     ensures found { IfSome result (IsKeptAt entries.old.entries key.now) }
     ensures kept { IsIn entries.new.entries entries.old.entries }
@@ -22,7 +22,7 @@ pub(crate) fn find(entries: &mut Entries, key: &[u8]) -> Option<Bytes7>
     }
 }
 
-// Keeps the text of a key that is not kept, where there is memory for it.
+// Keeps the text of a key that is not kept, if there is memory for it.
 pub(crate) fn keep(alloc: Global, entries: &mut Entries, key: &[u8], text: &Bytes7)
     ensures kept { IsInOr entries.new.entries entries.old.entries key.now text.now }
     ensures cap { entries.new.cap ≡ entries.old.cap }
@@ -46,7 +46,7 @@ pub(crate) fn keep_if(wanted: bool, alloc: Global, entries: &mut Entries, key: &
     }
 }
 
-// Lets go of what is kept at a key.
+// Drops what is kept at a key.
 pub(crate) fn forget(entries: &mut Entries, key: &[u8])
     ensures kept { IsIn entries.new.entries entries.old.entries }
     ensures gone { (e : Entry) → Contains entries.new.entries e → e.0.items ≢ key.now }
@@ -71,7 +71,7 @@ fn keys_below(alloc: Global, entries: &Entries, key: &[u8]) -> Result<Vec<Vec<u8
     Ok(keys)
 }
 
-// Lets go of what is kept at the keys that begin with this one; without memory to note these, of all that is kept.
+// Drops what is kept at the keys that begin with this one; without memory to note these, drops all that is kept.
 pub(crate) fn forget_below(alloc: Global, entries: &mut Entries, key: &[u8])
     ensures kept { IsIn entries.new.entries entries.old.entries }
     ensures gone { (e : Entry) → Contains entries.new.entries e → starts_with nat_eq e.0.items key.now ≡ false }

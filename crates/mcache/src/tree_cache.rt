@@ -9,7 +9,7 @@ use std::rc::Rc;
 
 pub(crate) type TreeCache<T> = LruCache<Vec<u8>, Rc<T>>;
 
-// The tree of the text that was used last, held once more, where it is this text.
+// The tree of the text that was used last, as one more reference to it, if it is this text.
 fn latest<T: Drop>(tree_cache: &TreeCache<T>, text: &[u8]) -> Option<Rc<T>>
     ensures { IfSome result (λ tree. IsKept tree_cache.now.entries text.now tree.value) }
 {
@@ -23,7 +23,7 @@ fn latest<T: Drop>(tree_cache: &TreeCache<T>, text: &[u8]) -> Option<Rc<T>>
     }
 }
 
-// The tree of a text that is kept, held once more. The text that was used last is not hashed: loops run it again and again.
+// The tree of a text that is kept, as one more reference to it. The text that was used last is not hashed: loops run it again and again.
 pub(crate) fn find<T: Drop>(tree_cache: &mut TreeCache<T>, text: &[u8]) -> Option<Rc<T>>
     ensures found { IfSome result (λ tree. IsKept tree_cache.old.entries text.now tree.value) }
     ensures within { IsWithin tree_cache.new.entries tree_cache.old.entries }
@@ -38,7 +38,7 @@ pub(crate) fn find<T: Drop>(tree_cache: &mut TreeCache<T>, text: &[u8]) -> Optio
     }
 }
 
-// Lets go of the tree that was used the longest ago.
+// Drops the least recently used tree.
 pub(crate) fn let_go<T: Drop>(tree_cache: &mut TreeCache<T>)
     ensures within { IsWithin tree_cache.new.entries tree_cache.old.entries }
     ensures count { length tree_cache.new.entries ≡ length tree_cache.old.entries - 1 }
@@ -46,7 +46,7 @@ pub(crate) fn let_go<T: Drop>(tree_cache: &mut TreeCache<T>)
     drop(tree_cache.pop_lru());
 }
 
-// Keeps the tree of a text, where there is memory for it.
+// Keeps the tree of a text, if there is memory for it.
 pub(crate) fn keep<T: Drop>(alloc: Global, tree_cache: &mut TreeCache<T>, text: &[u8], tree: &Rc<T>)
     ensures within { IsWithinOr tree_cache.new.entries tree_cache.old.entries text.now tree.now.value }
     ensures count { length tree_cache.new.entries ≤ length tree_cache.old.entries + 1 }

@@ -15,11 +15,11 @@ use std::alloc::{AllocError, Global};
 use std::marker::Model;
 use std::rc::Rc;
 
-/// Trees of texts, of which so many are kept as there are entries: of lines, as they come from a terminal or stand behind XECUTE, and of
-/// lines of routines. The two kinds are kept apart, since a text may be both.
+/// Trees of texts, of which as many are kept as there are entries: of lines, as they come from a terminal or follow XECUTE, and of lines
+/// of routines. The two kinds are kept apart, since a text may be both.
 ///
-/// Once all entries are taken, a tree is kept where its text came lately already, so that texts that come once do not push out those that
-/// come again, and cost nothing to be kept.
+/// Once all entries are taken, a tree is kept if its text has already come recently. So texts that come once do not push out those that
+/// come again, and nothing is spent on keeping them.
 ///
 /// Contracts see it as the count of its entries: which trees are kept shows in no answer.
 pub struct Trees {
@@ -29,7 +29,7 @@ pub struct Trees {
     doorkeeper: Doorkeeper,
 }
 
-// Written out, so that to let go of it is one call, which is proved once.
+// Written out, so that dropping it is one call, which is proved once.
 impl Drop for Trees {
     fn drop(self) {
         let Trees {
@@ -60,7 +60,7 @@ fn is_full(lines: &TreeCache<Line>, routine_lines: &TreeCache<RoutineLine>, entr
     lines.len() + routine_lines.len() >= entries
 }
 
-// Makes room for one more tree: of the kind of which more are kept, that goes which was used the longest ago.
+// Makes room for one more tree: of the kind of which more are kept, the least recently used one goes.
 fn make_room(
     lines: &mut TreeCache<Line>,
     routine_lines: &mut TreeCache<RoutineLine>,
@@ -82,17 +82,17 @@ fn make_room(
     }
 }
 
-// Whether the tree of a text is to be kept: where an entry is free, and otherwise where the text came lately.
+// Whether the tree of a text is to be kept: if an entry is free, and otherwise if the text came recently.
 fn is_wanted(doorkeeper: &mut Doorkeeper, is_full: bool, text: &[u8]) -> bool {
     !is_full || doorkeeper.note(text)
 }
 
 impl Trees {
-    /// Of so many entries, with no tree yet.
+    /// With this many entries, and no tree yet.
     ///
     /// # Errors
     ///
-    /// For want of memory.
+    /// If memory runs out.
     pub fn new(alloc: Global, entries: usize) -> Result<Trees, AllocError>
         requires { 0 < entries }
         ensures { IfOk result (λ trees. trees ≡ entries) }
@@ -113,11 +113,11 @@ impl Trees {
     }
 
     /// The tree of a line, which is the one that `parse_line` gives. A tree that is kept is found by its text, without a copy of either.
-    /// A tree that finds no memory to be kept is answered all the same.
+    /// A tree that there is no memory to keep is returned all the same.
     ///
     /// # Errors
     ///
-    /// `Syntax` only where no tree of the grammar has the text; `Memory` for want of memory.
+    /// `Syntax` only if no tree of the grammar has the text; `Memory` if memory runs out.
     pub fn line(&mut self, alloc: Global, text: &[u8]) -> Result<Rc<Line>, ParseFault>
         ensures tree { IfOk result (λ line. line_at text.now ≡ Some (line_tree line.value)) }
         ensures syntax { result ≡ Err ParseFault.Syntax → line_at text.now ≡ None }
@@ -140,7 +140,7 @@ impl Trees {
     ///
     /// # Errors
     ///
-    /// `Syntax` only where no tree of the grammar has the text; `Memory` for want of memory.
+    /// `Syntax` only if no tree of the grammar has the text; `Memory` if memory runs out.
     pub fn routine_line(
         &mut self,
         alloc: Global,

@@ -97,7 +97,7 @@ module _ {S : Type 0} {g : Ghosts S} where
 pub not_error : {X E : Type 0} {x : X} {e : E} → ◌≡◌ {A = Result X E} (Ok x) (Err e) → ⊥
 not_error same = absurd (cc)
 
--- where a key could be built the subscripts are those of a node
+-- if a key could be built, the subscripts are those of a node
 pub key_checked : {X : Type 0} (xs : List Text) (x : X) → ((AreSubscripts xs → ⊥) → ⊥) → Yields {E = Code} fault_of (unless spec.Zsub (are_subscripts xs)) (λ (_ : X). tt) (Ok x)
 key_checked {X = X} xs x kept = go (are_subscripts xs) refl
   where

@@ -18,7 +18,7 @@ keeps_at_depth d k = record { same = k.same; session = k.session; store = k.stor
 
 -- ---- what they do
 
--- a call that began where another ended, told by where that one began
+-- a call that began where another ended, stated from where that one began
 pub moved : {A X : Type 0} {b b1 : Standing} {steady : Type 0} {d d1 : Depth} (p : Inside → Act A) {f : X → A} {h h1 : Here} {r : Result X Code} → b1 ≡ b → d1 ≡ d
     → Did b1 steady fault_of (λ n. p (inside b1.account n (depth_of d1))) f h r h1 → Did b steady fault_of (λ n. p (inside b.account n (depth_of d))) f h r h1
 moved {b = b} {b1 = b1} {steady = steady} {d = d} {d1 = d1} p {f = f} {h = h} {h1 = h1} {r = r} same depth did =
@@ -47,7 +47,7 @@ evaluates_failed q {old = old} d = record {
   depth = d.depth;
 }
 
--- the same, where it is by a `?` that the call returns
+-- the same, if the call returns by a `?`
 pub evaluates_stopped : {S A B X Y : Type 0} {g : Ghosts S} {p : Inside → Act A} (q : Inside → A → Act B) {f : X → A} {j : Y → B} {old new : Eval S} {e : Code} {r : Result Y Code}
     → Evaluates g p f old (Err e) new → IsErr r × IsErrAnd r (λ x. x ≡ e) → Evaluates g (λ i. p i >>= q i) j old r new
 evaluates_stopped {g = g} {p = p} q {j = j} {old = old} {new = new} {r = r} d h =
@@ -60,7 +60,7 @@ evaluates_gives a f x same = record {
   depth = refl;
 }
 
--- want of memory, by a `?` that the call returns
+-- out of memory: the call returns by a `?`
 pub evaluates_wanting : {S A X : Type 0} {g : Ghosts S} {e : Eval S} (p : Inside → Act A) (f : X → A) (r : Result X Code) → IsErr r × IsErrAnd r (λ x. x ≡ Zmem) → Evaluates g p f e r e
 evaluates_wanting {g = g} {e = e} p f r h = subst (λ r. Evaluates g p f e r e) (sym (residual_is r Zmem h)) (record {
   at = λ sound out locks. did_lost (λ n. p (inside (standing_of e).account n (depth_of e.depth))) f Zmem tt refl (omega arith);
@@ -111,7 +111,7 @@ never_refused {g = g} sound does steady = did_steadily steady (does.at (sound st
 
 -- ---- places
 
--- what is read is what is found, where there is something
+-- what is read is what is found, if there is something
 pub read_is : (p : Place) → ◌≡◌ {A = Act Text} (read_at p) (found_at p >>= give_some (undefined_at p))
 unfolding value_of
 read_is (at_local name xs) = refl

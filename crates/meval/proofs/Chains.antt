@@ -1,5 +1,5 @@
 -- SPDX-License-Identifier: Apache-2.0
--- Operators of arithmetic one after another, on a number to the left.
+-- Arithmetic operators one after another, on a number to the left.
 use Rattle.meval.proofs.EvalWords.{◌≡◌, ℕ, ◌+◌, ◌<◌, [], length, drop, get_or, map, Some, None, Result, Ok, Err, refl, sym, ap, ◌∙◌, subst, ℤ, Zover, significant_digits, numeric_value, number_text, Act, ◌>>=◌, charge, give, give_some, ExprTree, expr, OperandTree, operand, bracket, PrimaryTree, TailTree, apply, tail, no_tails, tails_of, as_number, both_numbers, binary, Inside, value, primary_value, operand_value, tail_value, tails_value, tail_tree, Tail, Yields, yields_gives, units, Num, Ghosts, fault_of, Code, Eval, Evaluates, Leads, operand_number, primary_number}
 use Rattle.std.proofs.Common.{List, Option}
 use Rattle.mspec.specs.Act.{Text}
@@ -12,7 +12,7 @@ use Rattle.meval.proofs.Calls.{evaluates_then, evaluates_failed, evaluates_seen,
 use Rattle.meval.proofs.LocalVariables.{regrouped, grouped}
 use Rattle.meval.proofs.Trees.{charge_failed, from_tail}
 
--- an operator of arithmetic wants both operands as numbers
+-- an arithmetic operator wants both operands as numbers
 wants_numbers : (o : Arithmetic) (x y : Text) → ◌≡◌ {A = Act Text} (binary (operator_tree o) x y) (both_numbers x y >>= (λ n. calculated o n.0 n.1))
 wants_numbers Add x y = refl
 wants_numbers Subtract x y = refl
@@ -40,7 +40,7 @@ read_again : (n : Num) → Yields {E = Code} fault_of (as_number (number_text (u
 read_again n = subst (λ (x : Option ℤ). Yields {E = Code} fault_of (give_some Zover x) (λ (u : Unit {0}). units n) (Ok tt)) (sym (number_again n)) (yields_gives (units n) (λ (u : Unit {0}). units n) tt refl)
 
 module _ {S : Type 0} {g : Ghosts S} where
-  -- an operator of arithmetic behind a number evaluates its operand as a number
+  -- an arithmetic operator after a number evaluates its operand as a number
   as_tail : {X : Type 0} {f : X → Text} {old new : Eval S} {r : Result X Code} (o : Arithmetic) (left : Num) (right : OperandTree)
       → Evaluates g (λ i. operand_number i right >>= calculated o (units left)) f old r new → Evaluates g (λ i. tail_value i (number_text (units left)) (apply (operator_tree o) right)) f old r new
   as_tail {f = f} {old = old} {new = new} {r = r} o left right d =

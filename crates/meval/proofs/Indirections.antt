@@ -1,5 +1,5 @@
 -- SPDX-License-Identifier: Apache-2.0
--- Calls of an indirection: subscripts behind those that a reference has already, and what a text names, evaluated an indirection deeper.
+-- Calls of an indirection: subscripts after those that a reference has already, and what a text names, evaluated an indirection deeper.
 use Rattle.meval.proofs.EvalWords.{◌≡◌, suc, ◌<◌, Bool, [], ◌∷◌, ◌++◌, Some, None, Result, Ok, Err, subst, refl, sym, ap, ◌∙◌, ◌↔◌, IsTrue, IsSome, false≢true, false_from_ne_true, IsErr, IsErrAnd, append_assoc, append-nil, Act, ◌>>=◌, ◌>>◌, give, give_some, PrimaryTree, ReferenceTree, indirect, ExprsTree, no_exprs, exprs, Evaluated, subscripts_of, with_subscripts, Inside, inside, is_indirection_free, an_indirection_free, indirected, named_by, value, values, primary_value, evaluated, through, finds, Did, Yields, assoc, did_then, did_spent, yielded, Ghosts, fault_of, Code, Depth, Eval, Evaluates, standing_of, eval_here, depth_of, true, false, List, Option, Text}
 use Rattle.mspec.specs.Code as spec
 use Rattle.mgrammar.specs.IndirectTexts.{ref_at}
@@ -8,7 +8,7 @@ use Rattle.mmeaning.proofs.Indirections.{did_fail}
 use Rattle.moperator.specs.declared.code.Code.TheVariants as code
 use Rattle.meval.proofs.Calls.{moved, evaluates_stopped, evaluates_yielded, keeps_itself, keeps_on}
 
--- ---- subscripts behind others
+-- ---- subscripts after others
 
 values_behind : (i : Inside) (es : ExprsTree) (xs ys : List Text) → ◌≡◌ {A = Act (List Text)} (values i (xs ++ ys) es) (values i ys es >>= (λ zs. give (xs ++ zs)))
 values_behind i no_exprs xs ys = refl
@@ -32,7 +32,7 @@ pub is_free : {X : Type 0} {x : X} (found : Option X) (b : Bool) → found ≡ S
 is_free found b some when = when.0 (subst IsSome (sym some) refl)
 
 module _ {S Y : Type 0} {g : Ghosts S} {j : Y → Evaluated} where
-  -- the subscripts behind a reference are evaluated behind its own
+  -- the subscripts after a reference are evaluated after its own
   pub evaluates_behind : {old new : Eval S} {r : Result Y Code} (es : ExprsTree) (v : Evaluated)
       → Evaluates g (λ i. values i [] es >>= (λ ys. give (with_subscripts (subscripts_of v ++ ys) v))) j old r new → Evaluates g (λ i. values i (subscripts_of v) es >>= (λ zs. give (with_subscripts zs v))) j old r new
   evaluates_behind {old = old} {new = new} {r = r} es v d = subst (λ (p : Inside → Act Evaluated). Evaluates g p j old r new) (λ k i. behind i es v k) d
@@ -47,7 +47,7 @@ module _ {S Y : Type 0} {g : Ghosts S} {j : Y → Evaluated} where
     depth = refl;
   }
 
-  -- what stops behind the check of the depth
+  -- what stops after the check of the depth
   free_then : {mid new : Eval S} {r : Result Y Code} (q : Inside → Act Evaluated) → is_indirection_free (depth_of mid.depth) ≡ true → Evaluates g q j mid r new → Evaluates g (λ i. an_indirection_free i.depth >> q i) j mid r new
   free_then {mid = mid} q free d = record {
     at = λ sound out locks. rw free (d.at sound out locks);
@@ -55,7 +55,7 @@ module _ {S Y : Type 0} {g : Ghosts S} {j : Y → Evaluated} where
     depth = d.depth;
   }
 
-  -- one whose text names no variable, or for whose tree memory does not suffice
+  -- one whose text names no variable, or for whose tree memory runs out
   pub evaluates_unnamed : {R : Type 0} {mid : Eval S} {e : Code} {r : Result Y Code} {f : R → ReferenceTree} (subscripts : ExprsTree) (x : Text) → is_indirection_free (depth_of mid.depth) ≡ true
       → Yields fault_of (give_some spec.Zsyntax (ref_at x)) f (Err e) → IsErr r × IsErrAnd r (λ c. c ≡ e) → Evaluates g (λ i. named_by i subscripts x) j mid r mid
   evaluates_unnamed subscripts x free none is =

@@ -25,14 +25,14 @@ module _ {S : Type 0} {g : Ghosts S} where
   -- ---- steps of an expression
 
   module _ {X : Type 0} (f : X → Text) where
-    -- a step and those behind it, from where the step is on
+    -- a step and those after it, from where the step is on
     pub from_tail : {old new : Eval S} (items : List Tail) (i : ℕ) (d : Tail) (x : Text) (r : Result X Code) → i < length items → d ≡ get_or items i d
         → Evaluates g (λ a. tails_value a x (tail (tail_tree d) (tails_of (map tail_tree (drop (i + 1) items))))) f old r new
         → Evaluates g (λ a. tails_value a x (tails_of (map tail_tree (drop i items)))) f old r new
     from_tail {old = old} {new = new} items i d x r within is h =
         subst (λ (rest : List Tail). Evaluates g (λ a. tails_value a x (tails_of (map tail_tree rest))) f old r new) (sym (next_item items i d within is)) h
 
-    -- behind the last step
+    -- after the last step
     pub from_end : {e : Eval S} (items : List Tail) (i : ℕ) (y : X) → length items ≤ i → Evaluates g (λ a. tails_value a (f y) (tails_of (map tail_tree (drop i items)))) f e (Ok y) e
     from_end {e = e} items i y past =
         subst (λ (rest : List Tail). Evaluates g (λ a. tails_value a (f y) (tails_of (map tail_tree rest))) f e (Ok y) e) (sym (drop_of_length-le items past)) (evaluates_gives (f y) f y refl)

@@ -1,5 +1,5 @@
 -- SPDX-License-Identifier: Apache-2.0
--- What calls of the evaluation do, where the meaning has it inside of more.
+-- What calls of the evaluation do, for acts that the meaning has inside larger ones.
 use Rattle.std.specs.Prelude.{ℤ, pos, Bool, [], slice_get, unwrap_or}
 use Rattle.mspec.specs.Trees.{Direction}
 use Rattle.mspec.specs.Act.{Text, Act, ◌>>=◌, give}
@@ -49,7 +49,7 @@ data_at p = do
 abbrev pub data_act : Evaluated → Act Text
 data_act v = resolve reading v >>= data_at
 
--- what $GET does with it, and with the arguments behind the variable
+-- what $GET does with it, and with the arguments after the variable
 abbrev pub get_from : ExprsTree → Inside → Place → Act Text
 get_from more i p = do
   xs ← values i [] more
@@ -58,13 +58,13 @@ get_from more i p = do
 abbrev pub get_act : ExprsTree → Inside → Evaluated → Act Text
 get_act more i v = resolve reading v >>= get_from more i
 
--- the direction of $ORDER, by the first of the arguments behind the variable
+-- the direction of $ORDER, by the first of the arguments after the variable
 abbrev pub direction_act : Inside → ExprsTree → Act Direction
 direction_act i more = do
   xs ← values i [] more
   direction_of (slice_get xs 0)
 
--- what $ORDER does with a variable that has its place, and with one that has not
+-- what $ORDER does with a variable that has its place, and with one that does not have it yet
 abbrev pub order_from : ExprsTree → Inside → Place → Act Text
 order_from more i p = do
   xs ← values i [] more

@@ -1,5 +1,5 @@
 -- SPDX-License-Identifier: Apache-2.0
--- What a call that evaluates says: it does an act that is told where it stands.
+-- What a call that evaluates says: it does an act that is given where it stands.
 use Rattle.std.specs.Prelude.{◌≡◌, ◌≤◌, ℕ, List, Result}
 use Rattle.mspec.specs.Access.{name_at}
 use Rattle.mspec.specs.LockConflict.{Locks}
@@ -28,7 +28,7 @@ abbrev pub eval_here : {S : Type 0} → Ghosts S → Eval S → Text → Locks �
 eval_here g e out locks =
     point e.session.now.locals e.session.now.naked e.session.now.test out e.steps (record { globals = g.content e.store.now; locks = locks })
 
--- where the expressions of its line stand, with so many texts that may be entered
+-- where the expressions of its line stand, with `n` texts that may be entered
 abbrev pub inside_at : {S : Type 0} → Eval S → ℕ → Inside
 inside_at e n = inside (standing_of e).account n (depth_of e.depth)
 
@@ -45,6 +45,6 @@ pub record Evaluates {S A X : Type 0} (g : Ghosts S) (p : Inside → Act A) (f :
   pub keeps : KeepsEval old new
   pub depth : new.depth ≡ old.depth
 
--- what an act does from one evaluation on, another one does from another
+-- what an act does from one evaluation on, another act does from another evaluation on
 pub record Leads {S : Type 0} (g : Ghosts S) (p : Inside → Act Text) (old : Eval S) (q : Inside → Act Text) (mid : Eval S) : Type 0 where
   pub on : (r : Result Text Code) (new : Eval S) → Evaluates g q (λ (v : Text). v) mid r new → Evaluates g p (λ (v : Text). v) old r new

@@ -36,12 +36,12 @@ abbrev pub IsWalk : Walk → Type 0
 IsWalk (walk.Local name values) = AreOrderSubscripts values
 IsWalk (walk.Node node) = IsAccountName node.account × AreOrderSubscripts node.subscripts
 
--- what a place is wanted for that has to be let be used so
+-- what a place is wanted for, by the mode in which its use has to be allowed
 abbrev pub use_of : grant.Mode → variables.Use
 use_of mode.Read = variables.reading
 use_of mode.Write = variables.writing
 
--- the line's account may use the global of a place so
+-- the line's account may use the global of a place in this mode
 abbrev pub IsOpen : Standing → Mode → variables.Place → Type 0
 IsOpen b m (variables.at_local name xs) = Unit {0}
 IsOpen b m (variables.at_node n) = may b.settings b.account n.account n.name m ≡ true

@@ -14,8 +14,8 @@ pub struct Depth {
 }
 
 impl Depth {
-    /// How deep the text of an indirection stands that is written here; none where 256 levels are open, or 32 indirections under
-    /// evaluation among them.
+    /// How deep the text of an indirection that is written here stands; none if 256 levels are open, or if 32 of them are indirections
+    /// under evaluation.
     pub fn indirected(self) -> Option<Depth>
         ensures free { IsSome result ↔ IsTrue (is_indirection_free (depth_of self)) }
         ensures deeper { IfSome result (λ deeper. depth_of deeper ≡ indirected (depth_of self)) }

@@ -46,7 +46,7 @@ pub struct Eval<'a, S> {
     pub depth: Depth,
 }
 
-// The tails behind so many.
+// The tails after the first `count`.
 fn tails_behind(tails: &[Tail], count: usize) -> &[Tail]
     requires { count ≤ length tails.now }
     ensures { result.now ≡ drop count tails.now }
@@ -59,7 +59,7 @@ impl<'a, S: NodeStore> Eval<'a, S> {
     ///
     /// # Errors
     ///
-    /// `Zsteps` where none is left.
+    /// `Zsteps` if none is left.
     pub fn charge(&mut self) -> Result<(), Code>
         ensures spent { IfOk result (λ _. self.new.steps < self.old.steps) }
         ensures session { self.new.session ≡ self.old.session }
@@ -74,7 +74,7 @@ impl<'a, S: NodeStore> Eval<'a, S> {
         Ok(())
     }
 
-    /// The value of a primary. It costs a step, also where it then fails.
+    /// The value of a primary. It costs a step, even if it then fails.
     ///
     /// # Errors
     ///
@@ -112,8 +112,8 @@ impl<'a, S: NodeStore> Eval<'a, S> {
         }
     }
 
-    // The value of any variable, at the place that it has. It stands apart, as the others of its kind below: a function clears the room of
-    // all its cases, and most references are to a local variable by one subscript.
+    // The value of any variable, at its place. It is kept out of line, as are the others of its kind below: a function clears the stack
+    // space of all its cases, and most references are to a local variable with one subscript.
     #[cycle(eval)]
     #[inline(never)]
     fn place_value(&mut self, alloc: Global, reference: &Reference) -> Result<Value, Code>
@@ -203,8 +203,8 @@ impl<'a, S: NodeStore> Eval<'a, S> {
         Ok(Pending::Global(node))
     }
 
-    // What the variable has to evaluate that an operand's text names, and the subscripts behind it. Its text is evaluated an indirection
-    // deeper, and no `?` stands there: the depth is then what it was.
+    // What the variable that an operand's text names has to evaluate, and the subscripts after it. Its text is evaluated one indirection
+    // deeper. No `?` comes in between, so the depth is afterwards what it was.
     #[cycle(eval)]
     fn named<'u>(
         &mut self,
@@ -227,7 +227,7 @@ impl<'a, S: NodeStore> Eval<'a, S> {
         result
     }
 
-    // What a reference that a text gave has to evaluate, and then the subscripts behind it.
+    // What a reference that a text gave has to evaluate, and then the subscripts after it.
     #[cycle(eval)]
     fn through_given<'u>(
         &mut self,
@@ -243,7 +243,7 @@ impl<'a, S: NodeStore> Eval<'a, S> {
         }
     }
 
-    // What a reference has to evaluate, and then the subscripts behind it.
+    // What a reference has to evaluate, and then the subscripts after it.
     #[cycle(eval)]
     fn through<'u>(
         &mut self,
@@ -321,8 +321,8 @@ impl<'a, S: NodeStore> Eval<'a, S> {
         Ok(())
     }
 
-    // What is done with the value to the left, which becomes what it gives. It is changed where it stands: a value that is written and
-    // then moved at once is waited for.
+    // What is done with the value to the left, which becomes the result. It is changed in place: a value that is moved right after it is
+    // written has to be waited for.
     #[cycle(eval)]
     fn tail(&mut self, alloc: Global, left: &mut Value, tail: &Tail) -> Result<(), Code>
         ensures { Evaluates S.NodeStore (λ i. meaning.tail_value i left.old (tail_tree tail.now)) (λ _. left.new) self.old result self.new }
@@ -374,7 +374,7 @@ impl<'a, S: NodeStore> Eval<'a, S> {
         self.other_number(alloc, operand, place)
     }
 
-    // The same of any operand. In brackets a number need not become a value.
+    // The same for any operand. In brackets, a number need not become a value.
     #[cycle(eval)]
     #[inline(never)]
     fn other_number(
@@ -395,7 +395,7 @@ impl<'a, S: NodeStore> Eval<'a, S> {
         Ok(())
     }
 
-    // What operators of arithmetic do with the number to the left, up to the first operator of another kind, and how many there are. The
+    // What arithmetic operators do with the number to the left, up to the first operator of another kind, and how many there are. The
     // number stays in its place.
     #[cycle(eval)]
     fn chain(&mut self, alloc: Global, left: &mut Num, tails: &[Tail]) -> Result<usize, Code>
@@ -418,7 +418,7 @@ impl<'a, S: NodeStore> Eval<'a, S> {
         Ok(tails.len())
     }
 
-    // What is done with the value to the left, which stays a number as long as operators of arithmetic come.
+    // What is done with the value to the left, which stays a number as long as arithmetic operators come.
     #[cycle(eval)]
     fn with_rest(&mut self, alloc: Global, value: &mut Value, tails: &[Tail]) -> Result<(), Code>
         ensures { Evaluates S.NodeStore (λ i. meaning.tails_value i value.old (tails_of (map tail_tree tails.now))) (λ _. value.new) self.old result self.new }
@@ -454,8 +454,8 @@ impl<'a, S: NodeStore> Eval<'a, S> {
     ///
     /// # Errors
     ///
-    /// The code that the value has in place of a text; `Zmem` for want of memory, too, and `Zstore` where the store refuses. The
-    /// steps are then those that were left where the evaluation ended.
+    /// The code that the value has in place of a text; also `Zmem` if memory runs out, and `Zstore` if the store refuses. The
+    /// steps are then those that were left when the evaluation ended.
     #[cycle(eval)]
     pub fn eval(&mut self, alloc: Global, e: &Expr) -> Result<Value, Code>
         ensures spent { IfOk result (λ _. self.new.steps < self.old.steps) }
@@ -486,7 +486,7 @@ impl<'a, S: NodeStore> Eval<'a, S> {
     ///
     /// # Errors
     ///
-    /// Those of the value; `Zover` where its number is too large.
+    /// Those of the value; `Zover` if its number is too large.
     pub fn number(&mut self, alloc: Global, e: &Expr) -> Result<Num, Code>
         ensures spent { IfOk result (λ _. self.new.steps < self.old.steps) }
         ensures does { Evaluates S.NodeStore (λ i. line.number_of i (expr_tree e.now)) units self.old result self.new }
@@ -500,7 +500,7 @@ impl<'a, S: NodeStore> Eval<'a, S> {
     ///
     /// # Errors
     ///
-    /// Those of the value; `Zover` where its number is too large.
+    /// Those of the value; `Zover` if its number is too large.
     pub fn truth(&mut self, alloc: Global, e: &Expr) -> Result<bool, Code>
         ensures spent { IfOk result (λ _. self.new.steps < self.old.steps) }
         ensures does { Evaluates S.NodeStore (λ i. acts.truth i (expr_tree e.now)) (λ is_true. is_true) self.old result self.new }

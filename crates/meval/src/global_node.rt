@@ -44,7 +44,7 @@ impl GlobalNode {
         }
     }
 
-    // Whether it is of the global of this account and name.
+    // Whether it is a node of the global of this account and name.
     pub(crate) fn is_of(&self, account: &[u8], name: &Name) -> bool
         ensures account { IsTrue result → self.now.account ≡ account.now }
         ensures name { IsTrue result → self.now.name ≡ name.now }
@@ -59,7 +59,7 @@ impl GlobalNode {
         self.subscripts = values;
     }
 
-    // A reference to the node with these in the place of the last subscript: `M1` where it has none.
+    // A reference to the node with these in place of the last subscript; `M1` if it has none.
     pub(crate) fn beside<'t>(
         &self,
         alloc: Global,

@@ -15,7 +15,7 @@ use mvalue::Value;
 use std::alloc::{AllocError, Global};
 use std::marker::Model;
 
-// The key of the node of this account, global name and subscripts: `Zsub` where these are none that a node can have.
+// The key of the node of this account, global name and subscripts; `Zsub` if no node can have such subscripts.
 pub(crate) fn key_with(
     alloc: Global,
     account: &[u8],
@@ -34,8 +34,8 @@ pub(crate) fn key_with(
     }
 }
 
-/// A node of a global as a reference gives it, whether or not a store can have it: no grant may allow it, and its subscripts may be
-/// none that a node can have. The name is mostly lent, and the subscripts are values up to the key. Contracts see it as the node.
+/// A node of a global as a reference gives it, whether or not a store can have it: it may be that no grant allows it, or that no node
+/// can have its subscripts. The name is mostly lent, and the subscripts are values until the key is built. Contracts see it as the node.
 #[derive(Drop)]
 pub struct GlobalReference<'t> {
     owner: Owner,
@@ -112,7 +112,7 @@ impl<'t> GlobalReference<'t> {
         Ok(GlobalNode::new(self.owner, name, self.subscripts))
     }
 
-    // The same node once more.
+    // A copy of the node.
     pub(crate) fn copy(&self, alloc: Global) -> Result<GlobalReference<'t>, AllocError>
         ensures { IfOk result (λ node. node ≡ self.now) }
     {
@@ -122,7 +122,7 @@ impl<'t> GlobalReference<'t> {
         Ok(GlobalReference::new(owner, name, subscripts))
     }
 
-    // The node with these subscripts behind its own. It needs no tree.
+    // The node with these subscripts after its own. It needs no tree.
     pub(crate) fn extended<'u>(
         self,
         alloc: Global,
@@ -135,7 +135,7 @@ impl<'t> GlobalReference<'t> {
         Ok(GlobalReference::new(self.owner, name, subscripts))
     }
 
-    // Its key: `Zsub` where its subscripts are none that a node can have.
+    // Its key; `Zsub` if no node can have its subscripts.
     pub(crate) fn key(&self, alloc: Global) -> Result<NodeKey, Code>
         requires { IsAccountName self.now.account }
         ensures checked { Yields fault_of (unless Zsub (are_subscripts self.now.subscripts)) (λ _. tt) result }

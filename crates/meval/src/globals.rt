@@ -33,7 +33,7 @@ pub(crate) fn code_of(fault: StoreFault) -> Code
 }
 
 impl<'a, S: NodeStore> Eval<'a, S> {
-    // The text at a node, where there is one.
+    // The text at a node, if there is one.
     pub(crate) fn node_text(&mut self, key: &NodeKey) -> Result<Option<Bytes7>, Code>
         requires { IsOpen (standing_of self.old) Read (at_node key.now) }
         ensures { Evaluates S.NodeStore (λ i. ask (Value key.now)) (λ text. text) self.old result self.new }
@@ -76,7 +76,7 @@ impl<'a, S: NodeStore> Eval<'a, S> {
         }
     }
 
-    // Gives a node a text. What stands below it stays.
+    // Gives a node a text. What is below it stays.
     pub(crate) fn put_node(&mut self, key: &NodeKey, text: &Bytes7) -> Result<(), Code>
         requires { IsOpen (standing_of self.old) Write (at_node key.now) }
         ensures { Evaluates S.NodeStore (λ i. put_at (at_node key.now) text.now) (λ u. u) self.old result self.new }
@@ -90,7 +90,7 @@ impl<'a, S: NodeStore> Eval<'a, S> {
         }
     }
 
-    // Takes the text of a node, and of what stands below it, away.
+    // Removes the text of a node, and of what is below it.
     pub(crate) fn kill_node(&mut self, key: &NodeKey) -> Result<(), Code>
         requires { IsOpen (standing_of self.old) Write (at_node key.now) }
         ensures { Evaluates S.NodeStore (λ i. ask (Kill key.now)) (λ u. u) self.old result self.new }

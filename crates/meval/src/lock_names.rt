@@ -22,13 +22,13 @@ use mtree::Reference;
 use std::alloc::Global;
 
 impl<'a, S: NodeStore> Eval<'a, S> {
-    /// The lock that a reference names. It refers to no node: the naked indicator stays, but for what the reference has to evaluate.
+    /// The lock that a reference names. It refers to no node: the naked indicator stays, except for what the reference has to evaluate.
     ///
     /// # Errors
     ///
-    /// Those of the values that the reference has to evaluate, and then `Zgrant` for a global that the account may not write, `Zsub` where
+    /// Those of the values that the reference has to evaluate, and then `Zgrant` for a global that the account may not write, `Zsub` if
     /// there are more than 15 subscripts, or one is empty or has more than 255 characters, and `Zsyntax` for a naked reference, which a
-    /// text may give; `Zmem` if memory is refused, and if the account is none of the settings', which no world hands in.
+    /// text may give; `Zmem` if memory is refused, or if the account is not one of the settings', which no world hands in.
     pub fn lock_name(&mut self, alloc: Global, reference: &Reference) -> Result<LockName, Code>
         ensures open { IfOk result (λ name. may_lock (standing_of self.new).settings (standing_of self.new).account name ≡ true) }
         ensures does { Evaluates S.NodeStore (λ i. acts.lock_name_act i (reference_tree reference.now)) (λ name. name) self.old result self.new }
@@ -37,7 +37,7 @@ impl<'a, S: NodeStore> Eval<'a, S> {
         self.named_lock(alloc, pending)
     }
 
-    // The lock that is named by a reference of which all is evaluated.
+    // The lock that a fully evaluated reference names.
     fn named_lock(&self, alloc: Global, pending: Pending) -> Result<LockName, Code>
         ensures open { IfOk result (λ name. may_lock (standing_of self.now).settings (standing_of self.now).account name ≡ true) }
         ensures does { Evaluates S.NodeStore (λ i. variables.named_lock i.account (pending_view pending.entry)) (λ name. name) self.now result self.now }
@@ -61,14 +61,14 @@ impl<'a, S: NodeStore> Eval<'a, S> {
     {
         let node = self.own_node(alloc, name, values);
         if !node.is_of_account() {
-            // the id is of other settings, which a world never hands in
+            // the id is from other settings, which a world never hands in
             return Err(Code::Zmem);
         }
         let key = node.key(alloc)?;
         Ok(LockName { key, global: false })
     }
 
-    // The lock of a global, which whoever may write it may take.
+    // The lock of a global. Whoever may write the global may take its lock.
     fn global_lock(&self, alloc: Global, node: &GlobalReference) -> Result<LockName, Code>
         ensures open { IfOk result (λ name. may_lock (standing_of self.now).settings (standing_of self.now).account name ≡ true) }
         ensures does { Evaluates S.NodeStore (λ i. variables.named_lock i.account (variables.of_global node.now)) (λ name. name) self.now result self.now }

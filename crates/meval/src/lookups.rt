@@ -19,7 +19,7 @@ use mvalue::Value;
 use std::alloc::Global;
 
 impl<'a, S: NodeStore> Eval<'a, S> {
-    // The value of a place, where it has one.
+    // The value of a place, if it has one.
     #[tactic(auto, unfolding(mspec::specs::Act::value_of))]
     pub(crate) fn found(&mut self, place: &Place) -> Result<Option<Value>, Code>
         requires { IsOpen (standing_of self.old) Read (place_view place.now) }
@@ -51,11 +51,11 @@ impl<'a, S: NodeStore> Eval<'a, S> {
         }
     }
 
-    /// The text of a place that may be changed, or the empty one where it has none.
+    /// The text of a place that may be changed, or the empty text if it has none.
     ///
     /// # Errors
     ///
-    /// `Zmem` for want of memory, and `Zstore` where the store refuses.
+    /// `Zmem` if memory runs out, and `Zstore` if the store refuses.
     pub fn text_or_empty(&mut self, alloc: Global, place: &Place) -> Result<Bytes7, Code>
         requires { IsOpen (standing_of self.old) Write (place_view place.now) }
         ensures { Evaluates S.NodeStore (λ i. variables.read_or [] (place_view place.now)) (λ text. text) self.old result self.new }
@@ -66,7 +66,7 @@ impl<'a, S: NodeStore> Eval<'a, S> {
         }
     }
 
-    // The value of a place, or the first of these where it has none; the empty text where there is neither.
+    // The value of a place, or the first of these if it has none; the empty text if there is neither.
     pub(crate) fn read_or(
         &mut self,
         alloc: Global,
@@ -97,7 +97,7 @@ impl<'a, S: NodeStore> Eval<'a, S> {
         }
     }
 
-    // The subscript next to the last one of a walk, or the empty text where there is none.
+    // The subscript next to the last one of a walk, or the empty text if there is none.
     pub(crate) fn next(
         &mut self,
         alloc: Global,

@@ -21,11 +21,11 @@ use std::alloc::Global;
 use std::rc::Rc;
 
 impl<'a, S: NodeStore> Eval<'a, S> {
-    /// Whether one level more may be opened where the text stands. Takes no memory.
+    /// Whether one more level may be opened where the text stands. Takes no memory.
     ///
     /// # Errors
     ///
-    /// `Zdepth` where 256 are open.
+    /// `Zdepth` if 256 are open.
     pub fn a_level_free(&self) -> Result<(), Code>
         ensures free { IfOk result (λ _. self.now.depth.levels < max_levels) }
         ensures full { IfErr result (λ code. code ≡ Zdepth) }
@@ -42,7 +42,7 @@ impl<'a, S: NodeStore> Eval<'a, S> {
     ///
     /// # Errors
     ///
-    /// `Zmem` for want of memory; all variables are then as they were.
+    /// `Zmem` if memory runs out; all variables are then as they were.
     #[tactic(auto, unfolding(mspec::specs::Act::level_begun))]
     pub fn open_level(&mut self) -> Result<(), Code>
         ensures { Evaluates S.NodeStore (λ i. with_locals level_begun) (λ u. u) self.old result self.new }
@@ -51,24 +51,24 @@ impl<'a, S: NodeStore> Eval<'a, S> {
         Ok(())
     }
 
-    /// Closes the level opened last; does nothing where none is open. Takes no memory.
+    /// Closes the level opened last; does nothing if none is open. Takes no memory.
     pub fn close_level(&mut self)
         ensures { Evaluates S.NodeStore (λ i. with_locals without_level) (λ u. u) self.old (Ok tt) self.new }
     {
         self.session.locals.leave();
     }
 
-    /// The lines of a routine of the account's own, in their order; none where it has no such routine.
+    /// The lines of one of the account's own routines, in order; none if it has no such routine.
     ///
     /// # Errors
     ///
-    /// `Zmem` if memory is refused, and if the account is none of the settings', which no world hands in; `Zstore` if the store refuses.
+    /// `Zmem` if memory is refused, or if the account is not one of the settings', which no world hands in; `Zstore` if the store refuses.
     pub fn routine(&mut self, alloc: Global, name: &Name) -> Result<Rc<Vec<Bytes7>>, Code>
         ensures { Evaluates S.NodeStore (λ i. ask (Routine name.now)) (λ lines. lines.value.items) self.old result self.new }
     {
         let account = Bytes7::from_slice(alloc, self.settings.name_of(self.account))?;
         if !is_account_name(&account) {
-            // the id is of other settings, which a world never hands in
+            // the id is from other settings, which a world never hands in
             return Err(Code::Zmem);
         }
         match shared_routine(self.store, alloc, &account, name.as_bytes7()) {

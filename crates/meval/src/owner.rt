@@ -9,7 +9,7 @@ use mnum::Bytes7;
 use mvalue::Value;
 use std::alloc::{AllocError, Global};
 
-// What stands in the place of an account: a name that one can have, which takes no memory, or any other text that an environment gave.
+// What stands in place of an account: a name that an account can have, which takes no memory, or any other text that an environment gave.
 // Contracts see it by `owner_text`, as the text.
 #[derive(Drop)]
 pub(crate) enum Owner {
@@ -61,7 +61,7 @@ impl Owner {
         }
     }
 
-    // The same once more.
+    // A copy of it.
     pub(crate) fn copy(&self) -> Result<Owner, AllocError>
         ensures { IfOk result (λ owner. owner_text owner ≡ owner_text self.now) }
     {

@@ -1,5 +1,5 @@
 // SPDX-License-Identifier: Apache-2.0
-// References of which all is evaluated, and places that the checks let through.
+// Fully evaluated references, and places that the checks let through.
 ghost use Rattle.std.specs.Prelude.{◌≡◌, ◌↔◌, ◌++◌, IsTrue, IsSome, IfSome, IfOk, []};
 ghost use Rattle.mgrammar.specs.Grammar as grammar;
 ghost use Rattle.meval.specs.Words.{AreOrderSubscripts, AreSubscripts, Own, Yields, are_subscripts, bracket, checked, expr_tree, fault_of, operand_tree, ordering};
@@ -17,19 +17,19 @@ use mvalue::Value;
 use std::alloc::{AllocError, Global};
 use std::marker::Model;
 
-/// A reference of which all is evaluated that it has to evaluate. Contracts see it by `pending_view`, as one of the definitions.
+/// A reference, once all that it has to evaluate is evaluated. Contracts see it by `pending_view`, as one of the definitions.
 #[derive(Drop)]
 pub enum Pending<'t> {
     /// A local variable: its name, and its subscripts.
     Local(VariableName<'t>, Values),
     /// A node of a global.
     Global(GlobalReference<'t>),
-    /// A node beside the one that was referred to last: the subscripts that stand in the place of the last one.
+    /// A node beside the one that was referred to last: the subscripts that take the place of the last one.
     Naked(Values),
 }
 
 impl<'t> Pending<'t> {
-    // The same with these subscripts behind its own. It needs no tree.
+    // The same with these subscripts after its own. It needs no tree.
     pub(crate) fn extended<'u>(
         self,
         alloc: Global,
@@ -55,7 +55,7 @@ impl<'t> Pending<'t> {
     }
 }
 
-// The expression of an operand that is one in brackets, without signs.
+// The expression in an operand that is an expression in brackets, without signs.
 pub fn bracketed(operand: &Operand) -> Option<&Expr>
     ensures { IfSome result (λ e. operand_tree operand.now ≡ grammar.operand [] (bracket (expr_tree e.now))) }
 {
@@ -68,8 +68,8 @@ pub fn bracketed(operand: &Operand) -> Option<&Expr>
     }
 }
 
-/// Subscripts of a node: at most 15, of 1 to 255 characters each. Contracts see them as a list of texts, and what gives the
-/// values says that their texts are such subscripts.
+/// Subscripts of a node: at most 15, of 1 to 255 characters each. Contracts see them as a list of texts, and the function
+/// that gives the values says that their texts are such subscripts.
 #[derive(Drop)]
 pub struct Subscripts {
     values: Values,
@@ -87,7 +87,7 @@ impl Model for Subscripts {
 }
 
 impl Subscripts {
-    /// The subscripts that these values are, if they can be those of a node. Takes no memory.
+    /// These values as subscripts, if they can be those of a node. Takes no memory.
     pub fn new(values: Values) -> Option<Subscripts>
         ensures when { IsSome result ↔ IsTrue (are_subscripts values) }
         ensures subscripts { IfSome result (λ subscripts. subscripts ≡ values) }
@@ -126,7 +126,7 @@ pub fn undefined(place: &Place) -> Code
     }
 }
 
-// The place of a local variable with these subscripts: `Zsub` where they are none of a node.
+// The place of a local variable with these subscripts; `Zsub` if they cannot be those of a node.
 pub fn local_place<'t>(name: VariableName<'t>, values: Values) -> Result<Place<'t>, Code>
     ensures checked { Yields fault_of (variables.resolve variables.reading (variables.of_local (name_view name.entry) values)) place_view result }
     ensures local { IfOk result (λ place. place_view place ≡ variables.at_local (name_view name.entry) values) }

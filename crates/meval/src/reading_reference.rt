@@ -23,7 +23,7 @@ pub fn read_reference(alloc: Global, text: Bytes7) -> Result<Reference, Code>
     }
 }
 
-// The same of any text.
+// The same for any text.
 #[inline(never)]
 fn parsed(alloc: Global, text: &[u8]) -> Result<Reference, Code>
     ensures { Yields fault_of (give_some Zsyntax (ref_at text.now)) reference_tree result }

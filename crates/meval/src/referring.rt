@@ -1,5 +1,5 @@
 // SPDX-License-Identifier: Apache-2.0
-// $DATA, $GET and $ORDER of a variable. Each of them stands apart from the others: a function clears the room of all its cases at each call.
+// $DATA, $GET and $ORDER of a variable. Each of them has a function of its own: a function clears the stack space of all its cases at each call.
 ghost use Rattle.std.specs.Prelude.{[], map};
 ghost use Rattle.mgrammar.specs.Grammar.{exprs_of};
 ghost use Rattle.mgrammar.specs.Functions.{function_of};
@@ -48,7 +48,7 @@ impl<'a, S: NodeStore> Eval<'a, S> {
         Ok(data_value(data))
     }
 
-    // What $GET gives of a variable, or of the first of these where it has no value.
+    // What $GET gives of a variable, or of the first of these if it has no value.
     #[cycle(eval)]
     #[inline(never)]
     fn get_of(&mut self, alloc: Global, reference: &Reference, more: &[Expr]) -> Result<Value, Code>
@@ -76,7 +76,7 @@ impl<'a, S: NodeStore> Eval<'a, S> {
         self.next(alloc, &walk, direction)
     }
 
-    // The direction of $ORDER, by the first of the arguments behind the variable.
+    // The direction of $ORDER, by the first of the arguments after the variable.
     #[cycle(eval)]
     pub(crate) fn direction(&mut self, alloc: Global, more: &[Expr]) -> Result<Direction, Code>
         ensures { Evaluates S.NodeStore (λ i. acts.direction_act i (exprs_of (map expr_tree more.now))) way self.old result self.new }

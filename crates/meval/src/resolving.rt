@@ -40,7 +40,7 @@ impl<'a, S: NodeStore> Eval<'a, S> {
         GlobalReference::new(owner, name, values)
     }
 
-    // Whether the account may use the global of a node so.
+    // Whether the account may use the global of a node in this way.
     pub(crate) fn check(&self, mode: Mode, node: &GlobalReference) -> Result<(), Code>
         ensures account { IfOk result (λ _. IsAccountName node.now.account) }
         ensures allowed { IfOk result (λ _. IsOpen (standing_of self.now) (mode_of mode) (variables.at_node node.now)) }
@@ -56,7 +56,7 @@ impl<'a, S: NodeStore> Eval<'a, S> {
         Ok(())
     }
 
-    // The node is the one that was referred to last. Where the one before it is of the same global, no name is copied.
+    // Makes the node the one that was referred to last. If the one before it is of the same global, no name is copied.
     fn refer(&mut self, node: GlobalReference) -> Result<(), Code>
         ensures same { standing_of self.new ≡ standing_of self.old }
         ensures does { Evaluates S.NodeStore (λ i. set_naked (Some node.entry)) (λ u. u) self.old result self.new }
@@ -71,7 +71,7 @@ impl<'a, S: NodeStore> Eval<'a, S> {
         Ok(())
     }
 
-    // The same of the node of the account of this name, of this global name and these subscripts.
+    // The same for the node of the account with this name, with this global name and these subscripts.
     fn refer_own(&mut self, own: &[u8], name: VariableName, values: Values) -> Result<(), Code>
         requires { IsAccountName own.now }
         ensures { Evaluates S.NodeStore (λ i. set_naked (Some (record { account = own.now; name = name_view name.entry; subscripts = values }))) (λ u. u) self.old result self.new }
@@ -113,7 +113,7 @@ impl<'a, S: NodeStore> Eval<'a, S> {
         Ok(Place::Node(key))
     }
 
-    // The same of a node of the account's own global, which it may read. No reference to it is made.
+    // The same for a node of the account's own global, which it may read. No reference to it is built.
     pub(crate) fn own_place<'t>(
         &mut self,
         alloc: Global,
@@ -125,7 +125,7 @@ impl<'a, S: NodeStore> Eval<'a, S> {
     {
         let own = self.settings.name_of(self.account);
         if own.is_empty() {
-            // the id is of other settings, which a world never hands in
+            // the id is from other settings, which a world never hands in
             return Err(Code::Zgrant);
         }
         let key = key_with(alloc, own, name.as_name().as_bytes7(), values.as_slice())?;
@@ -137,9 +137,9 @@ impl<'a, S: NodeStore> Eval<'a, S> {
     ///
     /// # Errors
     ///
-    /// `M1` for a naked reference where there was no reference to a node with subscripts before it; `Zgrant` where the account may not
-    /// use the global so; `Zsub` where there are more than 15 subscripts, or one is empty or has more than 255 characters. None of them
-    /// changes the node that was referred to last. `Zmem` for want of memory.
+    /// `M1` for a naked reference if the naked indicator is undefined; `Zgrant` if the account may not use the global in this way;
+    /// `Zsub` if there are more than 15 subscripts, or one is empty or has more than 255 characters. None of them changes the node
+    /// that was referred to last. `Zmem` if memory runs out.
     pub fn resolved<'t>(
         &mut self,
         alloc: Global,
@@ -176,8 +176,8 @@ impl<'a, S: NodeStore> Eval<'a, S> {
         self.resolved(alloc, Mode::Read, pending)
     }
 
-    // The place of a node of which $ORDER is asked. What stands behind the reference may refer to another, so the walk keeps a node of
-    // its own.
+    // The place of a node of which $ORDER is asked. What comes after the reference may refer to another node, so the walk keeps a node
+    // of its own.
     fn node_walk<'t>(&mut self, alloc: Global, node: GlobalReference<'t>) -> Result<Walk<'t>, Code>
         ensures allowed { IfOk result (λ walk. IsOpen (standing_of self.new) Read (walk_view walk)) }
         ensures walk { IfOk result IsWalk }

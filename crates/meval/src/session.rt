@@ -18,7 +18,7 @@ pub struct Session {
     pub test: bool,
 }
 
-// Written out, so that to let go of it is one call, which is proved once.
+// Written out, so that dropping it is one call, which is proved once.
 impl Drop for Session {
     fn drop(self) {
         let Session {

@@ -1,7 +1,7 @@
 // SPDX-License-Identifier: Apache-2.0
-// The short ways. Each function here does what the one that is named beside it does, but faster: delete any of them, and nothing changes but
-// time. They are for what most lines refer to: a literal, a local variable without subscripts, and one by one subscript, whose shape the tree
-// has already. A value is lent where it stands, or put in a place of the caller's.
+// Shortcuts. Each function here does what the one that is named beside it does, but faster: delete any of them, and nothing changes but the
+// time. They are for what most lines refer to: a literal, a local variable without subscripts, and one with one subscript, whose shape the
+// tree has already. A value is lent where it stands, or put in a place of the caller's.
 ghost use Rattle.std.specs.Prelude.{◌≡◌, ◌≤◌, ◌<◌, [], ◌∷◌, map, slice_get, unwrap_or, IfOk, IfSome};
 ghost use Rattle.mgrammar.specs.Grammar as grammar;
 ghost use Rattle.mgrammar.specs.Grammar.{local, no_exprs, exprs, exprs_of};
@@ -43,7 +43,7 @@ pub(crate) enum AtHand<'t> {
     Variable(&'t Name),
 }
 
-// What an operand is that has its value at hand, and no sign.
+// What an operand is, if it has its value at hand and no sign.
 pub(crate) fn at_hand(operand: &Operand) -> Option<AtHand<'_>>
     ensures { IfSome result (λ at_hand. operand_tree operand.now ≡ grammar.operand [] (at_hand_tree at_hand)) }
 {
@@ -58,7 +58,7 @@ pub(crate) fn at_hand(operand: &Operand) -> Option<AtHand<'_>>
 }
 
 impl<'a, S: NodeStore> Eval<'a, S> {
-    // `place_value`, of a local variable without subscripts.
+    // `place_value`, for a local variable without subscripts.
     pub(crate) fn fast_lent(&self, name: &Name) -> Result<&Value, Code>
         ensures { Evaluates S.NodeStore (λ i. get_local name.now []) (λ value. value.now) self.now result self.now }
     {
@@ -68,7 +68,7 @@ impl<'a, S: NodeStore> Eval<'a, S> {
         }
     }
 
-    // `primary`, of what has its value at hand.
+    // `primary`, for what has its value at hand.
     pub(crate) fn fast_value(&mut self, at_hand: AtHand, place: &mut Value) -> Result<(), Code>
         ensures spent { IfOk result (λ _. self.new.steps < self.old.steps) }
         ensures does { Evaluates S.NodeStore (λ i. meaning.primary_value i (at_hand_tree at_hand.entry)) (λ _. place.new) self.old result self.new }
@@ -87,7 +87,7 @@ impl<'a, S: NodeStore> Eval<'a, S> {
         }
     }
 
-    // `other_number`, of what has its value at hand.
+    // `other_number`, for what has its value at hand.
     pub(crate) fn fast_number(&mut self, at_hand: AtHand, place: &mut Num) -> Result<(), Code>
         ensures spent { IfOk result (λ _. self.new.steps < self.old.steps) }
         ensures does { Evaluates S.NodeStore (λ i. acts.primary_number i (at_hand_tree at_hand.entry)) (λ _. units place.new) self.old result self.new }
@@ -109,7 +109,7 @@ impl<'a, S: NodeStore> Eval<'a, S> {
         }
     }
 
-    // `through`, of a local variable without subscripts, whose name is kept and not copied.
+    // `through`, for a local variable without subscripts, whose name is kept and not copied.
     #[cycle(eval)]
     pub(crate) fn fast_through<'u>(
         &mut self,
@@ -123,7 +123,7 @@ impl<'a, S: NodeStore> Eval<'a, S> {
         Ok(Pending::Local(VariableName::Own(name), values))
     }
 
-    // `place_to_read`, of a global of the account's own, to which no reference is made.
+    // `place_to_read`, for a global of the account's own, to which no reference is built.
     #[cycle(eval)]
     pub(crate) fn fast_own<'t>(
         &mut self,
@@ -138,7 +138,7 @@ impl<'a, S: NodeStore> Eval<'a, S> {
         self.own_place(alloc, VariableName::Lent(name), values)
     }
 
-    // `place_value`, of a local variable by one subscript.
+    // `place_value`, for a local variable with one subscript.
     #[cycle(eval)]
     #[inline(never)]
     pub(crate) fn fast_node(
@@ -154,7 +154,7 @@ impl<'a, S: NodeStore> Eval<'a, S> {
         self.fast_read(name, &value)
     }
 
-    // `resolved` and `read`, of a local variable by this subscript.
+    // `resolved` and `read`, for a local variable with this subscript.
     fn fast_read(&mut self, name: &Name, subscript: &Value) -> Result<Value, Code>
         ensures { Evaluates S.NodeStore (λ i. acts.read_act (variables.of_local name.now (subscript.now ∷ []))) (λ v. v) self.old result self.new }
     {
@@ -168,7 +168,7 @@ impl<'a, S: NodeStore> Eval<'a, S> {
         }
     }
 
-    // `referring`, of a local variable by one subscript.
+    // `referring`, for a local variable with one subscript.
     #[cycle(eval)]
     #[inline(never)]
     pub(crate) fn fast_referring(
@@ -190,7 +190,7 @@ impl<'a, S: NodeStore> Eval<'a, S> {
         }
     }
 
-    // `data_of`, of a local variable by this subscript.
+    // `data_of`, for a local variable with this subscript.
     #[inline(never)]
     fn fast_data(&mut self, name: &Name, subscript: &Value) -> Result<Value, Code>
         ensures { Evaluates S.NodeStore (λ i. acts.data_act (variables.of_local name.now (subscript.now ∷ []))) (λ v. v) self.old result self.new }
@@ -203,7 +203,7 @@ impl<'a, S: NodeStore> Eval<'a, S> {
         Ok(data_value(data))
     }
 
-    // `get_of`, of a local variable by this subscript.
+    // `get_of`, for a local variable with this subscript.
     #[cycle(eval)]
     #[inline(never)]
     fn fast_get(
@@ -223,7 +223,7 @@ impl<'a, S: NodeStore> Eval<'a, S> {
         self.fast_read_or(alloc, name, subscripts, more)
     }
 
-    // `read_or`, of a local variable by subscripts that are let through.
+    // `read_or`, for a local variable with subscripts that are let through.
     fn fast_read_or(
         &mut self,
         alloc: Global,
@@ -240,7 +240,7 @@ impl<'a, S: NodeStore> Eval<'a, S> {
         }
     }
 
-    // `order_of`, of a local variable by this subscript.
+    // `order_of`, for a local variable with this subscript.
     #[cycle(eval)]
     #[inline(never)]
     fn fast_order(
@@ -258,7 +258,7 @@ impl<'a, S: NodeStore> Eval<'a, S> {
         self.fast_next(alloc, name, subscripts, direction)
     }
 
-    // `next`, of a local variable by subscripts that are let through.
+    // `next`, for a local variable with subscripts that are let through.
     fn fast_next(
         &mut self,
         alloc: Global,
@@ -273,11 +273,11 @@ impl<'a, S: NodeStore> Eval<'a, S> {
         Ok(next_value(alloc, next))
     }
 
-    /// `resolved` and `put`, of a local variable by this subscript: gives it a value.
+    /// `resolved` and `put`, for a local variable with this subscript: gives it a value.
     ///
     /// # Errors
     ///
-    /// `Zsub` where the subscript is empty or has more than 255 characters; `Zmem` for want of memory. The variable is then as it was.
+    /// `Zsub` if the subscript is empty or has more than 255 characters; `Zmem` if memory runs out. The variable is then as it was.
     pub fn fast_put(&mut self, name: &Name, subscript: &Value, value: Value) -> Result<(), Code>
         ensures { Evaluates S.NodeStore (λ i. acts.put_act (variables.of_local name.now (subscript.now ∷ [])) value) (λ u. u) self.old result self.new }
     {

@@ -8,13 +8,13 @@ use std::alloc::{AllocError, Global};
 use std::marker::Model;
 use std::slice::from_ref;
 
-/// Values in their order, as those of the subscripts of a reference. Contracts see them as the list of their texts.
+/// Values in their order, such as those of the subscripts of a reference. Contracts see them as the list of their texts.
 #[derive(Drop)]
 pub struct Values {
     held: Held,
 }
 
-// One value alone, which most lists are, takes no memory beside its own.
+// A single value, which most lists are, takes no memory besides its own.
 #[derive(Drop)]
 pub(crate) enum Held {
     One(Value),
@@ -30,7 +30,7 @@ impl Model for Values {
     ghost view = { λ values. held_texts values.held };
 }
 
-// The same values once more.
+// Copies of the values.
 fn copied(alloc: Global, values: &[Value]) -> Result<Vec<Value>, AllocError>
     ensures { IfOk result (λ copies. copies.items ≡ values.now) }
 {
@@ -91,7 +91,7 @@ impl Values {
         }
     }
 
-    // The first of them, where there is one. Takes no memory.
+    // The first of them, if there is one. Takes no memory.
     pub(crate) fn into_first(self) -> Option<Value>
         ensures { result ≡ slice_get self 0 }
     {
@@ -101,7 +101,7 @@ impl Values {
         }
     }
 
-    // The same values once more. One number takes no memory.
+    // A copy of the values. One number takes no memory.
     pub(crate) fn copy(&self, alloc: Global) -> Result<Values, AllocError>
         ensures { IfOk result (λ values. values ≡ self.now) }
     {
@@ -111,7 +111,7 @@ impl Values {
         }
     }
 
-    // These values behind copies of others. Takes no memory where there are no others.
+    // These values after copies of others. Takes no memory if there are no others.
     pub(crate) fn behind(self, alloc: Global, others: &[Value]) -> Result<Values, AllocError>
         ensures { IfOk result (λ all. all ≡ others.now ++ self) }
     {
@@ -122,7 +122,7 @@ impl Values {
         Values::of_vec(front).joined(alloc, self)
     }
 
-    // These values, and others behind them.
+    // These values, and others after them.
     pub(crate) fn joined(self, alloc: Global, behind: Values) -> Result<Values, AllocError>
         ensures { IfOk result (λ all. all ≡ self ++ behind) }
     {

@@ -26,7 +26,7 @@ impl<'t> VariableName<'t> {
         }
     }
 
-    // The name itself, which is copied where it is lent.
+    // The name itself, which is copied if it is lent.
     pub(crate) fn into_name(self) -> Result<Name, AllocError>
         ensures { IfOk result (λ name. name ≡ name_view self.entry) }
     {
@@ -44,7 +44,7 @@ impl<'t> VariableName<'t> {
         Ok(VariableName::Own(name))
     }
 
-    // The same name once more. Takes no memory where it is lent.
+    // A copy of the name. Takes no memory if it is lent.
     pub(crate) fn copy(&self) -> Result<VariableName<'t>, AllocError>
         ensures { IfOk result (λ again. name_view again ≡ name_view self.now) }
     {

@@ -22,7 +22,7 @@ use mvalue::Value;
 use std::alloc::{AllocError, Global};
 use std::slice::from_ref;
 
-// The same names once more.
+// Copies of the names.
 fn copied(alloc: Global, names: &[Name]) -> Result<Vec<Name>, AllocError>
     ensures { IfOk result (λ copies. copies.items ≡ names.now) }
 {
@@ -34,7 +34,7 @@ fn copied(alloc: Global, names: &[Name]) -> Result<Vec<Name>, AllocError>
 }
 
 impl<'a, S: NodeStore> Eval<'a, S> {
-    // Gives a local variable that the checks let through a value.
+    // Sets the value of a local variable that the checks let through.
     #[tactic(auto, unfolding(mspec::specs::Act::assigned_to))]
     pub(crate) fn set_local(
         &mut self,
@@ -49,11 +49,11 @@ impl<'a, S: NodeStore> Eval<'a, S> {
         Ok(())
     }
 
-    /// Gives a place that may be changed a value.
+    /// Sets the value of a place that may be changed.
     ///
     /// # Errors
     ///
-    /// `Zmem` for want of memory, and `Zstore` where the store refuses; the variable is then as it was. `Zlong` where a global is to have
+    /// `Zmem` if memory runs out, and `Zstore` if the store refuses; the variable is then as it was. `Zlong` if a global is to have
     /// more than 4,095 characters.
     pub fn put(&mut self, alloc: Global, place: &Place, value: Value) -> Result<(), Code>
         requires { IsOpen (standing_of self.old) Write (place_view place.now) }
@@ -70,11 +70,11 @@ impl<'a, S: NodeStore> Eval<'a, S> {
         }
     }
 
-    /// Takes the texts of a place that may be changed, and of what stands below it, away.
+    /// Removes the texts of a place that may be changed, and of what is below it.
     ///
     /// # Errors
     ///
-    /// `Zmem` for want of memory, and `Zstore` where the store refuses; the variable is then as it was.
+    /// `Zmem` if memory runs out, and `Zstore` if the store refuses; the variable is then as it was.
     pub fn kill(&mut self, place: &Place) -> Result<(), Code>
         requires { IsOpen (standing_of self.old) Write (place_view place.now) }
         ensures { Evaluates S.NodeStore (λ i. variables.kill_at (place_view place.now)) (λ u. u) self.old result self.new }
@@ -89,7 +89,7 @@ impl<'a, S: NodeStore> Eval<'a, S> {
         }
     }
 
-    /// Takes the texts of all local variables away that can be seen, but those of these names. Takes no memory.
+    /// Removes the texts of all local variables that can be seen, except those of these names. Takes no memory.
     pub fn kill_others(&mut self, names: &[Name])
         ensures { Evaluates S.NodeStore (λ i. with_locals (killed_except names.now)) (λ u. u) self.old (Ok tt) self.new }
     {
@@ -100,7 +100,7 @@ impl<'a, S: NodeStore> Eval<'a, S> {
     ///
     /// # Errors
     ///
-    /// `Zmem` for want of memory; all variables are then as they were.
+    /// `Zmem` if memory runs out; all variables are then as they were.
     pub fn hide_one(&mut self, name: &Name) -> Result<(), Code>
         ensures { Evaluates S.NodeStore (λ i. with_locals (newed (name.now ∷ []))) (λ u. u) self.old result self.new }
     {
@@ -108,11 +108,11 @@ impl<'a, S: NodeStore> Eval<'a, S> {
         Ok(())
     }
 
-    /// Hides all local variables but those of these names, until the level ends.
+    /// Hides all local variables except those of these names, until the level ends.
     ///
     /// # Errors
     ///
-    /// `Zmem` for want of memory; all variables are then as they were.
+    /// `Zmem` if memory runs out; all variables are then as they were.
     pub fn hide_others(&mut self, alloc: Global, names: &[Name]) -> Result<(), Code>
         ensures { Evaluates S.NodeStore (λ i. with_locals (newed_except names.now)) (λ u. u) self.old result self.new }
     {
@@ -125,7 +125,7 @@ impl<'a, S: NodeStore> Eval<'a, S> {
     ///
     /// # Errors
     ///
-    /// `M15` where the index is undefined, `Zover` where its number is too large.
+    /// `M15` if the index is undefined, `Zover` if its number is too large.
     #[inline(always)]
     pub fn index(&mut self, name: &Name) -> Result<Num, Code>
         ensures { Evaluates S.NodeStore (λ i. line.index_number name.now) units self.old result self.new }
@@ -140,7 +140,7 @@ impl<'a, S: NodeStore> Eval<'a, S> {
     ///
     /// # Errors
     ///
-    /// `Zmem` for want of memory; the variable is then as it was.
+    /// `Zmem` if memory runs out; the variable is then as it was.
     #[tactic(auto, unfolding(mspec::specs::Act::assigned_to))]
     pub fn set_variable(&mut self, name: &Name, value: Value) -> Result<(), Code>
         ensures { Evaluates S.NodeStore (λ i. variables.put_at (variables.at_local name.now []) value) (λ u. u) self.old result self.new }

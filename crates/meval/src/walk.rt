@@ -14,7 +14,7 @@ use moperator::{Code, whole_of};
 use mvalue::Value;
 use std::alloc::Global;
 
-// The number of $DATA: 1 where the node has a text, and 10 more where a node below it has one.
+// The number of $DATA: 1 if the node has a text, and 10 more if a node below it has one.
 pub fn data_value(found: Data) -> Value
     ensures { result ≡ whole_text (pos (data_number (found.value, found.descendants))) }
 {
@@ -26,7 +26,7 @@ pub fn data_value(found: Data) -> Value
     }
 }
 
-// The direction of $ORDER, by the first of its arguments behind the variable, where it has one.
+// The direction of $ORDER, by the first of its arguments after the variable, if it has one.
 pub fn direction(more: &[Value]) -> Result<Direction, Code>
     ensures { Yields fault_of (direction_of (slice_get more.now 0)) way result }
 {

@@ -28,7 +28,7 @@ module _ (x : Context) where
   argument_is (indirect_args f p) = refl
   argument_is a = plain (argument x a)
 
--- those behind an argument go on
+-- those after an argument go on
 abbrev pub arguments_behind : Position → List ArgTree → Text → ℕ → Progress Entrance → Act (Progress Entrance × List ArgTree)
 arguments_behind p more a n st = behind st more (args_started (context a n p) more)
 

@@ -19,7 +19,7 @@ at_then {g = g} q {f = f} {j = j} {old = old} {mid = mid} {new = new} {x = x} {r
   keeps = keeps_on d.keeps k.keeps;
 }
 
--- where it is by a `?` that the call returns
+-- if the call returns by a `?`
 pub at_stopped : {S A B X Y : Type 0} {g : Ghosts S} {p : Text → ℕ → Act A} (q : Text → ℕ → A → Act B) {f : X → A} {j : Y → B} {old new : Parts S} {e : Code} {r : Result Y Code}
     → DoesAt g p f old (Err e) new → IsErr r × IsErrAnd r (λ x. x ≡ e) → DoesAt g (λ a n. p a n >>= q a n) j old r new
 at_stopped {g = g} {p = p} q {j = j} {old = old} {new = new} {e = e} {r = r} d h = subst (λ r. DoesAt g (λ a n. p a n >>= q a n) j old r new) (sym (residual_is r e h)) (record {
@@ -78,7 +78,7 @@ runs_then q {f = f} {x = x} {fs = fs} {old = old} {mid = mid} d k =
       keeps = keeps_on d.keeps k.keeps;
     }
 
--- the same, where the first act spent the step of an entry: what follows runs with one text fewer
+-- the same, if the first act spent the step of an entry: what follows runs with one text fewer
 pub runs_spent : {S A X : Type 0} {g : Ghosts S} {p : Text → ℕ → Act A} (q : Text → ℕ → A → Act meaning.Completion) {f : X → A} {x : X} {fs fs' : List View} {old mid new : Parts S} {r : Result Completion Code}
     → DoesAt g p f old (Ok x) mid → mid.eval.steps < old.eval.steps → Runs g (λ a n. q a (suc n) (f x)) fs mid r fs' new → Runs g (λ a n. p a n >>= q a n) fs old r fs' new
 runs_spent {g = g} {p = p} q {f = f} {x = x} {fs = fs} {fs' = fs'} {old = old} {mid = mid} {new = new} {r = r} d less k = record {
@@ -93,7 +93,7 @@ runs_spent {g = g} {p = p} q {f = f} {x = x} {fs = fs} {fs' = fs'} {old = old} {
         on_then (q (standing_of old.eval).account (suc n)) (suc n) le (d.at sound)
         (moved_to (λ a. q a (suc n) (f x)) (λ a. left a fs ns) d.keeps.eval.same (k.at sound n ns (omega arith) (enough mid.eval.steps old.eval.steps fs ns (omega arith) e)))
 
--- an act fails, by a `?` that the call returns
+-- an act fails, and the call returns by a `?`
 pub runs_stopped : {S A X : Type 0} {g : Ghosts S} {p : Text → ℕ → Act A} (q : Text → ℕ → A → Act meaning.Completion) {f : X → A} {fs fs' : List View} {old new : Parts S} {r : Result Completion Code} {e : Code}
     → DoesAt g p f old (Err e) new → IsErr r × IsErrAnd r (λ x. x ≡ e) → Runs g (λ a n. p a n >>= q a n) fs old r fs' new
 runs_stopped {g = g} {p = p} q {fs = fs} {fs' = fs'} {old = old} {new = new} {r = r} d h = subst (λ r. Runs g (λ a n. p a n >>= q a n) fs old r fs' new) (sym (residual_is r _ h)) (record {
@@ -101,7 +101,7 @@ runs_stopped {g = g} {p = p} q {fs = fs} {fs' = fs'} {old = old} {new = new} {r 
   keeps = d.keeps;
 })
 
--- want of memory, by a `?` that the call returns
+-- out of memory: the call returns by a `?`
 pub runs_wanting : {S : Type 0} {g : Ghosts S} (p : Text → ℕ → Act meaning.Completion) {fs fs' : List View} {parts : Parts S} (r : Result Completion Code) → IsErr r × IsErrAnd r (λ x. x ≡ Zmem) → Runs g p fs parts r fs' parts
 runs_wanting {g = g} p {fs = fs} {fs' = fs'} {parts = parts} r h = subst (λ r. Runs g p fs parts r fs' parts) (sym (residual_is r Zmem h)) (record {
   at = λ sound n ns le e. on_lost (p (standing_of parts.eval).account n) (left (standing_of parts.eval).account fs ns) Zmem tt refl (omega arith);
@@ -155,7 +155,7 @@ runs_top f = record {
   keeps = keeps_itself _;
 }
 
--- where nothing is next, a completion is given again
+-- if nothing is next, a completion is given again
 nothing_next : (s : meaning.Completion) → ◌≡◌ {A = Act meaning.Completion} (after s (give Go_on)) (give s)
 nothing_next Go_on = refl
 nothing_next s = refl

@@ -107,7 +107,7 @@ begun_is : (args : List Arg) (b : the_progress.Progress entrances.Entrance) (at 
 begun_is args (progress.Over s) at = refl
 begun_is args (progress.Stops e) at = refl
 
--- those behind a command go on
+-- those after a command go on
 abbrev pub commands_behind : Position → List CommandTree → Text → ℕ → Progress Stop → Act (Progress Stop × List CommandTree)
 commands_behind p rest a n o = behind o rest (front (context a n p) rest)
 
@@ -136,7 +136,7 @@ module _ {S : Type 0} {g : Ghosts S} (p : Position) (l : Line) (k : ℕ) (x : Sp
       → DoesAt g (λ a n. front (context a n p) (commands_from l k)) (front_of l) old r new
   command_stopped c does h = from_command (at_then (λ a n _. command_started (context a n p) (command_tree x.command) >>= commands_behind p (commands_from l (k + 1)) a n) c (at_stopped (commands_behind p (commands_from l (k + 1))) does h))
 
--- want of a step for the next command
+-- no step is left for the next command
 pub charge_stopped : {S X : Type 0} {g : Ghosts S} (p : Position) (l : Line) (k : ℕ) {f : X → Unit {0}} {old new : Parts S} {r : Result (the_progress.Progress the_stop.Stop × ℕ) Code} {e : Code} → k < length l.commands.items → DoesAt g (λ a n. charge) f old (Err e) new → IsErr r × IsErrAnd r (λ x. x ≡ e)
     → DoesAt g (λ a n. front (context a n p) (commands_from l k)) (front_of l) old r new
 charge_stopped {g = g} p l k {old = old} {new = new} {r = r} less c h =
@@ -163,7 +163,7 @@ module _ {S : Type 0} {g : Ghosts S} (p : Position) (l : Line) where
   front_over from {s = s} does =
       at_as (λ a n. commands_is (context a n p) (commands_from l from)) (at_then (λ a n w. line_left (context a n p) w.0 w.1) does (at_gives (completion_of s) completion_of s refl))
 
--- ---- a turn more of a FOR
+-- ---- one more turn of a FOR
 
 module _ {S X : Type 0} {g : Ghosts S} {f : X → Unit {0}} {u : X} {fs fs' : List View} (t : ForLoop) {old mid next : Parts S} (gone : DoesAt g (λ a n. advanced (turning t).index (course_view t.course)) (λ (b : Bool). b) old (Ok true) mid)
     (c : DoesAt g (λ a n. charge) f mid (Ok u) next) (less : next.eval.steps < mid.eval.steps) where

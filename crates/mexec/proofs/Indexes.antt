@@ -4,7 +4,7 @@ use Rattle.mexec.proofs.ExecWords.{arith, ◌≡◌, ℕ, Bool, true, false, Lis
 use Rattle.mcommand.specs.declared.for_parameter.Course.{Course}
 use Rattle.mcommand.specs.declared.for_parameter.Course.TheVariants as course
 
--- where there is none, no parameter is left
+-- if there is none, no parameter is left
 pub no_parameters : (args : List Arg) → is_loop args ≡ false → loop_in args ≡ ([], [])
 no_parameters args h = grind arith
 

@@ -12,7 +12,7 @@ use Rattle.mexec.proofs.Calls.{at_then, at_stopped, at_gives, runs_then, runs_sp
 
 -- ---- lists
 
--- a line and those behind it
+-- a line and those after it
 behind : (n : ℕ) (xs : List Text) (x : Text) (rest : List Text) → drop n xs ≡ x ∷ rest → drop (n + 1) xs ≡ rest
 behind n xs x rest e = sym (drop-drop 1 n xs) ∙ ap (drop 1) e
 
@@ -87,7 +87,7 @@ target_entered a n p c k next stands =
     let same = all.2 in
     rw (next, all.1, not_more p.level.dots (dots_of text) same, same) (assoc charge (λ _. line_entered (context a n p) k text) (closed c))
 
--- ---- a line behind its step
+-- ---- a line after its step
 
 module _ (p : Position) (c : Closing) (k : ℕ) (text : Text) where
   abbrev step_spent : Text → ℕ → Act Completion
@@ -145,7 +145,7 @@ module _ {S : Type 0} {g : Ghosts S} where
 
   module _ (p : Position) (c : Closing) (k : ℕ) (text : Text) where
     module _ {X : Type 0} {f : X → Unit {0}} {u : X} {fs : List View} {old mid : Parts S} (d : DoesAt g (λ a n. charge) f old (Ok u) mid) (less : mid.eval.steps < old.eval.steps) where
-      -- want of memory behind its step
+      -- out of memory after its step
       pub step_lost : {fs' : List View} (r : Result completions.Completion Code) → IsErr r × IsErrAnd r (λ x. x ≡ Zmem) → Runs g (λ a n. entering (context a n p) c k text) fs old r fs' mid
       step_lost r h = runs_then (λ a n _. step_spent p c k text a n) d (runs_wanting (λ a n. step_spent p c k text a n) r h)
 

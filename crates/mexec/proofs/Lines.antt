@@ -18,7 +18,7 @@ module _ {S : Type 0} {g : Ghosts S} where
       begins b n h = subst (λ (q : Act meaning.Completion). Follows b (run_within b.account n cs) h q h) (line_begins b.account n cs) (follows_itself b (run_within b.account n cs) h)
 
   module _ (p : Text → ℕ → Act meaning.Completion) (f : View) (fs : List View) {s : meaning.Completion} {old mid new : Parts S} (d : Leads g p old (f ∷ fs) s mid) where
-    -- what the frame on top does, told by where the line began
+    -- what the frame on top does, stated from where the line began
     moved : {fs' : List View} {r : Result Completion Code} → Runs g (λ a n. frame a n f s) fs mid r fs' new → (sound : g.sound) (m : ℕ) (ms : List ℕ) → mid.eval.steps ≤ m → Enough mid.eval.steps fs ms
         → MovedAs {X = Completion} (standing_of old.eval) g.steady fault_of completion_of (left (standing_of old.eval).account (f ∷ fs) (m ∷ ms) s) (here_of g mid) r fs' (here_of g new)
     moved {fs' = fs'} {r = r} k sound m ms le e =

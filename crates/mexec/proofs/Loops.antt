@@ -43,9 +43,9 @@ next_is x index body (until e by to) rest = sym (
     ∙ (λ i. number_of (inside_of x) e >>= (λ a. number_of (inside_of x) by >>= (λ b. number_of (inside_of x) to >>= (λ c.
     put_at (at_local index []) (number_text a) >> past_or_not {B = Act meaning.Completion} (is_past b a c) None (Some (limited b c)) (begun x index body rest) i)))))
 
--- ---- behind a turn
+-- ---- after a turn
 
--- what is done once it is known whether there is one turn more
+-- what is done once it is known whether there is one more turn
 abbrev pub gone_on : Context → Turning → Bool → Act meaning.Completion
 gone_on x t b = cond b (begin_turn x t) (next_parameter x t.index t.body t.parameters)
 
@@ -76,12 +76,12 @@ module _ {S X : Type 0} {g : Ghosts S} {f : X → Unit {0}} {u : X} {old mid : P
       → Runs g (λ a n. meaning.after_turn (context a n d) t (completion_of s)) fs next r fs' new → Runs g (λ a n. begin_turn (context a n d) t) fs old r fs' new
   turn_done does k = runs_spent (λ a n _. (context a n d).texts.turn d t) c less (runs_then (λ a n s. meaning.after_turn (context a n d) t s) does k)
 
--- and where there is no step for it
+-- and if there is no step for it
 pub turn_charge_failed : {S X : Type 0} {g : Ghosts S} {f : X → Unit {0}} {fs fs' : List View} {old new : Parts S} {r : Result Completion Code} {e : Code} (d : Position) (t : Turning) → DoesAt g (λ a n. charge) f old (Err e) new
     → IsErr r × IsErrAnd r (λ x. x ≡ e) → Runs g (λ a n. begin_turn (context a n d) t) fs old r fs' new
 turn_charge_failed d t c h = runs_stopped (λ a n _. (context a n d).texts.turn d t) c h
 
--- where a call fails, nothing falls
+-- if a call fails, nothing falls
 pub falls_failed : {X E : Type 0} (P : X → Type 0) (r : Result X E) → IsErr r → IfOk r P
 falls_failed P (Ok x) h = cc
 falls_failed P (Err e) h = tt

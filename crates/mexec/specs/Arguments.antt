@@ -39,11 +39,11 @@ abbrev pub finished : Context → Progress Entrance → Act meaning.Completion
 finished x (over s) = give s
 finished x (stops e) = entered x e
 
--- and then the arguments behind it
+-- and then the arguments after it
 abbrev pub entered_then : Context → Entrance → List ArgTree → Act meaning.Completion
 entered_then x e rest = entered x e >>= (λ s. after s (arguments x rest))
 
--- the same of the program
+-- the same for the program
 abbrev pub entrance_of : entrances.Entrance → Entrance
 entrance_of (entrance.Lines e) = into_lines (entry_tree e.now)
 entrance_of (entrance.Text e) = into_text (expr_tree e.now)
@@ -52,13 +52,13 @@ entrance_of (entrance.Indirect k p) = into_given (form_of (keyword_tree k)) (pri
 abbrev pub start_of : the_progress.Progress entrances.Entrance → Progress Entrance
 start_of = progress_of entrance_of
 
--- one that enters where its condition holds
+-- one that enters if its condition holds
 abbrev pub where_applies : Result Bool Code → entrances.Entrance → Result (the_progress.Progress entrances.Entrance) Code
 where_applies (Ok true) e = Ok (progress.Stops e)
 where_applies (Ok false) e = Ok (progress.Over completion.GoOn)
 where_applies (Err c) e = Err c
 
--- the rest of a command's arguments on top of frames, where there are some
+-- the rest of a command's arguments on top of frames, if there are any
 abbrev pub listing : Position → List ArgTree → List View → List View
 listing p [] fs = fs
 listing p (a ∷ rest) fs = Lists p (a ∷ rest) ∷ fs

@@ -11,7 +11,7 @@ use Rattle.mmeaning.specs.Levels.{Position, Target, Closing, leaves, commands_of
 use Rattle.mmeaning.specs.LineMeaning.{Completion, Context, line_entered, closed, in_level}
 use Rattle.mmeaning.specs.Frames.{View, Rests, Levels}
 
--- the place of the line that is entered, where these stand from a place on; none where the level ends
+-- the place of the line that is entered, if these are the lines from a place on; none if the level ends
 abbrev pub reached : ℕ → ℕ → List Text → Act (Option ℕ)
 reached dots n [] = give None
 reached dots n (text ∷ rest) = cond (nat_lt dots (dots_of text)) (charge >> reached dots (n + 1) rest) (give (cond (dots_of text == dots) (Some n) None))
@@ -25,7 +25,7 @@ next_reached dots copy (Some n) = reached dots n (drop n copy)
 abbrev pub entering : Context → Closing → ℕ → Text → Act Completion
 entering x c n text = charge >> (line_entered x n text >>= closed c)
 
--- the same level, where another line comes next
+-- the same level, with another line coming next
 abbrev pub at_next : Position → ℕ → Position
 at_next p n = record p { level = record p.level { next = Some n } }
 
@@ -33,11 +33,11 @@ at_next p n = record p { level = record p.level { next = Some n } }
 abbrev pub at_target : Position → Target → Position
 at_target p t = record p { level = record p.level { copy = t.copy; next = Some t.line } }
 
--- the same level, so deep
+-- the same level, at this depth
 abbrev pub so_deep : Depth → Position → Position
 so_deep depth p = record { depth = depth; level = p.level }
 
--- a text of XECUTE stands in a level that has the lines of its own, so deep
+-- a text of XECUTE is in a level at this depth that has the lines of its own level
 abbrev pub text_position : Depth → Position → Position
 text_position depth p = record { depth = depth; level = record { copy = p.level.copy; next = None; dots = 0 } }
 
@@ -49,7 +49,7 @@ tree_entered x l = in_level x (record { copy = x.position.level.copy; next = Non
 abbrev pub text_entered : Context → Text → Act Completion
 text_entered x text = give_some Zsyntax (line_at text) >>= tree_entered x
 
--- what is behind a label, on top of its level
+-- what comes after a label, on top of its level
 abbrev pub on_body : Position → Closing → BodyTree → List View → List View
 on_body p c (short comment) fs = Levels p c ∷ fs
 on_body p c (spaced_out dots l) fs = Rests p (commands_of l) ∷ Levels p c ∷ fs

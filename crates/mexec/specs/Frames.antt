@@ -92,7 +92,7 @@ stacked below (f ∷ fs) = stacked (view f ∷ below) fs
 abbrev pub stack : List Frame → List View
 stack fs = stacked [] fs
 
--- the rest of a line on top of frames, where there is some
+-- the rest of a line on top of frames, if there is any
 abbrev pub resting : Position → List CommandTree → List View → List View
 resting p [] fs = fs
 resting p (c ∷ cs) fs = Rests p (c ∷ cs) ∷ fs

@@ -19,7 +19,7 @@ use Rattle.mexec.specs.Arguments.{Entrance, started, entered_then, start_of, ent
 use Rattle.mexec.specs.Frames.{commands_from}
 use Rattle.mexec.specs.Loops.{loop_in, is_loop, args_before}
 
--- where a command needs a frame: at what an argument enters, before those behind it; at a FOR with an index and parameters; at one without
+-- where a command needs a frame: at what an argument enters, before those after it; at a FOR with an index and parameters; at one without
 -- arguments; or at the block of a DO without arguments
 pub data Stop : Type 0 where
   at_argument : Entrance → List ArgTree → Stop
@@ -97,7 +97,7 @@ abbrev pub turn_left : Context → Turning → Option meaning.Completion → Act
 turn_left x t None = after_course x t t.course
 turn_left x t (Some s) = give s
 
--- ---- the same of the program
+-- ---- the same for the program
 
 -- arguments of these, up to a place
 abbrev pub begun_of : List Arg → the_progress.Progress entrances.Entrance × ℕ → Progress Entrance × List ArgTree

@@ -1,5 +1,5 @@
 -- SPDX-License-Identifier: Apache-2.0
--- The arguments of the command before a place of a line, and what stands in them where it is a FOR.
+-- The arguments of the command before a place of a line, and what is in them if it is a FOR.
 use Rattle.std.specs.Prelude.{ℕ, ◌-◌, Bool, true, false, List, [], ◌∷◌, Option, Some, None, slice_get}
 use Rattle.mspec.specs.Act.{Text}
 use Rattle.mtree.specs.declared.tree.Parameter.{Parameter}
@@ -18,7 +18,7 @@ args_of (Some s) = s.command.args.items
 abbrev pub args_before : Line → ℕ → List Arg
 args_before l at = args_of (slice_get l.commands.items (at - 1))
 
--- the index and the parameters of a FOR; none of another command, and of a FOR without arguments
+-- the index and the parameters of a FOR; none for another command, or for a FOR without arguments
 abbrev pub loop_in : List Arg → Text × List Parameter
 loop_in (arg.Loop index parameters ∷ more) = (index, parameters.items)
 loop_in others = ([], [])

@@ -14,12 +14,12 @@ pub data Progress (T : Type 0) : Type 0 where
   over : meaning.Completion → Progress T
   stops : T → Progress T
 
--- what comes behind: what is next, where it gave Go_on, and else nothing but what it left
+-- what comes after: what is next, if it gave Go_on, and otherwise nothing but what it left
 abbrev pub behind : {T A : Type 0} → Progress T → List A → Act (Progress T × List A) → Act (Progress T × List A)
 behind (over Go_on) more next = next
 behind p more next = give (p, more)
 
--- the same of the program
+-- the same for the program
 abbrev pub progress_of : {T U : Type 0} → (T → U) → the_progress.Progress T → Progress U
 progress_of view (progress.Over s) = over (completion_of s)
 progress_of view (progress.Stops t) = stops (view t)

@@ -20,7 +20,7 @@ ending_of ended.Done = Finished
 ending_of ended.Halt = Halted
 ending_of (ended.Fault c) = Faulted (fault_of c)
 
--- the act gave a completion that ends a line so
+-- the act gave a completion that ends a line in this way
 abbrev pub GaveEnding : Standing → Act Completion → Here → Ending → Here → Type 0
 GaveEnding b p h ending h' = (s : Completion) × (transition.ending_of s ≡ ending) × Gave b p h s h'
 

@@ -36,7 +36,7 @@ fn done<'t>(done: Result<(), Code>) -> Result<Progress<Entrance<'t>>, Code>
     over(went_on(done))
 }
 
-// One that enters lines or a text where its condition holds.
+// One that enters lines or a text if its condition holds.
 fn enters<'t>(
     applies: Result<bool, Code>,
     entrance: Entrance<'t>,
@@ -50,7 +50,7 @@ fn enters<'t>(
     }
 }
 
-// GOTO, where its condition holds.
+// GOTO, if its condition holds.
 fn going<S: NodeStore>(
     alloc: Global,
     parts: &mut Parts<S>,
@@ -84,7 +84,7 @@ fn tested<S: NodeStore>(
     Ok(where_true(is_true))
 }
 
-// What an argument does, of whichever command but FOR, up to where it enters something.
+// What an argument of any command but FOR does, up to where it enters something.
 fn argument<'t, S: NodeStore>(
     alloc: Global,
     parts: &mut Parts<S>,
@@ -119,7 +119,7 @@ fn argument<'t, S: NodeStore>(
     }
 }
 
-// The arguments from one on, as long as each goes on with the next: what the last of them left, and the place behind it.
+// The arguments from one on, as long as each goes on with the next: what the last of them left, and the place after it.
 pub(crate) fn arguments_begun<'t, S: NodeStore>(
     alloc: Global,
     parts: &mut Parts<S>,
@@ -142,7 +142,7 @@ pub(crate) fn arguments_begun<'t, S: NodeStore>(
     Ok((Progress::Over(Completion::GoOn), at))
 }
 
-// What an argument enters, before those from one on: these stay on the frames.
+// What an argument enters, before the arguments from one on: these stay on the frames.
 pub(crate) fn enter_argument<S: NodeStore>(
     alloc: Global,
     parts: &mut Parts<S>,

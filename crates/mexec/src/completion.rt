@@ -8,8 +8,8 @@ ghost use Rattle.mexec.specs.Progress.{ends};
 use mcommand::Target;
 use moperator::Code;
 
-// How a line goes on: with what is next, behind the rest of the line, out of its turn or its level, with another line, or not
-// at all.
+// How a line goes on: with what is next, after the rest of the line, out of its turn or its level, with another line, or not at
+// all.
 #[derive(Drop)]
 pub(crate) enum Completion {
     GoOn,
@@ -36,7 +36,7 @@ pub(crate) fn over<T>(completion: Result<Completion, Code>) -> Result<Progress<T
     }
 }
 
-// What is next where this is true, and otherwise what is behind the rest of the line.
+// What is next if this is true, and otherwise what comes after the rest of the line.
 pub(crate) fn where_true(is_true: bool) -> Completion
     ensures { completion_of result ≡ meaning.where_true is_true }
 {

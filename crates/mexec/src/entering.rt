@@ -26,7 +26,7 @@ use mtree::{Entry, Expr, Line};
 use std::alloc::{AllocError, Global};
 use std::rc::Rc;
 
-// One level more, where one is free.
+// One more level, if one is free.
 fn one_deeper<S: NodeStore>(parts: &mut Parts<S>, depth: Depth) -> Result<Depth, Code>
     ensures deeper { IfOk result (λ there. depth_of there ≡ record { levels = (depth_of depth).levels + 1; indirections = (depth_of depth).indirections }) }
     ensures does { DoesAt S.NodeStore (λ a n. a_level_free (depth_of depth)) (λ there. tt) parts.old result parts.new }
@@ -63,7 +63,7 @@ pub(crate) fn doing<S: NodeStore>(
     enter_line(alloc, parts, &inner, Closing::Leaves, line, scratch)
 }
 
-// DO without arguments: the lines behind this one that have one dot more. $TEST is then what it was.
+// DO without arguments: the lines after this one that have one more dot. $TEST is afterwards what it was.
 pub(crate) fn doing_block<S: NodeStore>(
     alloc: Global,
     parts: &mut Parts<S>,
@@ -106,7 +106,7 @@ fn leave_text(
     leave_commands(inner, Closing::Leaves, line, scratch)
 }
 
-// A text, in a level of its own that is so deep.
+// A text, in a level of its own at this depth.
 fn enter_text<S: NodeStore>(
     alloc: Global,
     parts: &mut Parts<S>,
@@ -125,7 +125,7 @@ fn enter_text<S: NodeStore>(
     Ok(Completion::GoOn)
 }
 
-// XECUTE: the text that the value of an expression is.
+// XECUTE: the value of an expression as a text.
 pub(crate) fn executing<S: NodeStore>(
     alloc: Global,
     parts: &mut Parts<S>,

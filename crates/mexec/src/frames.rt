@@ -10,14 +10,14 @@ use mtree::{Arg, Line};
 use std::alloc::AllocError;
 use std::rc::Rc;
 
-// The lines that labels are sought in, the place of the one that comes next, and how many dots the level's lines have.
+// The lines in which labels are sought, the place of the one that comes next, and how many dots the level's lines have.
 pub(crate) struct Level {
     pub(crate) copy: Rc<Vec<Bytes7>>,
     pub(crate) next: Option<usize>,
     pub(crate) dots: usize,
 }
 
-// Written out, so that to let go of it is one call, which is proved once.
+// Written out, so that dropping it is one call, which is proved once.
 impl Drop for Level {
     fn drop(self) {
         let Level {
@@ -35,14 +35,14 @@ pub(crate) struct Position {
     ghost opened: { level.dots ≤ depth.levels },
 }
 
-// Written out, so that to let go of it is one call, which is proved once.
+// Written out, so that dropping it is one call, which is proved once.
 impl Drop for Position {
     fn drop(self) {
         let Position { depth: _, level: _ } = self;
     }
 }
 
-// How a level closes: not at all, as the outermost one does; its scope goes; and $TEST is besides what it was.
+// How a level closes: not at all, as the outermost one does; its scope goes; or its scope goes and $TEST is again what it was.
 #[derive(Clone, Copy, Debug)]
 pub(crate) enum Closing {
     Stays,
@@ -59,7 +59,7 @@ pub(crate) struct Continuation {
 }
 
 impl Continuation {
-    // The same once more.
+    // A copy of it.
     pub(crate) fn copy(&self) -> Result<Continuation, AllocError>
         ensures position { IfOk result (λ rest. rest.position.value ≡ self.now.position.value) }
         ensures line { IfOk result (λ rest. rest.line.value ≡ self.now.line.value) }
@@ -79,7 +79,7 @@ pub(crate) struct PendingArguments {
     pub(crate) argument: usize,
 }
 
-// Written out, so that to let go of it is one call, which is proved once.
+// Written out, so that dropping it is one call, which is proved once.
 impl Drop for PendingArguments {
     fn drop(self) {
         let PendingArguments {
@@ -95,7 +95,7 @@ pub(crate) struct IndirectArguments {
     pub(crate) args: Vec<Arg>,
 }
 
-// Written out, so that to let go of it is one call, which is proved once.
+// Written out, so that dropping it is one call, which is proved once.
 impl Drop for IndirectArguments {
     fn drop(self) {
         let IndirectArguments {
@@ -105,7 +105,7 @@ impl Drop for IndirectArguments {
     }
 }
 
-// A FOR of which a turn is under way: its body, which stands behind it, its next parameter, and how it goes on. Its index and its
+// A FOR of which a turn is under way: its body, which comes after it, its next parameter, and how it goes on. Its index and its
 // parameters are read from the line: unless it goes on without an end, it has an index there.
 #[derive(Drop)]
 pub(crate) struct ForLoop {

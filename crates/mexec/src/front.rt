@@ -19,8 +19,8 @@ use mstore::NodeStore;
 use mtree::{Arg, Command, Keyword, Line, Parameter};
 use std::alloc::Global;
 
-// Where a command needs a frame: at what an argument enters, before those from one on; at a FOR with its index and its parameters; at
-// one without an index; or at the block of a DO.
+// Where a command needs a frame: at what an argument enters, before the arguments from one on; at a FOR with its index and its
+// parameters; at one without an index; or at the block of a DO.
 #[derive(Drop)]
 pub(crate) enum Stop<'t> {
     Argument(Entrance<'t>, usize),
@@ -44,7 +44,7 @@ fn stopped<'t>(
     }
 }
 
-// What a command does that has no arguments.
+// What a command without arguments does.
 fn bare<'t, S: NodeStore>(
     alloc: Global,
     parts: &mut Parts<S>,
@@ -76,7 +76,7 @@ fn bare<'t, S: NodeStore>(
     }
 }
 
-// What a command with this word and these arguments does, where its condition holds.
+// What a command with this word and these arguments does, if its condition holds.
 fn effect<'t, S: NodeStore>(
     alloc: Global,
     parts: &mut Parts<S>,
@@ -117,7 +117,7 @@ fn command<'t, S: NodeStore>(
     }
 }
 
-// The commands of a line from one on, as long as each goes on with the next: where the last of them stops, and the place behind it.
+// The commands of a line from one on, as long as each goes on with the next: where the last of them stops, and the place after it.
 pub(crate) fn front<'t, S: NodeStore>(
     alloc: Global,
     parts: &mut Parts<S>,

@@ -19,7 +19,7 @@ use mtree::{Arg, Keyword, Primary};
 use std::alloc::{AllocError, Global};
 use std::rc::Rc;
 
-// One indirection more, where one is free.
+// One more indirection, if one is free.
 fn one_indirection_deeper(depth: Depth) -> Result<Depth, Code>
     ensures deeper { IfOk result (λ there. depth_of there ≡ indirected (depth_of depth)) }
     ensures does { Yields fault_of (an_indirection_free (depth_of depth)) (λ there. tt) result }
@@ -30,7 +30,7 @@ fn one_indirection_deeper(depth: Depth) -> Result<Depth, Code>
     }
 }
 
-// Leaves arguments that a text gave on the frames, so deep, in the level that the indirection stands in.
+// Leaves arguments that a text gave on the frames, at this depth, in the level that the indirection is in.
 fn leave_given(
     alloc: Global,
     depth: Depth,
@@ -53,7 +53,7 @@ fn leave_given(
     Ok(())
 }
 
-// The arguments that the value of an operand gives, for a command with this word. They stand on the frames, and are an indirection
+// The arguments that the value of an operand gives, for a command with this word. They are on the frames, and are an indirection
 // until the last of them is done.
 pub(crate) fn giving<S: NodeStore>(
     alloc: Global,

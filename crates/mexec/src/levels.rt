@@ -51,14 +51,14 @@ fn ended<S: NodeStore>(
     Ok(completion)
 }
 
-// A place, where this is so.
+// A place, if this is so.
 fn place_where(is_entered: bool, at: usize) -> Option<usize>
     ensures { result ≡ cond is_entered (Some at) None }
 {
     if is_entered { Some(at) } else { None }
 }
 
-// The place of the line that is entered among these, from one on; none where a level with so many dots ends. A line that is passed
+// The place of the line that is entered among these, from one on; none if a level with this many dots ends. A line that is passed
 // over costs a step.
 fn reached<S: NodeStore>(
     parts: &mut Parts<S>,
@@ -81,7 +81,7 @@ fn reached<S: NodeStore>(
     Ok(None)
 }
 
-// The place of the line that is entered next; none where the level ends.
+// The place of the line that is entered next; none if the level ends.
 fn next_line<S: NodeStore>(parts: &mut Parts<S>, level: &Level) -> Result<Option<usize>, Code>
     ensures within { IfOk result (λ found. IfSome found (λ at. at < length level.now.copy.value.items)) }
     ensures does { DoesAt S.NodeStore (λ a n. next_reached level.now.dots level.now.copy.value.items level.now.next) (λ found. found) parts.old result parts.new }
@@ -92,7 +92,7 @@ fn next_line<S: NodeStore>(parts: &mut Parts<S>, level: &Level) -> Result<Option
     }
 }
 
-// The same level, where another line comes next.
+// The same level, with another line coming next.
 fn coming_next(position: &Position, next: usize) -> Result<Position, AllocError>
     ensures { IfOk result (λ there. position_of there ≡ at_next (position_of position.now) next) }
 {
@@ -126,7 +126,7 @@ pub(crate) fn leave_commands(
     Ok(())
 }
 
-// Leaves what is behind a label on the frames, on top of its level, where another line comes next.
+// Leaves what comes after a label on the frames, on top of its level, with another line coming next.
 fn enter_body(
     alloc: Global,
     position: &Position,
@@ -151,7 +151,7 @@ fn enter_body(
     }
 }
 
-// Enters a line of a level, which costs a step. It is read where it is reached.
+// Enters a line of a level, which costs a step. It is read when it is reached.
 pub(crate) fn enter_line<S: NodeStore>(
     alloc: Global,
     parts: &mut Parts<S>,
@@ -211,7 +211,7 @@ fn go_to<S: NodeStore>(
     lines_next(alloc, parts, &there, closing, scratch)
 }
 
-// What follows a line of a level that went on so.
+// What follows a line of a level that went on in this way.
 pub(crate) fn after_level<S: NodeStore>(
     alloc: Global,
     parts: &mut Parts<S>,

@@ -55,7 +55,7 @@ fn run_frame<S: NodeStore>(
     }
 }
 
-// Begins a line: nothing but its level is put on the frames, and all its commands are left.
+// Begins a line: nothing but its level is put on the frames, and all its commands are still left.
 fn begin(line: Rc<Line>, scratch: &mut Scratch) -> Result<Continuation, AllocError>
     ensures frames { OnOk result (stack scratch.new.frames.items ≡ Levels meaning.top_level stays ∷ []) }
     ensures position { IfOk result (λ rest. position_of rest.position.value ≡ meaning.top_level) }

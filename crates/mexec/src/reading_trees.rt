@@ -36,7 +36,7 @@ pub(crate) fn read_routine_line(
     }
 }
 
-// The arguments of a command with this word that a text of indirection is.
+// The text of an indirection as arguments of a command with this word.
 pub(crate) fn read_arguments(alloc: Global, keyword: Keyword, text: &[u8]) -> Result<Vec<Arg>, Code>
     ensures { Yields fault_of (give_some Zsyntax (args_of (form_of (keyword_tree keyword)) text.now)) (λ args. map arg_tree args.items) result }
 {

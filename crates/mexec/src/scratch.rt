@@ -7,7 +7,7 @@ use crate::top_level::TopLevel;
 use mcache::Trees;
 use std::alloc::{AllocError, Global};
 
-/// What lines are run with, and what is kept from one to the next, so that no memory has to be asked for again: room for frames, the
+/// What lines are run with, and what is kept from one to the next, so that no memory has to be asked for again: space for frames, the
 /// trees of texts, and where each line begins. What it keeps shows in no answer.
 pub struct Scratch {
     pub(crate) frames: Vec<Frame>,
@@ -15,7 +15,7 @@ pub struct Scratch {
     pub(crate) top_level: TopLevel,
 }
 
-// Written out, so that to let go of it is one call, which is proved once.
+// Written out, so that dropping it is one call, which is proved once.
 impl Drop for Scratch {
     fn drop(self) {
         let Scratch {
@@ -27,11 +27,11 @@ impl Drop for Scratch {
 }
 
 impl Scratch {
-    /// A scratch that keeps the trees of so many texts at most.
+    /// A scratch that keeps the trees of at most `entries` texts.
     ///
     /// # Errors
     ///
-    /// `AllocError` for want of memory.
+    /// `AllocError` if memory runs out.
     pub fn new(alloc: Global, entries: usize) -> Result<Scratch, AllocError>
         requires { 0 < entries }
         ensures frames { IfOk result (λ scratch. scratch.frames.items ≡ []) }

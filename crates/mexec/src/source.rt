@@ -63,7 +63,7 @@ impl<'t> Source<'t> {
         }
     }
 
-    // Leaves those from one on on the frames, unless there are none.
+    // Leaves those from one onwards on the frames, unless there are none.
     pub(crate) fn leave(self, argument: usize, scratch: &mut Scratch) -> Result<(), AllocError>
         ensures frames { OnOk result (stack scratch.new.frames.items ≡ listing (position_of (source_position self.entry)) (map arg_tree (drop argument (source_args self.entry))) (stack scratch.old.frames.items)) }
         ensures most { OnOk result (length scratch.new.frames.items ≤ length scratch.old.frames.items + 1) }

@@ -27,7 +27,7 @@ pub enum Ended {
     Fault(Code),
 }
 
-// How a line ends that gives a completion.
+// How a line that gives a completion ends.
 fn ending(completion: Completion) -> Ended
     ensures { ending_of result ≡ meaning.ending_of (completion_of completion) }
 {
@@ -39,8 +39,8 @@ fn ending(completion: Completion) -> Ended
 
 /// Carries out a text. What the scratch kept before plays no part.
 ///
-/// It answers `Fault` with `Zsyntax`, and has done nothing, where the text has no tree; otherwise what was done before a code
-/// stands. After `Zmem` or `Zstore` the session and the output are any that the text could have had on its way.
+/// Returns `Fault` with `Zsyntax`, and has done nothing, if the text has no tree; otherwise what was done before a code
+/// remains. After `Zmem` or `Zstore` the session and the output may be any that the text could have had on its way.
 pub fn run_text<S: NodeStore>(
     alloc: Global,
     parts: &mut Parts<S>,

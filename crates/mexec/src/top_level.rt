@@ -10,12 +10,12 @@ use std::alloc::{AllocError, Global};
 use std::marker::Model;
 use std::rc::Rc;
 
-// Where each line from outside stands: at the only level that is open, which has no lines. It is made once, and lines share it.
+// Where each line from outside stands: at the only level that is open, which has no lines. It is created once, and lines share it.
 pub(crate) struct TopLevel {
     position: Rc<Position>,
 }
 
-// Written out, so that to let go of it is one call, which is proved once.
+// Written out, so that dropping it is one call, which is proved once.
 impl Drop for TopLevel {
     fn drop(self) {
         let TopLevel { position: _ } = self;

@@ -25,7 +25,7 @@ use mstore::NodeStore;
 use mtree::{Arg, Line, Parameter};
 use std::alloc::{AllocError, Global};
 
-// The index and the parameters of the FOR before a place of a line, where it has an index.
+// The index and the parameters of the FOR before a place of a line, if it has an index.
 fn loop_before(line: &Line, at: usize) -> Option<(&Name, &[Parameter])>
     ensures found { IfSome result (λ found. the_loop_before line.now at ≡ (found.0.now, found.1.now)) }
     ensures indexed { is_some result ≡ has_index line.now at }
@@ -107,7 +107,7 @@ fn further<S: NodeStore>(
     }
 }
 
-// Whether there is one turn more of this course of these turns. Without an index they have no end.
+// Whether there is one more turn of this course of these turns. Without an index they have no end.
 fn goes_on<S: NodeStore>(parts: &mut Parts<S>, turns: &ForLoop) -> Result<bool, Code>
     ensures { DoesAt S.NodeStore (λ a n. advanced (turning turns.now).index (course_view turns.now.course)) (λ goes_on. goes_on) parts.old result parts.new }
 {
@@ -117,7 +117,7 @@ fn goes_on<S: NodeStore>(parts: &mut Parts<S>, turns: &ForLoop) -> Result<bool, 
     }
 }
 
-// What a turn ends its FOR with, unless that goes on with its course: QUIT ends it, and the rest of its line was its body.
+// What a turn ends its FOR with, unless the FOR goes on with its course: QUIT ends it, and the rest of its line was its body.
 fn turn_ends(completion: Completion) -> Option<Completion>
     ensures { option_map completion_of result ≡ fronts.turn_ends (completion_of completion) }
 {
@@ -171,7 +171,7 @@ fn after_course<S: NodeStore>(
     }
 }
 
-// What follows a turn that went on so.
+// What follows a turn that went on in this way.
 pub(crate) fn after_turn<S: NodeStore>(
     alloc: Global,
     parts: &mut Parts<S>,

@@ -4,7 +4,7 @@ use Rattle.moperator.proofs.OperatorWords.{◌≡◌, ℕ, List, Some, None, sym
 use Rattle.std.proofs.Common.{Option}
 use Rattle.mtree.specs.Functions.{IsValueWord}
 
--- the function of values, and any other where it is none
+-- the function of values, and any other if it is none
 abbrev values_of : Option FunctionTree → ValueFunctionTree
 values_of None = ascii_function
 values_of (Some (of_values f least most)) = f

@@ -17,7 +17,7 @@ use Rattle.moperator.specs.Faults.{division_code}
 use Rattle.moperator.specs.Calculations.{division}
 use Rattle.moperator.specs.declared.code.Code.TheVariants as codes
 
--- the number of a text, where there is one
+-- the number of a text, if there is one
 pub number_is : (x : Text) (n : Num) → numeric_value significant_digits x ≡ Some (units n) → Yields fault_of (as_number x) units (Ok n)
 number_is x n e = subst (λ (o : Option ℤ). Yields fault_of (give_some Zover o) units (Ok n)) (sym e) (yields_gives (units n) units n refl)
 

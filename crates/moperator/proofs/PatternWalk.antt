@@ -36,7 +36,7 @@ split_first (a ∷ atoms) (suc k) lent is =
     let more : suc (k + 1) ≡ suc k + 1 = omega arith in
     record { first = rest.first; cut = rest.cut ∙ ap (λ (n : ℕ). rest.first ∷ drop n (a ∷ atoms)) more; is = rest.is }
 
--- where there is one more atom
+-- if there is one more atom
 pub below_end : (atoms : List tree.Atom) (passed : ℕ) (lent : LentAtom) → IsFirstOf (Some lent) (drop passed (pattern_of atoms)) → passed < length atoms
 below_end [] zero lent is = absurd is
 below_end [] (suc k) lent is = absurd is

@@ -20,7 +20,7 @@ last_first : (ss : List SignTree) (s : SignTree) (x : Text) → ◌≡◌ {A = A
 last_first [] s x = sym (given (unary s x))
 last_first (t ∷ ss) s x = ap (λ (p : Act Text). p >>= unary t) (last_first ss s x) ∙ assoc (unary s x) (unaries ss) (unary t)
 
--- so many signs end with the one before that place
+-- this many signs end with the one before that place
 last_sign : (signs : List Sign) (left : ℕ) (d : Sign) → 0 < left → left ≤ length signs → map sign_tree (take left signs) ≡ map sign_tree (take (left - 1) signs) ++ sign_tree (get_or signs (left - 1) d) ∷ []
 last_sign signs left d some within =
     let one : left ≡ left - 1 + 1 = omega arith in
@@ -32,21 +32,21 @@ last_sign signs left d some within =
 sign_applied : (ss : List SignTree) (s : SignTree) (x : Text) (y : Text) (r : Result Text Code) → Yields fault_of (unary s x) (λ (v : Text). v) (Ok y) → Yields fault_of (unaries ss y) (λ (v : Text). v) r → Yields fault_of (unaries (ss ++ s ∷ []) x) (λ (v : Text). v) r
 sign_applied ss s x y r d k = subst (λ (p : Act Text). Yields fault_of p (λ (v : Text). v) r) (sym (last_first ss s x)) (yields_then (unaries ss) d k)
 
--- the last of so many signs, where it is on
+-- the last of this many signs, if it goes on
 pub next_sign : (signs : List Sign) (left : ℕ) (d : Sign) (x : Text) (y : Text) (r : Result Text Code) → 0 < left → left ≤ length signs → Yields fault_of (unary (sign_tree (get_or signs (left - 1) d)) x) (λ (v : Text). v) (Ok y)
     → Yields fault_of (unaries (map sign_tree (take (left - 1) signs)) y) (λ (v : Text). v) r → Yields fault_of (unaries (map sign_tree (take left signs)) x) (λ (v : Text). v) r
 next_sign signs left d x y r some within here k =
     subst (λ (ss : List SignTree). Yields fault_of (unaries ss x) (λ (v : Text). v) r) (sym (last_sign signs left d some within))
     (sign_applied (map sign_tree (take (left - 1) signs)) (sign_tree (get_or signs (left - 1) d)) x y r here k)
 
--- and where it fails
+-- and if it fails
 pub sign_failed : (signs : List Sign) (left : ℕ) (d : Sign) (x : Text) (e : Code) → 0 < left → left ≤ length signs → Yields fault_of (unary (sign_tree (get_or signs (left - 1) d)) x) (λ (v : Text). v) (Err e)
     → Yields fault_of (unaries (map sign_tree (take left signs)) x) (λ (v : Text). v) (Err e)
 sign_failed signs left d x e some within here =
     subst (λ (ss : List SignTree). Yields fault_of (unaries ss x) (λ (v : Text). v) (Err e)) (sym (last_sign signs left d some within))
     (subst (λ (p : Act Text). Yields fault_of p (λ (v : Text). v) (Err e)) (sym (last_first (map sign_tree (take (left - 1) signs)) (sign_tree (get_or signs (left - 1) d)) x)) (yields_failed (unaries (map sign_tree (take (left - 1) signs))) here))
 
--- where no sign is left, the value stands
+-- if no sign is left, the value stands
 pub no_sign_left : (signs : List Sign) (left : ℕ) (x : Text) → left ≤ 0 → Yields fault_of (unaries (map sign_tree (take left signs)) x) (λ (v : Text). v) (Ok x)
 no_sign_left signs zero x none = yields_gives x (λ (v : Text). v) x refl
 no_sign_left signs (suc left) x none = absurd (omega arith)

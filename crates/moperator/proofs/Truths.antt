@@ -1,5 +1,5 @@
 -- SPDX-License-Identifier: Apache-2.0
--- What a test gives that looks at its second operand only where it has to.
+-- What a test gives that looks at its second operand only if it has to.
 use Rattle.moperator.proofs.OperatorWords.{◌≡◌, Bool, true, false, sym, ap, ◌∙◌, ◌&&◌, ◌||◌}
 
 pub both_first : {p s : Bool} (t : Bool) → p ≡ s → p ≡ false → p ≡ (s && t)

@@ -18,11 +18,11 @@ operator_tree Divide = grammar.divide
 operator_tree DivideWhole = grammar.divide_whole
 operator_tree Remainder = grammar.remainder
 
--- what a division by a number gives, whose value is this where that number is not 0
+-- what a division by a number gives; its value is this if that number is not 0
 abbrev pub division : ℤ → Option ℤ → Act Text
 division divisor x = unless M9 (is_true divisor) >> as_text x
 
--- what an operator gives of two numbers
+-- what an operator gives for two numbers
 abbrev pub calculated : Arithmetic → ℤ → ℤ → Act Text
 calculated Add a b = as_text (sum_of a b)
 calculated Subtract a b = as_text (difference_of a b)
@@ -31,7 +31,7 @@ calculated Divide a b = division b (quotient_of a b)
 calculated DivideWhole a b = division b (whole_quotient_of a b)
 calculated Remainder a b = division b (remainder_of a b)
 
--- and of two texts
+-- and for two texts
 abbrev pub calculated_texts : Arithmetic → Text → Text → Act Text
 calculated_texts operator x y = do
   n ← both_numbers x y

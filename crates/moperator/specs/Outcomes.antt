@@ -8,7 +8,7 @@ use Rattle.mnum.specs.Num.{units}
 use Rattle.mnum.specs.declared.num.Num.{Num}
 use Rattle.mnum.specs.declared.num.Over.{Over}
 
--- an operation's result in units; none where it is too large
+-- an operation's result in units; none if it is too large
 abbrev pub outcome_units : Result Num Over → Option ℤ
 outcome_units (Ok n) = Some (units n)
 outcome_units (Err over) = None

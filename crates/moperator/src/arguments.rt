@@ -11,7 +11,7 @@ use mnum::Bytes7;
 use mvalue::{Shown, Value};
 use std::alloc::{AllocError, Global};
 
-// The text of the argument at a place, or the empty one where it is left out.
+// The text of the argument at a place, or the empty one if it is left out.
 pub(crate) fn text_at(
     alloc: Global,
     arguments: &[Value],
@@ -25,7 +25,7 @@ pub(crate) fn text_at(
     }
 }
 
-// The whole number of the argument at a place, where it has one.
+// The whole number of the argument at a place, if it has one.
 pub(crate) fn whole_at(arguments: &[Value], place: usize) -> Result<Option<i64>, Code>
     ensures whole { Yields fault_of (meaning.whole_at place arguments.now) (λ whole. whole) result }
     ensures below { IfOk result (λ whole. IfSome whole (λ n. unsigned_abs n < 10 ^ 18)) }

@@ -15,7 +15,7 @@ use crate::code::Code;
 use mnum::{ArithFault, Num, Over};
 use mtree::Binary;
 
-/// An operator that makes a number of two.
+/// An operator that makes one number out of two.
 #[derive(Clone, Copy, Debug, PartialEq, Eq)]
 pub enum Arithmetic {
     Add,
@@ -25,7 +25,7 @@ pub enum Arithmetic {
     Divide,
     /// `\`, the quotient without its fraction.
     DivideWhole,
-    /// `#`, what division with a floor leaves.
+    /// `#`, the remainder of division with a floor.
     Remainder,
 }
 
@@ -59,7 +59,7 @@ fn in_range(outcome: Result<(), Over>) -> Result<(), Code>
     }
 }
 
-// The same of a division.
+// The same for a division.
 #[inline]
 #[tactic(auto, using(crate::proofs::Numbers::quotient_left, crate::proofs::Numbers::no_quotient))]
 fn divided(outcome: Result<(), ArithFault>) -> Result<(), Code>
@@ -71,12 +71,12 @@ fn divided(outcome: Result<(), ArithFault>) -> Result<(), Code>
     }
 }
 
-/// Makes of the left number what an operator gives of the two, where it stands: a number that is written and then moved at once is
-/// waited for.
+/// Turns the left number into what an operator gives for the two, in place: a number that is written and then moved at once has
+/// to be waited for.
 ///
 /// # Errors
 ///
-/// `M9` for a divisor of 0; `Zover` where the result is too large. What the left number is then is left open.
+/// `M9` for a divisor of 0; `Zover` if the result is too large. What the left number is then is left open.
 pub fn calculate(operator: Arithmetic, left: &mut Num, right: &Num) -> Result<(), Code>
     ensures { Yields fault_of (calculated operator (units left.old) (units right.now)) (λ _. number_text (units left.new)) result }
 {

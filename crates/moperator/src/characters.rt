@@ -17,7 +17,7 @@ use mspec::limits::MAX_TEXT;
 use mvalue::Value;
 use std::alloc::Global;
 
-// The code of the character at a place, which is 1 where it is left out; -1 where there is none.
+// The code of the character at a place, which is 1 if it is left out; -1 if there is none.
 pub(crate) fn code_at(text: &[u8], place: Option<i64>) -> i64
     ensures code { result ≡ ascii_of text.now place }
     ensures below { unsigned_abs result < 10 ^ 18 }
@@ -32,7 +32,7 @@ pub(crate) fn code_at(text: &[u8], place: Option<i64>) -> i64
     }
 }
 
-// Whether a code is over those of characters.
+// Whether a code is above those of characters.
 fn is_over_ascii(code: i64) -> bool
     ensures { result ≡ is_over_ascii code }
 {
@@ -69,7 +69,7 @@ pub(crate) fn refuse_characters(arguments: &[Value]) -> Result<(), Code>
     Ok(())
 }
 
-// The characters of some codes, of which one below 0 gives none.
+// The characters of some codes; a code below 0 gives none.
 pub(crate) fn characters(alloc: Global, codes: &[i64]) -> Result<Value, Code>
     ensures { Yields fault_of (outcome (char_of codes.now)) (λ value. value) result }
 {

@@ -21,7 +21,7 @@ pub enum Code {
     M15,
     /// A text of more than 4,095 characters.
     Zlong,
-    /// A text that the grammar has no tree of.
+    /// A text that the grammar has no tree for.
     Zsyntax,
     /// A number that is too large.
     Zover,
@@ -45,7 +45,7 @@ pub enum Code {
     Zline,
     /// A terminal that no account has.
     Zterm,
-    /// Want of memory.
+    /// Out of memory.
     Zmem,
     /// A fault of the database.
     Zstore,

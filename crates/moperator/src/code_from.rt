@@ -1,5 +1,5 @@
 // SPDX-License-Identifier: Apache-2.0
-// The code that the fault of another call ends a line with.
+// The code with which the fault of another call ends a line.
 ghost use Rattle.std.specs.Prelude.{◌≡◌};
 ghost use Rattle.moperator.specs.declared.code.Code.TheVariants.{Zmem, Zover};
 ghost use Rattle.moperator.specs.Faults.{division_code, fault_code};

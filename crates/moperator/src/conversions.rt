@@ -1,5 +1,5 @@
 // SPDX-License-Identifier: Apache-2.0
-// Values as numbers, truths and whole numbers, with the code where the number is too large.
+// Values as numbers, truths and whole numbers, with the code if the number is too large.
 ghost use Rattle.std.specs.Prelude.{◌≡◌, ◌^◌, ◌<◌, ℕ, List, Result, Err, unsigned_abs, IsErrAnd, IfOk, IfErr};
 ghost use Rattle.mspec.specs.Code as spec;
 ghost use Rattle.mmeaning.specs.Operators.{as_number, as_truth, outcome};
@@ -19,7 +19,7 @@ use mvalue::{Kind, Value};
 ///
 /// # Errors
 ///
-/// `Zover` where the number is too large.
+/// `Zover` if the number is too large.
 #[inline(always)]
 pub fn number_of(value: &Value) -> Result<Num, Code>
     ensures number { Yields fault_of (as_number value.now) units result }
@@ -31,7 +31,7 @@ pub fn number_of(value: &Value) -> Result<Num, Code>
     }
 }
 
-// The number that a text stands for. It stands apart, since most values are numbers already.
+// The number that a text stands for. It is kept out of line, since most values are numbers already.
 #[inline(never)]
 fn text_number(text: &Bytes7) -> Result<Num, Code>
     ensures number { Yields fault_of (as_number text.now) units result }
@@ -45,7 +45,7 @@ fn text_number(text: &Bytes7) -> Result<Num, Code>
 ///
 /// # Errors
 ///
-/// `Zover` where the value's number is too large.
+/// `Zover` if the value's number is too large.
 pub fn truth_of(value: &Value) -> Result<bool, Code>
     ensures truth { Yields fault_of (as_truth value.now) (λ is_true. is_true) result }
     ensures over { IfErr result (λ code. code ≡ Zover) }
@@ -58,7 +58,7 @@ pub fn truth_of(value: &Value) -> Result<bool, Code>
 ///
 /// # Errors
 ///
-/// `Zover` where the value's number is too large.
+/// `Zover` if the value's number is too large.
 pub fn whole_of(value: &Value) -> Result<i64, Code>
     ensures whole { Yields fault_of (as_whole value.now) (λ whole. whole) result }
     ensures below { IfOk result (λ whole. unsigned_abs whole < 10 ^ 18) }
@@ -68,11 +68,11 @@ pub fn whole_of(value: &Value) -> Result<i64, Code>
     Ok(number.to_whole())
 }
 
-/// The number that a value stands for, without its fraction, where there is a value. Takes no memory.
+/// The number that a value stands for, without its fraction, if there is a value. Takes no memory.
 ///
 /// # Errors
 ///
-/// `Zover` where the value's number is too large.
+/// `Zover` if the value's number is too large.
 pub fn whole_number(value: &Option<Value>) -> Result<Option<i64>, Code>
     ensures whole { Yields fault_of (as_whole_or_none value.now) (λ whole. whole) result }
     ensures over { IfErr result (λ code. code ≡ Zover) }

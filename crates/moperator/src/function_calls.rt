@@ -71,7 +71,7 @@ fn justified(alloc: Global, arguments: &[Value]) -> Result<Value, Code>
     answered(justify(alloc, text.as_text(), width.unwrap_or(0)))
 }
 
-// Of characters, and of pieces where there is a delimiter.
+// Of characters, and of pieces if there is a delimiter.
 #[tactic(auto, using(mmeaning::proofs::Yieldings::yields_gives, crate::proofs::GivenArguments::argument_is))]
 fn length(alloc: Global, arguments: &[Value]) -> Result<Value, Code>
     ensures { Yields fault_of (meaning.function_value grammar.length_function arguments.now) (λ value. value) result }
@@ -114,7 +114,7 @@ fn translated(alloc: Global, arguments: &[Value]) -> Result<Value, Code>
     answered(translate(alloc, text.as_text(), from.as_text(), to.as_text()))
 }
 
-// What a function gives of its arguments.
+// What a function gives for its arguments.
 fn function(alloc: Global, function: ValueFunction, arguments: &[Value]) -> Result<Value, Code>
     ensures value { Yields fault_of (meaning.function_value (value_function_tree function) arguments.now) (λ value. value) result }
     ensures characters { value_function_tree function ≡ grammar.char_function
@@ -132,11 +132,11 @@ fn function(alloc: Global, function: ValueFunction, arguments: &[Value]) -> Resu
     }
 }
 
-/// What the function of a word gives of its arguments.
+/// What the function of a word gives for its arguments.
 ///
 /// # Errors
 ///
-/// The function's code in place of its value, by which $CHAR is refused before memory is asked for; `Zmem` if out of memory.
+/// The function's code in place of its value; $CHAR is refused with it before memory is asked for. `Zmem` if out of memory.
 pub fn call(alloc: Global, word: &ValueWord, arguments: &[Value]) -> Result<Value, Code>
     ensures value { Yields fault_of (meaning.call_value word.now arguments.now) (λ value. value) result }
     ensures characters { IsValueWord word.now grammar.char_function

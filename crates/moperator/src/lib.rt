@@ -2,7 +2,7 @@
 //! The operators, relations, patterns and functions of the language, of operands and arguments that are values already, and the
 //! codes that end a line.
 //!
-//! The definitions that the contracts cite stand in `mmeaning`: `Operators` and `Functions`. `Yields` says that a call gives what the
+//! The definitions that the contracts cite are in `mmeaning`: `Operators` and `Functions`. `Yields` says that a call gives what the
 //! definition gives, whatever the session's state.
 #![tactic(auto)]
 

@@ -1,5 +1,5 @@
 // SPDX-License-Identifier: Apache-2.0
-// What the operators of expressions give, of operands that are values already.
+// What the operators of expressions give for operands that are values already.
 ghost use Rattle.std.specs.Prelude.{◌≡◌, ◌<◌, map, length, ◌++◌, Err, IfErr};
 ghost use Rattle.mmeaning.specs.Operators as meaning;
 ghost use Rattle.mnum.specs.Num.{units};
@@ -29,7 +29,7 @@ use std::mem;
 ///
 /// # Errors
 ///
-/// `Zover` where the number is too large.
+/// `Zover` if the number is too large.
 #[inline]
 pub fn computed(outcome: Result<Num, Over>) -> Result<Value, Code>
     ensures value { Yields fault_of (meaning.as_text (outcome_units outcome)) (λ value. value) result }
@@ -41,7 +41,7 @@ pub fn computed(outcome: Result<Num, Over>) -> Result<Value, Code>
     }
 }
 
-// A sign makes a number of its operand, `-` turns that number's sign, and `'` negates it as a truth.
+// A sign makes a number of its operand, `-` reverses that number's sign, and `'` negates it as a truth.
 #[tactic(auto, using(mmeaning::proofs::Yieldings::yields_then, mmeaning::proofs::Yieldings::yields_stopped, mmeaning::proofs::Yieldings::yields_gives))]
 fn unary(sign: Sign, value: &Value) -> Result<Value, Code>
     ensures value { Yields fault_of (meaning.unary (sign_tree sign) value.now) (λ value. value) result }
@@ -67,7 +67,7 @@ fn unary(sign: Sign, value: &Value) -> Result<Value, Code>
 ///
 /// # Errors
 ///
-/// `Zover` where a sign wants a number and the operand's is too large.
+/// `Zover` if a sign needs a number and the operand's is too large.
 pub fn unaries(signs: &[Sign], value: Value) -> Result<Value, Code>
     ensures value { Yields fault_of (meaning.unaries (map sign_tree signs.now) value) (λ value. value) result }
     ensures over { IfErr result (λ code. code ≡ Zover) }
@@ -92,7 +92,7 @@ pub(crate) fn numbers(left: &Value, right: &Value) -> Result<(Num, Num), Code>
     Ok((a, b))
 }
 
-// Makes of the left value what an operator of arithmetic gives of the two as numbers.
+// Turns the left value into what an operator of arithmetic gives for the two as numbers.
 #[inline(never)]
 #[tactic(auto, using(mmeaning::proofs::Yieldings::yields_then, mmeaning::proofs::Yieldings::yields_stopped))]
 fn calculate_values(operator: Arithmetic, left: &mut Value, right: &Value) -> Result<(), Code>
@@ -104,7 +104,7 @@ fn calculate_values(operator: Arithmetic, left: &mut Value, right: &Value) -> Re
     outcome
 }
 
-// The left text with the right one behind it.
+// The left text with the right one after it.
 fn joined(alloc: Global, left: Value, right: &Value) -> Result<Value, Code>
     ensures value { Yields fault_of (meaning.outcome (made (left ++ right.now))) (λ value. value) result }
     ensures long { max_text < length (left ++ right.now) → result ≡ Err Zlong }
@@ -129,11 +129,11 @@ fn put(place: &mut Value, outcome: Result<Value, Code>) -> Result<(), Code>
     Ok(())
 }
 
-/// Makes of the left operand what an operator gives of the two.
+/// Turns the left operand into what an operator gives for the two.
 ///
 /// # Errors
 ///
-/// `Zover` where the number of an operand that is to be one, or of the result, is too large; `M9` for a divisor of 0; `Zlong` where joined
+/// `Zover` if the number of an operand that has to be one, or of the result, is too large; `M9` for a divisor of 0; `Zlong` if joined
 /// texts have more than 4,095 characters, which needs no memory; `Zmem` if out of memory. What the left operand is then is left open.
 #[tactic(auto, using(mmeaning::proofs::Yieldings::yields_stopped))]
 pub fn binary(alloc: Global, operator: Binary, left: &mut Value, right: &Value) -> Result<(), Code>

@@ -66,7 +66,7 @@ fn lent_repeated(repeated: &mtree::Repeated) -> LentRepeated<'_>
     }
 }
 
-// The atom at a place of a pattern, where there is one.
+// The atom at a place of a pattern, if there is one.
 #[tactic(auto, using(crate::proofs::PatternWalk::from_atom))]
 fn lent_atom(atoms: &[mtree::Atom], index: usize) -> Option<LentAtom<'_>>
     ensures { IsFirstOf result (drop index (pattern_of atoms.now)) }
@@ -105,7 +105,7 @@ fn text_matches(alloc: Global, atoms: &[mtree::Atom], text: &[u8]) -> Result<boo
     Ok(at == text.len())
 }
 
-// The match of a value's text, which of a number is printed on the stack.
+// The match of a value's text; that of a number is printed on the stack.
 fn value_matches(alloc: Global, atoms: &[mtree::Atom], value: &Value) -> Result<bool, AllocError>
     ensures answer { IfOk result (λ answer. Decides answer (Matches (pattern_of atoms.now) value.now)) }
     ensures short { length value.now < 2 ^ 64 - 1 }
@@ -120,7 +120,7 @@ fn value_matches(alloc: Global, atoms: &[mtree::Atom], value: &Value) -> Result<
 ///
 /// # Errors
 ///
-/// `M10` where the least count of any atom is above its greatest, before the matching; `Zmem` for want of memory.
+/// `M10` if the least count of any atom is above its greatest, before the matching; `Zmem` if out of memory.
 #[tactic(auto, using(crate::proofs::PatternMatches::reversed_fails))]
 pub fn matching(alloc: Global, atoms: &[mtree::Atom], value: &Value) -> Result<bool, Code>
     ensures value { Yields fault_of (meaning.matching (map plain_atom (map atom_tree atoms.now)) value.now) (λ matches. matches) result }

@@ -1,6 +1,6 @@
 // SPDX-License-Identifier: Apache-2.0
-// A value at hand while more of the text is read. If that fails, the value is let go here. A caller that lets go of a tree at an
-// exit of its own has a goal there for each part of each variant of it, at every such exit.
+// A value at hand while more of the text is read. If that fails, the value is dropped here. A caller that drops a tree at an exit
+// of its own has a goal there for each part of each variant of it, at every such exit.
 ghost use Rattle.std.specs.Prelude.{◌≡◌, IfOk, IfErr, Ok, Err};
 ghost use Rattle.mgrammar.specs.ReadingWords.{past};
 ghost use Rattle.mscan.specs.Gives.{Gives};
@@ -17,7 +17,7 @@ pub fn followed<T: Drop>(value: T, byte: u8, bytes: &[u8]) -> Result<(T, &[u8]),
     Ok((value, rest))
 }
 
-// The value, and what was read behind it.
+// The value, and what was read after it.
 #[inline]
 pub fn beside<T: Drop, U: Drop>(value: T, next: Result<U, ParseFault>) -> Result<(T, U), ParseFault>
     ensures value { IfOk result (λ x. (x.0 ≡ value) × (next ≡ Ok x.1)) }

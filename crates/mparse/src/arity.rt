@@ -8,7 +8,7 @@ ghost use Rattle.mtree.specs.Tree.{keyword_tree};
 
 use mtree::Keyword;
 
-// Whether so many values may stand in brackets that take from so many to so many, or without a bound: one at least.
+// Whether `count` values may be in brackets that take `least` to `most` values, or `least` or more without a bound: at least one.
 pub fn takes(least: usize, most: Option<usize>, count: usize) -> bool
     ensures { result ≡ takes least most count }
 {
@@ -36,7 +36,7 @@ fn bounds(keyword: Keyword) -> (usize, Option<usize>)
     }
 }
 
-// Whether the command takes so many arguments.
+// Whether the command takes `count` arguments.
 pub fn takes_args(keyword: Keyword, count: usize) -> bool
     ensures { result ≡ takes_args (keyword_tree keyword) count }
 {
@@ -44,7 +44,7 @@ pub fn takes_args(keyword: Keyword, count: usize) -> bool
     least <= count && is_at_most(most, count)
 }
 
-// Whether a postconditional may stand behind the command's word.
+// Whether a postconditional may come after the command's word.
 pub fn takes_condition(keyword: Keyword) -> bool
     ensures { result ≡ takes_condition (keyword_tree keyword) }
 {

@@ -63,7 +63,7 @@ impl Items for Keyword {
     }
 }
 
-// Whether arguments stand behind a word: a space, and behind it no space, no comment and no end.
+// Whether arguments come after a word: a space, and after it no space, no comment and no end.
 fn has_args(bytes: &[u8]) -> bool
     ensures { result ≡ has_args bytes.now }
 {

@@ -27,7 +27,7 @@ pub fn if_argument(alloc: Global, bytes: &[u8]) -> Result<(Arg, &[u8]), ParseFau
     }
 }
 
-// A value; or a start and an increment, and a limit where one stands.
+// A value; or a start and an increment, and a limit if there is one.
 #[tactic(auto, unfolding(mgrammar::specs::Reading::parameter_at))]
 fn parameter(alloc: Global, bytes: &[u8]) -> Result<(Parameter, &[u8]), ParseFault>
     ensures { Gives (λ x. (parameter_tree x.0, x.1.now)) result (parameter_at bytes.now) }
@@ -75,7 +75,7 @@ pub fn for_argument(alloc: Global, bytes: &[u8]) -> Result<(Arg, &[u8]), ParseFa
     Ok((Arg::Loop(index, parameters), rest))
 }
 
-// The condition behind a colon, where one follows.
+// The condition after a colon, if one follows.
 pub fn behind_colon(alloc: Global, bytes: &[u8]) -> Result<(Option<Box<Expr>>, &[u8]), ParseFault>
     ensures { Gives (λ x. (condition_tree x.0, x.1.now)) result (postcondition_by bytes.now (past 58 bytes.now)) }
 {
@@ -86,7 +86,7 @@ pub fn behind_colon(alloc: Global, bytes: &[u8]) -> Result<(Option<Box<Expr>>, &
     Ok((Some(Box::new(alloc, condition)?), rest))
 }
 
-// The condition behind a word of this keyword, where a colon follows the word and the command takes one.
+// The condition after a word of this keyword, if a colon follows the word and the command takes a condition.
 #[tactic(auto, unfolding(mgrammar::specs::Reading::postcondition_at))]
 pub fn postcondition(
     alloc: Global,

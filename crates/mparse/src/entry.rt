@@ -13,7 +13,7 @@ use mspec::limits::MAX_DEPTH;
 use mtree::{Arg, Entry, Keyword};
 use std::alloc::Global;
 
-// A label, a label and the routine that it is of, or a routine alone.
+// A label, a label and the routine that it belongs to, or a routine alone.
 #[tactic(auto, unfolding(mgrammar::specs::Reading::entry_at))]
 fn entry(alloc: Global, bytes: &[u8]) -> Result<(Entry, &[u8]), ParseFault>
     ensures { Gives (λ x. (entry_tree x.0, x.1.now)) result (entry_at bytes.now) }

@@ -20,7 +20,7 @@ use mtree::{
 };
 use std::alloc::Global;
 
-// An expression within which so many brackets may be open.
+// An expression within which `depth` brackets may be open.
 #[cycle(expr)]
 #[tactic(auto, unfolding(mgrammar::specs::ReadingExpressions::expr_with))]
 pub fn expr(alloc: Global, bytes: &[u8], depth: u32) -> Result<(Expr, &[u8]), ParseFault>
@@ -47,7 +47,7 @@ fn tails(alloc: Global, bytes: &[u8], depth: u32) -> Result<(Vec<Tail>, &[u8]), 
     Ok((tails, rest))
 }
 
-// The next step, where an operator begins.
+// The next tail, if an operator begins.
 #[cycle(expr)]
 #[tactic(auto, unfolding(mgrammar::specs::ReadingExpressions::tail_with))]
 fn tail(alloc: Global, bytes: &[u8], depth: u32) -> Result<Option<(Tail, &[u8])>, ParseFault>
@@ -59,7 +59,7 @@ fn tail(alloc: Global, bytes: &[u8], depth: u32) -> Result<Option<(Tail, &[u8])>
     Ok(Some(tail_by(alloc, operator, rest, depth)?))
 }
 
-// The step of this operator.
+// The tail of this operator.
 #[cycle(expr)]
 #[tactic(auto, unfolding(mgrammar::specs::ReadingExpressions::tail_by))]
 fn tail_by(
@@ -122,7 +122,7 @@ fn primary(alloc: Global, bytes: &[u8], depth: u32) -> Result<(Primary, &[u8]), 
     }
 }
 
-// A variable. Behind a `^` stand subscripts alone where a bracket opens there, and otherwise a name in front of them.
+// A variable. After a `^` come subscripts alone if a bracket opens there, and otherwise a name before them.
 #[cycle(expr)]
 #[tactic(auto, unfolding(mgrammar::specs::ReadingExpressions::reference_with))]
 pub fn reference(alloc: Global, bytes: &[u8], depth: u32) -> Result<(Reference, &[u8]), ParseFault>
@@ -138,7 +138,7 @@ pub fn reference(alloc: Global, bytes: &[u8], depth: u32) -> Result<(Reference, 
     global(alloc, behind, depth)
 }
 
-// The rest of a global variable that is named, behind its `^`: an environment where a bar comes, a name and subscripts.
+// The rest of a global variable that is named, after its `^`: an environment if a bar comes, a name and subscripts.
 #[cycle(expr)]
 fn global(alloc: Global, bytes: &[u8], depth: u32) -> Result<(Reference, &[u8]), ParseFault>
     ensures { Gives (λ x. (reference_tree x.0, x.1.now)) result (owned_by (readers_at depth) bytes.now (past 124 bytes.now)) }
@@ -151,7 +151,7 @@ fn global(alloc: Global, bytes: &[u8], depth: u32) -> Result<(Reference, &[u8]),
     Ok((Reference::Global(name, subscripts), rest))
 }
 
-// The rest of a global variable of an environment, behind the bar that opens that.
+// The rest of a global variable of an environment, after the bar that opens the environment.
 #[cycle(expr)]
 #[tactic(auto, unfolding(mgrammar::specs::ReadingExpressions::extended_with))]
 fn extended(alloc: Global, bytes: &[u8], depth: u32) -> Result<(Reference, &[u8]), ParseFault>
@@ -179,7 +179,7 @@ fn local(alloc: Global, bytes: &[u8], depth: u32) -> Result<(Reference, &[u8]), 
     Ok((local, rest))
 }
 
-// The rest of a name indirection, behind its `@`.
+// The rest of a name indirection, after its `@`.
 #[cycle(expr)]
 #[tactic(auto, unfolding(mgrammar::specs::ReadingExpressions::indirect_with))]
 fn indirect(alloc: Global, bytes: &[u8], depth: u32) -> Result<(Reference, &[u8]), ParseFault>
@@ -191,7 +191,7 @@ fn indirect(alloc: Global, bytes: &[u8], depth: u32) -> Result<(Reference, &[u8]
     Ok((Reference::Indirect(operand, subscripts), rest))
 }
 
-// The subscripts behind an operand, where an `@` with a bracket behind it comes.
+// The subscripts after an operand, if an `@` with a bracket after it comes.
 #[cycle(expr)]
 #[tactic(auto, unfolding(mgrammar::specs::ReadingExpressions::attached_with))]
 fn attached(alloc: Global, bytes: &[u8], depth: u32) -> Result<(Vec<Expr>, &[u8]), ParseFault>
@@ -203,7 +203,7 @@ fn attached(alloc: Global, bytes: &[u8], depth: u32) -> Result<(Vec<Expr>, &[u8]
     }
 }
 
-// What stands behind an `@`, where a bracket opens there.
+// What comes after an `@`, if a bracket opens there.
 fn attached_at(bytes: &[u8]) -> Option<&[u8]>
     ensures { option_map (λ x. x.now) result ≡ attached_at bytes.now }
 {
@@ -212,7 +212,7 @@ fn attached_at(bytes: &[u8]) -> Option<&[u8]>
     Some(behind)
 }
 
-// Subscripts, where a bracket opens.
+// Subscripts, if a bracket opens.
 #[cycle(expr)]
 #[tactic(auto, unfolding(mgrammar::specs::ReadingExpressions::subscripts_with))]
 fn subscripts(alloc: Global, bytes: &[u8], depth: u32) -> Result<(Vec<Expr>, &[u8]), ParseFault>
@@ -226,7 +226,7 @@ fn subscripts(alloc: Global, bytes: &[u8], depth: u32) -> Result<(Vec<Expr>, &[u
     Ok((subscripts, rest))
 }
 
-// The expression behind an opening bracket, where one bracket fewer may open.
+// The expression after an opening bracket, in which one bracket fewer may open.
 #[cycle(expr)]
 #[tactic(auto, unfolding(mgrammar::specs::ReadingExpressions::readers_at))]
 pub fn inner(alloc: Global, bytes: &[u8], depth: u32) -> Result<(Expr, &[u8]), ParseFault>
@@ -238,7 +238,7 @@ pub fn inner(alloc: Global, bytes: &[u8], depth: u32) -> Result<(Expr, &[u8]), P
     expr(alloc, bytes, depth - 1)
 }
 
-// The variable behind an opening bracket, where one bracket fewer may open.
+// The variable after an opening bracket, in which one bracket fewer may open.
 #[cycle(expr)]
 #[tactic(auto, unfolding(mgrammar::specs::ReadingExpressions::readers_at))]
 pub fn within(alloc: Global, bytes: &[u8], depth: u32) -> Result<(Reference, &[u8]), ParseFault>
@@ -250,7 +250,7 @@ pub fn within(alloc: Global, bytes: &[u8], depth: u32) -> Result<(Reference, &[u
     reference(alloc, bytes, depth - 1)
 }
 
-// The operand behind an `@`, where one bracket fewer may open.
+// The operand after an `@`, in which one bracket fewer may open.
 #[cycle(expr)]
 #[tactic(auto, unfolding(mgrammar::specs::ReadingExpressions::readers_at))]
 pub fn below(alloc: Global, bytes: &[u8], depth: u32) -> Result<(Primary, &[u8]), ParseFault>
@@ -262,7 +262,7 @@ pub fn below(alloc: Global, bytes: &[u8], depth: u32) -> Result<(Primary, &[u8])
     primary(alloc, bytes, depth - 1)
 }
 
-// The rest of an expression in brackets, behind the bracket that opens it.
+// The rest of an expression in brackets, after the bracket that opens it.
 #[cycle(expr)]
 #[tactic(auto, unfolding(mgrammar::specs::ReadingExpressions::bracket_with))]
 fn bracket(alloc: Global, bytes: &[u8], depth: u32) -> Result<(Primary, &[u8]), ParseFault>
@@ -273,7 +273,7 @@ fn bracket(alloc: Global, bytes: &[u8], depth: u32) -> Result<(Primary, &[u8]), 
     Ok((Primary::Bracket(Box::new(alloc, expr)?), rest))
 }
 
-// The rest of what begins with a `$`, behind it: a function where a bracket opens behind its word, and otherwise a special
+// The rest of what begins with a `$`, after the `$`: a function if a bracket opens after its word, and otherwise a special
 // variable.
 #[cycle(expr)]
 #[tactic(auto, unfolding(mgrammar::specs::ReadingExpressions::dollar_with))]
@@ -298,7 +298,7 @@ fn dollar(alloc: Global, bytes: &[u8], depth: u32) -> Result<(Primary, &[u8]), P
     }
 }
 
-// The rest of a function of a variable and at most so many values, behind its bracket.
+// The rest of a function of a variable and at most `most` values, after its bracket.
 #[cycle(expr)]
 #[tactic(auto, unfolding(mgrammar::specs::ReadingExpressions::refer_with))]
 fn refer(
@@ -324,7 +324,7 @@ fn refer(
     Ok((Primary::Refer(Box::new(alloc, referring)?), rest))
 }
 
-// The rest of a call of a function of at least and at most so many values, behind its bracket.
+// The rest of a call of a function of at least `least` and at most `most` values, after its bracket.
 #[cycle(expr)]
 #[tactic(auto, unfolding(mgrammar::specs::ReadingExpressions::call_with))]
 fn call(
@@ -345,7 +345,7 @@ fn call(
     Ok((Primary::Call(word, arguments), rest))
 }
 
-// The rest of a `$SELECT`, behind its bracket.
+// The rest of a `$SELECT`, after its bracket.
 #[cycle(expr)]
 #[tactic(auto, unfolding(mgrammar::specs::ReadingExpressions::select_with))]
 fn select(
@@ -383,7 +383,7 @@ fn exprs(alloc: Global, bytes: &[u8], depth: u32) -> Result<(Vec<Expr>, &[u8]), 
     more_exprs(alloc, all, rest, depth)
 }
 
-// These expressions, and as many more as stand behind commas.
+// These expressions, and as many more as come after commas.
 #[cycle(expr)]
 fn more_exprs(
     alloc: Global,

@@ -42,7 +42,7 @@ fn whole_args(alloc: Global, keyword: Keyword, text: &[u8]) -> Result<Vec<Arg>, 
 ///
 /// # Errors
 ///
-/// `Syntax` only where no variable has the text, as where it is empty; `Memory` for want of memory.
+/// `Syntax` only if no variable has the text, as when it is empty; `Memory` if it runs out of memory.
 #[tactic(auto, using(mgrammar::proofs::ReadingIndirectTexts::reads_its_reference, crate::proofs::WholeTexts::is_tree, crate::proofs::WholeTexts::is_syntax))]
 pub fn parse_ref(alloc: Global, text: &[u8]) -> Result<Reference, ParseFault>
     ensures read { Gives (λ v. reference_tree v) result (ref_at text.now) }
@@ -53,12 +53,12 @@ pub fn parse_ref(alloc: Global, text: &[u8]) -> Result<Reference, ParseFault>
 }
 
 /// The arguments that a text of any bytes is, as the value of an operand of argument indirection of this command: the one list of
-/// trees of the grammar that has this text, with one argument at least. The command is one whose arguments a text may give: any but FOR,
-/// ELSE and QUIT.
+/// trees of the grammar that has this text, with at least one argument. The command is one whose arguments a text may give: any but FOR,
+/// and those that take none: ELSE, QUIT and HALT.
 ///
 /// # Errors
 ///
-/// `Syntax` only where no arguments of the command have the text, as where it is empty; `Memory` for want of memory.
+/// `Syntax` only if no arguments of the command have the text, as when it is empty; `Memory` if it runs out of memory.
 #[tactic(auto, using(mgrammar::proofs::ReadingIndirectTexts::reads_its_arguments, crate::proofs::WholeTexts::is_syntax))]
 pub fn parse_args(alloc: Global, keyword: Keyword, text: &[u8]) -> Result<Vec<Arg>, ParseFault>
     ensures read { Gives (λ args. map arg_tree args.items) result (args_of (form_of (keyword_tree keyword)) text.now) }

@@ -1,5 +1,5 @@
 // SPDX-License-Identifier: Apache-2.0
-//! A line of M, of a terminal or of a routine, and the texts of indirection, each from its text to its tree: a tree exactly where the
+//! A line of M, of a terminal or of a routine, and the texts of indirection, each from its text to its tree: a tree exactly if the
 //! grammar has one.
 #![tactic(auto)]
 

@@ -37,7 +37,7 @@ pub fn comment(alloc: Global, bytes: &[u8]) -> Result<Option<Bytes7>, ParseFault
     Ok(Some(Bytes7::from_slice(alloc, text)?))
 }
 
-// How many spaces stand at least between a command with these arguments and another one.
+// The least number of spaces between a command with these arguments and another one.
 fn least_gap(args: &[Arg]) -> usize
     ensures { result ≡ least_gap (map arg_tree args.now) }
 {
@@ -97,7 +97,7 @@ pub fn line(alloc: Global, text: &[u8]) -> Result<Line, ParseFault>
 ///
 /// # Errors
 ///
-/// `Syntax` only where no tree of the grammar has the text, as where a byte is over 127; `Memory` for want of memory.
+/// `Syntax` only if no tree of the grammar has the text, as when a byte is over 127; `Memory` if it runs out of memory.
 #[tactic(auto, using(mgrammar::proofs::ReadingLines::reads_its_tree, crate::proofs::WholeTexts::is_syntax))]
 pub fn parse_line(alloc: Global, text: &[u8]) -> Result<Line, ParseFault>
     ensures tree { IfOk result (λ l. well (line_tree l) × (spell (line_tree l) ≡ text.now)) }

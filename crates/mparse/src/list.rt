@@ -21,8 +21,8 @@ pub trait Items: Copy {
         ensures { Gives (λ x. (tree x.0, x.1.now)) result (read self bytes.now) };
 }
 
-// The items behind those so far, each with a comma before it. It stands apart, since a list of one item shall not pay for the room that
-// the items of this loop move through.
+// The items after those so far, each with a comma before it. Kept out of line, so that a list of one item does not pay for the stack
+// frame that the items of this loop move through.
 #[inline(never)]
 fn more<T: Items>(
     items: T,

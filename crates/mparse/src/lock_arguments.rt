@@ -19,7 +19,7 @@ use mspec::limits::MAX_DEPTH;
 use mtree::{Arg, Keyword, LockKind, Locked, Reference};
 use std::alloc::Global;
 
-// How the argument begins, and what stands behind its sign.
+// How the argument begins, and what comes after its sign.
 fn kind(bytes: &[u8]) -> (LockKind, &[u8])
     ensures kind { kind_tree result.0 ≡ kind_of bytes.now }
     ensures rest { result.1.now ≡ after_sign bytes.now }

@@ -7,7 +7,7 @@ ghost use Rattle.mtree.specs.Tree.{primary_tree, destination_tree, locked_tree};
 
 use mtree::{Destination, Locked, Primary, Target};
 
-// The operand, where the destination is no more than that.
+// The operand, if the destination is no more than that.
 pub fn destination_operand(destination: Destination) -> Option<Primary>
     ensures { option_map primary_tree result ≡ bare_destination (destination_tree destination) }
 {
@@ -17,7 +17,7 @@ pub fn destination_operand(destination: Destination) -> Option<Primary>
     }
 }
 
-// The operand; or what LOCK names again, where it is more than that.
+// The operand; or what LOCK names, unchanged, if it is more than that.
 pub fn locked_operand(names: Locked) -> Result<Primary, Locked>
     ensures operand { IfOk result (λ p. bare_arg (locked anew (locked_tree names) None) ≡ Some (primary_tree p)) }
     ensures more { IfErr result (λ n. (bare_arg (locked anew (locked_tree names) None) ≡ None) × (n ≡ names)) }

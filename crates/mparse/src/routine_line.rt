@@ -1,5 +1,5 @@
 // SPDX-License-Identifier: Apache-2.0
-// Lines of routines: a label or none, and behind it a comment, or dots and what a line of a terminal has too.
+// Lines of routines: a label or none, and after it a comment, or dots and what a line of a terminal has too.
 ghost use Rattle.std.specs.Prelude.{◌≡◌, IfOk, Err, Some, option_map};
 ghost use Rattle.mgrammar.specs.RoutineLine.{RoutineLineTree, spell_routine_line, well_routine_line, dot_at, dots_at, body_at, routine_line_at};
 ghost use Rattle.mtree.specs.Tree.{body_tree, routine_line_tree};
@@ -12,7 +12,7 @@ use mtree::{Body, RoutineLine};
 use std::alloc::Global;
 use std::rc::Rc;
 
-// The next dot, told by how many spaces stand in front of it, where one comes.
+// The next dot, if one comes, given by the number of spaces before it.
 #[tactic(auto, unfolding(mgrammar::specs::RoutineLine::dot_at))]
 fn dot(bytes: &[u8]) -> Option<(usize, &[u8])>
     ensures { Some (option_map (λ x. (x.0, x.1.now)) result) ≡ dot_at bytes.now }
@@ -38,7 +38,7 @@ fn dots(alloc: Global, bytes: &[u8]) -> Result<(Vec<usize>, &[u8]), ParseFault>
     Ok((all, rest))
 }
 
-// What stands behind the label.
+// What comes after the label.
 #[tactic(auto, unfolding(mgrammar::specs::RoutineLine::body_at))]
 fn body(alloc: Global, bytes: &[u8]) -> Result<Body, ParseFault>
     ensures { Gives (λ b. body_tree b) result (body_at bytes.now) }
@@ -69,7 +69,7 @@ fn routine_line(alloc: Global, text: &[u8]) -> Result<RoutineLine, ParseFault>
 ///
 /// # Errors
 ///
-/// `Syntax` only where no tree of the grammar has the text as a routine's line, as where a byte is over 127; `Memory` for want of memory.
+/// `Syntax` only if no tree of the grammar has the text as a routine's line, as when a byte is over 127; `Memory` if it runs out of memory.
 #[tactic(auto, using(mgrammar::proofs::ReadingRoutines::reads_its_routine_tree, crate::proofs::WholeTexts::is_syntax))]
 pub fn parse_routine_line(alloc: Global, text: &[u8]) -> Result<RoutineLine, ParseFault>
     ensures read { Gives (λ l. routine_line_tree l) result (routine_line_at text.now) }

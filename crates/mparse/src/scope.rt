@@ -33,7 +33,7 @@ impl Items for InNames {
     }
 }
 
-// Names, where the bracket in front of them is past.
+// Names, after the bracket before them.
 #[tactic(auto, unfolding(mgrammar::specs::Reading::names_at))]
 fn names(alloc: Global, bytes: &[u8]) -> Result<(Vec<Name>, &[u8]), ParseFault>
     ensures { Gives (λ x. (x.0.items, x.1.now)) result (names_at bytes.now) }

@@ -18,7 +18,7 @@ use mspec::limits::MAX_DEPTH;
 use mtree::{Arg, Destination, Expr, Keyword, PieceTarget, Target, is_piece};
 use std::alloc::Global;
 
-// The place behind the delimiter of a `$PIECE`, where one stands.
+// The place after the delimiter of a `$PIECE`, if there is one.
 #[tactic(auto, unfolding(mgrammar::specs::Reading::place_with))]
 fn place(alloc: Global, bytes: &[u8], depth: u32) -> Result<(Option<Expr>, &[u8]), ParseFault>
     ensures { Gives (λ x. (option_map expr_tree x.0, x.1.now)) result (place_with (readers_at depth) bytes.now) }
@@ -30,7 +30,7 @@ fn place(alloc: Global, bytes: &[u8], depth: u32) -> Result<(Option<Expr>, &[u8]
     Ok((Some(place), rest))
 }
 
-// The rest of a `$PIECE` that is assigned to, behind its bracket.
+// The rest of a `$PIECE` that is assigned to, after its bracket.
 #[tactic(auto, unfolding(mgrammar::specs::Reading::piece_with))]
 fn piece(
     alloc: Global,
@@ -110,7 +110,7 @@ fn destination(alloc: Global, bytes: &[u8]) -> Result<(Destination, &[u8]), Pars
     Ok((Destination::One(target), rest))
 }
 
-// A destination and its value; or an `@` with its operand and nothing more, behind which no `=` comes.
+// A destination and its value; or an `@` with its operand and nothing more, after which no `=` comes.
 #[tactic(auto, unfolding(mgrammar::specs::Reading::set_argument_at))]
 pub fn set_argument(alloc: Global, bytes: &[u8]) -> Result<(Arg, &[u8]), ParseFault>
     ensures { Gives (λ x. (arg_tree x.0, x.1.now)) result (set_argument_at bytes.now) }

@@ -1,5 +1,5 @@
 -- SPDX-License-Identifier: Apache-2.0
--- What fails where an item of a loop or of a list fails, fails alike.
+-- What fails when an item of a loop or of a list fails, fails alike.
 use Rattle.std.proofs.Common.{◌≡◌, ℕ, ◌-◌, ◌<◌, List, Option, Some, refl}
 use Rattle.mgrammar.specs.ReadingWords.{Read, with_front, past, many, after_comma, list_at}
 use Rattle.mgrammar.proofs.ReadingLoops.{fails_none}
@@ -23,7 +23,7 @@ module _ {A : Type 0} (item : List ℕ → Read A) where
   comma_none Memory cs behind h k = tt
   comma_none Syntax cs behind h k = rw (h, k) refl
 
-  -- at an item behind a comma
+  -- at an item after a comma
   pub comma_fails : (e : ParseFault) (front : List A) (count i : ℕ) (rest behind : List ℕ) (total : Read (List A)) → i < count → past 44 rest ≡ Some behind → Fails e (item behind)
       → with_front front (many (after_comma item) (count - i) rest) ≡ total → Fails e total
   comma_fails e front count i rest behind total lt h k so_far = fails (after_comma item) e front count i rest total lt (comma_none e rest behind h k) so_far

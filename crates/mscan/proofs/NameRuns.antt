@@ -8,7 +8,7 @@ use Rattle.mspec.specs.Names.{IsName, is_name_start, is_name_rest}
 use Rattle.mgrammar.specs.ReadingWords.{run_of, after_run, name_at}
 use Rattle.mgrammar.proofs.ReadingBasics.{run_parts, name_takes}
 
--- a first character, and the run behind it
+-- a first character, and the run after it
 module _ {text more run : List ℕ} {c : ℕ} (begins : text ≡ c ∷ more) (runs : run ≡ run_of is_name_rest more) where
   -- they are what the text begins with
   pub name_front : take (1 + length run) text ≡ c ∷ run

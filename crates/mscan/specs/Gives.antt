@@ -4,7 +4,7 @@ use Rattle.std.specs.Prelude.{◌≡◌, Option, Some, None, Result, Ok, Err}
 use Rattle.mscan.specs.declared.fault.ParseFault.{ParseFault}
 use Rattle.mscan.specs.declared.fault.ParseFault.TheVariants.{Syntax, Memory}
 
--- Syntax comes where nothing is read; memory can run out anywhere
+-- Syntax comes if nothing is read; memory can run out anywhere
 abbrev pub Fails : {Y : Type 0} → ParseFault → Option Y → Type 0
 Fails Syntax read = read ≡ None
 Fails Memory read = Unit {0}

@@ -1,5 +1,5 @@
 // SPDX-License-Identifier: Apache-2.0
-//! The parts of a line of M that no bracket stands in: runs of characters, names, strings, numbers, operators and patterns, each
+//! The parts of a line of M that have no brackets in them: runs of characters, names, strings, numbers, operators and patterns, each
 //! read from the front of a text; and what a line of a routine begins with.
 #![tactic(auto)]
 

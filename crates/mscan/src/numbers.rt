@@ -9,7 +9,7 @@ use crate::runs::{Class, run};
 use mnum::Bytes7;
 use std::alloc::Global;
 
-// Adds the point and the digits behind it that the text begins with, where it does, and gives what follows.
+// Adds the point and the digits after it that the text begins with, if it does, and gives what follows.
 #[tactic(auto, unfolding(mgrammar::specs::ReadingWords::point_at))]
 fn fraction<'a>(bytes: &'a [u8], number: &mut Bytes7) -> Result<&'a [u8], ParseFault>
     ensures { Gives (λ rest. (number.new, rest.now)) result (with_point number.old bytes.now) }
@@ -38,7 +38,7 @@ fn sign(bytes: &[u8]) -> (&[u8], &[u8])
     }
 }
 
-// Adds the exponent that the text begins with, where it does, and gives what follows.
+// Adds the exponent that the text begins with, if it does, and gives what follows.
 #[tactic(auto, unfolding(mgrammar::specs::ReadingWords::exponent_at))]
 fn exponent<'a>(bytes: &'a [u8], number: &mut Bytes7) -> Result<&'a [u8], ParseFault>
     ensures { Gives (λ rest. (number.new, rest.now)) result (with_exponent number.old bytes.now) }
@@ -57,7 +57,7 @@ fn exponent<'a>(bytes: &'a [u8], number: &mut Bytes7) -> Result<&'a [u8], ParseF
     Ok(rest)
 }
 
-/// The longest number that the text begins with, and what follows it. `Syntax` where it begins with none, `Memory` for want of memory.
+/// The longest number that the text begins with, and what follows it. `Syntax` if it begins with none, `Memory` if it runs out of memory.
 #[tactic(auto, unfolding(mgrammar::specs::ReadingWords::number_at))]
 pub fn number(alloc: Global, bytes: &[u8]) -> Result<(Bytes7, &[u8]), ParseFault>
     ensures { Gives (λ x. (x.0, x.1.now)) result (number_at bytes.now) }

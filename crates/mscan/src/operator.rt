@@ -10,7 +10,7 @@ use crate::fault::ParseFault;
 use mtree::{Binary, Sign, Truth};
 use std::alloc::Global;
 
-/// The signs that a text begins with, and what follows them. `Memory` for want of memory; it never answers `Syntax`.
+/// The signs that a text begins with, and what follows them. `Memory` if it runs out of memory; it never answers `Syntax`.
 pub fn signs(alloc: Global, bytes: &[u8]) -> Result<(Vec<Sign>, &[u8]), ParseFault>
     ensures { Gives (λ x. (map sign_tree x.0.items, x.1.now)) result (signs_at bytes.now) }
 {
@@ -27,7 +27,7 @@ pub fn signs(alloc: Global, bytes: &[u8]) -> Result<(Vec<Sign>, &[u8]), ParseFau
     Ok((signs, &[]))
 }
 
-/// What stands between an operand and what it is taken with.
+/// What comes between an operand and what it is combined with.
 #[derive(Clone, Copy)]
 pub enum Operator {
     Between(Binary),
@@ -35,7 +35,7 @@ pub enum Operator {
     MatchNot,
 }
 
-// The operator behind a `]`: the longest.
+// The operator that a `]` before this text begins: the longest.
 fn follows(bytes: &[u8]) -> (Truth, &[u8])
     ensures { (truth_tree result.0, result.1.now) ≡ follows_at bytes.now }
 {
@@ -45,7 +45,7 @@ fn follows(bytes: &[u8]) -> (Truth, &[u8])
     }
 }
 
-// The operators of one character, `]` apart.
+// The operators of one character, except `]`.
 fn one_truth(byte: u8) -> Option<Truth>
     ensures { option_map truth_tree result ≡ found truths byte }
 {
@@ -87,7 +87,7 @@ fn arithmetic(byte: u8) -> Option<Binary>
     }
 }
 
-// The operator that goes on behind a `'`.
+// The operator that goes on after a `'`.
 fn negated(bytes: &[u8]) -> Option<(Operator, &[u8])>
     ensures { option_map (λ x. (operator_tree x.0, x.1.now)) result ≡ negated_at bytes.now }
 {
@@ -111,7 +111,7 @@ fn plain(bytes: &[u8]) -> Option<(Operator, &[u8])>
     Some((Operator::Between(Binary::Is(truth)), rest))
 }
 
-/// The operator that the text begins with, where one does, and what follows it.
+/// The operator that the text begins with, if there is one, and what follows it.
 #[tactic(auto, unfolding(mgrammar::specs::ReadingWords::operator_at))]
 pub fn next_operator(bytes: &[u8]) -> Option<(Operator, &[u8])>
     ensures { option_map (λ x. (operator_tree x.0, x.1.now)) result ≡ operator_at bytes.now }

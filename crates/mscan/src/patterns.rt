@@ -11,10 +11,10 @@ use mnum::Bytes7;
 use mtree::{Atom, Count, Letters, Repeated};
 use std::alloc::Global;
 
-// A bound of a count has at most so many digits.
+// A bound of a count has at most this many digits.
 const MAX_DIGITS: usize = 4;
 
-// The digits behind a point, where the text begins with one.
+// The digits after a point, if the text begins with one.
 fn behind(alloc: Global, bytes: &[u8]) -> Result<(Option<Bytes7>, &[u8]), ParseFault>
     ensures { Gives (λ x. (x.0, x.1.now)) result (behind_at bytes.now) }
 {
@@ -64,7 +64,7 @@ fn repeated(alloc: Global, bytes: &[u8]) -> Result<(Repeated, &[u8]), ParseFault
     Ok((Repeated::Classes(letters), rest))
 }
 
-// The next atom of a pattern, where one begins.
+// The next atom of a pattern, if one begins.
 #[tactic(auto, unfolding(mgrammar::specs::ReadingWords::atom_at))]
 fn atom(alloc: Global, bytes: &[u8]) -> Result<Option<(Atom, &[u8])>, ParseFault>
     ensures { Gives (λ o. option_map (λ x. (atom_tree x.0, x.1.now)) o) result (atom_at bytes.now) }
@@ -95,8 +95,8 @@ fn atoms(alloc: Global, bytes: &[u8]) -> Result<(Vec<Atom>, &[u8]), ParseFault>
     Ok((all, rest))
 }
 
-/// The pattern that the text begins with, one atom or more, and what follows it. `Syntax` where it begins with none, `Memory` for want of
-/// memory.
+/// The pattern that the text begins with, one atom or more, and what follows it. `Syntax` if it begins with none, `Memory` if it runs
+/// out of memory.
 #[tactic(auto, unfolding(mgrammar::specs::ReadingWords::pattern_at))]
 pub fn pattern(alloc: Global, bytes: &[u8]) -> Result<(Vec<Atom>, &[u8]), ParseFault>
     ensures { Gives (λ x. (map atom_tree x.0.items, x.1.now)) result (pattern_at bytes.now) }

@@ -1,5 +1,5 @@
 // SPDX-License-Identifier: Apache-2.0
-// What a line of a routine begins with, its label and its dots, told without reading what stands behind them.
+// What a line of a routine begins with, its label and its dots, found without reading what comes after them.
 ghost use Rattle.std.specs.Prelude.{◌≡◌, length, option_map, IfSome};
 ghost use Rattle.std.specs.List.{filter};
 ghost use Rattle.mspec.specs.Names.{IsName};
@@ -8,7 +8,7 @@ ghost use Rattle.mgrammar.specs.RoutineLine.{label_ends, label_at, label_of, is_
 
 use crate::runs::name_bytes;
 
-// Whether a label ends in front of this text.
+// Whether a label ends before this text.
 fn label_ends(bytes: &[u8]) -> bool
     ensures { result ≡ label_ends bytes.now }
 {
@@ -18,7 +18,7 @@ fn label_ends(bytes: &[u8]) -> bool
     }
 }
 
-/// The label of a routine's line of any bytes, or none, and the text behind it. Takes no memory.
+/// The label of a routine's line of any bytes, or none, and the text after it. Takes no memory.
 #[tactic(auto, unfolding(mgrammar::specs::RoutineLine::label_at))]
 pub fn label(line: &[u8]) -> (Option<&[u8]>, &[u8])
     ensures label { (option_map (λ x. x.now) result.0, result.1.now) ≡ label_at line.now }
@@ -34,8 +34,8 @@ pub fn label(line: &[u8]) -> (Option<&[u8]>, &[u8])
     }
 }
 
-/// The label of a routine's line of any bytes: the name that it begins with, where the line's end, a space or a comment stands behind
-/// that. Takes no memory.
+/// The label of a routine's line of any bytes: the name that it begins with, if the line's end, a space or a comment comes
+/// after it. Takes no memory.
 pub fn label_of(line: &[u8]) -> Option<&[u8]>
     ensures label { option_map (λ x. x.now) result ≡ label_of line.now }
     ensures is_name { IfSome result (λ x. IsName x.now) }
@@ -58,7 +58,7 @@ fn dots_in_run(bytes: &[u8]) -> usize
     dots
 }
 
-/// How many dots a routine's line of any bytes has behind its label and a space, with spaces between or none. Takes no memory.
+/// How many dots a routine's line of any bytes has after its label and a space, with spaces between or none. Takes no memory.
 pub fn dots_of(line: &[u8]) -> usize
     ensures { result ≡ dots_of line.now }
 {

@@ -79,7 +79,7 @@ pub fn run(class: Class, bytes: &[u8]) -> (&[u8], &[u8])
     split_run(class, bytes)
 }
 
-/// What follows this character, where the text begins with it.
+/// What follows this character, if the text begins with it.
 pub fn past(byte: u8, bytes: &[u8]) -> Option<&[u8]>
     ensures { option_map (λ x. x.now) result ≡ past byte bytes.now }
 {
@@ -87,7 +87,7 @@ pub fn past(byte: u8, bytes: &[u8]) -> Option<&[u8]>
     if *first == byte { Some(rest) } else { None }
 }
 
-/// What follows this character, with which the text has to begin: `Syntax` where it does not.
+/// What follows this character, with which the text has to begin: `Syntax` if it does not.
 pub fn expect(byte: u8, bytes: &[u8]) -> Result<&[u8], ParseFault>
     ensures { Gives (λ x. x.now) result (past byte bytes.now) }
 {
@@ -108,8 +108,8 @@ pub fn name_bytes(bytes: &[u8]) -> Option<(&[u8], &[u8])>
     Some((&bytes[..1 + tail.len()], rest))
 }
 
-/// The name that a text begins with, of at most 31 characters, and what follows it. `Syntax` where it begins with none, `Memory` for
-/// want of memory.
+/// The name that a text begins with, of at most 31 characters, and what follows it. `Syntax` if it begins with none, `Memory` if it
+/// runs out of memory.
 pub fn name(alloc: Global, bytes: &[u8]) -> Result<(Name, &[u8]), ParseFault>
     ensures { Gives (λ x. (x.0, x.1.now)) result (name_at bytes.now) }
 {
@@ -120,8 +120,8 @@ pub fn name(alloc: Global, bytes: &[u8]) -> Result<(Name, &[u8]), ParseFault>
     Ok((name, rest))
 }
 
-/// The text of a string, behind the quote that opens it, and what follows the string. `Syntax` where no quote closes it or a character is
-/// none of ASCII, `Memory` for want of memory.
+/// The text of a string, after the quote that opens it, and what follows the string. `Syntax` if no quote closes it or a character is
+/// not ASCII, `Memory` if it runs out of memory.
 #[tactic(auto, using(mgrammar::proofs::ReadingLoops::pushes))]
 pub fn text_after(alloc: Global, bytes: &[u8]) -> Result<(Bytes7, &[u8]), ParseFault>
     ensures { Gives (λ x. (x.0, x.1.now)) result (text_from false bytes.now) }

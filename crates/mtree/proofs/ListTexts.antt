@@ -1,5 +1,5 @@
 -- SPDX-License-Identifier: Apache-2.0
--- Texts of lists, by what stands in them and by its trees.
+-- Texts of lists, by what is in them and by its trees.
 use Rattle.std.proofs.Common.{◌≡◌, ℕ, ◌<◌, List, [], ◌∷◌, ◌++◌, length, map, refl, ap, subst, ◌∙◌, arith}
 use Rattle.std.specs.Prelude.{Result, Ok, Err, OnOk}
 use Rattle.std.proofs.lemmas.List.{append_assoc}
@@ -29,7 +29,7 @@ targets xs = list_by_trees target_tree spell_target xs
 pub references : (xs : List Reference) → spell_list (λ x. spell_reference (reference_tree x)) xs ≡ spell_list spell_reference (map reference_tree xs)
 references xs = list_by_trees reference_tree spell_reference xs
 
--- some arguments, behind a space
+-- some arguments, after a space
 pub some_args : {X E : Type 0} (r : Result X E) (xs : List Arg) (old before new : List ℕ) → 0 < length xs → before ≡ old ++ 32 ∷ [] → OnOk r (new ≡ before ++ spell_list (λ x. spell_arg (arg_tree x)) xs)
     → OnOk r (new ≡ old ++ spell_args (map arg_tree xs))
 some_args (Err e) xs old before new some b n = tt
@@ -62,7 +62,7 @@ some_subscripts (Ok y) (x ∷ xs) old before mid new some b m n =
     ∙ ap (λ (t : List ℕ). old ++ 40 ∷ (t ++ 41 ∷ [])) (arguments (x ∷ xs))
     ∙ ap (λ (t : List ℕ). old ++ 40 ∷ t) (append_assoc first more (41 ∷ []))
 
--- subscripts behind an `@`, which stands there where there are some
+-- subscripts after an `@`, which is there if there are some
 module _ {X E : Type 0} (r : Result X E) (old before new : List ℕ) where
   pub no_attached : (xs : List Expr) → length xs ≡ 0 → before ≡ old → OnOk r (new ≡ before ++ spell_subscripts (exprs_of (map expr_tree xs))) → OnOk r (new ≡ old ++ spell_attached (exprs_of (map expr_tree xs)))
   no_attached [] none b n = subst (λ (t : List ℕ). OnOk r (new ≡ t ++ [])) b n
@@ -95,7 +95,7 @@ choices (x ∷ xs) =
     let second = spell_expr (choice_tree x).1 in
     append_assoc first (58 ∷ second) (spell_more (λ x. choice_text (choice_tree x)) xs) ∙ ap (λ (t : List ℕ). first ++ 58 ∷ (second ++ t)) (more_choices xs)
 
--- a list behind a word's bracket, with the bracket that ends it
+-- a list after a word's bracket, with the bracket that ends it
 pub in_bracket : {X E : Type 0} (r : Result X E) (old word mid before new list : List ℕ) → mid ≡ old ++ 36 ∷ (word ++ 40 ∷ []) → before ≡ mid ++ list → OnOk r (new ≡ before ++ 41 ∷ [])
     → OnOk r (new ≡ old ++ 36 ∷ (word ++ 40 ∷ (list ++ 41 ∷ [])))
 in_bracket (Err e) old word mid before new list m b n = tt

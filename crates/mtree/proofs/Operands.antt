@@ -1,5 +1,5 @@
 -- SPDX-License-Identifier: Apache-2.0
--- What is an `@` with its operand and nothing more, by how many subscripts, signs and steps stand beside it.
+-- What is an `@` with its operand and nothing more, by how many subscripts, signs and steps are beside it.
 use Rattle.std.proofs.Common.{◌≡◌, ◌<◌, List, [], ◌∷◌, length, map, Some, None, Box, Vec, Global, refl, sym, ap, ◌∙◌, arith}
 use Rattle.mgrammar.specs.Grammar.{ExprTree, TailTree, tails_of, OperandTree, PrimaryTree, ReferenceTree, exprs_of}
 use Rattle.mgrammar.specs.WellFormed.{bare_reference, bare_primary, bare_expr}

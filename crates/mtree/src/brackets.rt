@@ -7,16 +7,16 @@ use crate::tree::Function;
 use crate::words::function_of;
 use mnum::Bytes7;
 
-/// The word of a function, with what stands in its brackets.
+/// The word of a function, with what its brackets hold.
 #[derive(Drop)]
 pub enum FunctionWord {
-    /// At least so many values, and at most, if there is a bound.
+    /// At least `least` values, and at most `most`, if there is a bound.
     OfValues {
         word: ValueWord,
         least: usize,
         most: Option<usize>,
     },
-    /// A variable, and after it at most so many values.
+    /// A variable, and after it at most `most` values.
     OfVariable {
         word: VariableWord,
         most: usize,

@@ -9,11 +9,11 @@ ghost use Rattle.mtree.specs.CappedCounts.{capped, capped_count};
 use mnum::Bytes7;
 use std::marker::Model;
 
-// A number that is so far behind another stays so, whatever digits follow: nine times this is the most that a byte can stand for as
-// a digit.
+// A number that is this far below another stays so, whatever digits follow: nine times this is the most that a byte can stand for
+// as a digit.
 const EVEN: usize = 23;
 
-/// How often an atom of a pattern repeats, as it is written: digits, and a point with the digits behind it. Its numbers are read
+/// How often an atom of a pattern repeats, as it is written: digits, and a point with the digits after it. Its numbers are read
 /// once, however often a text is matched. Contracts see it as its digits.
 #[derive(Drop)]
 pub struct Count {
@@ -34,7 +34,7 @@ impl Model for Count {
     ghost invariant = { λ count. IsRead (record { front = count.front; behind = count.behind }) count.number count.reversed };
 }
 
-// The number that digits write, or where the machine has none so large its greatest. The count of a text has four digits at most;
+// The number that digits write, or the machine's greatest if it has none so large. The count of a text has four digits at most;
 // a tree may have more.
 fn number(digits: &[u8]) -> usize
     ensures { result ≡ capped (digits_after 0 digits.now) }
@@ -47,7 +47,7 @@ fn number(digits: &[u8]) -> usize
     number
 }
 
-// The number that digits write, where there are any.
+// The number that digits write, if there are any.
 fn bound(digits: &[u8]) -> Option<usize>
     ensures { result ≡ option_map capped (bound_of digits.now) }
 {
@@ -57,7 +57,7 @@ fn bound(digits: &[u8]) -> Option<usize>
     Some(number(digits))
 }
 
-// The greatest number, where there is one.
+// The greatest number, if there is one.
 fn most(front: &[u8], behind: &Option<Bytes7>) -> Option<usize>
     ensures { result ≡ option_map capped (most_of front.now behind.now) }
 {
@@ -67,7 +67,7 @@ fn most(front: &[u8], behind: &Option<Bytes7>) -> Option<usize>
     }
 }
 
-// The value of the digit at a place, of digits with so many places before them, where each digit is 0.
+// The value of the digit at a place, of digits with `before` places in front of them, in which each digit is 0.
 fn digit_at(digits: &[u8], before: usize, place: usize) -> usize
     requires { place < before + length digits.now }
     ensures value { digits_after 0 (take (place + 1 - before) digits.now) ≡ digits_after 0 (take (place - before) digits.now) * 10 + result }
@@ -133,14 +133,14 @@ impl Count {
         &self.front
     }
 
-    /// The digits behind the point, where there is one. Takes no memory.
+    /// The digits after the point, if there is one. Takes no memory.
     pub fn as_behind(&self) -> &Option<Bytes7>
         ensures { result.now ≡ self.now.behind }
     {
         &self.behind
     }
 
-    /// The numbers; of one past the machine's greatest number that. Takes no memory.
+    /// The numbers; for one past the machine's greatest number, that greatest number. Takes no memory.
     #[inline]
     pub fn number(&self) -> mtext::Count
         ensures { count_of result ≡ capped_count (plain_count self.now) }

@@ -205,7 +205,7 @@ pub fn put_reference(out: &mut Bytes7, reference: &Reference) -> Result<(), Allo
     }
 }
 
-// In brackets, where there are some.
+// In brackets, if there are some.
 #[cycle(expr)]
 fn put_subscripts(out: &mut Bytes7, subscripts: &Vec<Expr>) -> Result<(), AllocError>
     ensures { OnOk result (out.new ≡ out.old ++ spell_subscripts (exprs_of (map expr_tree subscripts.now.items))) }
@@ -218,7 +218,7 @@ fn put_subscripts(out: &mut Bytes7, subscripts: &Vec<Expr>) -> Result<(), AllocE
     out.push(b')')
 }
 
-// Behind an `@`, where there are some.
+// After an `@`, if there are some.
 #[cycle(expr)]
 fn put_attached(out: &mut Bytes7, subscripts: &Vec<Expr>) -> Result<(), AllocError>
     ensures { OnOk result (out.new ≡ out.old ++ spell_attached (exprs_of (map expr_tree subscripts.now.items))) }
@@ -229,7 +229,7 @@ fn put_attached(out: &mut Bytes7, subscripts: &Vec<Expr>) -> Result<(), AllocErr
     put_subscripts(out, subscripts)
 }
 
-// Between bars, behind a `^`.
+// Between bars, after a `^`.
 #[cycle(expr)]
 fn put_environment(out: &mut Bytes7, environment: &Expr) -> Result<(), AllocError>
     ensures { OnOk result (out.new ≡ out.old ++ 94 ∷ 124 ∷ (spell_expr (expr_tree environment.now) ++ 124 ∷ [])) }
@@ -256,7 +256,7 @@ fn put_special(out: &mut Bytes7, word: &Bytes7) -> Result<(), AllocError>
     put_text(out, word)
 }
 
-// A function's word, and the bracket behind it.
+// A function's word, and the bracket after it.
 pub fn put_word(out: &mut Bytes7, word: &Bytes7) -> Result<(), AllocError>
     ensures { OnOk result (out.new ≡ out.old ++ 36 ∷ (word.now ++ 40 ∷ [])) }
 {

@@ -7,7 +7,7 @@ use crate::tree::{ValueFunction, VariableFunction};
 use mnum::Bytes7;
 use std::marker::Model;
 
-/// The word of a function of values as it is written, without its `$`. What it says is looked for once, however often the function is
+/// The word of a function of values as it is written, without its `$`. What it says is looked up once, however often the function is
 /// called. Contracts see it as its text.
 #[derive(Drop)]
 pub struct ValueWord {
@@ -43,8 +43,8 @@ impl ValueWord {
     }
 }
 
-/// The word of a function of a variable as it is written, without its `$`. What it says is looked for once, however often the function is
-/// called. Contracts see it as its text.
+/// The word of a function of a variable as it is written, without its `$`. What it says is looked up once, however often the
+/// function is called. Contracts see it as its text.
 #[derive(Drop)]
 pub struct VariableWord {
     pub(crate) text: Bytes7,

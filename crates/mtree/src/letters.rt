@@ -60,7 +60,7 @@ fn classes(letters: &[u8]) -> Classes
 }
 
 impl Letters {
-    /// The letters that are written so. Takes no memory.
+    /// The letters that this text writes. Takes no memory.
     pub fn new(text: Bytes7) -> Letters
         ensures { result ≡ text }
     {
@@ -87,7 +87,7 @@ impl Letters {
     ///
     /// # Errors
     ///
-    /// `AllocError` for want of memory.
+    /// `AllocError` if it runs out of memory.
     pub fn codes(&self, alloc: Global) -> Result<Vec<PatternCode>, AllocError>
         ensures { IfOk result (λ codes. codes_of codes.items ≡ map pattern_code self.now) }
     {

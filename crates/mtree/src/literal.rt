@@ -24,7 +24,7 @@ impl Model for Literal {
 }
 
 impl Literal {
-    /// The number that is written so. Takes no memory.
+    /// The number that this text writes. Takes no memory.
     pub fn new(text: Bytes7) -> Literal
         ensures { result ≡ text }
     {
@@ -43,7 +43,7 @@ impl Literal {
     ///
     /// # Errors
     ///
-    /// `Over` exactly where it is 10^18 or more in size.
+    /// `Over` exactly if it is 10^18 or more in size.
     #[inline]
     pub fn number(&self) -> Result<Num, Over>
         ensures { MatchResult result (λ n. numeric_value significant_digits self.now ≡ Some (units n)) (λ _. numeric_value significant_digits self.now ≡ None) }
@@ -51,7 +51,7 @@ impl Literal {
         self.number
     }
 
-    /// The number where it stands, or None exactly where it is 10^18 or more in size. Takes no memory.
+    /// The number in place, or None exactly if it is 10^18 or more in size. Takes no memory.
     #[inline]
     pub fn as_number(&self) -> Option<&Num>
         ensures { MatchOption result (numeric_value significant_digits self.now ≡ None) (λ n. numeric_value significant_digits self.now ≡ Some (units n.now)) }

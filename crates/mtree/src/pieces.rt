@@ -12,7 +12,7 @@ pub fn put_text(out: &mut Bytes7, text: &Bytes7) -> Result<(), AllocError>
     out.append(text.as_bytes())
 }
 
-// So many of one byte.
+// One byte, `count` times.
 pub fn put_run(out: &mut Bytes7, byte: u8, count: usize) -> Result<(), AllocError>
     requires { byte < 128 }
     ensures { OnOk result (out.new ≡ out.old ++ replicate count byte) }

@@ -6,7 +6,7 @@ ghost use Rattle.mgrammar.specs.Grammar.{spell_list};
 use mnum::Bytes7;
 use std::alloc::AllocError;
 
-// What stands in a list with commas between.
+// What a list with commas between is made of.
 pub trait Listed {
     ghost spelling: { Self → List ℕ };
 
@@ -16,7 +16,7 @@ pub trait Listed {
 }
 
 // The texts of all, with commas between. They come as the `Vec` that a tree holds, so that the writer of an expression may call
-// this with what stands in it.
+// this with what is in it.
 pub fn put_list<T: Listed>(out: &mut Bytes7, all: &Vec<T>) -> Result<(), AllocError>
     ensures { OnOk result (out.new ≡ out.old ++ spell_list T.spelling all.now.items) }
 {

@@ -13,7 +13,7 @@ impl Reference {
     ///
     /// # Errors
     ///
-    /// `AllocError` for want of memory, which only a variable by one subscript needs.
+    /// `AllocError` if it runs out of memory, which only a variable by one subscript needs.
     pub fn of_local(
         alloc: Global,
         name: Name,

@@ -49,12 +49,12 @@ pub enum Binary {
     Divide,
     /// `\`, the quotient without its fraction.
     DivideWhole,
-    /// `#`, what division with a floor leaves.
+    /// `#`, the remainder of division with a floor.
     Remainder,
     /// `_`, which joins two texts.
     Join,
     Is(Truth),
-    /// The operator behind a `'`.
+    /// The operator after a `'`.
     IsNot(Truth),
 }
 
@@ -106,21 +106,21 @@ pub enum Primary {
     Number(Literal),
     /// A string without the quotes around it; a doubled quote within is one here.
     Text(Bytes7),
-    /// A special variable: its word behind the `$`.
+    /// A special variable: its word after the `$`.
     Special(Bytes7),
     /// The value of a variable.
     Reference(Reference),
     /// An expression in brackets.
     Bracket(Box<Expr>),
-    /// A function of values: its word behind the `$`, and its arguments.
+    /// A function of values: its word after the `$`, and its arguments.
     Call(ValueWord, Vec<Expr>),
-    /// `$SELECT`, with its word behind the `$`.
+    /// `$SELECT`, with its word after the `$`.
     Select(Bytes7, Vec<Choice>),
     /// A function of a variable.
     Refer(Box<Referring>),
 }
 
-/// A variable. `Reference::of_local` makes each that is local.
+/// A variable. `Reference::of_local` makes the local ones.
 #[cycle(tree)]
 pub enum Reference {
     /// A local variable without subscripts: its name.
@@ -129,20 +129,20 @@ pub enum Reference {
     Node(Name, Box<Expr>),
     /// Any other local variable: its name, and its subscripts.
     Local(Name, Vec<Expr>),
-    /// A global variable: its name behind the `^`, and its subscripts, of which there may be none.
+    /// A global variable: its name after the `^`, and its subscripts, of which there may be none.
     Global(Name, Vec<Expr>),
-    /// A naked reference: its subscripts behind the `^`, which stand in the place of the last one of the global reference before it.
+    /// A naked reference: its subscripts after the `^`, which take the place of the last one of the global reference before it.
     Naked(Vec<Expr>),
-    /// Name indirection: the operand behind an `@`, whose value is the text of a variable, and the subscripts behind a further `@`,
+    /// Name indirection: the operand after an `@`, whose value is the text of a variable, and the subscripts after a further `@`,
     /// of which there may be none.
     Indirect(Box<Primary>, Vec<Expr>),
-    /// A global variable of an account that is named: the expression between the bars behind the `^`, whose value is the
+    /// A global variable of an account that is named: the expression between the bars after the `^`, whose value is the
     /// account's name, then the variable's name, and its subscripts, of which there may be none.
     Extended(Box<Expr>, Name, Vec<Expr>),
 }
 
-/// A function of a variable, as `$DATA`, `$GET` and `$ORDER` are: its word behind the `$`, the variable, and the arguments
-/// behind that.
+/// A function of a variable, as `$DATA`, `$GET` and `$ORDER` are: its word after the `$`, the variable, and the arguments
+/// after that.
 #[cycle(tree)]
 pub struct Referring {
     pub word: VariableWord,
@@ -150,7 +150,7 @@ pub struct Referring {
     pub more: Vec<Expr>,
 }
 
-/// An argument of `$SELECT`: a condition, and the value where it is true.
+/// An argument of `$SELECT`: a condition, and the value if it is true.
 #[cycle(tree)]
 pub struct Choice {
     pub condition: Expr,
@@ -178,16 +178,16 @@ pub enum VariableFunction {
     Order,
 }
 
-/// What a function's word says: the function, and what stands in its brackets.
+/// What a function's word says: the function, and what its brackets hold.
 #[derive(Clone, Copy, Debug, PartialEq, Eq)]
 pub enum Function {
-    /// At least so many values, and at most, if there is a bound.
+    /// At least `least` values, and at most `most`, if there is a bound.
     OfValues {
         function: ValueFunction,
         least: usize,
         most: Option<usize>,
     },
-    /// A variable, and after it at most so many values.
+    /// A variable, and after it at most `most` values.
     OfVariable {
         function: VariableFunction,
         most: usize,
@@ -203,7 +203,7 @@ pub enum SpecialVariable {
     Test,
 }
 
-/// A piece of a variable, to which SET assigns: `$PIECE`, with its word behind the `$`.
+/// A piece of a variable, to which SET assigns: `$PIECE`, with its word after the `$`.
 pub struct PieceTarget {
     pub word: Bytes7,
     pub reference: Reference,
@@ -242,7 +242,7 @@ pub enum Parameter {
 pub enum Entry {
     /// To a label of the level's own routine.
     Label(Name),
-    /// To a label of a routine: the label, and the routine behind the `^`.
+    /// To a label of a routine: the label, and the routine after the `^`.
     LabelIn(Name, Name),
     /// To the first line of a routine.
     Routine(Name),
@@ -271,7 +271,7 @@ pub enum Locked {
 pub enum Arg {
     /// Of SET: what it assigns to, and the value.
     Assign(Destination, Expr),
-    /// Of WRITE: so many ends of lines, each written `!`.
+    /// Of WRITE: this many ends of lines, each written `!`.
     Breaks(usize),
     /// Of WRITE: a value.
     Value(Expr),
@@ -295,7 +295,7 @@ pub enum Arg {
     Executed(Expr, Option<Box<Expr>>),
     /// Of LOCK: how it begins, what it names, and its timeout.
     Lock(LockKind, Locked, Option<Box<Expr>>),
-    /// Argument indirection: the word that the command has, and the operand behind an `@`, whose value is the text of arguments.
+    /// Argument indirection: the word that the command has, and the operand after an `@`, whose value is the text of arguments.
     Indirect(Keyword, Primary),
 }
 
@@ -317,7 +317,7 @@ pub enum Keyword {
     Halt,
 }
 
-/// A command: what its word says, the word as it is written, its postconditional where it has one, and its arguments.
+/// A command: what its word says, the word as it is written, its postconditional if it has one, and its arguments.
 pub struct Command {
     pub keyword: Keyword,
     pub word: Bytes7,
@@ -326,7 +326,7 @@ pub struct Command {
     pub args: Vec<Arg>,
 }
 
-/// A command, and how many spaces stand behind it.
+/// A command, and how many spaces come after it.
 #[derive(Drop)]
 pub struct Spaced {
     pub command: Command,
@@ -338,28 +338,28 @@ pub struct Line {
     /// How many spaces the line begins with.
     pub lead: usize,
     pub commands: Vec<Spaced>,
-    /// The text behind `;`, where there is one.
+    /// The text after `;`, if there is one.
     pub comment: Option<Bytes7>,
 }
 
-/// What stands behind the label of a routine's line.
+/// What comes after the label of a routine's line.
 #[derive(Drop)]
 pub enum Body {
-    /// Nothing, or at once a comment: the text behind `;`, where there is one.
+    /// Nothing, or at once a comment: the text after `;`, if there is one.
     Short(Option<Bytes7>),
-    /// Behind a space, for each dot how many spaces stand in front of it, and then what a line of a terminal has too. The line is
-    /// held by what runs it as well.
+    /// After a space: for each dot, how many spaces are in front of it, and then what a line of a terminal has too. The line is
+    /// also held by what runs it.
     Spaced(Vec<usize>, Rc<Line>),
 }
 
-/// A line of a routine: its label, where it has one, and what stands behind that.
+/// A line of a routine: its label, if it has one, and what comes after that.
 pub struct RoutineLine {
     pub label: Option<Name>,
     pub body: Body,
 }
 
-// Drop is written out, so that the crates above do not prove again how each part of a tree is let go of. An expression ends the
-// cycle of types: what contains a tree lets go of it by one call.
+// Drop is written out, so that the crates above do not prove again how each part of a tree is dropped. An expression ends the
+// cycle of types: what contains a tree drops it by one call.
 impl Drop for Atom {
     fn drop(self) {
         let Atom {

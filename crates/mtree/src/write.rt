@@ -115,7 +115,7 @@ fn put_loop(out: &mut Bytes7, index: &Name, parameters: &Vec<Parameter>) -> Resu
     put_list(out, parameters)
 }
 
-// Behind a colon, where there is one.
+// After a colon, if there is one.
 fn put_condition(out: &mut Bytes7, condition: &Option<Box<Expr>>) -> Result<(), AllocError>
     ensures { OnOk result (out.new ≡ out.old ++ spell_condition (condition_tree condition.now)) }
 {
@@ -143,7 +143,7 @@ fn put_entry(out: &mut Bytes7, entry: &Entry) -> Result<(), AllocError>
     }
 }
 
-// Where DO and GOTO lead, and the condition behind that.
+// Where DO and GOTO lead, and the condition after that.
 fn put_conditioned_entry(
     out: &mut Bytes7,
     entry: &Entry,
@@ -194,7 +194,7 @@ fn put_locked(out: &mut Bytes7, locked: &Locked) -> Result<(), AllocError>
     }
 }
 
-// How it begins, what it names, and a timeout where there is one.
+// How it begins, what it names, and a timeout if there is one.
 fn put_lock(
     out: &mut Bytes7,
     kind: LockKind,
@@ -208,7 +208,7 @@ fn put_lock(
     put_condition(out, timeout)
 }
 
-// Behind an `@`.
+// After an `@`.
 fn put_operand(out: &mut Bytes7, operand: &Primary) -> Result<(), AllocError>
     ensures { OnOk result (out.new ≡ out.old ++ 64 ∷ spell_primary (primary_tree operand.now)) }
 {
@@ -239,7 +239,7 @@ impl Listed for Arg {
     }
 }
 
-// Behind a space, where there are some.
+// After a space, if there are some.
 fn put_args(out: &mut Bytes7, args: &Vec<Arg>) -> Result<(), AllocError>
     ensures { OnOk result (out.new ≡ out.old ++ spell_args (map arg_tree args.now.items)) }
 {
@@ -268,7 +268,7 @@ fn put_commands(out: &mut Bytes7, commands: &[Spaced]) -> Result<(), AllocError>
     Ok(())
 }
 
-// Behind a `;`, where there is one.
+// After a `;`, if there is one.
 fn put_comment(out: &mut Bytes7, comment: &Option<Bytes7>) -> Result<(), AllocError>
     ensures { OnOk result (out.new ≡ out.old ++ spell_comment comment.now) }
 {
@@ -324,7 +324,7 @@ fn put_body(out: &mut Bytes7, body: &Body) -> Result<(), AllocError>
 ///
 /// # Errors
 ///
-/// `AllocError` for want of memory.
+/// `AllocError` if it runs out of memory.
 pub fn write_line(alloc: Global, line: &Line) -> Result<Bytes7, AllocError>
     ensures { IfOk result (λ text. text ≡ spell (line_tree line.now)) }
 {
@@ -337,7 +337,7 @@ pub fn write_line(alloc: Global, line: &Line) -> Result<Bytes7, AllocError>
 ///
 /// # Errors
 ///
-/// `AllocError` for want of memory.
+/// `AllocError` if it runs out of memory.
 pub fn write_routine_line(alloc: Global, line: &RoutineLine) -> Result<Bytes7, AllocError>
     ensures { IfOk result (λ text. text ≡ spell_routine_line (routine_line_tree line.now)) }
 {

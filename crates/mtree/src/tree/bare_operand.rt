@@ -8,7 +8,7 @@ use crate::tree::{Expr, Operand, Primary, Reference};
 use mnum::Name;
 
 impl Reference {
-    /// The operand of an `@` that has nothing more; or the variable again, where it is another.
+    /// The operand of an `@` that has nothing more; or the variable again, if it is another.
     #[tactic(auto, using(crate::proofs::Operands::with_subscripts, crate::proofs::Operands::without_subscripts))]
     pub fn into_operand(self) -> Result<Primary, Reference>
         ensures operand { IfOk result (λ p. bare_reference (reference_tree self) ≡ Some (primary_tree p)) }
@@ -23,7 +23,7 @@ impl Reference {
         Ok(Box::into_inner(operand))
     }
 
-    /// The name of a local variable without subscripts; or the variable again, where it is another.
+    /// The name of a local variable without subscripts; or the variable again, if it is another.
     pub fn into_name(self) -> Result<Name, Reference>
         ensures name { IfOk result (λ n. self ≡ Reference.Variable n) }
         ensures more { IfErr result (λ r. ((name : Name) → r ≡ Reference.Variable name → ⊥) × (r ≡ self)) }
@@ -36,7 +36,7 @@ impl Reference {
 }
 
 impl Primary {
-    // The operand; or the primary again, where it is more than that.
+    // The operand; or the primary again, if it is more than that.
     fn into_operand(self) -> Result<Primary, Primary>
         ensures operand { IfOk result (λ p. bare_primary (primary_tree self) ≡ Some (primary_tree p)) }
         ensures more { IfErr result (λ p. (bare_primary (primary_tree self) ≡ None) × (p ≡ self)) }
@@ -52,7 +52,7 @@ impl Primary {
 }
 
 impl Expr {
-    /// The operand of an `@` that has nothing more; or the expression again, where it is another.
+    /// The operand of an `@` that has nothing more; or the expression again, if it is another.
     #[tactic(auto, using(crate::proofs::Operands::with_tails, crate::proofs::Operands::with_signs, crate::proofs::Operands::without_both))]
     pub fn into_operand(self) -> Result<Primary, Expr>
         ensures operand { IfOk result (λ p. bare_expr (expr_tree self) ≡ Some (primary_tree p)) }

@@ -9,11 +9,11 @@ use std::alloc::Global;
 use std::collections::VecDeque;
 
 /// Serves peers who send these bytes, each case a peer, in one world by the settings of the document, and prints below each what it was
-/// answered; then what was told of faults of connections, and what comes where one more connection is asked for.
+/// answered; then what was reported of faults of connections, and what comes if one more connection is asked for.
 ///
 /// # Errors
 ///
-/// If the document gives no settings, if not all peers are served, and out of memory.
+/// If the document gives no settings, if not all peers are served, or if memory runs out.
 pub fn play_connections(alloc: Global, block: &Lines, out: &mut Vec<u8>) -> anyhow::Result<()> {
     let mut peers = peers_of(alloc, block.cases)?;
     let mut world = plain_world(alloc, block.document)?;
@@ -29,7 +29,7 @@ fn peers_of(alloc: Global, cases: &[&str]) -> anyhow::Result<Peers> {
     Ok(Peers::new(alloc, sent)?)
 }
 
-// Serves peers in a world. Both are lent, so that they are let go of in one place.
+// Serves peers in a world. Both are lent, so that they are dropped in one place.
 fn connected(
     alloc: Global,
     world: &mut World<Plain>,
@@ -51,7 +51,7 @@ fn connected(
     }
 }
 
-// Serves so many of them.
+// Serves `count` of them.
 fn served(
     alloc: Global,
     world: &mut World<Plain>,

@@ -76,11 +76,11 @@ fn breaks(word: &str) -> anyhow::Result<bool> {
 
 /// Serves each line in the world that the lines before it left, by the settings of the document, over a reader and a writer that the words
 /// before it name: a reader that `ends` or `breaks` after the line, a writer that takes `all`, or `nothing`, or `fails`. Prints below it what
-/// was written, the fault, and of which of the two a call failed.
+/// was written, the fault, and which of the two had a call that failed.
 ///
 /// # Errors
 ///
-/// If the document gives no settings, if a case names no reader or writer, and out of memory.
+/// If the document gives no settings, if a case names no reader or writer, or if memory runs out.
 pub fn play_devices(alloc: Global, block: &Lines, out: &mut Vec<u8>) -> anyhow::Result<()> {
     let mut world = plain_world(alloc, block.document)?;
     play(block.cases, out, |case, out| {

@@ -15,7 +15,7 @@ pub(crate) const ENTRIES: usize = 1024;
 // A world whose stores stand one in front of the other as the program's do, over the plain store.
 pub(crate) type FailingWorld = World<RoutineCache<Cached<Failing<Plain>>>>;
 
-// A new one of any store, with so many texts in front of it.
+// A new one over any store, with `entries` texts in front of it.
 pub(crate) fn world_over<S: NodeStore + Drop>(
     alloc: Global,
     document: &[u8],
@@ -113,7 +113,7 @@ fn failures(world: &FailingWorld) -> u32 {
 ///
 /// # Errors
 ///
-/// If the document gives no settings, and out of memory.
+/// If the document gives no settings, or if memory runs out.
 pub fn play_cached_lines(alloc: Global, block: &Lines, out: &mut Vec<u8>) -> anyhow::Result<()> {
     let mut world = ample_world(alloc, block.document)?;
     play(block.cases, out, |case, out| {

@@ -1,6 +1,6 @@
 // SPDX-License-Identifier: Apache-2.0
 //! Plays the cases of transcripts that are lines of the wire, connections, or references within a line, over the plain store and with one tree kept: also
-//! with texts of nodes in front of it, and where a call of it fails; and over a table in two files in memory that stop.
+//! with texts of nodes in front of it, and with a call of it that fails; and over a table in two files in memory that stop.
 //! `tests/test_transcripts.py` plays the first over the program, whose store is a table and which keeps 256.
 //! `mtranscript` says what a case looks like.
 //!

@@ -20,7 +20,7 @@ pub struct Lines<'a> {
     pub cases: &'a [&'a str],
 }
 
-// The bytes of a line: a line feed ends it, but where `{end}` stands at its end.
+// The bytes of a line: a line feed ends it, unless `{end}` is at its end.
 pub(crate) fn line_bytes(alloc: Global, case: &str) -> anyhow::Result<Vec<u8>> {
     match case.strip_suffix("{end}") {
         Some(unfinished) => bytes_of(alloc, unfinished),
@@ -78,7 +78,7 @@ pub(crate) fn answer_of<S: NodeStore>(
 ///
 /// # Errors
 ///
-/// If the document gives no settings, and out of memory.
+/// If the document gives no settings, or if memory runs out.
 pub fn play_lines(alloc: Global, block: &Lines, out: &mut Vec<u8>) -> anyhow::Result<()> {
     let mut world = plain_world(alloc, block.document)?;
     play(block.cases, out, |case, out| {
@@ -88,11 +88,11 @@ pub fn play_lines(alloc: Global, block: &Lines, out: &mut Vec<u8>) -> anyhow::Re
 }
 
 /// Serves all lines as one stream, by the settings of the document, and prints them, then what the account is told, and whether
-/// no line of an account that reaches it was lost. A case `cache ..` says over which store, as of `play_cached_lines`.
+/// no line of an account that reaches it was lost. A case `cache ..` says over which store, as for `play_cached_lines`.
 ///
 /// # Errors
 ///
-/// If the document gives no settings or has no such account, and out of memory.
+/// If the document gives no settings or has no such account, or if memory runs out.
 pub fn play_told(alloc: Global, block: &Lines, out: &mut Vec<u8>) -> anyhow::Result<()> {
     let account = account_of(alloc, block)?;
     let mut world = ample_world(alloc, block.document)?;
@@ -107,7 +107,7 @@ fn account_of(alloc: Global, block: &Lines) -> anyhow::Result<AccountId> {
         .context("no such account")
 }
 
-// Plays the cases over a world that is lent, so that it is let go of in one place.
+// Plays the cases over a world that is lent, so that it is dropped in one place.
 fn told(
     alloc: Global,
     block: &Lines,

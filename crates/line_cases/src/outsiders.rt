@@ -25,11 +25,12 @@ struct Run {
     // whether a call failed in a line of terminal 1, and in one of another
     own: bool,
     other: bool,
-    // whether a line in which none failed ended by ZSTORE, or one in which one failed did not
+    // whether a line in which no call failed ended by ZSTORE, or a line in which one failed did not
     misplaced: bool,
 }
 
-// Of how many runs in which a call of this kind failed it was in a line of another terminal than 1, and how many were not as they should be.
+// In how many runs a call of this kind failed, and in how many of them in a line of a terminal other than 1; how many of the latter changed a
+// reply at terminal 1, and how many runs had ZSTORE elsewhere.
 #[derive(Drop)]
 struct Counts {
     runs: u32,
@@ -38,13 +39,13 @@ struct Counts {
     misplaced: u32,
 }
 
-/// Serves the lines by the settings of the document, and again for each call of the store that they make, which then fails. Of each kind of call
-/// it is told how many failed, how many of them in a line of another terminal than 1; in how many of the latter a reply at terminal 1 was
-/// another than without; and in how many runs ZSTORE stood elsewhere than in the line in which the call failed.
+/// Serves the lines by the settings of the document, and again for each call of the store that they make, which then fails. For each kind of
+/// call it prints how many failed, and how many of them in a line of a terminal other than 1; in how many of the latter a reply at terminal 1
+/// was not the one without the failure; and in how many runs ZSTORE was elsewhere than in the line in which the call failed.
 ///
 /// # Errors
 ///
-/// If the document gives no settings, and out of memory.
+/// If the document gives no settings, or if memory runs out.
 pub fn play_outsiders(alloc: Global, block: &Lines, out: &mut Vec<u8>) -> anyhow::Result<()> {
     let lines = lines_of(alloc, block.cases, out)?;
     let stream = Stream {
@@ -72,7 +73,7 @@ fn run_failing(alloc: Global, stream: &Stream, call: StoreCall, n: u32) -> anyho
     run_over(alloc, &mut world, stream.lines)
 }
 
-// Serves the lines in a world that is lent, so that it is let go of in one place.
+// Serves the lines in a world that is lent, so that it is dropped in one place.
 fn run_over(alloc: Global, world: &mut FailingWorld, lines: &[Vec<u8>]) -> anyhow::Result<Run> {
     let mut run = Run {
         replies: Vec::new(alloc),

@@ -26,11 +26,11 @@ struct Resolving<'a> {
 }
 
 /// Resolves each reference as one that is to be changed, in the session of terminal 1 of the account, and prints the place below it: the name
-/// and the subscripts of a local variable; the account, the name and the subscripts of a node; or the code that it has in its place.
+/// and the subscripts of a local variable; the account, the name and the subscripts of a node; or the code that comes instead of a place.
 ///
 /// # Errors
 ///
-/// If the document gives no settings or has no such account, if a case is no reference, and out of memory.
+/// If the document gives no settings or has no such account, if a case is not a reference, or if memory runs out.
 pub fn play_references(alloc: Global, block: &Lines, out: &mut Vec<u8>) -> anyhow::Result<()> {
     let settings = Settings::read(alloc, block.document)?;
     let account = settings.account_named(block.account);

@@ -10,7 +10,7 @@ use std::alloc::Global;
 ///
 /// # Errors
 ///
-/// If the document gives no settings, if a line begins with no terminal, and out of memory.
+/// If the document gives no settings, if a line does not begin with a terminal, or if memory runs out.
 pub fn play_replies(alloc: Global, block: &Lines, out: &mut Vec<u8>) -> anyhow::Result<()> {
     let mut world = plain_world(alloc, block.document)?;
     play(block.cases, out, |case, out| {

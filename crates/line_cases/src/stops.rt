@@ -1,5 +1,5 @@
 // SPDX-License-Identifier: Apache-2.0
-// Lines over a table in two files in memory, of which one stops after so many calls.
+// Lines over a table in two files in memory, one of which stops after a number of calls.
 use crate::failing::{ENTRIES, world_over};
 use crate::holding::held;
 use crate::lines::{Lines, Stream, answer_of, lines_of};
@@ -10,7 +10,7 @@ use sqlite::{Alter, Connection, FileStore, Files, Options};
 use sqlite_disk::{Crash, Disk, Fuse, Memory};
 use std::alloc::Global;
 
-// A database's file and its log. Each passes so many calls on, and then none.
+// A database's file and its log. Each passes on a number of calls, and then none.
 type Stopping = Files<Fuse<Memory>>;
 
 type StoppingTable = Table<FileStore<Fuse<Memory>>>;
@@ -21,14 +21,14 @@ const MOST: u64 = 10_000;
 // What a run may leave: how many lines were answered without ZSTORE, and what a store holds then, or after some writes of the next line.
 type Left = (usize, Vec<u8>);
 
-/// Serves the lines by the settings of the document over a table in two files, closes it, and again for each call of either file, which stops at
-/// it. Of each file it is told how many stops there were, and how many of them lost anything: after it the files, with what was
-/// written since they were synced and without, hold something else than what the lines wrote that were answered without ZSTORE, and then
-/// some first writes of the one that was answered with it.
+/// Serves the lines by the settings of the document over a table in two files, and closes it; and again for each call of either file, which
+/// stops at that call. For each file it prints how many stops there were, and how many of them lost anything. A stop lost something if the
+/// files, with what was written since they were synced or without it, then hold something other than the writes of the lines that were
+/// answered without ZSTORE, followed by some first writes of the line that was answered with it.
 ///
 /// # Errors
 ///
-/// If the document gives no settings or there is no stop, and out of memory.
+/// If the document gives no settings, if there is no stop, or if memory runs out.
 pub fn play_stops(alloc: Global, block: &Lines, out: &mut Vec<u8>) -> anyhow::Result<()> {
     let lines = lines_of(alloc, block.cases, out)?;
     let stream = Stream {
@@ -69,7 +69,7 @@ fn all_left(alloc: Global, stream: &Stream) -> anyhow::Result<Vec<Left>> {
     Ok(left)
 }
 
-// Adds what is left where a write of this kind is refused, for each of them.
+// Adds what is left if a write of this kind is refused, for each such write.
 fn push_cut(
     alloc: Global,
     stream: &Stream,
@@ -86,7 +86,7 @@ fn push_cut(
     anyhow::bail!("writes without end")
 }
 
-// What the lines leave in the plain store, of which a call fails.
+// What the lines leave in the plain store, a call of which fails.
 fn plain_left(alloc: Global, stream: &Stream, call: StoreCall, n: u32) -> anyhow::Result<Left> {
     if n == 0 {
         anyhow::bail!("calls are counted from 1");
@@ -109,7 +109,7 @@ fn served_over<S: NodeStore + Drop>(
     Ok((answered?, store))
 }
 
-// Serves the lines up to the first that ends by ZSTORE, and tells how many come before it.
+// Serves the lines up to the first that ends by ZSTORE, and returns how many come before it.
 fn answered<S: NodeStore>(
     alloc: Global,
     world: &mut World<S>,
@@ -125,7 +125,7 @@ fn answered<S: NodeStore>(
     Ok(count)
 }
 
-// How many stops of a file there are, and how many of them lose anything. A file with just as many calls as are made of it stops in no run.
+// How many stops of a file there are, and how many of them lose anything. A file with just as many calls as are made of it never stops.
 fn count(
     alloc: Global,
     stream: &Stream,
@@ -161,7 +161,7 @@ fn is_stopped(file: &mut Fuse<Memory>) -> bool {
     file.len().is_err()
 }
 
-// Serves the lines over two files that stop after so many calls: how many are answered without ZSTORE, and the files then.
+// Serves the lines over two files that stop after this many calls each: how many are answered without ZSTORE, and the files then.
 fn stopped(alloc: Global, stream: &Stream, log: u64, db: u64) -> anyhow::Result<(usize, Stopping)> {
     let files = Files {
         log: Fuse::new(Memory::new(alloc), log),
@@ -268,7 +268,7 @@ fn copy(alloc: Global, file: &Fuse<Memory>) -> anyhow::Result<Fuse<Memory>> {
     Ok(Fuse::new(memory, u64::MAX))
 }
 
-// Whether the files are opened, and hold what may be left after so many lines.
+// Whether the files are opened, and hold what may be left after `answered` lines.
 fn is_left(
     alloc: Global,
     files: Stopping,

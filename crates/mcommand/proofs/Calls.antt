@@ -34,7 +34,7 @@ does_then q {f = f} {old = old} {x = x} d k = record {
   depth = k.depth ∙ d.depth;
 }
 
--- where it is by a `?` that the call returns
+-- if the call returns by a `?`
 pub does_stopped : {S A B X Y : Type 0} {g : Ghosts S} {p : Inside → Act A} (q : Inside → A → Act B) {f : X → A} {j : Y → B} {old new : Parts S} {e : Code} {r : Result Y Code}
     → Does g p f old (Err e) new → IsErr r × IsErrAnd r (λ x. x ≡ e) → Does g (λ i. p i >>= q i) j old r new
 does_stopped {g = g} {p = p} q {j = j} {old = old} {new = new} {e = e} {r = r} d h = subst (λ r. Does g (λ i. p i >>= q i) j old r new) (sym (residual_is r e h)) (record {
@@ -98,7 +98,7 @@ does_yielded {g = g} {parts = parts} y = record {
   depth = refl;
 }
 
--- want of memory, by a `?` that the call returns: the store is as it was
+-- out of memory: the call returns by a `?`, and the store is as it was
 pub does_wanting : {S A X : Type 0} {g : Ghosts S} {old new : Parts S} (p : Inside → Act A) (f : X → A) (r : Result X Code) → IsErr r × IsErrAnd r (λ x. x ≡ Zmem)
     → new.eval ≡ old.eval → new.locks.now ≡ old.locks.now → new.locks.ghost_name ≡ old.locks.ghost_name → new.out.ghost_name ≡ old.out.ghost_name → Does g p f old r new
 does_wanting {g = g} {old = old} {new = new} p f r h same locked locks out = subst (λ r. Does g p f old r new) (sym (residual_is r Zmem h)) (record {

@@ -25,7 +25,7 @@ one_more_taken b names n all this = list_all-append (may_lock b.settings b.accou
     both true false h k = k
     both false y h k = h
 
--- the act of a reference, before those behind it
+-- the act of a reference, before those after it
 pub name_is : (i : Inside) (names : List LockName) (r : ReferenceTree) (rs : List ReferenceTree)
     → ◌≡◌ {A = Act (List LockName)} (meaning.lock_names i names (r ∷ rs)) (lock_name_act i r >>= (λ n. meaning.lock_names i (names ++ n ∷ []) rs))
 name_is i names r rs = sym (assoc (evaluated i r) (named_lock i.account) (λ n. meaning.lock_names i (names ++ n ∷ []) rs))

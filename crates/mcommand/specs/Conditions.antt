@@ -1,5 +1,5 @@
 -- SPDX-License-Identifier: Apache-2.0
--- A condition of IF: its truth, which $TEST then says.
+-- A condition of IF: its truth, which is then the value of $TEST.
 use Rattle.std.specs.Prelude.{Bool}
 use Rattle.mspec.specs.Act.{Act, ◌>>=◌, ◌>>◌, give, set_test}
 use Rattle.mgrammar.specs.Grammar.{ExprTree}

@@ -25,7 +25,7 @@ pub record Does {S A X : Type 0} (g : Ghosts S) (p : Inside → Act A) (f : X �
   pub keeps : KeepsLoans old new
   pub depth : new.eval.depth ≡ old.eval.depth
 
--- the same of an act that is told the account and how many texts it may enter, since it brings its own depth
+-- the same for an act that is given the account and how many texts it may enter, since it brings its own depth
 pub record DoesAt {S A X : Type 0} (g : Ghosts S) (p : Text → ℕ → Act A) (f : X → A) (old : Parts S) (r : Result X Code) (new : Parts S) : Type 0 where
   pub at : g.sound → Did (standing_of old.eval) g.steady fault_of (p (standing_of old.eval).account) f (here_of g old) r (here_of g new)
   pub keeps : KeepsLoans old new

@@ -32,7 +32,7 @@ start_and_increment i e by = do
 abbrev pub begun_within : ℤ → ℤ → ℤ → Option courses.Course
 begun_within a by limit = cond (is_past by a limit) None (Some (courses.limited by limit))
 
--- a parameter is evaluated, and the index gets its first value: how its turns go on, where there is one
+-- a parameter is evaluated, and the index gets its first value: how its turns go on, if there is one
 abbrev pub started : Inside → Text → ParameterTree → Act (Option courses.Course)
 started i index (once e) = do
   a ← value i e
@@ -59,7 +59,7 @@ added index n by = do
 abbrev pub added_within : Text → ℤ → ℤ → ℤ → Act Bool
 added_within index n by limit = cond (is_past by (n +ℤ by) limit) (give false) (added index n by)
 
--- behind a turn: whether there is one turn more of its course, for which the index is set
+-- after a turn: whether there is one more turn of its course, for which the index is set
 abbrev pub advanced : Text → courses.Course → Act Bool
 advanced index courses.last_turn = give false
 advanced index (courses.endless by) = do

@@ -14,7 +14,7 @@ use Rattle.mmeaning.specs.Locking.{carried, told}
 abbrev pub MayTake : Standing → List LockName → Type 0
 MayTake b names = list_all (may_lock b.settings b.account) names ≡ true
 
--- behind the names: the timeout, and then what an argument of this kind does with them
+-- after the names: the timeout, and then what an argument of this kind does with them
 abbrev pub locking_names : Inside → LockKindTree → Option ExprTree → List LockName → Act (Unit {0})
 locking_names i k timeout ns = do
   t ← optional_value i timeout

@@ -1,5 +1,5 @@
 // SPDX-License-Identifier: Apache-2.0
-// Conditions: those behind a command's word, and the arguments of IF.
+// Conditions: those after a command's word, and the arguments of IF.
 ghost use Rattle.std.specs.Prelude.{◌≡◌, option_map};
 ghost use Rattle.mmeaning.specs.LineMeaning as meaning;
 ghost use Rattle.mtree.specs.Tree.{expr_tree, condition_tree};
@@ -13,11 +13,11 @@ use mtree::Expr;
 use std::alloc::Global;
 
 impl<'a, S: NodeStore> Parts<'a, S> {
-    /// Whether a condition holds, as it does where there is none.
+    /// Whether a condition holds, as it does if there is none.
     ///
     /// # Errors
     ///
-    /// Those of the condition's value; `Zover` where its number is too large; `Zmem` for want of memory.
+    /// Those of the condition's value; `Zover` if its number is too large; `Zmem` if memory runs out.
     pub fn holds(&mut self, alloc: Global, condition: &Option<Box<Expr>>) -> Result<bool, Code>
         ensures { Does S.NodeStore (λ i. meaning.holds i (condition_tree condition.now)) (λ holds. holds) self.old result self.new }
     {
@@ -27,11 +27,11 @@ impl<'a, S: NodeStore> Parts<'a, S> {
         }
     }
 
-    /// Whether a condition of IF is true, which `$TEST` then says.
+    /// Whether a condition of IF is true, which is then the value of `$TEST`.
     ///
     /// # Errors
     ///
-    /// Those of the condition's value; `Zover` where its number is too large; `Zmem` for want of memory. `$TEST` is then as it was.
+    /// Those of the condition's value; `Zover` if its number is too large; `Zmem` if memory runs out. `$TEST` is then as it was.
     pub fn testing(&mut self, alloc: Global, e: &Expr) -> Result<bool, Code>
         ensures { Does S.NodeStore (λ i. tested i (expr_tree e.now)) (λ is_true. is_true) self.old result self.new }
     {

@@ -16,7 +16,7 @@ use mtree::{Expr, Parameter};
 use mvalue::Value;
 use std::alloc::Global;
 
-/// How a FOR goes on behind a turn. Contracts see it by `course_view`, as one of the definitions.
+/// How a FOR goes on after a turn. Contracts see it by `course_view`, as one of the definitions.
 #[derive(Clone, Copy, Debug)]
 pub enum Course {
     /// With the next parameter.
@@ -29,7 +29,7 @@ pub enum Course {
     Forever,
 }
 
-// Whether an index of so many units is beyond the limit, where this is the increment.
+// Whether an index of `at` units is beyond the limit, if `by` is the increment.
 fn is_past(by: Num, at: i128, limit: Num) -> bool
     ensures { result ≡ courses.is_past (units by) at (units limit) }
 {
@@ -95,7 +95,7 @@ impl<'a, S: NodeStore> Parts<'a, S> {
         Ok(Some(Course::Endless(by)))
     }
 
-    // The turns of a start, an increment and a limit: how they go on, where the start is not beyond the limit.
+    // The turns of a start, an increment and a limit: how they go on, if the start is not beyond the limit.
     fn start_limited(
         &mut self,
         alloc: Global,
@@ -112,12 +112,11 @@ impl<'a, S: NodeStore> Parts<'a, S> {
         Ok(course_within(by, number, limit))
     }
 
-    /// Evaluates a parameter of FOR and gives the index its first value. It answers how its turns go on, or nothing where there is
-    /// no turn.
+    /// Evaluates a parameter of FOR and gives the index its first value. Returns how its turns go on, or nothing if there is no turn.
     ///
     /// # Errors
     ///
-    /// Those of the values; `Zover` where a number is too large; `Zmem` for want of memory.
+    /// Those of the values; `Zover` if a number is too large; `Zmem` if memory runs out.
     pub fn start_parameter(
         &mut self,
         alloc: Global,
@@ -156,11 +155,11 @@ impl<'a, S: NodeStore> Parts<'a, S> {
         self.add(index, number, by)
     }
 
-    /// Goes on behind a turn: whether there is one turn more of this course, for which the index is set.
+    /// Goes on after a turn: whether there is one more turn of this course, for which the index is set.
     ///
     /// # Errors
     ///
-    /// `M15` where the index is undefined; `Zover` where its number, or the sum, is too large; `Zmem` for want of memory.
+    /// `M15` if the index is undefined; `Zover` if its number, or the sum, is too large; `Zmem` if memory runs out.
     pub fn advance_parameter(&mut self, index: &Name, course: Course) -> Result<bool, Code>
         ensures { Does S.NodeStore (λ i. advanced index.now (course_view course)) (λ goes_on. goes_on) self.old result self.new }
     {

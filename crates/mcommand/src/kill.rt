@@ -13,12 +13,12 @@ use mtree::Reference;
 use std::alloc::Global;
 
 impl<'a, S: NodeStore> Parts<'a, S> {
-    /// Takes the text of a variable, and of what stands below it, away.
+    /// Removes the text of a variable, and of what is below it.
     ///
     /// # Errors
     ///
-    /// Those of its subscripts' values; `M1` for a naked reference with none before it, `Zgrant` where the account may not write the
-    /// global; `Zsub` where they are no node's; `Zmem` for want of memory, and `Zstore` where the store refuses.
+    /// Those of its subscripts' values; `M1` for a naked reference if the naked indicator is undefined, `Zgrant` if the account may not write the
+    /// global; `Zsub` if no node can have the subscripts; `Zmem` if memory runs out, and `Zstore` if the store refuses.
     pub fn killing(&mut self, alloc: Global, reference: &Reference) -> Result<(), Code>
         ensures { Does S.NodeStore (λ i. meaning.killing i (reference_tree reference.now)) (λ u. u) self.old result self.new }
     {

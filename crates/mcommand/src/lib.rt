@@ -1,5 +1,5 @@
 // SPDX-License-Identifier: Apache-2.0
-//! What the arguments of commands do that run no text: SET, KILL, IF, LOCK and WRITE, postconditionals, and the parameters of FOR.
+//! What the arguments of commands that run no text do: SET, KILL, IF, LOCK and WRITE, postconditionals, and the parameters of FOR.
 #![tactic(auto)]
 
 mod condition;

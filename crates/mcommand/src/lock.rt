@@ -34,7 +34,7 @@ impl<'a, S: NodeStore> Parts<'a, S> {
         Ok(names)
     }
 
-    // The value of a timeout, where there is one.
+    // The value of a timeout, if there is one.
     fn timeout_value(
         &mut self,
         alloc: Global,
@@ -79,7 +79,7 @@ impl<'a, S: NodeStore> Parts<'a, S> {
         }
     }
 
-    // Whether it could be done with the names what an argument of this kind does.
+    // Whether what an argument of this kind does could be done with the names.
     fn carry(&mut self, kind: LockKind, names: &[LockName]) -> Result<bool, Code>
         requires { MayTake (standing_of self.old.eval) names.now }
         ensures eval { self.new.eval ≡ self.old.eval }
@@ -98,7 +98,7 @@ impl<'a, S: NodeStore> Parts<'a, S> {
         }
     }
 
-    // Tells whether it could be done: with a timeout `$TEST` does, and without one it is an error where it could not.
+    // Reports whether it could be done: with a timeout by `$TEST`, and without one it is an error if it could not.
     fn tell(&mut self, timeout: &Option<Value>, carried: bool) -> Result<(), Code>
         ensures { Does S.NodeStore (λ i. meaning.told timeout.now carried) (λ u. u) self.old result self.new }
     {
@@ -112,15 +112,15 @@ impl<'a, S: NodeStore> Parts<'a, S> {
     }
 
     /// What an argument of LOCK does: without a sign it gives back all that the terminal holds and takes its names, with a `+` it
-    /// takes them besides, and with a `-` it gives each back once. Names are taken all or none, at once: with a timeout, whose
-    /// value plays no part, `$TEST` tells whether they were.
+    /// takes them in addition, and with a `-` it gives each back once. Names are taken all or none, at once: with a timeout, whose
+    /// value plays no part, `$TEST` says whether they were.
     ///
     /// # Errors
     ///
     /// Those of the names and of the timeout, each of which is evaluated and checked before any lock is given back or taken:
-    /// `Zsyntax` for a naked reference, `Zgrant` where the account may not write a global, `Zsub` where subscripts are no node's.
-    /// `Zlocked` where names could not be taken and there is no timeout; what was given back before stays so. `Zmem` for want of
-    /// memory, and `Zstore` where the store refuses.
+    /// `Zsyntax` for a naked reference, `Zgrant` if the account may not write a global, `Zsub` if no node can have the subscripts.
+    /// `Zlocked` if names could not be taken and there is no timeout; what was given back before stays so. `Zmem` if memory runs
+    /// out, and `Zstore` if the store refuses.
     pub fn locking(
         &mut self,
         alloc: Global,
@@ -139,7 +139,7 @@ impl<'a, S: NodeStore> Parts<'a, S> {
         }
     }
 
-    // The same of one name, of which no list is made.
+    // The same for one name, of which no list is built.
     fn locking_one(
         &mut self,
         alloc: Global,
@@ -153,7 +153,7 @@ impl<'a, S: NodeStore> Parts<'a, S> {
         self.locking_names(alloc, kind, from_ref(&name), timeout)
     }
 
-    // The same of names that are evaluated and checked: the timeout, and then what is done with them.
+    // The same for names that are evaluated and checked: the timeout, and then what is done with them.
     fn locking_names(
         &mut self,
         alloc: Global,

@@ -19,7 +19,7 @@ use mtree::{Destination, Expr, PieceTarget, Reference, Target};
 use mvalue::Value;
 use std::alloc::Global;
 
-// A target of which everything is evaluated that it has to evaluate.
+// A target, once everything that it has to evaluate is evaluated.
 #[derive(Drop)]
 pub(crate) enum Prepared<'t> {
     // A variable.
@@ -29,7 +29,7 @@ pub(crate) enum Prepared<'t> {
 }
 
 impl<'a, S: NodeStore> Parts<'a, S> {
-    // The value of an expression, where there is one.
+    // The value of an expression, if there is one.
     fn optional_value(&mut self, alloc: Global, e: &Option<Expr>) -> Result<Option<Value>, Code>
         ensures { Does S.NodeStore (λ i. meaning.optional_value i (option_map expr_tree e.now)) (λ value. value) self.old result self.new }
     {
@@ -42,7 +42,7 @@ impl<'a, S: NodeStore> Parts<'a, S> {
         }
     }
 
-    // What a piece of a variable evaluates. It stands apart, since it is rare.
+    // What a piece of a variable evaluates. Kept out of line, since it is rare.
     #[inline(never)]
     fn prepared_part<'t>(
         &mut self,
@@ -131,7 +131,7 @@ impl<'a, S: NodeStore> Parts<'a, S> {
         Ok(())
     }
 
-    // Gives a node of a local variable with one subscript the value of the expression behind it.
+    // Gives a node of a local variable with one subscript the value of the expression after it.
     fn setting_node(
         &mut self,
         alloc: Global,
@@ -146,7 +146,7 @@ impl<'a, S: NodeStore> Parts<'a, S> {
         self.eval.fast_put(name, &subscript, value)
     }
 
-    // Gives one target the value of the expression behind it, whatever it evaluates and checks.
+    // Gives one target the value of the expression after it, whatever the target evaluates and checks.
     #[inline(never)]
     fn setting_target(&mut self, alloc: Global, target: &Target, e: &Expr) -> Result<(), Code>
         ensures { Does S.NodeStore (λ i. meaning.setting i (one (target_tree target.now)) (expr_tree e.now)) (λ u. u) self.old result self.new }
@@ -173,12 +173,12 @@ impl<'a, S: NodeStore> Parts<'a, S> {
         }
     }
 
-    /// Gives what stands to the left of `=` the value of the expression behind it.
+    /// Gives what is to the left of `=` the value of the expression after it.
     ///
     /// # Errors
     ///
     /// The code of the first that has one: the parts of the targets from left to right, the expression, each assignment. What
-    /// was assigned before stands. `Zmem` for want of memory, and `Zstore` where the store refuses.
+    /// was assigned before remains. `Zmem` if memory runs out, and `Zstore` if the store refuses.
     pub fn setting(
         &mut self,
         alloc: Global,

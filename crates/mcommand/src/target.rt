@@ -35,7 +35,7 @@ fn has_label(label: &[u8], line: &[u8]) -> bool
     }
 }
 
-// Whether a line is one that is meant, which the first such line is.
+// Whether a line matches an entry. The first such line is the one that is meant.
 fn is_entry(entry: &Entry, line: &[u8]) -> bool
     ensures { result ≡ levels.is_entry (entry_tree entry.now) line.now }
 {
@@ -70,7 +70,7 @@ fn among(entry: &Entry, dots: usize, copy: Rc<Vec<Bytes7>>) -> Result<Target, Co
 }
 
 impl<'a, S: NodeStore> Parts<'a, S> {
-    // The lines that a label is sought in: a routine that is named is read, and a label alone stands in the level's own.
+    // The lines in which a label is sought: a routine that is named is read, and a label alone is in the level's own lines.
     fn lines_of_entry(
         &mut self,
         alloc: Global,
@@ -86,12 +86,12 @@ impl<'a, S: NodeStore> Parts<'a, S> {
         }
     }
 
-    /// The line that DO or GOTO leads to, where a level has these lines and the line is to have so many dots.
+    /// The line that DO or GOTO leads to, if the level has these lines and the line is to have this many dots.
     ///
     /// # Errors
     ///
-    /// `M13` where there is no such routine, or no such label in it; `Zlevel` where the line has not so many dots; `Zmem` for want of
-    /// memory, and `Zstore` where the store refuses.
+    /// `M13` if there is no such routine, or no such label in it; `Zlevel` if the line does not have this many dots; `Zmem` if memory
+    /// runs out, and `Zstore` if the store refuses.
     pub fn target(
         &mut self,
         alloc: Global,

@@ -12,15 +12,15 @@ use mstore::NodeStore;
 use mtree::Expr;
 use std::alloc::Global;
 
-/// In an output, the end of a line, which no text has.
+/// The end of a line in an output. No text has this byte.
 pub const LINE_END: u8 = 255;
 
 impl<'a, S: NodeStore> Parts<'a, S> {
-    /// Ends so many lines of the output.
+    /// Ends `count` lines of the output.
     ///
     /// # Errors
     ///
-    /// `Zmem` for want of memory.
+    /// `Zmem` if memory runs out.
     pub fn breaks(&mut self, count: usize) -> Result<(), Code>
         ensures { Does S.NodeStore (λ i. write (replicate count meaning.line_end)) (λ u. u) self.old result self.new }
     {
@@ -34,7 +34,7 @@ impl<'a, S: NodeStore> Parts<'a, S> {
     ///
     /// # Errors
     ///
-    /// Those of the expression's value; `Zmem` for want of memory.
+    /// Those of the expression's value; `Zmem` if memory runs out.
     pub fn showing(&mut self, alloc: Global, e: &Expr) -> Result<(), Code>
         ensures { Does S.NodeStore (λ i. meaning.showing i (expr_tree e.now)) (λ u. u) self.old result self.new }
     {

@@ -48,7 +48,7 @@ pub record ToldReplies (document name : Text) (left left' held held' : Option Te
   pub appended : Appends held held' (told_text replies)
 
 -- **Over a store in memory.** The replies are those at the account's terminals of a history of the stream's events, by the document's
--- settings and from no globals at all. Where it is whole they are those of the definitional interpreter, run on the lines of the accounts
+-- settings and from no globals at all. If it is whole, they are those of the definitional interpreter, run on the lines of the accounts
 -- that reach this one, and the grants between them, alone.
 pub record ToldAlone (document name : Text) (left left' held held' : Option Text) : Type 0 where
   pub told : ToldReplies document name left left' held held'
@@ -59,7 +59,7 @@ pub record ToldAlone (document name : Text) (left left' held held' : Option Text
       IsTrue whole →
       told.replies ≡ told_to name told.known.settings (alone (reach told.known.settings name) told.known.settings (opening empty) (events_of (lines told.read)))
 
--- Over a store in a file, whose content no contract tells: the replies are to the account's events, one each and in their order.
+-- Over a store in a file, whose content no contract states: the replies are to the account's events, one each and in their order.
 pub record ToldInForm (document name : Text) (left left' held held' : Option Text) : Type 0 where
   pub told : ToldReplies document name left left' held held'
   pub each : IsToldEach name told.known.settings (events_of (lines told.read)) told.replies
@@ -85,7 +85,7 @@ BeginsEmpty g globals = g.sound × (globals ≡ empty)
 abbrev pub BeginsSomehow : Globals → Type 0
 BeginsSomehow globals = Unit {0}
 
--- A fault of the settings, the want of the account, and a fault of the store come in this order, and before the devices are asked for anything.
+-- A fault of the settings, the lack of the account, and a fault of the store come in this order, and before the devices are asked for anything.
 -- After one of the wire the run began with globals of this kind.
 abbrev pub OnlyEndsEarly : {S I O : Type 0} → Ghosts S → (Globals → Type 0) → (I → Option Text) → (O → Option Text) → Text → Text
     → Watched I → Watched I → Watched O → Watched O → RunFault → Type 0
@@ -101,7 +101,7 @@ OnlyEndsEarly g begins left held document name input input' output output' (earl
     × DeviceFailed input input' output output' fault
 OnlyEndsEarly g begins left held document name input input' output output' other = ⊥
 
--- a fault of a store in memory is none of rows that another program wrote
+-- a fault of a store in memory is not one of rows that another program wrote
 abbrev pub FitsMemory : RunFault → Type 0
 FitsMemory (early.Store fault) = IsMemoryFault (early.Store fault)
 FitsMemory other = Unit {0}

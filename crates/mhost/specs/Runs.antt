@@ -23,7 +23,7 @@ use Rattle.mhost.specs.declared.fault.RunFault.{RunFault}
 use Rattle.mhost.specs.declared.fault.RunFault.TheVariants as early
 
 -- A stream was read to its end, and the bytes written are a reply in form for each of its lines' events, by the document's settings: what
--- is known of a store whose content no contract tells.
+-- is known of a store whose content no contract states.
 pub record Followed (document : Text) (left left' held held' : Option Text) : Type 0 where
   pub settings : Settings
   pub of_document : IsRead document settings
@@ -34,7 +34,7 @@ pub record Followed (document : Text) (left left' held held' : Option Text) : Ty
   pub events : map (λ e. e.0) trace ≡ events_of (lines read)
   pub appended : Appends held held' (answer_text (lines read) (map (λ e. e.1) trace))
 
--- And these replies are those of a history of the events, from no globals at all. Behind the last line there are these globals.
+-- And these replies are those of a history of the events, from no globals at all. After the last line there are these globals.
 pub record StreamAnswered (document : Text) (left left' held held' : Option Text) (globals : Globals) : Type 0 where
   pub form : Followed document left left' held held'
   pub after : World
@@ -48,7 +48,7 @@ pub record RunCutShort {S : Type 0} (g : Ghosts S) (document : Text) (globals : 
   pub after : World
   pub serves : Serves g settings (opening globals) after left left' held held' (Err fault)
 
--- the device that a fault tells of broke between these two moments
+-- the device that a fault names broke between these two moments
 abbrev pub DeviceFailed : {I O : Type 0} → Watched I → Watched I → Watched O → Watched O → WireFault → Type 0
 DeviceFailed input input' output output' Read = ReadFailed input input'
 DeviceFailed input input' output output' Write = WriteFailed output output'
@@ -108,7 +108,7 @@ abbrev pub without_value : {V : Type 0} → Result V WireFault → Result (Unit 
 without_value (Ok v) = Ok tt
 without_value (Err fault) = Err fault
 
--- a stream was served from this point on, and where that went well, the value given has the globals behind the last line
+-- a stream was served from this point on, and if that went well, the value given has the globals after the last line
 pub record ServedOver {S V : Type 0} (g : Ghosts S) (settings : Settings) (world : World) (content : V → Globals) (left left' held held' : Option Text) (result : Result V WireFault) : Type 0 where
   pub after : World
   pub serves : Serves g settings world after left left' held held' (without_value result)

@@ -24,7 +24,7 @@ use std::net::{Ipv4Addr, TcpListener};
 ///
 /// # Errors
 ///
-/// `Unread`; then those of `run`, or of `run_file` where the store is in a file.
+/// `Unread`; then those of `run`, or of `run_file` if the store is in a file.
 ///
 /// The condition: no call of the input or the output has failed yet.
 pub fn run_job<I: Read, O: Write>(
@@ -67,7 +67,7 @@ fn run_by<I: Read, O: Write>(
     }
 }
 
-/// Answers the lines of so many connections at a port of 127.0.0.1, by the settings in a file and over a store. `errors` gets a
+/// Answers the lines of this many connections at a port of 127.0.0.1, by the settings in a file and over a store. `errors` gets a
 /// line for each connection that broke.
 ///
 /// # Errors
@@ -99,7 +99,7 @@ pub fn serve_job<E: Write>(
     }
 }
 
-// Serves so many connections at a port.
+// Serves this many connections at a port.
 fn listen<S: NodeStore, E: Write>(
     rt: &HostRuntime,
     world: &mut World<S>,

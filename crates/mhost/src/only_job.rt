@@ -19,8 +19,8 @@ use mworld::World;
 use std::alloc::Global;
 use std::io::{Read, Write};
 
-/// Reads the input to its end, runs its lines by the settings in a file and over a store, and writes the replies at the terminals of the
-/// account of this name alone.
+/// Reads the input to its end, runs its lines by the settings in a file and over a store, and writes only the replies at the terminals of
+/// the account of this name.
 ///
 /// # Errors
 ///

@@ -11,7 +11,7 @@ use std::io::Write;
 use std::net::{TcpListener, TcpStream};
 use std::time::Duration;
 
-// How long a peer is waited for that takes none of its replies: so many seconds.
+// For how many seconds a peer that takes none of its replies is waited for.
 const PATIENCE: u64 = 60;
 
 // A listener at a port. It does not tell who comes: the kit gives its calls no clause.
@@ -35,7 +35,7 @@ impl Listener for Port<'_> {
         let Ok((writer, _peer)) = self.0.accept() else {
             return Err(AcceptFault);
         };
-        // where no bound can be had, the peer is waited for
+        // if no bound can be had, the peer is waited for
         let _ = writer.set_write_timeout(Some(Duration::from_secs(PATIENCE)));
         match writer.try_clone() {
             Ok(reader) => Ok((reader, writer)),
@@ -43,22 +43,22 @@ impl Listener for Port<'_> {
         }
     }
 
-    // Both are closed where they are dropped.
+    // Both are closed when they are dropped.
     fn close(&mut self, _reader: TcpStream, _writer: TcpStream) {}
 }
 
-/// Accepts so many connections, one after the other, and answers the lines of each to its end before the next is accepted, as `serve_each`
-/// does. Sessions, locks and globals last over connections.
+/// Accepts `count` connections, one after the other, and answers the lines of each to its end before the next is accepted, as `serve_each`
+/// does. Sessions, locks and globals last from one connection to the next.
 ///
-/// A fault of a connection ends that one alone: `errors` gets the line `mserve: connection K: W`, with K counted from 1 and W the fault of
-/// `serve`, and the world stands after the lines that were run. A fault in writing to `errors` is passed over.
+/// A fault of a connection ends that connection alone: `errors` gets the line `mserve: connection K: W`, with K counted from 1 and W the
+/// fault of `serve`, and the world is the one after the lines that were run. A fault in writing to `errors` is passed over.
 ///
 /// Accepting and reading wait for a peer; that they return is not claimed. A peer that takes no byte of its replies for a minute has the
 /// fault `Write`.
 ///
 /// # Errors
 ///
-/// Only where accepting failed: the connections before it are served.
+/// Only if accepting a connection failed: the connections before it are served.
 pub fn serve_connections<H: AllocGlobal, S: NodeStore, E: Write>(
     rt: &H,
     world: &mut World<S>,

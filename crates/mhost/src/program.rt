@@ -19,14 +19,14 @@ use mstore::{NodeStore, Table};
 use mwire::Watched;
 use std::io::{Read, Write};
 
-/// Runs the program with these words, which stand behind its name on the command line, and gives the exit status.
+/// Runs the program with these words, which come after its name on the command line, and gives the exit status.
 ///
 /// 0: the job is done. 2: the words are refused or ask for help, and `errors` gets `clap`'s text, or there was no memory for them. 3, 4 and 5:
 /// a fault of the settings, of the store and of the wire, in the order in which they are found; `errors` gets the line `mserve: ` and the
 /// fault. A fault in writing to `errors` is passed over.
 ///
-/// The input and the output are asked for nothing by a job that serves connections, nor before a fault of the words, of the settings or of the
-/// store is found.
+/// A job that serves connections asks the input and the output for nothing, nor are they asked for anything before a fault of the words, of
+/// the settings or of the store is found.
 ///
 /// The condition: no call of the input or the output has failed yet.
 pub fn program<I: Read, O: Write, E: Write>(
@@ -85,7 +85,7 @@ fn carry_out<I: Read, O: Write, E: Write>(
     }
 }
 
-// The exit status of what a job came to.
+// The exit status for what a job came to.
 fn status_of(outcome: &Result<(), RunFault>) -> u8
     ensures { result ≡ status_of outcome.now }
 {

@@ -21,10 +21,10 @@ use std::alloc::Global;
 use std::io::{Read, Write};
 
 /// Answers a stream by the settings of a document, over a new table in memory, and gives the table as the lines left it: with the
-/// globals of the definitions, from none at all.
+/// globals of the definitions, starting from none at all.
 ///
-/// The faults, in the order in which they are found: `Settings`, and `Store`, which is `Memory`, of the world too, or `Store`, both before
-/// the devices are asked for anything; and `Wire`, with what `serve` says of it.
+/// The faults, in the order in which they are found: `Settings`, and `Store`, both before the devices are asked for anything; and `Wire`,
+/// with what `serve` says of it. `Store` is `Memory`, also if the world runs out of memory, or `Store`.
 ///
 /// The condition: no call of the input or the output has failed yet.
 pub fn run<I: Read, O: Write>(
@@ -53,10 +53,10 @@ pub fn run<I: Read, O: Write>(
     }
 }
 
-/// Answers a stream by the settings of a document, over the table in a file, which is made where there is none.
+/// Answers a stream by the settings of a document, over the table in a file, which is created if it does not exist.
 ///
-/// The faults are those of `run`, and `Store` has all of `FileTable::open`. What the file holds at the start, and that it holds what
-/// the lines left, no contract says: of a file this says only that each line had its reply.
+/// The faults are those of `run`, and `Store` has all of `FileTable::open`. No contract says what the file holds at the start, or
+/// that it holds what the lines left: of a file this says only that each line had its reply.
 ///
 /// The condition: no call of the input or the output has failed yet.
 pub fn run_file<I: Read, O: Write>(

@@ -19,7 +19,7 @@ const MAX_DOCUMENT: u64 = 1_000_000;
 ///
 /// # Errors
 ///
-/// `Unread` where there is no such file, where it cannot be read, as a folder, and where it has more bytes; `Settings(Memory)`.
+/// `Unread` if there is no such file, if it cannot be read (as a folder cannot), or if it has more bytes; `Settings(Memory)`.
 pub fn read_document<H: Files + AllocGlobal>(rt: &H, path: &str) -> Result<Vec<u8>, RunFault>
     ensures bytes { IfOk result (λ bytes. vec_len bytes ≤ 1000000) }
     ensures early { IfErr result NoDocument }
@@ -40,7 +40,7 @@ pub fn read_document<H: Files + AllocGlobal>(rt: &H, path: &str) -> Result<Vec<u
     }
 }
 
-// The bytes of a file, as far as one more than there may be.
+// The bytes of a file, up to one more than there may be.
 fn first_bytes<H: Files + AllocGlobal>(rt: &H, path: &str) -> io::Result<Vec<u8>> {
     let mut bytes = Vec::new(rt.alloc());
     let file = File::open(rt, path)?;
@@ -48,7 +48,7 @@ fn first_bytes<H: Files + AllocGlobal>(rt: &H, path: &str) -> io::Result<Vec<u8>
     Ok(bytes)
 }
 
-/// The settings that a document says.
+/// The settings that a document gives.
 ///
 /// # Errors
 ///

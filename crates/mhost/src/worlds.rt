@@ -25,7 +25,7 @@ pub type MemoryWorld = World<RoutineCache<Cached<Table<Memory>>>>;
 /// A world over a table in a file.
 pub type FileWorld = World<RoutineCache<Cached<FileTable>>>;
 
-// A store with texts of so many nodes and copies of routines in front of it, if there is memory for them.
+// A store with texts of `entries` nodes and copies of routines in front of it, if there is memory for them.
 fn kept_over<S: NodeStore + Drop>(
     alloc: Global,
     store: S,
@@ -63,7 +63,7 @@ fn world_over<S: NodeStore + Drop>(
 ///
 /// # Errors
 ///
-/// `Store`, which is `Memory`, of the world and of what is kept in front of the table too, or `Store`.
+/// `Store`, which is `Memory`, also for the world and for what is kept in front of the table, or `Store`.
 pub fn memory_world(alloc: Global, settings: Settings) -> Result<MemoryWorld, RunFault>
     ensures settings { IfOk result (λ world. settings_of world ≡ settings) }
     ensures world { IfOk result (λ world. world_of ⟦<RoutineCache<Cached<Table<Memory>>> as NodeStore>⟧ world ≡ opening empty) }
@@ -80,11 +80,11 @@ pub fn memory_world(alloc: Global, settings: Settings) -> Result<MemoryWorld, Ru
     }
 }
 
-/// A world without a session, over the table in a file, which is made where there is none.
+/// A world without a session, over the table in a file, which is created if it does not exist.
 ///
 /// # Errors
 ///
-/// `Store`, with the faults of `FileTable::open`; `Memory` of the world and of what is kept in front of the table too.
+/// `Store`, with the faults of `FileTable::open`; `Memory` also for the world and for what is kept in front of the table.
 pub fn file_world(rt: &HostRuntime, path: &str, settings: Settings) -> Result<FileWorld, RunFault>
     ensures settings { IfOk result (λ world. settings_of world ≡ settings) }
     ensures world { IfOk result (λ world. (globals : Globals) × (world_of ⟦<RoutineCache<Cached<FileTable>> as NodeStore>⟧ world ≡ opening globals)) }

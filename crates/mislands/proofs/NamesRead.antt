@@ -1,9 +1,9 @@
 -- SPDX-License-Identifier: Apache-2.0
--- The names that are read of a document are those of the accounts that it says.
+-- The names that are read from a document are those of the accounts that it gives.
 use Rattle.mislands.proofs.IslandWords.{◌≡◌, ℤ, Bool, true, false, cond, List, [], ◌∷◌, map, Option, Some, None, codes, refl, ap, ◌∙◌, option_map, option_and_then, nat_le, none-some, same_Some, Data, Members, Items, no_items, item, get_member, as_array, as_table, Text, has_only, account_keys, document_keys, text_at, integers_at, integer_at, account_with, account_in, written_account, written_grant, each_read, entries_of, entries_in, max_entries, count_items, WrittenAccount, WrittenGrant, Written, written, written_with, settings_of, names_of, written_name, written_names}
 use Rattle.mislands.specs.Written.{names_at}
 
--- what a choice gives, where that is something
+-- what a choice gives, if that is something
 some_chosen : {X : Type 0} (b : Bool) (o : Option X) (x : X) → cond b o None ≡ Some x → o ≡ Some x
 some_chosen true o x e = e
 some_chosen false o x e = absurd (none-some x e)

@@ -1,5 +1,5 @@
 -- SPDX-License-Identifier: Apache-2.0
--- What is printed: the islands of settings, a line each.
+-- What is printed: the islands of settings, one per line.
 use Rattle.std.specs.Prelude.{◌≡◌, ℕ, Bool, true, false, List, [], ◌∷◌, ◌++◌, map, All, count_by}
 use Rattle.std.specs.List.{flat_map, list_any}
 use Rattle.mspec.specs.Node.{Text}
@@ -40,7 +40,7 @@ pub data AreIslands (settings : Settings) : List Text → List (List Text) → T
 abbrev pub EachInOne : Settings → List (List Text) → Type 0
 EachInOne settings islands = All (λ a. count_by (list_any (text_eq a)) islands ≡ 1) (names_of settings)
 
--- the line of an island: its names, parted by a space, and a line feed
+-- the line of an island: its names, separated by a space, and a line feed
 abbrev pub line_of : List Text → Text
 line_of [] = []
 line_of (a ∷ rest) = a ++ (flat_map (λ b. 32 ∷ b) rest ++ 10 ∷ [])

@@ -25,7 +25,7 @@ NoDocument fault.Write = ⊥
 abbrev pub NoListing : Option Text → SettingsFault → Type 0
 NoListing left other = (other ≡ settings_fault.Memory) ⊎ ((document : Text) × IsInput left document × IsRefused document other)
 
--- the output got the lines of the islands of the settings that the input says; or it is as it was, unless it was being written
+-- the output got the lines of the islands of the settings that the input gives; or it is as it was, unless it was being written
 abbrev pub Lists : {O : Type 0} → (left held held' : Option Text) → (output output' : O) → Result (Unit {0}) ListFault → Type 0
 Lists left held held' output output' (Ok done) = (document : Text) × IsInput left document × (text : Text) × IsListing document text × Appends held held' text
 Lists left held held' output output' (Err fault.Unread) = output' ≡ output

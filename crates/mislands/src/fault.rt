@@ -9,7 +9,7 @@ pub(crate) enum ListFault {
     // The input cannot be read, or has more than 1,000,000 bytes.
     #[error("settings: Read")]
     Unread,
-    // The input says no settings.
+    // The input gives no settings.
     #[error("settings: {0}")]
     Settings(SettingsFault),
     // The output was not written to its end.

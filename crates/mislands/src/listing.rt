@@ -1,5 +1,5 @@
 // SPDX-License-Identifier: Apache-2.0
-// The islands of settings, a line each.
+// The islands of settings, one per line.
 ghost use Rattle.std.specs.Prelude.{◌≡◌, ◌⊎◌, ◌++◌, ◌∷◌, [], true, List, IfOk, IfErr, OnOk};
 ghost use Rattle.std.specs.List.{flat_map, list_any};
 ghost use Rattle.mspec.specs.Node.{Text};
@@ -123,7 +123,7 @@ fn islands(
     Ok(islands)
 }
 
-// The lines of the islands of the settings that a document says.
+// The lines of the islands of the settings that a document gives.
 pub(crate) fn listing(alloc: Global, document: &[u8]) -> Result<Vec<u8>, SettingsFault>
     ensures ok { IfOk result (λ text. IsListing document.now text.items) }
     ensures err { IfErr result (λ e. (e ≡ Memory) ⊎ IsRefused document.now e) }

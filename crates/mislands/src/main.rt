@@ -1,8 +1,8 @@
 // SPDX-License-Identifier: Apache-2.0
 //! mislands, the islands of a settings file.
 //!
-//! `mislands <SETTINGS` prints each island once, a line each: the names of its accounts in the order of the settings, parted by a space.
-//! Islands stand in the order of their first accounts.
+//! `mislands <SETTINGS` prints each island once, one per line: the names of its accounts in the order of the settings, separated by a space.
+//! Islands come in the order of their first accounts.
 #![tactic(auto)]
 
 mod fault;
@@ -14,7 +14,7 @@ use program::{program, refused};
 use std::process::ExitCode;
 use std::{env, io};
 
-// The words behind the program's name. One that is not UTF-8 is an error, and so is want of memory.
+// The words after the program's name. A word that is not UTF-8 is an error, and so is running out of memory.
 fn words(rt: &HostRuntime) -> io::Result<Vec<String>> {
     Ok(env::args(rt)?.skip(1).collect(rt.alloc())?)
 }

@@ -22,7 +22,7 @@ fn value_at<'a>(table: &'a Table, key: &str) -> Option<&'a Value>
     table.get(key)
 }
 
-// The name in a table, where there is one.
+// The name in a table, if there is one.
 fn name_in(alloc: Global, table: &Table) -> Result<Option<Vec<u8>>, AllocError>
     ensures { IfOk result (λ o. option_map (λ v. v.items) o ≡ text_at (codes "name") (table_view table.now)) }
 {
@@ -72,7 +72,7 @@ fn names_in(alloc: Global, table: &Table) -> Result<Option<Vec<Vec<u8>>>, AllocE
     }
 }
 
-// The names of the accounts of the settings that a document says, in their order.
+// The names of the accounts of the settings that a document gives, in their order.
 pub(crate) fn names_of(alloc: Global, document: &[u8]) -> Result<Vec<Vec<u8>>, SettingsFault>
     ensures err { IfErr result (λ e. e ≡ Memory) }
     ensures names { IfOk result (λ names. (settings : Settings) → IsRead document.now settings → texts_in names ≡ names_of settings) }

@@ -13,7 +13,7 @@ use std::io::{ErrorKind, Read, Write};
 // The most bytes that a document may have.
 const MAX_DOCUMENT: u64 = 1_000_000;
 
-// The bytes of a reader, as far as one more than there may be.
+// The bytes of a reader, up to one more than there may be.
 fn first_bytes<I: Read + Drop>(alloc: Global, input: I) -> io::Result<Vec<u8>>
     ensures { IfOk result (λ bytes. IfSome (I.remaining input) (λ all. vec_len bytes ≤ 1000000 → bytes.items ≡ all)) }
 {
@@ -48,7 +48,7 @@ fn document<I: Read + Drop>(alloc: Global, input: I) -> Result<Vec<u8>, ListFaul
     Ok(bytes)
 }
 
-// Writes the lines of the islands of the settings that the input says.
+// Writes the lines of the islands of the settings that the input gives.
 fn list<I: Read + Drop, O: Write>(alloc: Global, input: I, output: &mut O) -> Result<(), ListFault>
     ensures { Lists (I.remaining input) (O.contents output.old) (O.contents output.new) output.old output.new result }
 {
@@ -66,7 +66,7 @@ fn list<I: Read + Drop, O: Write>(alloc: Global, input: I, output: &mut O) -> Re
     }
 }
 
-// The exit status of what it came to.
+// The exit status for what it came to.
 fn status_of(outcome: &Result<(), ListFault>) -> u8
     ensures { result ≡ status_of outcome.now }
 {
@@ -77,7 +77,7 @@ fn status_of(outcome: &Result<(), ListFault>) -> u8
     }
 }
 
-// Tells `errors` that the program takes no words, and gives the exit status.
+// Writes to `errors` that the program takes no words, and gives the exit status.
 pub(crate) fn refused<E: Write>(errors: &mut E) -> u8
     ensures { result ≡ 2 }
 {
@@ -85,9 +85,9 @@ pub(crate) fn refused<E: Write>(errors: &mut E) -> u8
     2
 }
 
-/// Runs the program with these words, which stand behind its name on the command line, and gives the exit status.
+/// Runs the program with these words, which come after its name on the command line, and gives the exit status.
 ///
-/// 0: the islands of the settings that the input says are written, a line each. 2: there are words, and it takes none; 3: there are no
+/// 0: the islands of the settings that the input gives are written, one per line. 2: there are words, and it takes none; 3: there are no
 /// settings; 5: the output was not written to its end. `errors` gets a line for each but 0; a fault in writing to it is passed over.
 pub fn program<I: Read + Drop, O: Write, E: Write>(
     alloc: Global,

@@ -4,7 +4,7 @@ use Rattle.std.proofs.Common.{◌≡◌, ℕ, List, Option, Some, None, Result, 
 use Rattle.std.specs.Str.Parse.{ParsesUnsigned, digits_value, without_leading_plus}
 use Rattle.clap.specs.Matches.{ReadsOne}
 
--- where a number was read, there was a text, and the number is what its digits are
+-- if a number was read, there was a text, and the number is what its digits are
 pub number_read : {E : Type 0} (k : ℕ) (G : List ℕ → Result ℕ E → Type 0) (n : ℕ) (o : Option (List ℕ))
     → ((t : List ℕ) (x : Result ℕ E) → G t x → ParsesUnsigned k 10 t x)
     → (o ≡ None → Some n ≡ None) → ((t : List ℕ) → o ≡ Some t → ReadsOne G t (Some n))

@@ -14,7 +14,7 @@ free_option name = record (new_rule name) { long = Some name; action = Some Set;
 abbrev pub required_option : Text → Rule
 required_option name = record (free_option name) { required = true }
 
--- `--name NUMBER`, once, where the number is from 1 to `most`
+-- `--name NUMBER`, once, with a number from 1 to `most`
 abbrev pub number_option : Text → ℕ → Rule
 number_option name most = record (required_option name) { parser = Some (Signed (pos 1) (pos most)) }
 
@@ -27,7 +27,7 @@ serve_app = with_rule (with_rule (with_rule (with_rule (new_app (codes "serve"))
     (required_option (codes "settings"))) (required_option (codes "store")))
     (number_option (codes "port") 65535)) (number_option (codes "connections") 1000000)
 
--- the words are those behind the program's name, and one of the two subcommands must be there
+-- the words are those after the program's name, and one of the two subcommands must be there
 abbrev pub mserve_app : App
 mserve_app = with_subcommand (with_subcommand
     (on_top (λ s. record s { no_binary_name = true; subcommand_required = true }) (new_app (codes "mserve")))

@@ -12,12 +12,12 @@ use clap::error::ErrorKind;
 use std::alloc::Global;
 use std::str::FromStr;
 
-/// What the words of a command line ask for, which stand behind the program's name.
+/// What the words of a command line ask for: the words that come after the program's name.
 ///
 /// `Ok` comes only for words in which `clap`'s definition of the command finds no fault, and then with what it finds in them.
 /// `Line` comes for all others, and for words that ask for help: its kind is one that the definition gives for the words. `Memory`
-/// may come at any words: there was none, or `clap` took them and its matches lack what the command must have, to which no words
-/// are known to lead.
+/// may come for any words: there was none, or `clap` took them and its matches lack what the command must have. No words are known
+/// to lead to that.
 pub fn job(alloc: Global, words: &[String]) -> Result<Job, JobFault>
     ensures taken { IfOk result (λ _. fault_of mserve_app (map string_bytes words.now) ≡ []) }
     ensures ok { IfOk result (IsJob (map string_bytes words.now)) }
@@ -115,7 +115,7 @@ fn store_of(alloc: Global, options: &ArgMatches<'_>) -> Result<Store, JobFault>
     }
 }
 
-// The text of an option that a line which was taken has.
+// The text of an option of a line that was taken.
 fn text_of(alloc: Global, options: &ArgMatches<'_>, name: &str) -> Result<String, JobFault>
     ensures ok { IfOk result (λ s. first_value (found_of options.now) name.now ≡ Some (string_bytes s)) }
     ensures err { IfErr result (λ e. e ≡ JobFault.Memory) }

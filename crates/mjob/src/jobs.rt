@@ -10,7 +10,7 @@ pub enum Store {
     File(String),
 }
 
-/// What a command line asks for. Texts stand in it as they were given.
+/// What a command line asks for. Its texts are as they were given.
 #[derive(Debug, Drop)]
 pub enum Job {
     /// To answer the lines of the standard input.
@@ -19,7 +19,7 @@ pub enum Job {
         settings: String,
         /// Where the globals are kept.
         store: Store,
-        /// The account whose replies alone are wanted, where one is named.
+        /// The only account whose replies are wanted, if one is named.
         only: Option<String>,
     },
     /// To answer the lines of connections, one connection after the other.
@@ -40,7 +40,7 @@ pub enum Job {
 pub enum JobFault {
     /// It is refused, or asks for help: the error has `clap`'s text.
     Line(clap::Error),
-    /// There was no memory for it. Also what is left where `clap` took the words and found less than the command must have, to which no
-    /// words are known to lead.
+    /// There was no memory for it. It also comes if `clap` took the words and found less than the command must have. No words are
+    /// known to lead to that.
     Memory,
 }

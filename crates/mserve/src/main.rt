@@ -10,7 +10,7 @@ use mwire::Watched;
 use std::process::ExitCode;
 use std::{env, io};
 
-// The words behind the program's name. One that is not UTF-8 is an error, and so is want of memory.
+// The words after the program's name. A word that is not UTF-8 is an error, and so is running out of memory.
 fn words(rt: &HostRuntime) -> io::Result<Vec<String>> {
     Ok(env::args(rt)?.skip(1).collect(rt.alloc())?)
 }

@@ -8,9 +8,9 @@ use std::alloc::Global;
 pub struct Block<'a> {
     /// What kind of cases they are.
     pub kind: &'a str,
-    /// The first line, which tells the kind and the block's name.
+    /// The first line, which gives the kind and the block's name.
     pub header: &'a str,
-    /// The lines behind it: cases and comments.
+    /// The lines after it: cases and comments.
     pub cases: Vec<&'a str>,
 }
 
@@ -18,7 +18,7 @@ pub struct Block<'a> {
 ///
 /// # Errors
 ///
-/// Where a block's first line tells no kind, and for want of memory.
+/// If a block's first line gives no kind, or if memory runs out.
 pub fn blocks_of<'a>(alloc: Global, text: &'a str) -> anyhow::Result<Vec<Block<'a>>> {
     let mut out = Vec::new(alloc);
     for block in text.trim_end().split("\n\n") {

@@ -3,7 +3,7 @@
 use std::fs;
 use std::rt::HostRuntime;
 
-/// Takes a database away, with its log; a file that is not there is none to take away.
+/// Removes a database, with its log; a file that does not exist need not be removed.
 pub fn remove(rt: &HostRuntime, path: &str, log: &str) {
     let _ = fs::remove_file(rt, path);
     let _ = fs::remove_file(rt, log);

@@ -3,11 +3,11 @@
 use anyhow::Context;
 use std::alloc::Global;
 
-/// The bytes of a case, with its escapes taken out.
+/// The bytes of a case, with each escape replaced by what it stands for.
 ///
 /// # Errors
 ///
-/// Where an escape is none or does not end, and for want of memory.
+/// If an escape is invalid or does not end, or if memory runs out.
 pub fn bytes_of(alloc: Global, case: &str) -> anyhow::Result<Vec<u8>> {
     let mut out = Vec::new(alloc);
     for (i, part) in case.split('{').enumerate() {

@@ -5,10 +5,10 @@
 //! what they print must be the transcripts themselves.
 //!
 //! Blocks stand between blank lines. A block begins with `== KIND: NAME`, and has a case in each further line; a line
-//! that begins with `# ` is a comment. What a case gives stands below it, indented by four spaces.
+//! that begins with `# ` is a comment. What a case gives comes below it, indented by four spaces.
 //!
-//! In a case `{41}` is the byte with these hexadecimal digits, `{250*x}` so many times what stands after the star, and `{}`
-//! nothing, for a case that is an empty text.
+//! In a case `{41}` is the byte with these hexadecimal digits, `{250*x}` is what comes after the star, that many times,
+//! and `{}` is nothing, for a case that is an empty text.
 //!
 //! No call has a contract: a program's output is the test of it.
 #![tactic(auto)]

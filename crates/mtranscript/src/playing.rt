@@ -22,7 +22,7 @@ pub fn play<F: FnMut(&str, &mut Vec<u8>) -> anyhow::Result<()>>(
     Ok(())
 }
 
-/// As [`play`], of a call that gives one result for each case, which is printed.
+/// As [`play`], for a call that gives one result for each case, which is printed.
 ///
 /// # Errors
 ///

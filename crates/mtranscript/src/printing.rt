@@ -6,7 +6,7 @@ use std::alloc::Global;
 ///
 /// # Errors
 ///
-/// For want of memory.
+/// Out of memory.
 pub fn print(out: &mut Vec<u8>, line: &[u8]) -> anyhow::Result<()> {
     out.extend_from_slice(line)?;
     out.push(b'\n')?;
@@ -17,7 +17,7 @@ pub fn print(out: &mut Vec<u8>, line: &[u8]) -> anyhow::Result<()> {
 ///
 /// # Errors
 ///
-/// For want of memory.
+/// Out of memory.
 pub fn print_case(out: &mut Vec<u8>, case: &str) -> anyhow::Result<bool> {
     print(out, case.as_bytes())?;
     Ok(!case.starts_with("# "))
@@ -27,17 +27,17 @@ pub fn print_case(out: &mut Vec<u8>, case: &str) -> anyhow::Result<bool> {
 ///
 /// # Errors
 ///
-/// For want of memory.
+/// Out of memory.
 pub fn print_result(out: &mut Vec<u8>, line: &[u8]) -> anyhow::Result<()> {
     out.extend_from_slice(b"    ")?;
     print(out, line)
 }
 
-/// Adds each line of what came; a last one that is not ended is told.
+/// Adds each line of what came; a last one that is not ended is marked as such.
 ///
 /// # Errors
 ///
-/// For want of memory.
+/// Out of memory.
 pub fn print_results(alloc: Global, out: &mut Vec<u8>, lines: &[u8]) -> anyhow::Result<()> {
     let mut line = Vec::new(alloc);
     for byte in lines {
@@ -55,11 +55,11 @@ pub fn print_results(alloc: Global, out: &mut Vec<u8>, lines: &[u8]) -> anyhow::
     Ok(())
 }
 
-/// Adds the lines of what came another way, below what is told of that way, where they are not those that were given.
+/// Adds the lines of what came another way, below what is said of that way, if they are not those that were given.
 ///
 /// # Errors
 ///
-/// For want of memory.
+/// Out of memory.
 pub fn print_others(
     alloc: Global,
     told: &str,

@@ -19,7 +19,7 @@ pub fn words_of<'a>(alloc: Global, case: &'a str) -> anyhow::Result<Vec<&'a str>
 ///
 /// # Errors
 ///
-/// If the word is not ASCII, and out of memory.
+/// If the word is not ASCII, or if memory runs out.
 pub fn text_of(alloc: Global, word: &str) -> anyhow::Result<Bytes7> {
     let bytes = bytes_of(alloc, if word == "-" { "" } else { word })?;
     Bytes7::new(bytes).ok().context("a word that is not ASCII")
@@ -29,7 +29,7 @@ pub fn text_of(alloc: Global, word: &str) -> anyhow::Result<Bytes7> {
 ///
 /// # Errors
 ///
-/// If a word is not ASCII, and out of memory.
+/// If a word is not ASCII, or if memory runs out.
 pub fn texts_of(alloc: Global, words: &[&str]) -> anyhow::Result<Vec<Bytes7>> {
     let mut out = Vec::new(alloc);
     for word in words {
@@ -42,7 +42,7 @@ pub fn texts_of(alloc: Global, words: &[&str]) -> anyhow::Result<Vec<Bytes7>> {
 ///
 /// # Errors
 ///
-/// If the word is no name, and out of memory.
+/// If the word is not a name, or if memory runs out.
 pub fn name_of(alloc: Global, word: &str) -> anyhow::Result<Name> {
     Name::new(text_of(alloc, word)?)
         .ok()
@@ -53,7 +53,7 @@ pub fn name_of(alloc: Global, word: &str) -> anyhow::Result<Name> {
 ///
 /// # Errors
 ///
-/// If a word is no name, and out of memory.
+/// If a word is not a name, or if memory runs out.
 pub fn names_of(alloc: Global, words: &[&str]) -> anyhow::Result<Vec<Name>> {
     let mut out = Vec::new(alloc);
     for word in words {
@@ -66,7 +66,7 @@ pub fn names_of(alloc: Global, words: &[&str]) -> anyhow::Result<Vec<Name>> {
 ///
 /// # Errors
 ///
-/// If the account, the name or the subscripts are none of a node, and out of memory.
+/// If the account, the name or the subscripts are not those of a node, or if memory runs out.
 pub fn key_of(
     alloc: Global,
     account: &Bytes7,
@@ -118,7 +118,7 @@ pub fn push_numbered(
 ///
 /// # Errors
 ///
-/// If the form is not ASCII, and out of memory.
+/// If the form is not ASCII, or if memory runs out.
 pub fn numbered(alloc: Global, form: &[u8], numbers: &[usize]) -> anyhow::Result<Bytes7> {
     let mut bytes = Vec::new(alloc);
     push_numbered(alloc, &mut bytes, form, numbers)?;

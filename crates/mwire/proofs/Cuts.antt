@@ -65,7 +65,7 @@ IsCut-line past finished kept s = record {
 regroup : (x f r : List ℕ) → ((x ++ 10 ∷ []) ++ f) ++ r ≡ x ++ 10 ∷ (f ++ r)
 regroup x f r = simp append_assoc
 
--- the finished lines, and the parts of what stands behind them
+-- the finished lines, and the parts of what comes after them
 parts_of-cut : (finished : List (List ℕ)) (behind : List ℕ) → AreOpen finished → parts_of (flat_map (λ x. x ++ 10 ∷ []) finished ++ behind) ≡ finished ++ parts_of behind
 parts_of-cut [] behind each = refl
 parts_of-cut (x ∷ xs) behind each =

@@ -16,7 +16,7 @@ all_digits : (ds : List ℕ) → All Digit ds → list_all is_digit ds ≡ true
 all_digits [] all = refl
 all_digits (c ∷ cs) all = grind (arith, All-head Digit c cs all, all_digits cs (All-tail Digit c cs all))
 
--- the first space stands behind the digits
+-- the first space comes after the digits
 space_at : (ds text : List ℕ) → All Digit ds → position_or_len is_space (ds ++ 32 ∷ text) ≡ length ds
 space_at [] text all = refl
 space_at (c ∷ cs) text all = grind (arith, digit_is_no_space c (All-head Digit c cs all), space_at cs text (All-tail Digit c cs all))
@@ -46,7 +46,7 @@ classify_line terminal text some most short =
     ap (λ n. event_as n (after_first is_space (digits ++ 32 ∷ text))) value ∙ ap (event_as terminal) tail in
     wire_line_by _ _ _ (event_of (digits ++ 32 ∷ text)) (event_as terminal text) (grind (arith, nat_tests, size)) (grind (arith, nat_tests, size, at_most, short)) event same
 
--- a text that keeps its end keeps it behind a space too
+-- a text that keeps its end keeps it after a space too
 
 strip_at : (l : List ℕ) (n : ℕ) → length l ≡ n + 1 → strip_carriage_return l ≡ (if slice_index l n == 13 then take n l else l)
 strip_at l n size = let last : length l - 1 ≡ n = omega arith in ap (λ i. if slice_index l i == 13 then take i l else l) last

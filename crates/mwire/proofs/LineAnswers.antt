@@ -33,7 +33,7 @@ EachAnswered-more g settings old (l ∷ ls) text mid line answer new h t =
 abbrev both_texts : List Text → WireLine → List Reply → Text
 both_texts more wire_line replies = line_text wire_line replies ++ answer_text more (replies_behind wire_line replies)
 
--- behind a line that is not run
+-- after a line that is not run
 LinesAnswered-unrun : {S : Type 0} (g : Ghosts S) (settings : Settings) (old : World) (line : Text) (more : List Text) (wire_line : WireLine) (answer : Text) (mid : World) (rest : Text) (new : World)
     → classify line ≡ wire_line → (a : LinesAnswered g settings mid more rest new) → mid ≡ old → events_of more ≡ before_events wire_line (events_of more)
     → answer ++ rest ≡ both_texts more wire_line (map (λ x. x.1) a.trace) → LinesAnswered g settings old (line ∷ more) (answer ++ rest) new
@@ -63,7 +63,7 @@ LinesAnswered-each g settings old (line ∷ more) text new h =
     let P : Text → Type 0 = λ t. LinesAnswered g settings old (line ∷ more) t new in
     subst P (sym h.5) (LinesAnswered-line g settings old line more (classify line) h.0 h.1 h.2 new refl h.3.by_wire_line (LinesAnswered-each g settings h.1 more h.2 new h.4))
 
--- a last line was answered, and of its answer a front was sent
+-- a last line was answered, and a front of its answer was sent
 pub AnswersCutShort-at : {S : Type 0} (g : Ghosts S) (settings : Settings) (old : World) (done : List Text) (last : Text) (others all : List Text) (whole : Text) (between new : World) (before after : Option Text) (b : Bool)
     → all ≡ done ++ last ∷ others → EachAnswered g settings old done whole between → (p : LineSent g settings between last new before after b) → AnswersCutShort g settings old all (whole ++ p.sent.part) new
 AnswersCutShort-at g settings old done last others all whole between new before after b of_all each p = record {

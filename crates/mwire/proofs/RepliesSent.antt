@@ -68,7 +68,7 @@ module _ {S : Type 0} (g : Ghosts S) (old new : World S g) (account : ℕ) (left
       broke Write o = absurd (o refl)
       broke Memory o = inl (refl, λ sound. record { count = 0; lines = []; sent = refl; history = ap (world_of g) same })
 
-  -- want of memory for what is told
+  -- out of memory for what is told
   pub untold : (g.sound → RanFirst (settings_of old) (world_of g old) (events_of (lines read)) (world_of g new)) → held' ≡ held → ServesOnly g old account left left' held held' (Err Memory) new
   untold first kept = record {
     read = read;

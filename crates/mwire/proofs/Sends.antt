@@ -14,7 +14,7 @@ SentUpTo-more bytes rest before now after n s a = record {
   appended = Appends-trans before now after s.part (take n rest) s.appended a;
 }
 
--- where all was sent
+-- if all was sent
 pub FrontSent-whole : {bytes : Text} {before after : Option Text} (s : FrontSent bytes before after true) → bytes ≡ s.part
 FrontSent-whole s = s.of_bytes ∙ (ap (λ x. s.part ++ x) (s.all_sent refl) ∙ append-nil s.part)
 

@@ -1,5 +1,5 @@
 -- SPDX-License-Identifier: Apache-2.0
--- When a reply tells of the store's failure.
+-- When a reply says that the store failed.
 use Rattle.mwire.proofs.WireWords.{arith, ◌≡◌, ◌≢◌, Lost, Store, Faulted, Zstore, Ended, Done, Halt, Fault}
 use Rattle.moperator.specs.Codes.{fault_of}
 use Rattle.moperator.specs.declared.code.Code.{Code}

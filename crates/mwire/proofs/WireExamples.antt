@@ -33,7 +33,7 @@ empty_line = refl
 longest : (classify (codes "1 ;" ++ replicate 257 65) ≡ runs 1 (59 ∷ replicate 257 65)) × (classify (codes "1 ;" ++ replicate 258 65) ≡ TooLong) × (classify (replicate 261 32) ≡ TooLong)
 longest = (refl, refl, refl)
 
--- a carriage return goes with the line feed behind it, one at a time, and not from an unfinished line
+-- a carriage return goes with the line feed after it, one at a time, and not from an unfinished line
 carriage_returns : lines (codes "A" ++ 13 ∷ 10 ∷ (codes "B" ++ 13 ∷ 13 ∷ 10 ∷ 10 ∷ (codes "C" ++ 13 ∷ []))) ≡ (codes "A" ∷ (codes "B" ++ 13 ∷ []) ∷ [] ∷ (codes "C" ++ 13 ∷ []) ∷ [])
 carriage_returns = refl
 
@@ -41,7 +41,7 @@ carriage_returns = refl
 escapes : shown (0 ∷ 10 ∷ 31 ∷ 127 ∷ 92 ∷ 32 ∷ 65 ∷ 126 ∷ []) ≡ codes "\\00\\0A\\1F\\7F\\5C A~"
 escapes = refl
 
--- texts, each with a line feed behind it
+-- texts, each followed by a line feed
 abbrev fed : List Text → Text
 fed [] = []
 fed (line ∷ more) = line ++ 10 ∷ fed more
@@ -84,7 +84,7 @@ left_to_right : stream_served alice empty (fed (codes "1 WRITE 1+2*3" ∷ [])) �
 unfolding reads digits canonical_value no_locals level_begun value_of assigned_to
 left_to_right = served (fed (codes "1 WRITE 1+2*3" ∷ [])) (simp (gets, computed_maps, computed_numbers))
 
--- what a line assigned stands for the next, and an unfinished last line is run
+-- what a line assigned is there for the next, and an unfinished last line is run
 sessions : stream_served alice empty (fed (codes "1 S A=\"x\"" ∷ []) ++ codes "1 W A") ≡ fed (codes "1." ∷ codes "1-x" ∷ codes "1." ∷ [])
 unfolding reads digits canonical_value no_locals level_begun value_of assigned_to
 sessions = served (fed (codes "1 S A=\"x\"" ∷ []) ++ codes "1 W A") (simp (gets, computed_maps, computed_numbers))

@@ -1,6 +1,6 @@
 -- SPDX-License-Identifier: Apache-2.0
 -- What answers the lines of a stream: the bytes, and a history of the lines' events, over a store of some type. That the lines
--- are steps is said where this type is sound; that no reply tells of the store's failure, where it is steady.
+-- are steps is said if this type is sound; that no reply says that the store failed, if it is steady.
 use Rattle.std.specs.Prelude.{◌≡◌, ◌≢◌, List, [], ◌∷◌, ◌++◌, map}
 use Rattle.mspec.specs.Act.{Text}
 use Rattle.mspec.specs.Code.{Lost, Store}
@@ -9,7 +9,7 @@ use Rattle.mmeaning.specs.History.{History}
 use Rattle.mstore.specs.declared.store.NodeStore.{Ghosts}
 use Rattle.mwire.specs.Wire.{WireLine, Ignored, TooLong, Unreadable, Runs, classify, reply_text, too_long_text, unreadable_text, events_of}
 
--- the bytes that answer a line of this wire_line, whose reply is the first of these where it is run
+-- the bytes that answer a line of this wire_line, whose reply is the first of these if it is run
 abbrev pub line_text : WireLine → List Reply → Text
 line_text Ignored replies = []
 line_text TooLong replies = too_long_text
@@ -17,7 +17,7 @@ line_text Unreadable replies = unreadable_text
 line_text (Runs e) [] = []
 line_text (Runs e) (reply ∷ more) = reply_text e.terminal reply
 
--- the replies of the lines behind it
+-- the replies of the lines after it
 abbrev pub replies_behind : WireLine → List Reply → List Reply
 replies_behind Ignored replies = replies
 replies_behind TooLong replies = replies
@@ -63,8 +63,8 @@ WireLineAnswered g settings world (Runs e) bytes after = RunAnswered g settings 
 pub record LineAnswered {S : Type 0} (g : Ghosts S) (settings : Settings) (world : World) (line bytes : Text) (after : World) : Type 0 where
   pub by_wire_line : WireLineAnswered g settings world (classify line) bytes after
 
--- The lines are answered up to a last one. This one was answered too, but of its bytes only a front, perhaps the whole, went
--- out; the others were not run.
+-- The lines are answered up to a last one. This one was answered too, but only a front of its bytes, perhaps the whole,
+-- went out; the others were not run.
 pub record AnswersCutShort {S : Type 0} (g : Ghosts S) (settings : Settings) (world : World) (all : List Text) (bytes : Text) (after : World) : Type 0 where
   pub done : List Text
   pub last : Text

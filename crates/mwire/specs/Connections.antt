@@ -1,5 +1,5 @@
 -- SPDX-License-Identifier: Apache-2.0
--- What connections do to a world, one after another, and, where a listener tells who comes, which they are.
+-- What connections do to a world, one after another, and, if a listener tells who comes, which they are.
 use Rattle.std.specs.Prelude.{◌≡◌, ◌<◌, ℕ, List, [], ◌∷◌, ◌++◌, length, map, Option, Some, Result, MatchResult}
 use Rattle.std.specs.List.{All}
 use Rattle.mspec.specs.Act.{Text}
@@ -9,7 +9,7 @@ use Rattle.mwire.specs.Serves.{Serves}
 use Rattle.mwire.specs.declared.fault.WireFault.{WireFault}
 use Rattle.mwire.specs.declared.fault.AcceptFault.{AcceptFault}
 
--- A connection: what its reader has left and what its writer holds, as it comes and as it ends, where they tell; and what `serve` answered.
+-- A connection: what its reader has left and what its writer holds, as it comes and as it ends, if they tell; and what `serve` answered.
 pub record Visit : Type 0 where
   pub left : Option Text
   pub left' : Option Text
@@ -30,7 +30,7 @@ pub record AreOfPeers (visits : List Visit) (waiting waiting' answered answered'
   pub fresh : All (λ (v : Visit). v.held ≡ Some []) visits
   pub went : map Some answered' ≡ map Some answered ++ map (λ (v : Visit). v.held') visits
 
--- So many connections were served, and where the listener tells who comes, they are those of its peers.
+-- `count` connections were served, and if the listener tells who comes, they are those of its peers.
 pub record HasServedEach {S : Type 0} (g : Ghosts S) (settings : Settings) (count : ℕ) (world after : World)
     (tells : Type 0) (waiting waiting' answered answered' : List Text) : Type 0 where
   pub visits : List Visit
@@ -38,7 +38,7 @@ pub record HasServedEach {S : Type 0} (g : Ghosts S) (settings : Settings) (coun
   pub served : AreServed g settings visits world after
   pub of_peers : tells → AreOfPeers visits waiting waiting' answered answered'
 
--- All the connections were served; or fewer, until none could be accepted: where the listener tells who comes, until nobody waited.
+-- All the connections were served; or fewer, until none could be accepted: if the listener tells who comes, until nobody waited.
 abbrev pub ServesEach : {S : Type 0} → Ghosts S → Settings → ℕ → World → World
     → (tells : Type 0) → List Text → List Text → List Text → List Text → Result (Unit {0}) AcceptFault → Type 0
 ServesEach g settings count world after tells waiting waiting' answered answered' result = MatchResult result

@@ -21,7 +21,7 @@ abbrev pub told_text : List Told → Text
 told_text ts = flat_map (λ t. reply_text t.terminal t.reply) ts
 
 -- The events were run, and the account was told these bytes, or a front of them: those of replies to its events, one each. Over a sound
--- store they are as they are for every closed set that has it, and, where they are whole, as the definitional interpreter gives them to
+-- store they are as they are for every closed set that has it, and, if they are whole, as the definitional interpreter gives them to
 -- the reaching accounts alone.
 pub record RanOnly {S : Type 0} (g : Ghosts S) (old : World S g) (account : ℕ) (events : List Event) (bytes : Text) (whole : Bool) (new : World S g) : Type 0 where
   pub replies : List Told
@@ -30,7 +30,7 @@ pub record RanOnly {S : Type 0} (g : Ghosts S) (old : World S g) (account : ℕ)
   pub told : g.sound → IsTold g old account events replies whole new
   pub alone : g.sound → IsEquallyTold g old account events replies whole
 
--- all events were run, and of the bytes a front was sent
+-- all events were run, and a front of the bytes was sent
 pub record RepliesCutShort {S : Type 0} (g : Ghosts S) (old : World S g) (account : ℕ) (events : List Event) (sent : Text) (new : World S g) : Type 0 where
   pub bytes : Text
   pub whole : Bool
@@ -42,13 +42,13 @@ pub record RepliesCutShort {S : Type 0} (g : Ghosts S) (old : World S g) (accoun
 abbrev pub Unsent : {S : Type 0} (g : Ghosts S) → World S g → List Event → Text → World S g → Type 0
 Unsent g old events sent new = (sent ≡ []) × (g.sound → RanFirst (settings_of old) (world_of g old) events (world_of g new))
 
--- how far it came where there was a fault
+-- how far it came if there was a fault
 abbrev pub ServeOnlyCutShort : {S : Type 0} (g : Ghosts S) → World S g → ℕ → Option Text → List Event → Text → World S g → WireFault → Type 0
 ServeOnlyCutShort g old account left events sent new Read = (sent ≡ []) × (new ≡ old)
 ServeOnlyCutShort g old account left events sent new Write = IsAtEnd left × RepliesCutShort g old account events sent new
 ServeOnlyCutShort g old account left events sent new Memory = Unsent g old events sent new ⊎ (IsAtEnd left × RepliesCutShort g old account events sent new)
 
--- so many bytes were read, and so many sent; at the stream's end those of the replies
+-- the bytes `read` were read, and `sent` were sent: at the stream's end, those of the replies
 pub record ServesOnly {S : Type 0} (g : Ghosts S) (old : World S g) (account : ℕ) (left left' held held' : Option Text) (result : Result Bool WireFault) (new : World S g) : Type 0 where
   pub read : Text
   pub consumed : Consumes left left' read

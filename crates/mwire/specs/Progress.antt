@@ -18,8 +18,8 @@ abbrev pub AreOpen : List Text → Type 0
 AreOpen [] = Unit {0}
 AreOpen (x ∷ xs) = IsOpen x × AreOpen xs
 
--- The bytes are the finished texts, a line feed behind each, and then a rest without one. Of the rest a front is kept: what
--- becomes of a line is told by its first 262 bytes, 260, a carriage return and one more.
+-- The bytes are the finished texts, each followed by a line feed, and then a rest without one. A front of the rest is kept: the
+-- first 262 bytes of a line, 260, a carriage return and one more, decide what becomes of it.
 pub record IsCut (bytes : Text) (finished : List Text) (kept : Text) : Type 0 where
   pub rest : Text
   pub whole : bytes ≡ flat_map (λ x. x ++ 10 ∷ []) finished ++ rest
@@ -47,13 +47,13 @@ pub record TakesOn {S E : Type 0} (g : Ghosts S) (settings : Settings) (old : Wo
       → MatchResult result (λ _. Stands g settings first (past ++ bytes) new kept' (text ++ sent))
       (λ _. (more : Text) → AnswersCutShort g settings first (finished_lines ((past ++ bytes) ++ more)) (text ++ sent) new)
 
--- of the bytes all but this rest were sent
+-- all of the bytes but this rest were sent
 pub record SentUpTo (bytes rest : Text) (before after : Option Text) : Type 0 where
   pub part : Text
   pub of_bytes : bytes ≡ part ++ rest
   pub appended : Appends before after part
 
--- of the bytes a front was sent, the whole where `whole` is true
+-- a front of the bytes was sent, the whole if `whole` is true
 pub record FrontSent (bytes : Text) (before after : Option Text) (whole : Bool) : Type 0 where
   pub part : Text
   pub unsent : Text
@@ -61,7 +61,7 @@ pub record FrontSent (bytes : Text) (before after : Option Text) (whole : Bool) 
   pub all_sent : whole ≡ true → unsent ≡ []
   pub appended : Appends before after part
 
--- a line was answered, and of its answer a front was sent
+-- a line was answered, and a front of its answer was sent
 pub record LineSent {S : Type 0} (g : Ghosts S) (settings : Settings) (old : World) (line : Text) (new : World) (before after : Option Text) (whole : Bool) : Type 0 where
   pub answer : Text
   pub answered : LineAnswered g settings old line answer new

@@ -19,11 +19,11 @@ calls_of w = w.calls
 abbrev pub stalls_of : {T : Type 0} → Watched T → ℕ
 stalls_of w = w.stalls
 
--- so many more, up to `u64::MAX`
+-- this many more, up to `u64::MAX`
 abbrev pub counted_on : ℕ → ℕ → ℕ
 counted_on count more = min (count + more) (2 ^ 64 - 1)
 
--- whether a write took none of these bytes, where there are some
+-- whether a write took none of these bytes, if there are any
 abbrev pub is_stall : {E : Type 0} → List ℕ → Result ℕ E → Bool
 is_stall bytes (Ok n) = nat_lt 0 (length bytes) && n == 0
 is_stall bytes (Err e) = false

@@ -54,7 +54,7 @@ shown_character c = if is_escaped c then 92 ∷ hex_digit (c / 16) ∷ hex_digit
 abbrev pub shown : Text → Text
 shown text = flat_map shown_character text
 
--- the lines of an output, and the rest that no line end ends, of which an empty one is not shown
+-- the lines of an output, and the rest, which no line end ends, and which is not shown if it is empty
 abbrev pub output_text : Text → List Text → Text
 output_text terminal [] = []
 output_text terminal ([] ∷ []) = []
@@ -93,7 +93,7 @@ lines_served settings world [] = []
 lines_served settings world (line ∷ more) =
     (line_served settings world (classify line)).0 ++ lines_served settings (line_served settings world (classify line)).1 more
 
--- The bytes that answer a stream over some globals, by normal steps. A line feed ends a line and takes a carriage return just before it with it;
+-- The bytes that answer a stream over some globals, by normal steps. A line feed ends a line, and a carriage return just before it goes with it;
 -- an unfinished last line counts, and keeps its carriage return.
 abbrev pub stream_served : Settings → Globals → Text → Text
 stream_served settings globals bytes = lines_served settings (opening globals) (lines bytes)
@@ -109,7 +109,7 @@ abbrev pub events_of : List Text → List Event
 events_of [] = []
 events_of (line ∷ more) = before_events (classify line) (events_of more)
 
--- the texts between the line feeds, of which no line feed ends the last
+-- the texts between the line feeds; no line feed ends the last of them
 abbrev pub parts_of : Text → List Text
 parts_of bytes = slice_split (λ b. b == 10) bytes
 

@@ -27,17 +27,17 @@ pub record HasLine (e : Event) : Type 0 where
   pub no_feed : IsOpen e.text
   pub no_return : strip_carriage_return e.text ≡ e.text
 
--- the lines of such events, a line feed behind each, are a stream that has exactly these events
+-- the lines of such events, each followed by a line feed, are a stream that has exactly these events
 abbrev pub EventsHaveStream : Type 0
 EventsHaveStream = (events : List Event) → All HasLine events → events_of (lines (flat_map (λ e. line_of e ++ 10 ∷ []) events)) ≡ events
 
--- Where memory and the store sufficed for each line, the bytes that answer lines are those of the definitional interpreter,
+-- If memory and the store sufficed for each line, the bytes that answer lines are those of the definitional interpreter,
 -- and it leaves the same world
 abbrev pub NormalAnswersAreServed : {S : Type 0} → Ghosts S → Type 0
 NormalAnswersAreServed g = (settings : Settings) (world after : World) (all : List Text) (bytes : Text) (answers : LinesAnswered g settings world all bytes after)
     → NoneFailed answers.trace → (bytes ≡ lines_served settings world all) × (after ≡ world_after settings world (events_of all))
 
--- so what answers a whole stream, from an opening world, is told by the settings, the globals and the stream alone
+-- so what answers a whole stream, from an opening world, is determined by the settings, the globals and the stream alone
 abbrev pub NormalStreamsAreServed : {S : Type 0} → Ghosts S → Type 0
 NormalStreamsAreServed g = (settings : Settings) (globals : Globals) (after : World) (stream bytes : Text) (answers : LinesAnswered g settings (opening globals) (lines stream) bytes after)
     → NoneFailed answers.trace → bytes ≡ stream_served settings globals stream

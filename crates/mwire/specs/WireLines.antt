@@ -18,6 +18,6 @@ wire_line_in (CodeRuns terminal text) = Runs (record { terminal = terminal; text
 abbrev pub terminal_read : Text → Option ℕ
 terminal_read digits = if is_terminal digits then Some (digits_after 0 digits) else None
 
--- where the first space of a line stands
+-- where the first space of a line is
 abbrev pub space_read : Text → Option ℕ
 space_read line = if nat_lt (position_or_len is_space line) (length line) then Some (position_or_len is_space line) else None

@@ -13,15 +13,15 @@ use mworld::World;
 use std::alloc::Global;
 use std::io::Write;
 
-/// Accepts so many connections, one after the other, and answers the lines of each to its end before the next is accepted. Sessions,
-/// locks and globals last over connections.
+/// Accepts `count` connections, one after the other, and answers the lines of each to its end before the next is accepted. Sessions,
+/// locks and globals last from one connection to the next.
 ///
-/// A fault of a connection ends that one alone: `errors` gets the line `mserve: connection K: W`, with K counted from 1 and W the fault of
-/// `serve`, and the world stands after the lines that were run. A fault in writing to `errors` is passed over.
+/// A fault of a connection ends that connection alone: `errors` gets the line `mserve: connection K: W`, with K counted from 1 and W the
+/// fault of `serve`, and the world is the one after the lines that were run. A fault in writing to `errors` is passed over.
 ///
 /// # Errors
 ///
-/// Only where accepting failed: the connections before it are served.
+/// Only if accepting a connection failed: the connections before it are served.
 pub fn serve_each<S: NodeStore, L: Listener, E: Write>(
     alloc: Global,
     world: &mut World<S>,
@@ -41,7 +41,7 @@ pub fn serve_each<S: NodeStore, L: Listener, E: Write>(
     Ok(())
 }
 
-// Accepts a connection, of this number, and answers its lines.
+// Accepts the connection of this number, and answers its lines.
 fn serve_next<S: NodeStore, L: Listener, E: Write>(
     alloc: Global,
     world: &mut World<S>,
@@ -65,7 +65,7 @@ fn serve_next<S: NodeStore, L: Listener, E: Write>(
     Ok(())
 }
 
-// Tells of a connection that ended by a fault.
+// Reports a connection that ended by a fault.
 fn report<E: Write>(errors: &mut E, number: u32, outcome: &Result<(), WireFault>) {
     if let Err(fault) = outcome {
         let _ = writeln!(errors, "mserve: connection {number}: {fault}");

@@ -17,9 +17,9 @@ use std::io::Read;
 
 /// The events of a stream's lines, to its end. Lines that are empty, too long or not readable are left out.
 ///
-/// It answers `Read` where a read failed or there were 1,000,000,000 reads, and `Memory` for want of memory; the events so
-/// far are then gone, and the reader stands where the last read left it. The condition: no call of the reader has failed yet,
-/// which `failed` tells. There are never more than 1,000,000,000 reads.
+/// It answers `Read` if a read failed or there were 1,000,000,000 reads, and `Memory` if it runs out of memory. The events so
+/// far are then gone, and the reader is where the last read left it. The condition: no call of the reader has failed yet, as
+/// `failed` says. There are never more than 1,000,000,000 reads.
 pub fn read_events<R: Read>(alloc: Global, reader: &mut Watched<R>) -> Result<Vec<Event>, WireFault>
     requires { failed_of reader.old ≡ false }
     ensures reads { ReadsEvents (λ events. map event_of events.items) (R.remaining (inner_of reader.old)) (R.remaining (inner_of reader.new)) result }

@@ -11,7 +11,7 @@ pub enum WireFault {
     /// A write failed, or took nothing.
     #[error("Write")]
     Write,
-    /// Want of memory.
+    /// Out of memory.
     #[error("Memory")]
     Memory,
 }

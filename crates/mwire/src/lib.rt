@@ -1,9 +1,9 @@
 // SPDX-License-Identifier: Apache-2.0
 //! The wire: a stream of bytes in, the replies out.
 //!
-//! A line feed ends a line, and takes a carriage return just before it with it; an unfinished last line counts. A line is a
-//! terminal, 1 to 9999, a space and a text, which is run and answered before the next line is. Connections are served one after
-//! another, of any listener that hands out their readers and writers.
+//! A line feed ends a line, and a carriage return just before it goes with it; an unfinished last line counts. A line is a
+//! terminal, 1 to 9999, a space and a text, which is run and answered before the next line is. The connections of any listener
+//! that hands out their readers and writers are served one after another.
 #![tactic(auto)]
 
 mod connections;

@@ -6,7 +6,7 @@ ghost use Rattle.std.specs.Str.Lines.{strip_carriage_return};
 use arrayvec::ArrayVec;
 use std::marker::Model;
 
-// A line of the most bytes, a carriage return, and a byte more, which tells that the line is longer.
+// A line of the most bytes, a carriage return, and one more byte, which shows that the line is longer.
 const KEPT: usize = 262;
 
 /// The front of a line that is not finished: as much of it as decides what becomes of the line. It takes no memory.
@@ -14,7 +14,7 @@ pub struct LineBuffer {
     bytes: ArrayVec<u8, KEPT>,
 }
 
-// Written out, so that to let go of it is one call, which is proved once.
+// Written out, so that dropping it is one call, which is proved once.
 impl Drop for LineBuffer {
     fn drop(self) {
         let LineBuffer { bytes: _ } = self;
@@ -53,14 +53,14 @@ impl LineBuffer {
         }
     }
 
-    /// The line as it stands, where no line feed ends it.
+    /// The line as it is, if no line feed ends it.
     pub fn unfinished(&self) -> &[u8]
         ensures { result.now ≡ self.now }
     {
         self.bytes.as_slice()
     }
 
-    /// The line where a line feed ends it, which takes a carriage return just before it with it.
+    /// The line if a line feed ends it: a carriage return just before the line feed goes with it.
     pub fn finished(&self) -> &[u8]
         ensures { result.now ≡ strip_carriage_return self.now }
     {

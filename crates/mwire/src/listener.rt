@@ -8,7 +8,7 @@ use std::io::{Read, Write};
 
 /// Where peers connect, one after another.
 ///
-/// What is said of the peers holds where the listener's type `tells` who comes, a fact that contracts alone see: it is true of peers in
+/// What is said of the peers holds if the listener's type `tells` who comes, a fact that only contracts see. It is true of peers in
 /// memory, and not claimed of sockets.
 pub trait Listener {
     type Reader: Read;
@@ -27,7 +27,7 @@ pub trait Listener {
     ///
     /// # Errors
     ///
-    /// Where no connection can be had: of peers that are told, where nobody waits.
+    /// If no connection can be had: if the type `tells` who comes, that is when nobody waits.
     fn accept(&mut self) -> Result<(Self::Reader, Self::Writer), AcceptFault>
         ensures came { tells → IfOk result (λ c. map Some (waiting self.old) ≡ Self.Reader.remaining c.0 ∷ map Some (waiting self.new)) }
         ensures fresh { tells → IfOk result (λ c. Self.Writer.contents c.1 ≡ Some []) }

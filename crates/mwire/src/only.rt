@@ -18,18 +18,18 @@ use mworld::{Told, World, isolated_replies};
 use std::alloc::Global;
 use std::io::{Read, Write};
 
-/// Reads a stream to its end, runs its lines, and writes the replies at the terminals of one account of the world's settings. It tells
-/// whether no line of an account that reaches this one was answered ZMEM or ZSTORE; then the replies are those that the account is
-/// told where there is nothing but the accounts that reach it, as `isolated_replies` says.
+/// Reads a stream to its end, runs its lines, and writes the replies at the terminals of one account of the world's settings. It
+/// returns whether no line of an account that reaches this one was answered ZMEM or ZSTORE. If none was, the replies are those
+/// that the account is told where there is nothing but the accounts that reach it, as `isolated_replies` says.
 ///
 /// The faults:
 /// - `Read`: a read failed, or there were 1,000,000,000 reads. No line is run.
-/// - `Write`: a write failed, or took nothing. A write that took nothing before this call doesn't count. All lines are run, and of the
-///   replies' bytes a front is written.
-/// - `Memory`: want of memory for the lines, for what is told, or for a reply's bytes. Some first lines are run, and nothing is written; or
-///   all lines are, and of the replies' bytes a front is written.
+/// - `Write`: a write failed, or took nothing. A write that took nothing before this call doesn't count. All lines are run, and
+///   a front of the replies' bytes is written.
+/// - `Memory`: out of memory for the lines, for what is told, or for a reply's bytes. Either some first lines are run, and nothing is
+///   written; or all lines are run, and a front of the replies' bytes is written.
 ///
-/// The condition: no call of the reader or the writer has failed yet, which `failed` tells.
+/// The condition: no call of the reader or the writer has failed yet, as `failed` says.
 pub fn serve_only<S: NodeStore, R: Read, W: Write>(
     alloc: Global,
     world: &mut World<S>,
@@ -44,7 +44,7 @@ pub fn serve_only<S: NodeStore, R: Read, W: Write>(
     ensures settings { settings_of world.new ≡ settings_of world.old }
     ensures most { calls_of reader.new ≤ calls_of reader.old + 1000000000 }
 
-    // A fault of a device is answered only where the device failed in this call.
+    // A fault of a device is answered only if the device failed in this call.
     ensures read { result ≡ Err WireFault.Read → ReadFailed reader.old reader.new }
     ensures write { result ≡ Err WireFault.Write → WriteFailed writer.old writer.new }
     ensures reader_works { result ≢ Err WireFault.Read → failed_of reader.new ≡ false }
@@ -82,7 +82,7 @@ fn write_replies<W: Write>(
     Ok(())
 }
 
-// Writes a reply. The room is for its bytes, and is taken along from reply to reply.
+// Writes a reply. `room` is the buffer for its bytes, and is passed on from reply to reply.
 fn write_reply<W: Write>(
     room: &mut Vec<u8>,
     told: &Told,

@@ -9,7 +9,7 @@ use std::alloc::{AllocError, Global};
 use std::collections::VecDeque;
 use std::io::Cursor;
 
-/// Peers in memory, who connect one after another: what each that still waits sends, and what each that went was answered.
+/// Peers in memory, who connect one after another: what each peer that still waits sends, and what each peer that went was answered.
 pub struct Peers {
     alloc: Global,
     waiting: VecDeque<Vec<u8>>,
@@ -17,7 +17,7 @@ pub struct Peers {
     ghost room: { vec_len answered + deque_len waiting ≤ vec_capacity answered },
 }
 
-// Written out, so that to let go of it is one call, which is proved once.
+// Written out, so that dropping it is one call, which is proved once.
 impl Drop for Peers {
     fn drop(self) {
         let Peers {
@@ -33,7 +33,7 @@ impl Peers {
     ///
     /// # Errors
     ///
-    /// For want of memory for their answers.
+    /// Out of memory for their answers.
     pub fn new(alloc: Global, waiting: VecDeque<Vec<u8>>) -> Result<Peers, AllocError>
         ensures waiting { IfOk result (λ peers. ⟦<Peers as Listener>⟧.waiting peers ≡ map (λ sent. sent.items) waiting.items) }
         ensures answered { IfOk result (λ peers. ⟦<Peers as Listener>⟧.answered peers ≡ []) }
@@ -75,7 +75,7 @@ impl Listener for Peers {
     }
 
     fn close(&mut self, _reader: Cursor<Vec<u8>>, writer: Vec<u8>) {
-        // there is room, since the answers of those who wait have room too
+        // there is space, since the answers of those who wait have space too
         let _ = self.answered.push(writer);
     }
 }

@@ -13,7 +13,7 @@ use std::alloc::{AllocError, Global};
 
 /// Appends the bytes that show a terminal's reply: its output, line by line, and how it ended.
 ///
-/// For want of memory it answers an error, and `out` is as before.
+/// If memory runs out, it answers an error, and `out` is as before.
 pub fn push_reply(out: &mut Vec<u8>, terminal: u32, reply: &Reply) -> Result<(), AllocError>
     ensures ok { OnOk result (out.new.items ≡ out.old.items ++ reply_text terminal (reply_of reply.now)) }
     ensures err { OnErr result (out.new.items ≡ out.old.items) }
@@ -31,7 +31,7 @@ pub fn reply_bytes(alloc: Global, terminal: u32, reply: &Reply) -> Result<Vec<u8
     Ok(bytes)
 }
 
-// Appends them. For want of memory `out` has a front of them too.
+// Appends them. If memory runs out, `out` has a front of them too.
 pub(crate) fn push_bytes(out: &mut Vec<u8>, terminal: u32, reply: &Reply) -> Result<(), AllocError>
     ensures { OnOk result (out.new.items ≡ out.old.items ++ reply_text terminal (reply_of reply.now)) }
 {
@@ -44,7 +44,7 @@ pub(crate) fn push_bytes(out: &mut Vec<u8>, terminal: u32, reply: &Reply) -> Res
     Ok(())
 }
 
-// Appends the lines of an output, and the rest that no line end ends, unless it is empty.
+// Appends the lines of an output, and the rest, which no line end ends, unless it is empty.
 fn push_output(out: &mut Vec<u8>, digits: &[u8], output: &[u8]) -> Result<(), AllocError>
     ensures { OnOk result (out.new.items ≡ out.old.items ++ output_text digits.now (slice_split is_line_end output.now)) }
 {
@@ -61,7 +61,7 @@ fn push_output(out: &mut Vec<u8>, digits: &[u8], output: &[u8]) -> Result<(), Al
     push_line(out, digits, b'-', rest)
 }
 
-// What comes behind the end of a line.
+// What comes after the end of a line.
 fn behind(output: &[u8], end: usize) -> &[u8]
     requires { end < length output.now }
     ensures { result.now ≡ drop (end + 1) output.now }

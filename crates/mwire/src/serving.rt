@@ -17,19 +17,19 @@ use mworld::{Reply, World};
 use std::alloc::Global;
 use std::io::{Read, Write};
 
-/// Runs the lines of a stream, to its end, and writes their replies: each one whole before the next line is run. Where the store is
+/// Runs the lines of a stream, to its end, and writes their replies: each one whole before the next line is run. If the store is
 /// sound, each line is a transition of the definitions, by the world's settings; over a steady store no line is answered ZSTORE.
 ///
 /// The faults:
 /// - `Read`: a read failed, or there were 1,000,000,000 reads. The lines that a line feed ended are run and answered, and no other.
 /// - `Write`: a write failed, or took nothing. A write that took nothing before this call doesn't count.
-/// - `Memory`: want of memory for a reply's bytes.
+/// - `Memory`: out of memory for a reply's bytes.
 ///
-/// After `Write` and `Memory` the lines up to some last one are run, which a line feed or the stream's end ended. The replies of
-/// all but the last are written whole, and of the last one's a front. After each fault the world stands after the lines that were
-/// run. There are never more than 1,000,000,000 reads.
+/// After `Write` and `Memory`, the lines up to some last one are run, which a line feed or the stream's end ended. The replies of
+/// all but the last are written whole, and a front of the last one's. After each fault the world is the one after the lines that
+/// were run. There are never more than 1,000,000,000 reads.
 ///
-/// The condition: no call of the reader or the writer has failed yet, which `failed` tells.
+/// The condition: no call of the reader or the writer has failed yet, as `failed` says.
 pub fn serve<S: NodeStore, R: Read, W: Write>(
     alloc: Global,
     world: &mut World<S>,
@@ -44,7 +44,7 @@ pub fn serve<S: NodeStore, R: Read, W: Write>(
     ensures settings { settings_of world.new ≡ settings_of world.old }
     ensures most { calls_of reader.new ≤ calls_of reader.old + 1000000000 }
 
-    // A fault of a device is answered only where the device failed in this call.
+    // A fault of a device is answered only if the device failed in this call.
     ensures read { result ≡ Err WireFault.Read → ReadFailed reader.old reader.new }
     ensures write { result ≡ Err WireFault.Write → WriteFailed writer.old writer.new }
     ensures reader_works { result ≢ Err WireFault.Read → failed_of reader.new ≡ false }
@@ -113,7 +113,7 @@ fn take_byte<S: NodeStore, W: Write>(
     result
 }
 
-// Runs a line and writes its answer. The room is for the answer's bytes, and is taken along from line to line.
+// Runs a line and writes its answer. `room` is the buffer for the answer's bytes, and is passed on from line to line.
 fn answer_line<S: NodeStore, W: Write>(
     room: &mut Vec<u8>,
     world: &mut World<S>,
@@ -141,7 +141,7 @@ fn answer_line<S: NodeStore, W: Write>(
     }
 }
 
-// Puts the bytes that show a reply into the room, in the place of what it had.
+// Puts the bytes that show a reply into `room`, in place of what it had.
 pub(crate) fn show_reply(room: &mut Vec<u8>, terminal: u32, reply: &Reply) -> Result<(), WireFault>
     ensures ok { OnOk result (room.new.items ≡ reply_text terminal (reply_of reply.now)) }
     ensures fault { IfErr result (λ e. e ≡ WireFault.Memory) }

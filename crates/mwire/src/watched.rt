@@ -97,7 +97,7 @@ impl<W: Write> Write for Watched<W> {
     }
 }
 
-// Whether a write took none of these bytes, where there are some.
+// Whether a write took none of these bytes, if there are any.
 fn is_stall(bytes: &[u8], answer: &io::Result<usize>) -> bool
     ensures { result ≡ is_stall bytes.now answer.now }
 {

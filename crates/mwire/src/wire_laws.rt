@@ -4,18 +4,18 @@ ghost use Rattle.mwire.specs.WireLaws.{EventsHaveStream, NormalAnswersAreServed,
 
 use mstore::NodeStore;
 
-/// Any events of terminals from 1 to 9999 have a stream, where their texts are not too long, have no line feed and do not end in a
-/// carriage return: their lines, a line feed behind each.
+/// Any events of terminals from 1 to 9999 have a stream, if their texts are not too long, have no line feed and do not end in a
+/// carriage return: their lines, each followed by a line feed.
 pub fn events_have_stream()
     ensures { EventsHaveStream }
 {}
 
-/// Over a sound store, where no reply is a failure, lines are answered as the definitional interpreter answers them, by any settings.
+/// Over a sound store, if no reply is a failure, lines are answered as the definitional interpreter answers them, by any settings.
 pub fn normal_answers_are_served<S: NodeStore>()
     ensures { S.sound → NormalAnswersAreServed S.NodeStore }
 {}
 
-/// Over a sound store, where no reply is a failure, a stream is answered from an opening world as the definitional interpreter answers
+/// Over a sound store, if no reply is a failure, a stream is answered from an opening world as the definitional interpreter answers
 /// it, by any settings.
 pub fn normal_streams_are_served<S: NodeStore>()
     ensures { S.sound → NormalStreamsAreServed S.NodeStore }

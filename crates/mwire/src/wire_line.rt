@@ -19,7 +19,7 @@ pub enum WireLine<'a> {
     Runs(u32, &'a [u8]),
 }
 
-/// What becomes of a line, which comes without its line feed and the carriage return before that.
+/// What becomes of a line, which is given without its line feed and the carriage return before that.
 pub fn classify(line: &[u8]) -> WireLine<'_>
     ensures { wire_line_in result ≡ classify line.now }
 {
@@ -38,14 +38,14 @@ pub fn classify(line: &[u8]) -> WireLine<'_>
     }
 }
 
-// Where the first space stands.
+// Where the first space is.
 fn first_space(line: &[u8]) -> Option<usize>
     ensures { result ≡ space_read line.now }
 {
     line.iter().position(|b| *b == b' ')
 }
 
-// The terminal that these bytes name, if they do.
+// The terminal that these bytes name, if they name one.
 fn terminal_of(digits: &[u8]) -> Option<u32>
     ensures { result ≡ terminal_read digits.now }
 {

@@ -100,7 +100,7 @@ module _ {S : Type 0} (g : Ghosts S) (settings : Settings) (e : Event) (place : 
           ∙ ended_by b g.steady e.terminal world (text_run (name_at settings place) (line_at e.text)) here reply.ending there ends fine
           ∙ ap (λ (s : World). (reply_of reply, s)) (sym stored)
 
-  -- one that is lost, also where it was run to its end: what it left of its session is gone
+  -- one that is lost, even if it was run to its end: what it left of its session is gone
   pub lost_transition : (after : World) (answer : transition.Reply) (loss : spec.Loss) → after ≡ record { shared = shared g store' (released locks' e.terminal); sessions = remove sessions e.terminal } → answer ≡ lost (Faulted (Lost loss)) → Transition settings e answer world after
   lost_transition after answer loss gone is = subst (λ r. Transition settings e r world after) (sym is) (refl, failed)
     where
@@ -172,7 +172,7 @@ ran_over {g = g} {text = text} {old = old} {new = new} {ended = ended} runs step
       (runs.at sound);
 }
 
--- a text that was not run for want of memory
+-- a text that was not run because memory ran out
 pub not_run : {S : Type 0} {g : Ghosts S} {settings : Settings} {terminal place : ℕ} {text : Text} {session session' : Session} {store store' : S} {locks locks' : Locks} {reply : Reply} → reply.ending ≡ Fault Zmem → store' ≡ store → locks' ≡ locks
     → Ran g settings terminal place text session store locks reply session' store' locks'
 not_run {g = g} {settings = settings} {terminal = terminal} {place = place} {text = text} {session = session} {session' = session'} {store = store} {store' = store'} {locks = locks} {locks' = locks'} {reply = reply} is same unlocked = record {

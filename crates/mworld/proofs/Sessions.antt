@@ -24,7 +24,7 @@ module _ {V : Type 0} (m : FinMap nat_cmp V) (k : ℕ) where
       get-remove nat_cmp_total (insert m k v) k q ∙ ap (cond (is_eq (nat_cmp q k)) None) (get-insert nat_cmp_total m k v q)
       ∙ twice (is_eq (nat_cmp q k)) (Some v) (get m q) ∙ sym (get-remove nat_cmp_total m k q))
 
-  -- where there is nothing, nothing is taken away
+  -- if there is nothing, nothing is taken away
   pub remove-none : get m k ≡ None → remove m k ≡ m
   remove-none e = same_map nat_cmp_total nat_cmp-IsAntisymmetric _ _ (λ q. get-remove nat_cmp_total m k q ∙ by_test q (is_eq (nat_cmp q k)) (λ is. nat_cmp-IsAntisymmetric q k (equal_of (nat_cmp q k) is)))
     where
@@ -51,7 +51,7 @@ module _ {H : Type 0} (m : HashMap ℕ Session H) where
 
 module _ {H : Type 0} (sessions : FinMap nat_cmp transition.Session) (t : ℕ) (m : HashMap ℕ Session H) (others : remove (hash_map_of {R = nat_cmp} session_of m) t ≡ remove sessions t) (there : IsSome (hash.get nat_eq m t))
     (lender : Session → HashMap ℕ Session H) (holds : (w : Session) → WritesThrough nat_eq (nat_eq t) m w (lender w)) where
-  -- the session as the line left it stands in place of what was there
+  -- the session as the line left it is in place of what was there
   pub left : (w : Session) → hash_map_of {R = nat_cmp} session_of (lender w) ≡ insert sessions t (session_of w)
   left w =
       put_at m (lender w) t w ((holds w).3 there)
@@ -59,7 +59,7 @@ module _ {H : Type 0} (sessions : FinMap nat_cmp transition.Session) (t : ℕ) (
       ∙ ap (λ s. insert s t (session_of w)) others
       ∙ insert-remove nat_cmp_total nat_cmp-IsAntisymmetric sessions t (session_of w)
 
-  -- and where it is taken away, nothing is left of it
+  -- and if it is taken away, nothing is left of it
   pub gone : (w : Session) → remove (hash_map_of {R = nat_cmp} session_of (lender w)) t ≡ remove sessions t
   gone w = ap (λ s. remove s t) (left w) ∙ remove-insert sessions t (session_of w)
 

@@ -114,7 +114,7 @@ pub take_on : {X Y : Type 0} (f : X → Y) (xs : List X) (i : ℕ) (x : X) → i
 take_on f xs i x within is = ap (map f) (take_more xs i x within ∙ ap (λ y. take i xs ++ y ∷ []) (sym is)) ∙ map-append f (take i xs) (x ∷ [])
 
 module _ {X : Type 0} (f : X → Event) (xs : List X) (i : ℕ) (x : X) (a : Text) (settings : Settings) (world between after : World) (told : List Told) (whole : Bool) where
-  -- where a run ends early
+  -- if a run ends early
   pub ran_first : i < length xs → x ≡ get_or xs i x → Tells a settings world (map f (take i xs)) told whole between → (reply : Reply) × Transition settings (f x) reply between after → RanFirst settings world (map f xs) after
   ran_first within is h more = record {
     count = i + 1;

@@ -25,7 +25,7 @@ abbrev pub replies_of : Isolated → List telling.Told
 replies_of i = map told_of i.replies.items
 
 -- These are the replies at the account's terminals of a history of all the events, from the old world to the new; and it is whole
--- exactly where no transition failed in it at a terminal of an account that reaches this one. For every closed set that has the account they
+-- exactly if no transition failed in it at a terminal of an account that reaches this one. For every closed set that has the account they
 -- are those of the members' part of this history alone, from the one cut to the other: over the members' globals, sessions and locks,
 -- and the grants between them.
 pub record IsTold {S : Type 0} (g : Ghosts S) (old : World S g) (account : ℕ) (events : List transition.Event) (told : List telling.Told) (whole : Bool) (new : World S g) : Type 0 where
@@ -34,7 +34,7 @@ pub record IsTold {S : Type 0} (g : Ghosts S) (old : World S g) (account : ℕ) 
       (s : Accounts) → IsClosed (settings_of old) s → IsTrue (s (name_at (settings_of old) account)) →
       TellsPart s (name_at (settings_of old) account) (settings_of old) (world_of g old) events told whole (world_of g new) run.lines
 
--- Where it is whole, they are those of the definitional interpreter, run on the lines of the accounts that reach this one, over their
+-- If it is whole, they are those of the definitional interpreter, run on the lines of the accounts that reach this one, over their
 -- globals, their sessions and locks, and the grants between them alone.
 abbrev pub IsEquallyTold : {S : Type 0} (g : Ghosts S) → World S g → ℕ → List transition.Event → List telling.Told → Bool → Type 0
 IsEquallyTold g old account events told whole =
@@ -56,6 +56,6 @@ pub record RanFirst (settings : Settings) (world : transition.World) (events : L
   pub sent : events_of lines ≡ take count events
   pub history : History settings world lines after
 
--- no line failed here whose sender reaches the account
+-- no line whose sender reaches the account failed here
 abbrev pub IsUnseen : Settings → (sender a : Text) → transition.Reply → Type 0
 IsUnseen settings sender a reply = IsTrue (transition.is_failure reply.ending) → Reaches settings sender a → ⊥

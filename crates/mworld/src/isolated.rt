@@ -21,7 +21,7 @@ pub struct Told {
     pub reply: Reply,
 }
 
-// Written out, so that to let go of it is one call, which is proved once.
+// Written out, so that dropping it is one call, which is proved once.
 impl Drop for Told {
     fn drop(self) {
         let Told {
@@ -39,7 +39,7 @@ pub struct Isolated {
     pub whole: bool,
 }
 
-// Written out, so that to let go of it is one call, which is proved once.
+// Written out, so that dropping it is one call, which is proved once.
 impl Drop for Isolated {
     fn drop(self) {
         let Isolated {
@@ -51,18 +51,18 @@ impl Drop for Isolated {
 
 /// Runs the events in their order, and tells an account of the world's settings the replies at its terminals.
 ///
-/// **The account learns nothing of the accounts that do not reach it.** An account reaches another where a chain of grants leads there, a
-/// grant to write leading both ways. Over a sound store, where no line of an account that reaches this one was answered `Zmem` or
-/// `Zstore`, which `whole` says, the replies are those of the definitional interpreter run on the reaching accounts' lines, globals,
-/// sessions and locks, and the grants between them, alone: whatever other accounts store, lock, run or exhaust. Past such a line they
-/// are still those of these lines alone, with the replies that they got here, in which that line failed. So it is from any world. Over any
+/// **The account learns nothing of the accounts that do not reach it.** An account reaches another if a chain of grants leads there; a
+/// grant to write leads both ways. Over a sound store, if no line of an account that reaches this one was answered `Zmem` or `Zstore`,
+/// as `whole` says, the replies are those of the definitional interpreter run on the reaching accounts' lines, globals, sessions and
+/// locks, and the grants between them, alone: whatever other accounts store, lock, run or exhaust. After such a line they are still
+/// those of these lines alone, with the replies that they got here, in which that line failed. This holds from any world. Over any
 /// store they are replies to the account's events, one each and in their order.
 ///
 /// An id that names no account of the world's settings is told nothing.
 ///
 /// # Errors
 ///
-/// Want of memory for what is told. The world then stands after some first events, one transition each.
+/// Out of memory for what is told. The world is then the one after some first events, one transition each.
 pub fn isolated_replies<S: NodeStore>(
     alloc: Global,
     world: &mut World<S>,
@@ -126,7 +126,7 @@ fn tell<S: NodeStore>(
     Ok(())
 }
 
-// Whether a run is whole behind a line with this reply that the sender sent, where it was so before or not.
+// Whether a run is whole after a line with this reply that the sender sent, given whether it was whole before.
 fn is_whole_behind(
     alloc: Global,
     settings: &Settings,

@@ -14,7 +14,7 @@ use mstore::NodeStore;
 use std::alloc::Global;
 use std::mem::replace;
 
-// The room for an output, which is empty.
+// The buffer for an output, which is empty.
 fn taken(alloc: Global, room: &mut Vec<u8>) -> Vec<u8>
     ensures { result.items ≡ [] }
 {

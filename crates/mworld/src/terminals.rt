@@ -27,7 +27,7 @@ pub(crate) fn begin_session(
     put_session(alloc, sessions, terminal)
 }
 
-// Puts a new session where there is none. It stands apart, since a line of a terminal that has one shall not pay for its room.
+// Adds a new session where there is none. Kept out of line, so that a line of a terminal that has one does not pay for its stack frame.
 #[cold]
 #[inline(never)]
 fn put_session(

@@ -21,10 +21,10 @@ use std::collections::HashMap;
 // How many texts' trees a world keeps.
 const KEPT_TREES: usize = 256;
 
-/// The sessions and the locks of all terminals over a store, with the settings that say whose the terminals are. Contracts see it by
-/// `world_of`, as the world of the definitions, and by `settings_of`.
+/// The sessions and the locks of all terminals over a store, with the settings that say which account each terminal belongs to. Contracts
+/// see it through `world_of`, as the world of the definitions, and through `settings_of`.
 ///
-/// Of every world over a sound store it is known that each lock is on a name that its terminal's account may hold: one without `^` of its
+/// In every world over a sound store, each lock is known to be on a name that its terminal's account may hold: one without `^` of its
 /// own, or a global that it may write.
 pub struct World<S: NodeStore> {
     settings: Settings,
@@ -33,13 +33,13 @@ pub struct World<S: NodeStore> {
     store: S,
     // what lines of all accounts run with
     scratch: Scratch,
-    // room for the output of a line
+    // buffer for the output of a line
     room: Vec<u8>,
     alloc: Global,
     pub ghost fit: { S.sound → AreFit settings locks },
 }
 
-// Written out, so that to let go of it is one call, which is proved once.
+// Written out, so that dropping it is one call, which is proved once.
 impl<S: NodeStore + Drop> Drop for World<S> {
     fn drop(self) {
         let World {
@@ -65,12 +65,12 @@ impl<S: NodeStore> World<S> {
     ghost use Rattle.mworld.specs.View.{settings_of, world_of, reply_of};
     ghost use Rattle.mworld.specs.Admits.{Passes};
 
-    /// A world without a session and without a lock, over a store. It keeps the trees of texts that were run, of all accounts, of 256 texts at
-    /// most; which they are shows in no reply.
+    /// A world without a session and without a lock, over a store. It keeps the trees of at most 256 texts that were run, of all
+    /// accounts; no reply shows which they are.
     ///
     /// # Errors
     ///
-    /// The settings and the store are given back for want of memory.
+    /// The settings and the store are given back if memory runs out.
     pub fn new(alloc: Global, settings: Settings, store: S) -> Result<World<S>, (Settings, S)>
         ensures world { IfOk result (λ world. world_of S.NodeStore world ≡ opening (S.content store)) }
         ensures settings { IfOk result (λ world. settings_of world ≡ settings) }
@@ -79,11 +79,11 @@ impl<S: NodeStore> World<S> {
         World::with_entries(alloc, settings, store, KEPT_TREES)
     }
 
-    /// The same, which keeps the trees of so many texts at most.
+    /// The same, but it keeps the trees of at most `entries` texts.
     ///
     /// # Errors
     ///
-    /// The settings and the store are given back for want of memory.
+    /// The settings and the store are given back if memory runs out.
     pub fn with_entries(
         alloc: Global,
         settings: Settings,
@@ -132,15 +132,15 @@ impl<S: NodeStore> World<S> {
         left
     }
 
-    /// Runs a line of a terminal, to its end: one transition of the definitions, where the store is sound.
+    /// Runs a line of a terminal, to its end: one transition of the definitions, if the store is sound.
     ///
-    /// The reply says how it ended. `Zterm`, `Zline` and `Zchar` change nothing. After HALT the terminal's session and its locks are gone, and
-    /// so they are after `Zmem` and `Zstore`, when there is no output; these can come anywhere after the check for `Zchar`, and `Zstore` never
-    /// over a steady store.
+    /// The reply says how it ended. `Zterm`, `Zline` and `Zchar` change nothing. After HALT the terminal's session and its locks are gone. The
+    /// same happens after `Zmem` and `Zstore`, and then there is no output. These two can come anywhere after the check for `Zchar`, and
+    /// `Zstore` never over a steady store.
     ///
     /// **It keeps every closed set of accounts apart from the others.** At a member's terminal it is that transition over what is left where there
     /// is nothing but the set, with the same reply and the same writes; at any other terminal it leaves that as it was. The globals that
-    /// it leaves are the old ones after some first of the line's writes: after all, where it did not fail.
+    /// it leaves are the old ones after the line's writes up to some point: after all of them, if it did not fail.
     pub fn line(&mut self, terminal: u32, text: &[u8]) -> Reply
         ensures transition { S.sound → Transition (settings_of self.old) (record { terminal = terminal; text = text.now }) (reply_of result) (world_of S.NodeStore self.old) (world_of S.NodeStore self.new) }
         ensures writes { S.sound → TransitionWrites (settings_of self.old) (record { terminal = terminal; text = text.now }) (reply_of result) (world_of S.NodeStore self.old) (world_of S.NodeStore self.new) }
@@ -157,14 +157,14 @@ impl<S: NodeStore> World<S> {
         }
     }
 
-    // The settings that say whose the terminals are.
+    // The settings that say which account each terminal belongs to.
     pub(crate) fn settings(&self) -> &Settings
         ensures { result.now ≡ settings_of self.now }
     {
         &self.settings
     }
 
-    /// Takes the room of a reply back for the lines to come, so that they ask for none. Takes no memory.
+    /// Takes back the buffer of a reply for the lines to come, so that they ask for none. Takes no memory.
     pub fn reuse(&mut self, reply: Reply)
         ensures world { world_of S.NodeStore self.new ≡ world_of S.NodeStore self.old }
         ensures settings { settings_of self.new ≡ settings_of self.old }

@@ -7,11 +7,11 @@ use mtranscript::{key_of, play_each, text_of, texts_of, words_of};
 use std::alloc::Global;
 use std::cmp::Ordering;
 
-/// Of each case, a call with its arguments, what it gives.
+/// For each case, a call with its arguments, prints what it gives.
 ///
 /// # Errors
 ///
-/// If a case is no such call, and out of memory.
+/// If a case is not such a call, or if memory runs out.
 pub fn play_keys(alloc: Global, cases: &[&str], out: &mut Vec<u8>) -> anyhow::Result<()> {
     play_each(cases, out, |case| given(alloc, &words_of(alloc, case)?))
 }
@@ -83,7 +83,7 @@ fn digits_of(alloc: Global, bytes: &[u8]) -> anyhow::Result<Vec<u8>> {
     Ok(hex::encode(alloc, bytes)?.as_bytes().to_vec(alloc)?)
 }
 
-// Whether subscripts are taken, as by the test so for a key.
+// Whether subscripts are taken, both by the test and for a key.
 fn subscripts(alloc: Global, subs: &[&str]) -> anyhow::Result<Vec<u8>> {
     let subs = texts_of(alloc, subs)?;
     let (account, name) = (text_of(alloc, "A")?, text_of(alloc, "B")?);
@@ -109,7 +109,7 @@ fn names(alloc: Global, word: &str) -> anyhow::Result<Vec<u8>> {
     Ok(told.to_vec(alloc)?)
 }
 
-// How many pairs of texts, taken from a list, do not compare as their places.
+// How many pairs of texts, taken from a list, do not compare as their places do.
 fn order(alloc: Global, subs: &[&str]) -> anyhow::Result<Vec<u8>> {
     let texts = texts_of(alloc, subs)?;
     let mut wrong: u32 = 0;
@@ -124,7 +124,7 @@ fn order(alloc: Global, subs: &[&str]) -> anyhow::Result<Vec<u8>> {
     Ok(told.as_bytes().to_vec(alloc)?)
 }
 
-// How many beginnings of bytes are keys, and how many of what one changed byte makes of them.
+// How many beginnings of bytes are keys, and how many of the results of changing one byte are.
 fn changed(alloc: Global, bytes: &[u8]) -> anyhow::Result<Vec<u8>> {
     let mut prefixes: u32 = 0;
     for length in 0..=bytes.len() {

@@ -8,11 +8,11 @@ use mtranscript::{data_word, name_of, names_of, play, print_result, text_of, wor
 use mvalue::Value;
 use std::alloc::Global;
 
-/// Plays calls one after another over the same locals; what get, data, next and back give stands below them.
+/// Plays calls one after another over the same locals; what get, data, next and back give is printed below them.
 ///
 /// # Errors
 ///
-/// If a case is no such call, and out of memory.
+/// If a case is not such a call, or if memory runs out.
 pub fn play_locals(alloc: Global, cases: &[&str], out: &mut Vec<u8>) -> anyhow::Result<()> {
     let mut locals = Locals::new(alloc);
     play(cases, out, |case, out| {
@@ -79,7 +79,7 @@ fn number_of(alloc: Global, text: &str) -> anyhow::Result<Num> {
         .context("too large a number")
 }
 
-// The subscripts that words are, those behind a `#` as numbers.
+// The subscripts that words are, those after a `#` as numbers.
 fn subs_of(alloc: Global, words: &[&str]) -> anyhow::Result<Vec<Value>> {
     let mut subs = Vec::new(alloc);
     for word in words {
@@ -92,7 +92,7 @@ fn subs_of(alloc: Global, words: &[&str]) -> anyhow::Result<Vec<Value>> {
     Ok(subs)
 }
 
-// What is asked of a node, `none` where it has none.
+// What is asked of a node, or `none` if it has none.
 fn asked(
     locals: &Locals,
     alloc: Global,

@@ -5,13 +5,13 @@ use mlock::{LockName, Locks};
 use mtranscript::{key_of, play, print_result, text_of, texts_of, words_of};
 use std::alloc::Global;
 
-/// Plays calls one after another over the same locks; what take, held and fill give stands below them.
+/// Plays calls one after another over the same locks; what take, held and fill give is printed below them.
 ///
 /// A name is written with colons: `^ALICE:J:1` is J(1) of ALICE with `^`, and `ALICE:J` is J without it.
 ///
 /// # Errors
 ///
-/// If a case is no such call, and out of memory.
+/// If a case is not such a call, or if memory runs out.
 pub fn play_locks(alloc: Global, cases: &[&str], out: &mut Vec<u8>) -> anyhow::Result<()> {
     let mut locks = Locks::new(alloc);
     play(cases, out, |case, out| {
@@ -53,7 +53,7 @@ fn told(taken: bool) -> &'static [u8] {
     if taken { b"taken" } else { b"refused" }
 }
 
-// How many of so many takes answer true.
+// How many of `times` takes answer true.
 fn fill(locks: &mut Locks, terminal: u32, names: &[LockName], times: u32) -> anyhow::Result<u32> {
     let mut filled: u32 = 0;
     for _ in 0..times {

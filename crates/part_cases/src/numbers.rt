@@ -5,11 +5,11 @@ use mtranscript::{play_each, words_of};
 use std::alloc::Global;
 use std::cmp::Ordering;
 
-/// Of each case, a call with its arguments, what it gives.
+/// For each case, a call with its arguments, prints what it gives.
 ///
 /// # Errors
 ///
-/// If a case is no such call, and out of memory.
+/// If a case is not such a call, or if memory runs out.
 pub fn play_numbers(alloc: Global, cases: &[&str], out: &mut Vec<u8>) -> anyhow::Result<()> {
     play_each(cases, out, |case| given(alloc, &words_of(alloc, case)?))
 }
@@ -98,7 +98,7 @@ fn from_units(alloc: Global, count: &str) -> anyhow::Result<Vec<u8>> {
     }
 }
 
-// The number without its fraction, its text where it is a number again, and whether the number is true.
+// The number without its fraction, the text of that as a number again, and whether the number is true.
 fn whole(alloc: Global, text: &str) -> anyhow::Result<Vec<u8>> {
     let Ok(number) = number(text) else {
         return Ok(b"over".to_vec(alloc)?);

@@ -5,15 +5,15 @@ use mgrant::{AccountId, Mode, Settings, SettingsFault};
 use mtranscript::{bytes_of, play, print_result, push_numbered, words_of};
 use std::alloc::Global;
 
-/// Plays the calls of a block; what they give stands below them.
+/// Plays the calls of a block; what they give is printed below them.
 ///
-/// `line TEXT` adds a line to the block's document. `read` tells what it gives: `taken`, or the fault. `with OLD => NEW && OLD => NEW`
-/// tells that of the document with other texts, and `of BYTES` that of these bytes alone. `many 3 2` tells it of a document of
+/// `line TEXT` adds a line to the block's document. `read` says what it gives: `taken`, or the fault. `with OLD => NEW && OLD => NEW`
+/// says that for the document with other texts, and `of BYTES` for these bytes alone. `many 3 2` says it for a document of
 /// three accounts and two grants. The other calls ask the settings of the document.
 ///
 /// # Errors
 ///
-/// If a case is no such call, and out of memory.
+/// If a case is not such a call, or if memory runs out.
 pub fn play_settings(alloc: Global, cases: &[&str], out: &mut Vec<u8>) -> anyhow::Result<()> {
     let mut document = Vec::new(alloc);
     play(
@@ -64,7 +64,7 @@ fn changed(alloc: Global, document: &[u8], changes: &str) -> anyhow::Result<Vec<
     Ok(text)
 }
 
-// A text with a new part for each old one, of which there is to be one at least.
+// A text with a new part for each old one, of which there must be at least one.
 fn replaced(alloc: Global, text: &[u8], old: &[u8], new: &[u8]) -> anyhow::Result<Vec<u8>> {
     let mut out = Vec::new(alloc);
     let mut left_out: usize = 0;
@@ -84,7 +84,7 @@ fn replaced(alloc: Global, text: &[u8], old: &[u8], new: &[u8]) -> anyhow::Resul
     Ok(out)
 }
 
-// What the settings of the document, or a document of so many entries, answer.
+// What the settings of the document, or a document of this many entries, answer.
 fn answer(alloc: Global, document: &[u8], words: &[&str]) -> anyhow::Result<Vec<u8>> {
     match words {
         ["read"] => verdict(alloc, document),
@@ -99,7 +99,7 @@ fn answer(alloc: Global, document: &[u8], words: &[&str]) -> anyhow::Result<Vec<
     }
 }
 
-// What settings answer. An account is told by its name, and asked for by it; `-` stands for the empty name.
+// What settings answer. An account is printed by its name, and asked for by it; `-` stands for the empty name.
 fn asked(alloc: Global, settings: &Settings, words: &[&str]) -> anyhow::Result<Vec<u8>> {
     let told = match words {
         ["account_of", terminal] => return name(
@@ -163,7 +163,7 @@ const ACCOUNT: &[u8] = b"[[account]]\nname = \"A#\"\nterminals = []\nsteps = 1\n
 
 const GRANT: &[u8] = b"[[grant]]\nfrom = \"A0\"\nto = \"A1\"\nglobal = \"G#\"\nmode = \"read\"\n";
 
-// A document of so many accounts, and as many grants from the first one to the second.
+// A document of this many accounts, and this many grants from the first account to the second.
 fn many(alloc: Global, accounts: usize, grants: usize) -> anyhow::Result<Vec<u8>> {
     let mut text = Vec::new(alloc);
     for i in 0..accounts {

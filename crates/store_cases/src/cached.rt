@@ -18,13 +18,13 @@ const NODES: [&str; 14] = [
     "K 1 2",
 ];
 
-/// Plays calls on stores one after another over the plain store with texts of so many nodes in front of it. `entries` makes the store; `read`
-/// reads a node so many times. Behind each call it is told how many texts are kept, and how many were read of the store beneath. `drawn`
-/// makes so many drawn calls on a new store and on the plain one, and tells how many answers differ.
+/// Plays calls on stores one after another over the plain store with texts of a number of nodes in front of it. `entries` makes the store, with
+/// that number; `read` reads a node a number of times. After each call it prints how many texts are kept, and how many were read from the store
+/// beneath. `drawn` makes a number of drawn calls on a new store and on the plain one, and prints how many answers differ.
 ///
 /// # Errors
 ///
-/// If a case is no such call or a store fails, and out of memory.
+/// If a case is not such a call, if a store fails, or if memory runs out.
 pub fn play_cached(alloc: Global, cases: &[&str], out: &mut Vec<u8>) -> anyhow::Result<()> {
     let mut store = over_plain(alloc, 1)?;
     play(cases, out, |case, out| called(&mut store, alloc, case, out))
@@ -75,7 +75,7 @@ fn read(store: &mut OverPlain, key: &NodeKey, times: u64) -> anyhow::Result<()> 
     Ok(())
 }
 
-// How many of so many drawn calls are answered otherwise by a store with so many texts in front of it.
+// How many of `count` drawn calls are answered differently by a store with `entries` texts in front of it.
 fn differences(alloc: Global, seed: u64, count: u64, entries: usize) -> anyhow::Result<u64> {
     let mut plain = Plain::new(alloc);
     let mut store = over_plain(alloc, entries)?;

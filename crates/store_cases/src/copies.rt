@@ -13,12 +13,12 @@ use std::rc::Rc;
 // The lines of a routine, as they are shared.
 type Copy = Rc<Vec<Bytes7>>;
 
-/// Plays calls on stores one after another over a store that keeps copies. Of each copy that is asked for it is told how many lines it has, and how many
-/// hold it: the store, and all that had it as their answer, which is held to the end.
+/// Plays calls on stores one after another over a store that keeps copies. For each copy that is asked for it prints how many
+/// lines it has, and how many hold it: the store, and all that had it as their answer, which is held to the end.
 ///
 /// # Errors
 ///
-/// If a case is no such call or a store fails, and out of memory.
+/// If a case is not such a call, if a store fails, or if memory runs out.
 pub fn play_copies(alloc: Global, cases: &[&str], out: &mut Vec<u8>) -> anyhow::Result<()> {
     let mut store = RoutineCache::new(alloc, Plain::new(alloc));
     let mut answered = Vec::new(alloc);

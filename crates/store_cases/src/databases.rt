@@ -1,5 +1,5 @@
 // SPDX-License-Identifier: Apache-2.0
-// Databases that are there: which of them are tables of nodes, and why others are refused.
+// Databases that exist: which of them are tables of nodes, and why others are refused.
 use anyhow::Context;
 use mstore::Table;
 use mtranscript::{bytes_of, play, print_result};
@@ -11,7 +11,7 @@ use std::alloc::Global;
 ///
 /// # Errors
 ///
-/// If a case is no such call or a store fails, and out of memory.
+/// If a case is not such a call, if a store fails, or if memory runs out.
 pub fn play_database(alloc: Global, cases: &[&str], out: &mut Vec<u8>) -> anyhow::Result<()> {
     let mut conn = Connection::open_in_memory(alloc)?;
     play(cases, out, |case, _| {

@@ -15,12 +15,12 @@ const LOG: &str = "transcripts_drawn.db-wal";
 
 const WORDS: [&str; 10] = ["1", "2", "10", ".5", "-1", "A", "B", "AB", "01", "a"];
 
-/// Of each case, a seed and a count: how many answers of the plain store and of a table in memory, and of the plain store
-/// and of a table in a file, differ after so many drawn puts, and a kill for each sixteen of them, in so many drawn questions.
+/// For each case, a seed and a count, prints how many answers of the plain store and of a table in memory, and of the plain store
+/// and of a table in a file, differ: in `count` drawn questions, after `count` drawn puts, and a kill for each sixteen of them.
 ///
 /// # Errors
 ///
-/// If a case is no such call or a store fails, and out of memory.
+/// If a case is not such a call, if a store fails, or if memory runs out.
 pub fn play_drawn(rt: &HostRuntime, cases: &[&str], out: &mut Vec<u8>) -> anyhow::Result<()> {
     play(cases, out, |case, out| compared(rt, case, out))
 }

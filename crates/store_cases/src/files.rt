@@ -17,7 +17,7 @@ const LOG: &str = "transcripts_files.db-wal";
 ///
 /// # Errors
 ///
-/// If a case is no such call or a store fails, and out of memory.
+/// If a case is not such a call, if a store fails, or if memory runs out.
 pub fn play_files(rt: &HostRuntime, cases: &[&str], out: &mut Vec<u8>) -> anyhow::Result<()> {
     remove(rt, FILE, LOG);
     let played = play(cases, out, |case, out| call(rt, case, out));
@@ -50,7 +50,7 @@ fn write_row(rt: &HostRuntime, key: &str, value: &str) -> anyhow::Result<()> {
     Ok(())
 }
 
-// Puts a text at a node. The table is dropped and not closed, as where a process ends, so that its statements are in the log.
+// Puts a text at a node. The table is dropped and not closed, as when a process ends, so that its statements are in the log.
 fn put_unclosed(rt: &HostRuntime, subscript: &str, text: &str) -> anyhow::Result<()> {
     let mut table = FileTable::open(rt, FILE)?;
     let key = node(rt.alloc(), "D", &[subscript])?;

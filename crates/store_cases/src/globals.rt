@@ -28,7 +28,7 @@ fn values_of(alloc: Global, words: &[&str]) -> anyhow::Result<Vec<Value>> {
     Ok(values)
 }
 
-/// What $ORDER finds of a global of an account: `none` where there is nothing more. Of the subscripts the last may be empty.
+/// What $ORDER finds of a global of an account: `none` if there is nothing more. The last of the subscripts may be empty.
 pub fn order<S: NodeStore>(
     store: &mut S,
     alloc: Global,

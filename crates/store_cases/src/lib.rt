@@ -1,6 +1,6 @@
 // SPDX-License-Identifier: Apache-2.0
 //! Plays the cases of transcripts that call stores: the plain store, the table in memory and in a file,
-//! texts of nodes and copies of routines in front of a store, databases that are there already, which calls of the store
+//! texts of nodes and copies of routines in front of a store, databases that already exist, which calls of the store
 //! beneath a table are made, and files that stop while they are opened.
 //! `mtranscript` says what a case looks like.
 //!

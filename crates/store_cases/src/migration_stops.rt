@@ -1,5 +1,5 @@
 // SPDX-License-Identifier: Apache-2.0
-// Databases in two files in memory, of which one stops while the database is opened.
+// Databases in two files in memory, one of which stops while the database is opened.
 use anyhow::Context;
 use mstore::Table;
 use mtranscript::{bytes_of, play, print, print_result, print_results};
@@ -10,14 +10,14 @@ use std::alloc::Global;
 // More calls than a file is asked for while it is opened.
 const MOST: u64 = 100_000;
 
-// A file of the two.
+// One of the two files.
 #[derive(Clone, Copy)]
 enum Part {
     Log,
     Database,
 }
 
-// What the stores were that stops left.
+// What the stores that stops left were.
 #[derive(Default, Drop)]
 struct Left {
     old: bool,
@@ -43,7 +43,7 @@ impl Left {
     }
 }
 
-// How many stops of a file there were, and what they left, if all is lost that was not synced, and if nothing is.
+// How many stops of a file there were, and what they left, if all that was not synced is lost, and if nothing is.
 #[derive(Drop)]
 struct Stops {
     count: u64,
@@ -52,13 +52,13 @@ struct Stops {
 }
 
 /// Makes a database in two files in memory by the statements of the cases. Prints the version, the keys and the texts that it
-/// has once it was opened as a table. Then opens it anew, of each file with so many calls until the file stops, from none on until
-/// the table is opened; and tells of the stores that were found then, whether they held what was there at first, or what the
-/// table holds; once with all bytes that were not synced lost, and once with none.
+/// has once it was opened as a table. Then opens it anew for each file, which stops after a number of calls: from none on, until
+/// the table is opened. Prints of the stores that were found then whether they held what was there at first, or what the table
+/// holds: once with all bytes lost that were not synced, and once with none lost.
 ///
 /// # Errors
 ///
-/// If a case is no statement, a store fails that does not stop, or there is no stop, and out of memory.
+/// If a case is not a statement, if a store that does not stop fails, if there is no stop, or if memory runs out.
 pub fn play_migration_stops(
     alloc: Global,
     cases: &[&str],
@@ -80,7 +80,7 @@ pub fn play_migration_stops(
     Ok(())
 }
 
-// Tells what the stores were that stops of a file left.
+// Prints what the stores that stops of a file left were.
 fn tell(alloc: Global, part: Part, stops: &Stops, out: &mut Vec<u8>) -> anyhow::Result<()> {
     let file = match part {
         Part::Log => "log",
@@ -178,7 +178,7 @@ fn run<S: Alter>(alloc: Global, conn: &mut Connection<S>, case: &str) -> anyhow:
     Ok(())
 }
 
-// Opens a database as a table, where a file stops after so many calls. Gives the files back with no further call, and tells whether
+// Opens a database as a table, of which a file stops after `calls` calls. Gives the files back with no further call, and returns whether
 // the table was opened.
 fn opened(
     alloc: Global,
@@ -228,7 +228,7 @@ fn copy(alloc: Global, bytes: &[u8]) -> anyhow::Result<Memory> {
     Ok(file)
 }
 
-// What the files hold if all is lost that was not synced, before and after they are opened as a table.
+// What the files hold if all that was not synced is lost, before and after they are opened as a table.
 fn crashed(alloc: Global, mut files: Files<Fuse<Memory>>) -> anyhow::Result<(Vec<u8>, Vec<u8>)> {
     files.log.crash();
     files.db.crash();

@@ -17,7 +17,7 @@ use std::rc::Rc;
 ///
 /// # Errors
 ///
-/// If a case is no such call or a store fails, and out of memory.
+/// If a case is not such a call, if a store fails, or if memory runs out.
 pub fn play_reached(alloc: Global, cases: &[&str], out: &mut Vec<u8>) -> anyhow::Result<()> {
     let calls = Rc::new(alloc, Cell::new(Vec::new(alloc)))?;
     let mut held = None;
@@ -45,7 +45,7 @@ fn opened(alloc: Global, case: &str, calls: &Rc<Noted>) -> anyhow::Result<Reache
     }
 }
 
-// Carries out a case, and leaves noted what it is to print.
+// Carries out a case, and notes what it is to print.
 fn reach<S: Alter + Drop>(
     alloc: Global,
     mut conn: Connection<S>,

@@ -18,13 +18,13 @@ const FILE: &str = "transcripts_stores.db";
 
 const LOG: &str = "transcripts_stores.db-wal";
 
-/// Plays calls one after another over the plain store, and prints what they give. The same over a table in memory that is
-/// opened again before each call, and over one in a file that is closed and opened again; where they give something else, it is
+/// Plays calls one after another over the plain store, and prints what they give. Does the same over a table in memory that is
+/// opened again before each call, and over one in a file that is closed and opened again; if they give something else, it is
 /// printed too.
 ///
 /// # Errors
 ///
-/// If a case is no such call or a store fails, and out of memory.
+/// If a case is not such a call, if a store fails, or if memory runs out.
 pub fn play_stores(rt: &HostRuntime, cases: &[&str], out: &mut Vec<u8>) -> anyhow::Result<()> {
     let alloc = rt.alloc();
     let mut plain = Plain::new(alloc);
@@ -69,7 +69,7 @@ fn over_table<S: Alter + Drop>(
     Ok(given)
 }
 
-// What the calls give over a table in a file, which is opened before each and closed behind it.
+// What the calls give over a table in a file, which is opened before each and closed after it.
 fn in_a_file(rt: &HostRuntime, cases: &[&str]) -> anyhow::Result<Vec<u8>> {
     let mut given = Vec::new(rt.alloc());
     for case in cases {
@@ -82,7 +82,7 @@ fn in_a_file(rt: &HostRuntime, cases: &[&str]) -> anyhow::Result<Vec<u8>> {
     Ok(given)
 }
 
-/// The account whose globals are meant where a name has none.
+/// The account whose globals are meant if a name has none.
 pub const ACCOUNT: &str = "ALICE";
 
 /// The key of a global of ALICE.
@@ -157,7 +157,7 @@ fn asked<S: NodeStore>(
     Ok(out)
 }
 
-// Adds the text of a node, `none` where it has none.
+// Adds the text of a node, or `none` if it has none.
 fn push_text<S: NodeStore>(store: &mut S, key: &NodeKey, out: &mut Vec<u8>) -> anyhow::Result<()> {
     match store.get(key).ok().context("not read")? {
         None => out.extend_from_slice(b"none")?,
@@ -166,7 +166,7 @@ fn push_text<S: NodeStore>(store: &mut S, key: &NodeKey, out: &mut Vec<u8>) -> a
     Ok(())
 }
 
-// Adds the last subscript of a key, and a blank, and gives the key without what is below it.
+// Adds the last subscript of a key, and a blank.
 fn push_last(alloc: Global, bytes: &[u8], out: &mut Vec<u8>) -> anyhow::Result<()> {
     let (_, _, subs) = read(alloc, bytes)?.context("no key of a node")?;
     let last = subs.as_slice().last().context("a node without subscripts")?;
@@ -175,7 +175,7 @@ fn push_last(alloc: Global, bytes: &[u8], out: &mut Vec<u8>) -> anyhow::Result<(
     Ok(())
 }
 
-// Adds the last subscripts of the nodes below one: forward, where what is below each is passed over, or backward, with what is below each.
+// Adds the last subscripts of the nodes below one: forward, passing over what is below each, or backward, with what is below each.
 fn push_walk<S: NodeStore>(
     store: &mut S,
     alloc: Global,

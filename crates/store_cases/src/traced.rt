@@ -69,7 +69,7 @@ pub(crate) struct Traced<S> {
 }
 
 impl<S> Traced<S> {
-    /// The store, whose calls are noted behind those that were.
+    /// The store, whose calls are noted after those noted before.
     pub(crate) fn new(alloc: Global, inner: S, calls: Rc<Noted>) -> Traced<S>
         ensures { result.inner ≡ inner }
     {
@@ -80,7 +80,7 @@ impl<S> Traced<S> {
         }
     }
 
-    // Out of memory the call is missing from what is printed.
+    // If memory runs out, the call is missing from what is printed.
     fn note(&self, call: Call) {
         let mut calls = self.calls.replace(Vec::new(self.alloc));
         let _ = calls.push(call);

@@ -6,11 +6,11 @@ use mtranscript::{bytes_of, play, play_each, print_result};
 use mtree::{write_line, write_routine_line};
 use std::alloc::Global;
 
-/// Of each text: `same` where its tree is written as the text, `refused` where it has no tree.
+/// For each text: `same` if its tree is written as the text, `refused` if it has no tree.
 ///
 /// # Errors
 ///
-/// If an escape is none, and out of memory.
+/// If an escape is invalid, or if memory runs out.
 pub fn play_texts(alloc: Global, cases: &[&str], out: &mut Vec<u8>) -> anyhow::Result<()> {
     play(cases, out, |case, out| {
         let text = bytes_of(alloc, case)?;
@@ -18,11 +18,11 @@ pub fn play_texts(alloc: Global, cases: &[&str], out: &mut Vec<u8>) -> anyhow::R
     })
 }
 
-/// Of each text, as a line of a routine: its label, `-` where it has none, how many dots it has, and `same` or `refused` as of texts.
+/// For each text, as a line of a routine: its label, `-` if it has none, how many dots it has, and `same` or `refused` as for texts.
 ///
 /// # Errors
 ///
-/// If an escape is none, and out of memory.
+/// If an escape is invalid, or if memory runs out.
 pub fn play_routine_lines(alloc: Global, cases: &[&str], out: &mut Vec<u8>) -> anyhow::Result<()> {
     play_each(
         cases,
@@ -51,7 +51,7 @@ fn routine_line_again(alloc: Global, text: &[u8]) -> Result<Bytes7, ParseFault> 
     Ok(write_routine_line(alloc, &line)?)
 }
 
-// How a text that was parsed and written back stands to the text itself.
+// How a text that was parsed and written back compares with the text itself.
 fn compared(text: &[u8], again: &Result<Bytes7, ParseFault>) -> &'static [u8] {
     match again {
         Err(ParseFault::Syntax) => b"refused",

@@ -14,12 +14,12 @@ struct Answered {
     routine_lines: Vec<Rc<RoutineLine>>,
 }
 
-/// Asks for trees, one after another, in as many entries as the first case says. Of each it is told how many hold the tree that was answered, those that
-/// keep it and all that had it as their answer, and how many trees are kept then.
+/// Asks for trees, one after another, in as many entries as the first case says. For each it prints how many hold the tree that was
+/// answered, those that keep it and all that had it as their answer, and how many trees are kept then.
 ///
 /// # Errors
 ///
-/// If a case is no such call, and out of memory.
+/// If a case is not such a call, or if memory runs out.
 pub fn play_trees(alloc: Global, cases: &[&str], out: &mut Vec<u8>) -> anyhow::Result<()> {
     let entries = entries_of(cases)?;
     if entries == 0 {
@@ -50,7 +50,7 @@ fn entries_of(cases: &[&str]) -> anyhow::Result<usize> {
     Ok(count.parse::<usize>()?)
 }
 
-// How many hold the tree of a text; None where it has none.
+// How many hold the tree of a text; None if it has none.
 fn asked(
     alloc: Global,
     trees: &mut Trees,

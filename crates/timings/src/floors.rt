@@ -9,7 +9,7 @@ use mstore::{NodeStore, Table};
 use mtranscript::numbered;
 use std::alloc::Global;
 
-// So many nodes at most where no time is told.
+// At most this many nodes if no time is printed.
 const FEW: usize = 100;
 
 // ^DATA(n,1) to ^DATA(n,3), which a turn with naked references asks for, and for each the bounds of the nodes below it.
@@ -92,7 +92,7 @@ fn naked<S: NodeStore>(store: &mut S, turns: &[Turn], text: &Bytes7, place: usiz
         .wrapping_add(data(store, turn, 1))
 }
 
-// The workloads over stores that are empty, of which there is one for each pass.
+// The workloads over empty stores, of which there is one for each pass.
 fn workloads<S: NodeStore>(page: &mut Page, stores: &mut [S]) -> anyhow::Result<()> {
     let (alloc, count) = (page.alloc(), page.plan.rounds);
     let nodes = make_nodes(alloc, count)?;

@@ -15,7 +15,7 @@ const ACCOUNT: &[u8] = b"[[account]]\nname = \"A#\"\nsteps = 2000\nterminals = [
 
 const GRANT: &[u8] = b"[[grant]]\nfrom = \"A#\"\nto = \"A#\"\nglobal = \"G#\"\nmode = \"read\"\n";
 
-// An account grants each of so many globals to one of those that follow it, this far apart.
+// An account grants each of this many globals to one of the accounts that follow it, this far apart.
 const GRANTS: usize = 10;
 
 const APART: usize = 7;
@@ -23,7 +23,7 @@ const APART: usize = 7;
 // Accounts and terminals are asked for in the steps of this number, so that neighbours do not follow one another.
 const STRIDE: usize = 7_919;
 
-// So many rounds at most, since each goes over all grants.
+// At most this many rounds, since each goes over all grants.
 const MOST_READ: usize = 10;
 
 const MOST_REACHED: usize = 100;
@@ -42,7 +42,7 @@ fn taker(account: usize, global: usize) -> usize {
     account.saturating_add(APART.saturating_mul(global.saturating_add(1)))
 }
 
-// An account with ten terminals, of which the last account has nine, and then the grants of all.
+// Accounts with ten terminals each, of which the last has nine, and then the grants of all.
 fn document(alloc: Global) -> anyhow::Result<Vec<u8>> {
     let mut out = Vec::new(alloc);
     for account in 0..ACCOUNTS {
@@ -139,7 +139,7 @@ fn read(alloc: Global, document: &[u8]) -> i128 {
     }
 }
 
-/// What settings are asked, and the reading of them.
+/// What is asked of settings, and the reading of them.
 pub fn grants(page: &mut Page) -> anyhow::Result<()> {
     page.title(b"a thousand accounts")?;
     let alloc = page.alloc();

@@ -1,7 +1,7 @@
 // SPDX-License-Identifier: Apache-2.0
 //! Times bare calls that no line of M reaches by itself: those of numbers, keys and settings, a page each, and a page of those of
-//! a store that workloads make. In a transcript a page is played without its times, and its checksums, which are the same on every
-//! machine, stand below it.
+//! a store that workloads make. In a transcript a page is played without its times. Its checksums, which are the same on every
+//! machine, are printed below it.
 //!
 //! No call has a contract: a program's output is the test of it.
 #![tactic(auto)]
@@ -19,25 +19,26 @@ use mtranscript::play;
 /// The names of the pages, in their order.
 pub const PAGES: [&str; 4] = ["numbers", "keys", "floors", "grants"];
 
-/// Of each page, the checksum of each call that it makes: the sum of what a thousand rounds give, in five passes.
+/// For each page, the checksum of each call that it makes: the sum of what a thousand rounds give, or fewer of costly calls, in five
+/// passes.
 ///
 /// # Errors
 ///
-/// If a case is no page, and out of memory.
+/// If a case is not a page, or if memory runs out.
 pub fn checksums(rt: &HostRuntime, cases: &[&str], out: &mut Vec<u8>) -> anyhow::Result<()> {
     play(cases, out, |name, out| add_page(rt, 1000, false, name, out))
 }
 
-/// Times the calls of a page, so many rounds of each in each of five passes, of which the fastest counts.
+/// Times the calls of a page, `rounds` rounds of each in each of five passes, of which the fastest counts.
 ///
 /// # Errors
 ///
-/// If there is no such page, and out of memory.
+/// If there is no such page, or if memory runs out.
 pub fn times(rt: &HostRuntime, rounds: usize, name: &str, out: &mut Vec<u8>) -> anyhow::Result<()> {
     add_page(rt, rounds, true, name, out)
 }
 
-// Adds a page, in whose calls so many rounds are made in a pass.
+// Adds a page, in whose calls `rounds` rounds are made in a pass.
 fn add_page(
     rt: &HostRuntime,
     rounds: usize,

@@ -4,7 +4,7 @@ use mtranscript::print_result;
 use std::alloc::Global;
 use std::time::Instant;
 
-/// How often a call is made in a pass, in how many passes, and whether its time is told, or the sum of what the calls gave.
+/// How often a call is made in a pass, in how many passes, and whether its time is printed, or the sum of what the calls gave.
 /// The least time counts, since other work on the machine only adds to it.
 #[derive(Clone, Copy)]
 pub struct Plan {
@@ -14,7 +14,7 @@ pub struct Plan {
 }
 
 impl Plan {
-    /// The same with at most so many rounds.
+    /// The same with at most `rounds` rounds.
     pub fn at_most(self, rounds: usize) -> Plan {
         Plan {
             rounds: self.rounds.min(rounds),
@@ -42,7 +42,7 @@ impl<'a> Page<'a> {
         print_result(&mut self.out, title)
     }
 
-    /// Tells the time of a call, in nanoseconds, or its checksum.
+    /// Prints the time of a call, in nanoseconds, or its checksum.
     pub fn measure<F: FnMut(usize) -> i128>(&mut self, name: &str, work: F) -> anyhow::Result<()>
         requires { F.IsAlwaysCallable work }
     {

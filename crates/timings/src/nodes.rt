@@ -31,7 +31,7 @@ pub(crate) fn key(alloc: Global, subs: &[Bytes7]) -> anyhow::Result<NodeKey> {
     key_of(alloc, &account, &name, subs)
 }
 
-// So many of them.
+// `count` of them.
 pub(crate) fn make_nodes(alloc: Global, count: usize) -> anyhow::Result<Nodes> {
     let mut keys = Vec::new(alloc);
     for number in 0..count {

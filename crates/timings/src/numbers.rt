@@ -25,7 +25,7 @@ fn number(text: &str) -> anyhow::Result<Num> {
     }
 }
 
-// A result in one machine's number, for the checksum: its units, or 1 if there is none.
+// A result as one machine number, for the checksum: its units, or 1 if there is none.
 fn digest<E: Drop>(outcome: Result<Num, E>) -> i128 {
     match outcome {
         Ok(number) => number.to_units(),

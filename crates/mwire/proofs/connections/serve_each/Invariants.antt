@@ -1,7 +1,7 @@
 -- SPDX-License-Identifier: Apache-2.0
 use Rattle.mwire.proofs.WireWords.{◌≡◌, settings_of, world_of, HasServedEach}
 
--- so many connections were served, by the same settings
+-- this many connections were served, by the same settings
 abbrev pub invariant-loop-number : Rattle.mwire.proofs.connections.serve_each.Given.invariant-loop-number
 invariant-loop-number g l = record {
   settings : settings_of l.world ≡ settings_of l.initial.world;

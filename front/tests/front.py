@@ -5,6 +5,7 @@ from __future__ import annotations
 import asyncio
 import contextlib
 import functools
+import inspect
 import json
 import os
 import signal
@@ -46,6 +47,19 @@ def in_loop(seconds: float = 60) -> Callable[[Callable[..., Awaitable[None]]], C
             asyncio.run(bounded())
         return run
     return made
+
+
+async def until(holds: Callable[[], object], what: str, pause: float = 0.02) -> None:
+    """Waits until something holds, however busy the machine is: what a call gives, or what that gives once it is awaited. It is missed after half a minute."""
+    end = time.monotonic() + 30
+    while True:
+        found = holds()
+        if inspect.isawaitable(found):
+            found = await found
+        if found:
+            return
+        assert time.monotonic() < end, f"missed: {what}"
+        await asyncio.sleep(pause)
 
 
 def write_users(path: Path, users: dict[str, str], password: str = PASSWORD) -> None:
@@ -128,8 +142,12 @@ class Front:
     def hears(self, text: str) -> None:
         """Waits until it tells a text."""
         end = time.monotonic() + 30
-        while text not in self.told():
-            if self.process.poll() is not None or time.monotonic() > end:
+        while True:
+            # This comes first: what it told before it ended counts.
+            over = self.process.poll() is not None or time.monotonic() > end
+            if text in self.told():
+                return
+            if over:
                 raise RuntimeError(f"the front does not tell {text!r}: {self.told()}")
             time.sleep(0.02)
 
@@ -139,7 +157,7 @@ class Front:
 
     def again(self) -> None:
         """Starts it once more, after it has ended."""
-        self.process.wait(20)
+        self.process.wait(60)
         self._started()
 
     def told(self) -> str:
@@ -163,7 +181,7 @@ class Front:
         """Ends the front as an operator does, and gives its status."""
         if self.process.poll() is None:
             self.process.terminate()
-        return self.process.wait(20)
+        return self.process.wait(60)
 
     @property
     def context(self) -> ssl.SSLContext | None:
@@ -209,6 +227,14 @@ class Person:
         async with self.http.post("/signon", json={"user": self.name, "password": password}) as response:
             return response.status, await response.json()
 
+    async def signs_on(self) -> bool:
+        """Whether it can sign on by now: the connections or the terminal of somebody before may not be given back yet."""
+        try:
+            status, self.record = await self.sign_on()
+        except aiohttp.ClientError:
+            return False
+        return status == 200
+
     async def sign_off(self) -> int:
         """The status of a sign-off."""
         async with self.http.post("/signoff") as response:
@@ -252,3 +278,10 @@ class Person:
         """The rest of a line's output, or its code."""
         record = await self.line(line)
         return record["code"] or record["rest"]
+
+
+async def given_back(person: Person) -> None:
+    """Waits until the lock of somebody who was cut off is given back, and takes it."""
+    async def taken() -> bool:
+        return await person.told("L +^X:0 W $T") == "1"
+    await until(taken, "the lock of somebody who was cut off")

@@ -59,11 +59,14 @@ class Gate:
             process = subprocess.Popen([sys.executable, FRONT / "mgate", "--config", self.config], stdin=subprocess.DEVNULL, stderr=told,
                                        start_new_session=True)
         end = time.monotonic() + 30
-        while self.told().count("serving at https") == before:
-            if process.poll() is not None or time.monotonic() > end:
+        while True:
+            # This comes first: what it told before it ended counts.
+            over = process.poll() is not None or time.monotonic() > end
+            if self.told().count("serving at https") > before:
+                return process
+            if over:
                 raise RuntimeError(self.told())
             time.sleep(0.02)
-        return process
 
     def again(self) -> None:
         """Starts it once more."""

@@ -10,7 +10,7 @@ from collections.abc import AsyncIterator
 
 import aiohttp
 import pytest
-from front import PASSWORD, Front, Person, in_loop
+from front import PASSWORD, Front, Person, given_back, in_loop, until
 
 # A line whose reply has some 100,000 bytes.
 LARGE = 'F I=1:1:25 W $J("",4000)'
@@ -38,22 +38,12 @@ async def served(front: Front, seconds: float = 8) -> AsyncIterator[Person]:
         assert max(waits) < seconds, waits
 
 
-async def closed(reader: asyncio.StreamReader) -> float:
-    """How many seconds it takes until the peer ends the connection."""
-    began = time.monotonic()
+async def closed(reader: asyncio.StreamReader, began: float) -> float:
+    """How many seconds after a moment the peer ends the connection. If it may not end it too soon, that is a moment before the connection."""
     with contextlib.suppress(ConnectionError):
         while await reader.read(1 << 16):
             pass
     return time.monotonic() - began
-
-
-async def given_back(person: Person) -> None:
-    """Waits until the lock of somebody who was cut off is given back."""
-    for _ in range(300):
-        if await person.told("L +^X:0 W $T") == "1":
-            return
-        await asyncio.sleep(0.1)
-    raise AssertionError("nobody was cut off")
 
 
 @pytest.mark.parametrize("data", [b"", b"GET / HTTP/1.1\r\n", b"GET / HTTP/1.1\r\nHost: localhost\r\nX: " + b"x" * 100,
@@ -63,13 +53,13 @@ async def given_back(person: Person) -> None:
 async def test_connections_of_which_nothing_comes_are_ended(start, data: bytes) -> None:
     front = start(limits={"sign_on": 2})
     async with served(front):
-        peers = [await asyncio.open_connection("localhost", front.port, ssl=front.context) for _ in range(20)]
-        for _, writer in peers:
+        peers = [(time.monotonic(), *await asyncio.open_connection("localhost", front.port, ssl=front.context)) for _ in range(20)]
+        for _, _, writer in peers:
             writer.write(data)
         # The answer to a body that does not come is an error; the connection ends in any case.
-        times = await asyncio.gather(*(closed(reader) for reader, _ in peers))
+        times = await asyncio.gather(*(closed(reader, began) for began, reader, _ in peers))
         assert 0.5 < max(times) < 40
-        for _, writer in peers:
+        for _, _, writer in peers:
             writer.close()
 
 
@@ -77,17 +67,20 @@ async def test_connections_of_which_nothing_comes_are_ended(start, data: bytes) 
 async def test_connections_without_a_handshake_are_ended(start) -> None:
     front = start(limits={"sign_on": 2})
     async with served(front):
-        peers = [await asyncio.open_connection("localhost", port) for port in (front.port, front.lines_port) for _ in range(10)]
-        assert max(await asyncio.gather(*(closed(reader) for reader, _ in peers))) < 15
+        peers = [(time.monotonic(), *await asyncio.open_connection("localhost", port)) for port in (front.port, front.lines_port) for _ in range(10)]
+        # After ten seconds; asyncio by itself would wait for a minute.
+        assert max(await asyncio.gather(*(closed(reader, began) for began, reader, _ in peers))) < 30
 
 
 @pytest.mark.parametrize("first", [b"", b"ada ", b"ada " + b"x" * 1000])
 @in_loop()
 async def test_programs_that_do_not_sign_on_are_ended(start, first: bytes) -> None:
     front = start(limits={"sign_on": 2})
+    began = time.monotonic()
     reader, writer = await asyncio.open_connection("localhost", front.lines_port, ssl=front.context)
     writer.write(first)
-    assert 1 < await closed(reader) < 6
+    # Without the limit it would be 20 seconds.
+    assert 1 < await closed(reader, began) < 10
 
 
 @in_loop()
@@ -99,8 +92,11 @@ async def test_connections_of_an_address_are_counted(start) -> None:
     for _, writer in peers:
         writer.close()
         await writer.wait_closed()
-    await asyncio.sleep(0.3)
-    async with front.person("ada") as ada:
+    ada = front.person("ada")
+    async with ada.http:
+        # The front sees the ends a moment later.
+        await until(ada.signs_on, "a connection that is given back")
+        await ada.connect()
         assert await ada.told("W 1") == "1"
 
 
@@ -121,15 +117,18 @@ async def test_slow_reader_of_the_line_port_is_cut_off(start) -> None:
     async with served(front), front.person("ben") as ben:
         reader, writer = await asyncio.open_connection("localhost", front.lines_port, ssl=front.context, limit=1000)
         writer.write(f"ada {PASSWORD}\nL +^X\n".encode() + f"{LARGE}\n".encode() * 300)
-        await asyncio.sleep(0.5)
-        assert await ben.told("L +^X:0 W $T") == "0"
+
+        async def held() -> bool:
+            # What the line takes it gives back, so that ada finds the lock free.
+            return await ben.told("L +^X:0 W $T L") == "0"
+        await until(held, "the lock that ada takes")
         await given_back(ben)
 
 
 @in_loop()
 async def test_peer_that_answers_no_ping_is_ended(start) -> None:
     """A half-open connection looks like this: the peer says nothing any more."""
-    front = start(limits={"heartbeat": 1})
+    front = start(limits={"heartbeat": 2})
     async with served(front) as cleo, front.person("ben") as ben, front.person("ada") as ada:
         mute = await ada.http.ws_connect("/ws", origin=front.origin, autoping=False)
         await mute.send_str(json.dumps({"id": 1, "line": "L +^X"}))
@@ -197,7 +196,7 @@ async def test_requests_that_are_none_or_too_large(lasting: Front, data: bytes) 
                     writer.write(data[start:start + 65_536])
                     await writer.drain()
         sending = asyncio.create_task(send())
-        assert await closed(reader) < 50
+        assert await closed(reader, time.monotonic()) < 50
         await sending
         writer.close()
 
@@ -210,7 +209,8 @@ async def test_line_without_an_end_at_the_line_port(lasting: Front) -> None:
             with contextlib.suppress(ConnectionError):
                 writer.write(first + b"x" * 200_000)
                 await writer.drain()
-            assert await closed(reader) < 5
+            # At once, and not after the 20 seconds that a sign-on may take.
+            assert await closed(reader, time.monotonic()) < 10
 
 
 @in_loop(120)

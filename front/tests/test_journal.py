@@ -8,12 +8,13 @@ import random
 import re
 import shutil
 import subprocess
+import threading
 import time
 from collections.abc import Callable, Iterator
 from pathlib import Path
 
 import pytest
-from front import COMMAND, Front, in_loop, mjournal, small_disk
+from front import COMMAND, Front, in_loop, mjournal, small_disk, until
 from mserve_front import journal as journal_module
 from mserve_front.faults import HeldBack, NoJournal
 from mserve_front.history import Began, History
@@ -192,19 +193,24 @@ def test_lines_that_are_missing(missing: int) -> None:
 
 
 class Memory:
-    """A log in memory: it waits as long as it is told, or fails."""
+    """A log in memory: a flush waits as long as it is told, or until it may go on, or fails. `begun` counts the flushes, with those that wait."""
 
     def __init__(self) -> None:
         self.flushes: list[Flush] = []
         self.fails: Exception | None = None
         self.waits = 0.0
+        self.goes = threading.Event()
+        self.goes.set()
+        self.begun = 0
         self.mended = 0
 
     def take(self) -> Tail:
         return Tail(7, 0, 1, 0, 0)
 
     def append(self, flush: Flush) -> None:
+        self.begun += 1
         time.sleep(self.waits)
+        self.goes.wait(30)
         if self.fails:
             raise self.fails
         self.flushes.append(flush)
@@ -245,15 +251,20 @@ def _impatient(monkeypatch: pytest.MonkeyPatch) -> Iterator[None]:
 @in_loop()
 async def test_no_line_is_sent_and_no_reply_handed_out_before_its_record_is_durable() -> None:
     kept = await Kept().begin()
-    kept.log.waits = 0.1
+    kept.log.goes.clear()
     reply = kept.turns.ask(1, Line(b"W 1"), "ada")
+    await until(lambda: kept.log.begun == 2, "the flush of the line")
     await asyncio.sleep(0.05)
     assert not kept.peer.lines and len(kept.records()) == 1
-    await asyncio.sleep(0.1)
+    kept.log.goes.set()
+    await until(lambda: kept.peer.lines, "the line")
     assert kept.peer.lines == [b"1 W 1"] and isinstance(kept.records()[-1], LineRecord) and kept.records()[-1].user == "ada"
+    kept.log.goes.clear()
     kept.peer.reply(b"1")
+    await until(lambda: kept.log.begun == 3, "the flush of the reply")
     await asyncio.sleep(0.05)
     assert not reply.done() and len(kept.records()) == 2
+    kept.log.goes.set()
     assert (await reply).reply.rest == "1" and kept.records()[-1].number == 1
     assert await kept.journal.close()
 
@@ -348,10 +359,11 @@ async def test_lines_whose_connection_ends_while_they_wait_for_the_disk_are_not_
     first = kept.turns.ask(1, Line(b"W 1"))
     while not kept.peer.lines:
         await asyncio.sleep(0.001)
-    kept.log.waits = 0.05
+    kept.log.goes.clear()
     second = kept.turns.ask(2, Line(b"W 2"))
-    await asyncio.sleep(0.02)
+    await until(lambda: kept.log.begun == 3, "the flush of the second line")
     kept.turns.abort()
+    kept.log.goes.set()
     with pytest.raises(Unsent):
         await second
     await kept.journal.begin(None, False, b"")

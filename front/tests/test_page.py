@@ -27,6 +27,12 @@ def write_routine(browser: Browser, name: str, text: str) -> None:
     browser.click("#routine-save")
 
 
+def choose_routine(browser: Browser, name: str) -> None:
+    """Chooses a routine, once the list has come that is read when the part is opened."""
+    browser.until(lambda: name in browser.one("#routine-choice").text, f"the routine {name} in the list")
+    Select(browser.one("#routine-choice")).select_by_value(name)
+
+
 def test_two_users_at_once(browsers: Opened) -> None:  # noqa: F811
     """One signs on, sets, walks the tree, edits and runs a routine, and signs off; one of another account sees nothing of it meanwhile."""
     ada, cleo = browsers("ada"), browsers("cleo", scheme="dark")
@@ -234,7 +240,7 @@ def test_markup_stays_text(browsers: Opened) -> None:  # noqa: F811
     ada.one("#globals-name").send_keys(MARKUP + "\n")
     ada.notice("Type a global or a node of one")
     ada.part("routines")
-    Select(ada.one("#routine-choice")).select_by_value("MARK")
+    choose_routine(ada, "MARK")
     ada.until(lambda: ada.one("#source").get_attribute("value") == f"MARK ;{MARKUP}\n", "the routine")
     ada.click("#routine-check")
     ada.notice("1 line, all in the language.")
@@ -425,7 +431,7 @@ def test_what_was_not_saved_is_kept_for_its_user_alone(browsers: Opened, page_fr
     ben.sign_off()
     ben.sign_on("ben")
     ben.part("routines")
-    Select(ben.one("#routine-choice")).select_by_value("DRAFT")
+    choose_routine(ben, "DRAFT")
     ben.until(lambda: ben.one("#source").is_enabled(), "the routine")
     ben.one("#source").send_keys(" ; not wanted")
     ben.click("#sign-off")

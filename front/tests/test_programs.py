@@ -10,7 +10,7 @@ import subprocess
 import warnings
 
 import pytest
-from front import COMMAND, PASSWORD, Front, Record, in_loop
+from front import COMMAND, PASSWORD, Front, Record, in_loop, until
 
 
 class Program:
@@ -28,6 +28,13 @@ class Program:
     async def __aexit__(self, *error: object) -> None:
         self.writer.close()
 
+    async def signed_on(self) -> bool:
+        """Whether it is signed on by now; if it was refused, it tries anew."""
+        if "error" in self.record:
+            self.writer.close()
+            await self.__aenter__()
+        return "error" not in self.record
+
     async def next(self) -> Record:
         """The next line of JSON; None at the end."""
         line = await self.reader.readline()
@@ -40,10 +47,20 @@ class Program:
 
 
 async def new_token(front: Front, user: str = "ada") -> str:
-    """A new token of a user, which the front knows: it looks for changes once a second."""
+    """A new token of a user, which the front knows, and which has a terminal."""
     done = subprocess.run([*COMMAND, "token", "add", user, "--config", front.folder / "front.toml"], capture_output=True, text=True, check=True)
-    await asyncio.sleep(1.5)
-    return done.stdout.strip()
+    token = done.stdout.strip()
+    async with front.person().http as http:
+        await has_terminal(http, token)
+    return token
+
+
+async def has_terminal(http, token: str) -> None:
+    """Waits until a token has a terminal: the front looks for new tokens once a second, and a terminal may not be given back yet. What is asked is no line."""
+    async def taken() -> bool:
+        return (await posted(http, token, None))[0] == 400
+    # Not often: each attempt of an address by a token that is not known counts.
+    await until(taken, "a terminal for the token", 0.5)
 
 
 async def posted(http, token: str, line: object) -> tuple[int, Record]:
@@ -96,7 +113,7 @@ async def test_a_program_is_told_of_a_restart(start) -> None:
 
 @in_loop()
 async def test_lines_with_a_token(start) -> None:
-    front = start(limits={"token_idle": 2})
+    front = start()
     token = await new_token(front)
     async with front.person().http as http:
         plain = {"output": [], "rest": "", "code": None, "volatile": True}
@@ -110,18 +127,19 @@ async def test_lines_with_a_token(start) -> None:
         assert [record["rest"] for _, record in many] == [str(number) for number in range(30)]
         assert (await posted(http, token, "W N"))[1]["rest"] == "30"
         front.kill_child()
-        for _ in range(100):
-            status, record = await posted(http, token, "W 2")
-            if record.get("rest") == "2":
-                break
-            assert "unknown" in record or record.get("refused") == "restarted"
-            await asyncio.sleep(0.05)
-        assert record["new"] is True
+        found: list[Record] = []
+
+        async def answered() -> bool:
+            found.append((await posted(http, token, "W 2"))[1])
+            return found[-1].get("rest") == "2"
+        await until(answered, "the server's start", 0.05)
+        assert all("unknown" in record or record.get("refused") == "restarted" for record in found[:-1])
+        assert found[-1]["new"] is True
 
 
 @in_loop()
 async def test_the_terminal_of_a_token_is_given_back_after_its_idle_time(start) -> None:
-    front = start(limits={"token_idle": 2})
+    front = start(limits={"token_idle": 4})
     token = await new_token(front)
     async with front.person().http as http:
         assert await posted(http, token, "S N=1") == (200, {"output": [], "rest": "", "code": None, "volatile": True, "new": True})
@@ -129,11 +147,10 @@ async def test_the_terminal_of_a_token_is_given_back_after_its_idle_time(start) 
             assert first.record["user"] == "ada" and wrong.record == {"error": "wrong name or password"} and second.record["user"] == "ben"
             async with Program(front, f"ada {token}") as third:
                 assert third.record == {"error": "all terminals of CLINIC are in use"}
-                await asyncio.sleep(3.5)
-            async with Program(front, f"ada {token}") as third:
+                await until(third.signed_on, "the terminal of the token", 0.2)
                 assert third.record["user"] == "ada" and (await third.line("W $D(N)"))["rest"] == "0"
                 assert await posted(http, token, "W 1") == (503, {"error": "all terminals of CLINIC are in use"})
-        await asyncio.sleep(0.5)
+        await has_terminal(http, token)
         assert (await posted(http, token, "W $D(N)"))[1] == {"output": [], "rest": "0", "code": None, "volatile": True, "new": True}
 
 
@@ -197,7 +214,7 @@ async def test_health_while_the_server_is_down(start, tmp_path) -> None:
     async with front.person("ada") as ada:
         folder.rename(tmp_path / "away")
         front.kill_child()
-        await asyncio.sleep(1)
+        front.hears("could not be started again")
         async with ada.http.get("/health") as response:
             assert (response.status, (await response.json())["child"]) == (503, "down")
         assert (await ada.line("W 1"))["refused"] == "restarted"
@@ -209,7 +226,6 @@ async def test_health_while_the_server_is_down(start, tmp_path) -> None:
         assert await ada.told("W 1") == "1"
         async with ada.http.get("/health") as response:
             assert response.status == 200
-    assert "could not be started again" in front.told()
 
 
 @in_loop()
@@ -230,7 +246,7 @@ async def test_audit_log(start) -> None:
         await ada.sign_on("wrong")
         (front.folder / "audit.log").rename(front.folder / "audit.old")
         front.process.send_signal(signal.SIGHUP)
-        await asyncio.sleep(0.5)
+        front.hears("certificate and audit log opened anew")
         await ada.line("W B")
     records = [json.loads(line) for line in (front.folder / "audit.old").read_text().splitlines()]
     assert all(record.pop("time").endswith("+00:00") for record in records)
@@ -269,8 +285,7 @@ async def test_a_new_certificate_is_taken(start, tmp_path) -> None:
         try:
             front.certificate[0].write_text("broken")
             front.process.send_signal(signal.SIGHUP)
-            await asyncio.sleep(0.5)
-            assert "not reloaded" in front.told()
+            front.hears("not reloaded")
         finally:
             front.certificate[0].write_bytes(before)
         assert (await program.line("W 1"))["rest"] == "1"

@@ -9,9 +9,10 @@ import time
 
 import aiohttp
 import pytest
-from front import PASSWORD, Front, in_loop, write_users
+from front import PASSWORD, Front, given_back, in_loop, until, write_users
 from mserve_front.slowdown import Slowdown, network_of
 from mserve_front.users import HASHER, Register
+from test_programs import Program
 from yarl import URL
 
 
@@ -139,7 +140,7 @@ async def test_all_terminals_in_use(start) -> None:
 @in_loop()
 async def test_nobody_meets_what_somebody_before_left(start) -> None:
     """Locals and locks are gone after a sign-off, a lost connection, a new one, and a connection of a program that ended."""
-    front = start(users={"dora": "SHORT", "dan": "SHORT"}, limits={"absent": 1})
+    front = start(users={"dora": "SHORT", "dan": "SHORT"}, limits={"absent": 2})
     async with front.person("dora") as dora:
         assert await dora.told('S A=1 L +^X:0 W $T') == "1"
     async with front.person("dan") as dan:
@@ -149,15 +150,18 @@ async def test_nobody_meets_what_somebody_before_left(start) -> None:
         assert await dan.told("W A") == "M6"
         await dan.told("S A=3")
         await dan.socket.close()
-        await asyncio.sleep(2.2)
-    reader, writer = await asyncio.open_connection("localhost", front.lines_port, ssl=front.context)
-    writer.write(f"dora {PASSWORD}\nW $D(A)\nS A=4\n".encode())
-    assert json.loads(await reader.readline())["terminal"] == 9999
-    assert json.loads(await reader.readline())["rest"] == "0"
-    writer.close()
-    await asyncio.sleep(0.3)
-    async with front.person("dan") as dan:
+        await until(lambda: "idle" in [record.get("why") for record in front.audit()], "the end of dan's session")
+    async with Program(front, f"dora {PASSWORD}\nW $D(A)\nS A=4") as program:
+        # The terminal is free a moment after the end is noted.
+        await until(program.signed_on, "dan's terminal")
+        assert program.record["terminal"] == 9999
+        assert (await program.next())["rest"] == "0"
+    dan = front.person("dan")
+    async with dan.http:
+        await until(dan.signs_on, "the terminal of dora's program")
+        await dan.connect()
         assert await dan.told("W $D(A)") == "0"
+        await dan.sign_off()
     events = [(record["event"], record.get("why")) for record in front.audit() if record["event"] != "line"]
     assert events == [("sign-on", None), ("sign-off", "signed off"), ("sign-on", None), ("sign-off", "idle"), ("sign-on", None), ("sign-off", "left"),
                       ("sign-on", None), ("sign-off", "signed off")]
@@ -169,19 +173,19 @@ async def test_lock_of_a_lost_connection_is_given_back(lasting: Front) -> None:
         assert await ada.told("L +^X:0 W $T") == "1"
         assert await ben.told("L +^X:0 W $T") == "0"
         ada.socket._response.connection.transport.abort()
-        await asyncio.sleep(0.3)
-        assert await ben.told("L +^X:0 W $T") == "1"
+        await given_back(ben)
 
 
 @in_loop()
 async def test_idle_users_are_signed_off(start) -> None:
-    front = start(limits={"idle": 2})
+    """So long after the last line, and not after the sign-on."""
+    front = start(limits={"idle": 3})
     async with front.person() as ada:
         await asyncio.sleep(1)
-        assert await ada.told("S A=1 W A") == "1"
         began = time.monotonic()
+        assert await ada.told("S A=1 W A") == "1"
         assert (await ada.event()) == {"event": "signed-off", "why": "idle"}
-        assert 1.5 < time.monotonic() - began < 5
+        assert 2.5 < time.monotonic() - began < 15
         with pytest.raises(ConnectionError):
             await ada.event()
         async with ada.http.get("/session") as response:
@@ -229,10 +233,9 @@ async def test_removed_users_are_signed_off(start) -> None:
 async def test_users_file_that_is_broken_leaves_the_users(start) -> None:
     front = start()
     (front.folder / "users.json").write_text("{")
-    await asyncio.sleep(1.5)
+    front.hears("users.json: is no users' file")
     async with front.person("ada") as ada:
         assert await ada.told("W 1") == "1"
-    assert "users.json: is no users' file" in front.told()
 
 
 @in_loop(90)
@@ -253,7 +256,7 @@ async def test_wrong_passwords_slow_down_a_user(start) -> None:
         assert pauses == sorted(pauses) and tried >= 4 + 2
         assert (await ada.sign_on())[0] == 429
         assert (await cleo.sign_on())[0] == 200
-        await asyncio.sleep(4.1)
+        await asyncio.sleep(pauses[-1] + 0.1)
         assert (await ada.sign_on())[0] == 200
         assert (await ada.sign_on("wrong"))[0] == 401
 

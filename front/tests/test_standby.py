@@ -3,6 +3,7 @@
 from __future__ import annotations
 
 import asyncio
+import contextlib
 import os
 import random
 import re
@@ -16,7 +17,7 @@ from pathlib import Path
 
 import aiohttp
 import pytest
-from front import Front, Person, Ran, in_loop, mjournal, tool
+from front import Front, Person, Ran, in_loop, mjournal, tool, until
 from mserve_front.control import Refused, asked
 from mserve_front.places import end_of, last_line
 from mserve_front.service import Service
@@ -62,10 +63,10 @@ def takes_over(front: Front) -> str:
     return ""
 
 
-async def caught_up(front: Front, journal: Path) -> int:
-    """Waits until a standby has run all lines."""
-    last = last_line(JournalSettings(journal))
-    while asked(front.folder / "mfront.control", {"ask": "status"}, 5)["line"] < last:
+async def caught_up(front: Front, journal: Path | JournalSettings) -> int:
+    """Waits until a standby has run all lines of a journal, in a folder or anywhere, and says so."""
+    last = last_line(JournalSettings(journal) if isinstance(journal, Path) else journal)
+    while (status := asked(front.folder / "mfront.control", {"ask": "status"}, 30))["line"] < last or not status["caught up"]:
         await asyncio.sleep(0.02)
     return last
 
@@ -289,7 +290,7 @@ async def test_a_leader_that_was_killed_at_work_does_not_stand_by(start, tmp_pat
     load, journal = Load(SLOW), tmp_path / "journal"
     leader = leading(start, journal)
     second = standby(start, journal)
-    await load.until_killed(leader, 1)
+    await load.until_killed(leader, 1, journal)
     end = end_of(JournalSettings(journal))
     note = (leader.folder / "store.db.at").read_bytes()
     wanted = rf"did not end in order, and lines? ({end.answered + 1} to )?{end.next - 1} had no reply then, and may have been run: put back a snapshot"
@@ -329,16 +330,22 @@ class Load:
         except (ConnectionError, aiohttp.ClientError):
             pass
 
-    async def until_killed(self, front: Front, seconds: float) -> float:
-        """Has three users work until the front is killed, and gives when that was."""
+    async def until_killed(self, front: Front, seconds: float, journal: Path | None = None) -> float:
+        """Has three users work until the front is killed, and gives when that was. With its journal, lines have no reply there then."""
         people = [front.person(name) for name in ("ada", "ben", "ada")]
         for person in people:
             await person.__aenter__()
         work = asyncio.gather(*map(self.user, people))
         await asyncio.sleep(seconds)
+        if journal is not None:
+            # All that was sent may be answered just now. A server that is held up answers no more of what the users send.
+            os.kill(front.child, signal.SIGSTOP)
+            await until(lambda: end_of(JournalSettings(journal)).answered < last_line(JournalSettings(journal)), "a line without a reply")
         os.kill(front.process.pid, signal.SIGKILL)
         killed = time.monotonic()
         await work
+        # Its lock of the journal is free then at the latest.
+        await asyncio.to_thread(front.process.wait)
         for person in people:
             await person.http.close()
         return killed
@@ -389,7 +396,12 @@ async def test_leaders_that_are_killed(start, tmp_path: Path, count: int) -> Non
 
 def has_taken(front: Front, journal: Path) -> bool:
     """Whether a front has the journal's lock. To try the lock could keep the front from it."""
-    return any(os.readlink(place) == str(journal / "lock") for place in Path(f"/proc/{front.process.pid}/fd").iterdir())
+    found = set()
+    for place in Path(f"/proc/{front.process.pid}/fd").iterdir():
+        # It may be closed meanwhile.
+        with contextlib.suppress(FileNotFoundError):
+            found.add(os.readlink(place))
+    return str(journal / "lock") in found
 
 
 @in_loop(200)

@@ -25,7 +25,7 @@ from mserve_front.settings import JournalSettings
 from running import PROGRAM
 from test_journal import flushes
 from test_replay import backup, held, works
-from test_standby import Load, stands_by, takes_over
+from test_standby import Load, caught_up, stands_by, takes_over
 
 
 # Seconds for which a database is away: longer than a reply is kept for it.
@@ -78,7 +78,7 @@ def mjournal(journal: JournalSettings) -> Callable[..., Ran]:
 
 def taken(journal: JournalSettings) -> tuple[TableLog, Tail]:
     """A writer that has the lock, with the end that it found. The database gives the lock back a moment after the last writer closed."""
-    end = time.monotonic() + 10
+    end = time.monotonic() + 30
     while True:
         log = writer_of(journal)
         try:
@@ -193,6 +193,8 @@ async def test_a_database_that_is_away(start, tmp_path: Path) -> None:
             assert await ada.told("W ^X,^Y") == "11"
             snapshot = await asyncio.to_thread(backup, front)
         second.hears("the journal can be read again")
+        # A standby that is stopped runs no more of what it has not run yet.
+        await caught_up(second, JournalSettings(database=cluster.place))
         second.stop()
         assert "the journal cannot be read: database: " in second.told()
         assert "no line goes on until it can" in front.told() and "the journal is written again" in front.told()
@@ -240,6 +242,7 @@ async def test_a_database_that_is_away_for_a_minute(start, tmp_path: Path) -> No
             assert front.told().count(told) == 1
         second.hears("the journal can be read again")
         front.stop()
+        await caught_up(second, JournalSettings(database=cluster.place))
         assert second.stop() == 0
         run = tool("mjournal", "--config", str(front.folder / "front.toml"))
         assert run("verify")[2] == "" and "without a reply" not in run("verify")[1]

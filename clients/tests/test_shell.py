@@ -174,7 +174,7 @@ class Terminal:
         """Types a text."""
         os.write(self._end, text.encode())
 
-    def wait(self, text: str, seconds: float = 10) -> str:
+    def wait(self, text: str, seconds: float = 30) -> str:
         """What was shown up to a text that has to come."""
         limit = time.monotonic() + seconds
         while text not in self.seen:

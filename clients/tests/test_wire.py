@@ -133,6 +133,8 @@ def test_time_out_while_another_client_is_served_and_after_it(server: Server) ->
         with pytest.raises(TimedOut, match="another client may be connected"):
             second.send("W A+1")
         first.close()
+        # It is served now, and takes what time it needs.
+        second.timeout = 20
         assert second.send("W A+2").rest == "3"
 
 

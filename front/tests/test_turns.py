@@ -332,7 +332,8 @@ async def test_stop_tells_all_users(start, tmp_path) -> None:
 def test_signals_up_to_the_end_leave_the_status(start, number) -> None:
     front = start()
     front.process.terminate()
-    while front.process.poll() is None:
+    began = time.monotonic()
+    while front.process.poll() is None and time.monotonic() - began < 60:
         front.process.send_signal(number)
         time.sleep(0.0005)
-    assert front.process.returncode == 0
+    assert front.process.poll() == 0

@@ -4,7 +4,7 @@
 //! - `transcripts`, without words: plays the blocks of its standard input, and prints them with what
 //!   their cases give. The settings of lines lie where it runs.
 //! - `transcripts time COUNT [PAGE]`: times the calls of a page of `timings`, or of all pages. Each call
-//!   is made so often in each of five passes, and the time of the fastest pass is printed.
+//!   is made COUNT times in each of five passes, and the time of the fastest pass is printed.
 #![tactic(auto)]
 
 use anyhow::Context;

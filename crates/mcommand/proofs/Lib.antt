@@ -2,5 +2,6 @@
 mod CommandWords
 pub mod Calls
 pub mod Targets
+pub mod Labels
 pub mod Locking
 pub mod CommandLaws

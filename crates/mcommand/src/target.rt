@@ -7,7 +7,7 @@ ghost use Rattle.moperator.specs.Codes.{fault_of};
 ghost use Rattle.mgrammar.specs.RoutineLine.{label_of};
 ghost use Rattle.mtree.specs.Tree.{entry_tree};
 ghost use Rattle.mcommand.specs.Does.{Does};
-ghost use Rattle.mcommand.specs.Targets.{target_view, target_among};
+ghost use Rattle.mcommand.specs.Targets.{begin_apart, target_view, target_among};
 
 use crate::parts::Parts;
 use mnum::Bytes7;
@@ -25,10 +25,24 @@ pub struct Target {
     pub line: usize,
 }
 
-// Whether a line has this label.
+// Whether two texts begin with different characters.
+#[inline]
+fn begin_apart(one: &[u8], other: &[u8]) -> bool
+    ensures { result ≡ begin_apart one.now other.now }
+{
+    match (one, other) {
+        ([a, ..], [b, ..]) => *a != *b,
+        _ => false,
+    }
+}
+
+// Whether a line has this label. Most lines begin with another character, so their label need not be read.
 fn has_label(label: &[u8], line: &[u8]) -> bool
     ensures { result ≡ levels.is_label label.now (label_of line.now) }
 {
+    if begin_apart(label, line) {
+        return false;
+    }
     match label_of(line) {
         None => false,
         Some(name) => name == label,

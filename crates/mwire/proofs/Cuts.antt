@@ -1,9 +1,9 @@
 -- SPDX-License-Identifier: Apache-2.0
--- The finished lines of a stream that comes byte by byte, and what is kept of its rest.
-use Rattle.mwire.proofs.WireWords.{◌≡◌, ◌++◌, ◌+◌, ◌-◌, ◌<◌, ◌≤◌, ◌==◌, List, [], ◌∷◌, ℕ, refl, sym, ◌∙◌, ap, true, false, append_assoc, append-nil, length, take, map, arith, inl, inr, slice_index, flat_map, lines, lines_of_parts, strip_carriage_return, take_all, length-take-le, map-append, All-push, All-nil, slice_split_at, slice_split_none, length-slice_split, TooLong, classify, parts_of, but_last, finished_lines, IsOpen, AreOpen, IsCut, if◌then◌else◌}
+-- The finished lines of a stream that comes in parts, and what is kept of its rest.
+use Rattle.mwire.proofs.WireWords.{◌≡◌, ◌++◌, ◌+◌, ◌-◌, ◌<◌, ◌≤◌, ◌==◌, List, [], ◌∷◌, ℕ, refl, sym, ◌∙◌, ap, true, false, append_assoc, append-nil, length, take, map, arith, inl, inr, slice_index, flat_map, lines, lines_of_parts, strip_carriage_return, take_all, length-take-le, map-append, All-append, All-nil, slice_split_at, slice_split_none, length-slice_split, TooLong, classify, parts_of, but_last, finished_lines, IsOpen, AreOpen, IsCut, if◌then◌else◌}
 use Rattle.std.proofs.lemmas.List.Concat.{flat_map-append}
 use Rattle.std.proofs.lemmas.Bool.{cases_lt}
-use Rattle.mwire.proofs.Fronts.{take-take_push}
+use Rattle.mwire.proofs.Fronts.{take-take_append}
 
 -- what is kept of a line decides what becomes of it
 
@@ -31,19 +31,19 @@ module _ (f : List ℕ → List ℕ) (shorter : (l : List ℕ) → length l ≤ 
         | inr short ↦ ap (λ l. classify (f l)) (take_all n rest short)
       ]
 
--- a further byte
+-- further bytes, without a line feed
 
 pub IsCut-nil : IsCut [] [] []
 IsCut-nil = record { rest = []; whole = refl; each = tt; open_rest = All-nil (λ x. (x == 10) ≡ false); kept_is = refl }
 
-pub IsCut-byte : (past : List ℕ) (finished : List (List ℕ)) (kept kept' : List ℕ) (b : ℕ)
-    → IsCut past finished kept → (b == 10) ≡ false → kept' ≡ take 262 (kept ++ b ∷ []) → IsCut (past ++ b ∷ []) finished kept'
-IsCut-byte past finished kept kept' b s e k = record {
-  rest = s.rest ++ b ∷ [];
-  whole = ap (λ l. l ++ b ∷ []) s.whole ∙ append_assoc (flat_map (λ x. x ++ 10 ∷ []) finished) s.rest (b ∷ []);
+pub IsCut-open : (past : List ℕ) (finished : List (List ℕ)) (kept kept' bytes : List ℕ)
+    → IsCut past finished kept → IsOpen bytes → kept' ≡ take 262 (kept ++ bytes) → IsCut (past ++ bytes) finished kept'
+IsCut-open past finished kept kept' bytes s no_feed k = record {
+  rest = s.rest ++ bytes;
+  whole = ap (λ l. l ++ bytes) s.whole ∙ append_assoc (flat_map (λ x. x ++ 10 ∷ []) finished) s.rest bytes;
   each = s.each;
-  open_rest = All-push (λ x. (x == 10) ≡ false) s.rest b s.open_rest e;
-  kept_is = k ∙ (ap (λ l. take 262 (l ++ b ∷ [])) s.kept_is ∙ take-take_push 262 s.rest b);
+  open_rest = All-append (λ x. (x == 10) ≡ false) s.rest bytes s.open_rest no_feed;
+  kept_is = k ∙ (ap (λ l. take 262 (l ++ bytes)) s.kept_is ∙ take-take_append 262 s.rest bytes);
 }
 
 AreOpen-push : (xs : List (List ℕ)) (x : List ℕ) → AreOpen xs → IsOpen x → AreOpen (xs ++ x ∷ [])

@@ -1,7 +1,7 @@
 -- SPDX-License-Identifier: Apache-2.0
 -- The events of the lines of a stream, gathered as its bytes come.
-use Rattle.mwire.proofs.WireWords.{◌≡◌, ◌++◌, ◌+◌, ◌<◌, ◌≤◌, ◌==◌, List, [], ◌∷◌, ℕ, false, refl, sym, ◌∙◌, ap, subst, Option, append_assoc, length, get_or, take, arith, Consumes-nil, Consumes-trans, Consumes, lines, lines_of_parts, strip_carriage_return, map-append, take_all, take_more, Text, Event, WireLine, classify, before_events, events_of, Gathered, HasGathered, map}
-use Rattle.mwire.proofs.Cuts.{length-strip, classify-kept, IsCut-nil, IsCut-byte, IsCut-line, lines-cut}
+use Rattle.mwire.proofs.WireWords.{◌≡◌, ◌++◌, List, [], ◌∷◌, refl, ◌∙◌, ap, subst, Option, append_assoc, take, arith, Consumes-nil, Consumes-trans, Consumes, lines, lines_of_parts, strip_carriage_return, map-append, Text, Event, WireLine, classify, before_events, events_of, Gathered, HasGathered, IsOpen, map}
+use Rattle.mwire.proofs.Cuts.{length-strip, classify-kept, IsCut-nil, IsCut-open, IsCut-line, lines-cut}
 
 before_events-append : (wire_line : WireLine) (xs ys : List Event) → before_events wire_line (xs ++ ys) ≡ before_events wire_line xs ++ ys
 before_events-append wire_line xs ys = grind arith
@@ -14,33 +14,28 @@ events_of-append (l ∷ ls) ms = ap (before_events (classify l)) (events_of-appe
 pub Gathered-start : Gathered [] [] []
 Gathered-start = record { finished = []; cut = IsCut-nil; events_are = refl }
 
--- a byte that is no line feed
-pub Gathered-byte : (past kept kept' : Text) (byte : ℕ) (events : List Event) → (byte == 10) ≡ false → kept' ≡ take 262 (kept ++ byte ∷ [])
-    → Gathered past kept events → Gathered (past ++ byte ∷ []) kept' events
-Gathered-byte past kept kept' byte events e k s = record { finished = s.finished; cut = IsCut-byte past s.finished kept kept' byte s.cut e k; events_are = s.events_are }
+-- bytes without a line feed
+pub Gathered-open : (past kept kept' bytes : Text) (events : List Event) → IsOpen bytes → kept' ≡ take 262 (kept ++ bytes)
+    → Gathered past kept events → Gathered (past ++ bytes) kept' events
+Gathered-open past kept kept' bytes events no_feed k s = record { finished = s.finished; cut = IsCut-open past s.finished kept kept' bytes s.cut no_feed k; events_are = s.events_are }
 
 -- a line feed
-pub Gathered-line : (past kept kept' line : Text) (byte : ℕ) (events events' : List Event) → byte ≡ 10 → kept' ≡ [] → line ≡ strip_carriage_return kept
-    → events' ≡ events ++ events_of (line ∷ []) → Gathered past kept events → Gathered (past ++ byte ∷ []) kept' events'
-Gathered-line past kept kept' line byte events events' eb ek el added s =
+Gathered-line : (past kept kept' line : Text) (events events' : List Event) → kept' ≡ [] → line ≡ strip_carriage_return kept
+    → events' ≡ events ++ events_of (line ∷ []) → Gathered past kept events → Gathered (past ++ 10 ∷ []) kept' events'
+Gathered-line past kept kept' line events events' ek el added s =
     let rest = s.cut.rest in
     let wire_line : classify line ≡ classify (strip_carriage_return rest) =
     ap classify el ∙ (ap (λ l. classify (strip_carriage_return l)) s.cut.kept_is ∙ classify-kept strip_carriage_return length-strip 262 rest (omega arith)) in
     let events_are : events' ≡ events_of (map strip_carriage_return (s.finished ++ rest ∷ [])) = rw (added, s.events_are, wire_line) (simp (map-append, events_of-append)) in
     let cut = IsCut-line past s.finished kept s.cut in
-    rw (eb, ek) (record { finished = s.finished ++ rest ∷ []; cut = cut; events_are = events_are })
+    rw ek (record { finished = s.finished ++ rest ∷ []; cut = cut; events_are = events_are })
 
--- one more byte of a piece, and the whole of it
-pub Gathered-more : (past piece kept : Text) (i : ℕ) (events : List Event) → i < length piece
-    → Gathered ((past ++ take i piece) ++ get_or piece i 0 ∷ []) kept events → Gathered (past ++ take (i + 1) piece) kept events
-Gathered-more past piece kept i events lt s =
-    let P : Text → Type 0 = λ bytes. Gathered bytes kept events in
-    subst P (append_assoc past (take i piece) (get_or piece i 0 ∷ []) ∙ ap (λ t. past ++ t) (sym (take_more piece i 0 lt))) s
-
-pub Gathered-all : (past piece kept : Text) (i : ℕ) (events : List Event) → length piece ≤ i
-    → Gathered (past ++ take i piece) kept events → Gathered (past ++ piece) kept events
-Gathered-all past piece kept i events end s =
-    let P : Text → Type 0 = λ bytes. Gathered bytes kept events in subst P (ap (λ t. past ++ t) (take_all i piece end)) s
+-- the end of a line, and its line feed
+pub Gathered-finished : (past kept whole kept' bytes line : Text) (events events' : List Event) → IsOpen bytes → whole ≡ take 262 (kept ++ bytes) → kept' ≡ []
+    → line ≡ strip_carriage_return whole → events' ≡ events ++ events_of (line ∷ []) → Gathered past kept events → Gathered (past ++ (bytes ++ 10 ∷ [])) kept' events'
+Gathered-finished past kept whole kept' bytes line events events' no_feed ew ek el added s =
+    let P : Text → Type 0 = λ bytes. Gathered bytes kept' events' in
+    subst P (append_assoc past bytes (10 ∷ [])) (Gathered-line (past ++ bytes) whole kept' line events events' ek el added (Gathered-open past kept whole bytes events no_feed ew s))
 
 last_events : (rest : Text) → events_of (rest ∷ []) ≡ events_of (lines_of_parts (rest ∷ []))
 last_events rest = grind arith

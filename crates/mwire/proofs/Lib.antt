@@ -3,6 +3,7 @@ pub mod WireWords
 pub mod WireExamples
 pub mod EventLines
 pub mod Fronts
+pub mod Shown
 pub mod Cuts
 pub mod LineAnswers
 pub mod Progresses

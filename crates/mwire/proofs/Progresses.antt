@@ -1,8 +1,7 @@
 -- SPDX-License-Identifier: Apache-2.0
 -- How the lines of a stream are answered as its bytes come.
-use Rattle.mwire.proofs.WireWords.{◌≡◌, ◌++◌, ◌+◌, ◌<◌, ◌==◌, List, [], ◌∷◌, ℕ, refl, sym, ◌∙◌, ap, subst, Bool, false, Ok, Err, Result, Option, append_assoc, append-nil, length, take, drop, get_or, is_ok, arith, Appends-nil, Appends-trans, strip_carriage_return, take_more, map-append, Text, Settings, World, Ghosts, classify, finished_lines, LineAnswered, AnswersCutShort, EachAnswered, Stands, TakesOn, LineSent, map}
-use Rattle.std.proofs.Common.{take-append-drop}
-use Rattle.mwire.proofs.Cuts.{classify-kept, IsCut-nil, IsCut-byte, IsCut-line, finished_lines-cut_more, length-strip}
+use Rattle.mwire.proofs.WireWords.{◌≡◌, ◌++◌, List, [], ◌∷◌, refl, sym, ◌∙◌, ap, subst, Bool, true, Ok, Err, Result, Option, append_assoc, append-nil, ◌==◌, length, take, is_ok, nat_tests, arith, Appends-nil, Appends-trans, strip_carriage_return, map-append, Text, Settings, World, Ghosts, classify, finished_lines, LineAnswered, AnswersCutShort, EachAnswered, Stands, TakesOn, LineSent, IsOpen, map}
+use Rattle.mwire.proofs.Cuts.{classify-kept, IsCut-nil, IsCut-open, IsCut-line, finished_lines-cut_more, length-strip}
 use Rattle.mwire.proofs.LineAnswers.{LineAnswered-same, EachAnswered-more, AnswersCutShort-at}
 use Rattle.mwire.proofs.Sends.{FrontSent-whole}
 
@@ -39,32 +38,32 @@ AnswersCutShort-line g settings first past old kept line text new before after b
     (finished_lines-cut_more past s.finished kept more s.cut) s.answered (record { answer = p.answer; answered = answered; sent = p.sent })
 
 -- a line feed
-pub TakesOn-line : {S E : Type 0} (g : Ghosts S) (settings : Settings) (old : World) (kept line : Text) (byte : ℕ) (new : World) (kept' : Text) (before after : Option Text) (result : Result (Unit {0}) E)
-    → byte ≡ 10 → kept' ≡ [] → line ≡ strip_carriage_return kept → LineSent g settings old line new before after (is_ok result)
-    → TakesOn g settings old kept (byte ∷ []) new kept' before after result
-TakesOn-line g settings old kept line byte new kept' before after (Ok u) eb ek el p = record {
+TakesOn-line : {S E : Type 0} (g : Ghosts S) (settings : Settings) (old : World) (kept line : Text) (new : World) (kept' : Text) (before after : Option Text) (result : Result (Unit {0}) E)
+    → kept' ≡ [] → line ≡ strip_carriage_return kept → LineSent g settings old line new before after (is_ok result)
+    → TakesOn g settings old kept (10 ∷ []) new kept' before after result
+TakesOn-line g settings old kept line new kept' before after (Ok u) ek el p = record {
   sent = p.sent.part;
   appended = p.sent.appended;
   outcome = λ first past text s.
       let stands = Stands-line g settings first past old kept text new p.answer s (subst (λ (l : Text). LineAnswered g settings old l p.answer new) el p.answered) in
-      rw (eb, ek, ← (FrontSent-whole p.sent)) stands;
+      rw (ek, ← (FrontSent-whole p.sent)) stands;
 }
-TakesOn-line g settings old kept line byte new kept' before after (Err e) eb ek el p = record {
+TakesOn-line g settings old kept line new kept' before after (Err e) ek el p = record {
   sent = p.sent.part;
   appended = p.sent.appended;
-  outcome = λ first past text s more. rw eb (AnswersCutShort-line g settings first past old kept line text new before after _ s el p more);
+  outcome = λ first past text s more. AnswersCutShort-line g settings first past old kept line text new before after _ s el p more;
 }
 
--- another byte
-pub TakesOn-byte : {S E : Type 0} (g : Ghosts S) (settings : Settings) (old : World) (kept : Text) (byte : ℕ) (kept' : Text) (before : Option Text) (u : Unit {0})
-    → (byte == 10) ≡ false → kept' ≡ take 262 (kept ++ byte ∷ [])
-    → TakesOn {E = E} g settings old kept (byte ∷ []) old kept' before before (Ok u)
-TakesOn-byte g settings old kept byte kept' before u e k = record {
+-- bytes without a line feed
+pub TakesOn-open : {S E : Type 0} (g : Ghosts S) (settings : Settings) (old : World) (kept bytes kept' : Text) (before : Option Text) (u : Unit {0})
+    → IsOpen bytes → kept' ≡ take 262 (kept ++ bytes)
+    → TakesOn {E = E} g settings old kept bytes old kept' before before (Ok u)
+TakesOn-open g settings old kept bytes kept' before u no_feed k = record {
   sent = [];
   appended = Appends-nil before;
   outcome = λ first past text s.
-      let stands : Stands g settings first (past ++ byte ∷ []) old kept' text =
-      record { finished = s.finished; cut = IsCut-byte past s.finished kept kept' byte s.cut e k; answered = s.answered } in
+      let stands : Stands g settings first (past ++ bytes) old kept' text =
+      record { finished = s.finished; cut = IsCut-open past s.finished kept kept' bytes s.cut no_feed k; answered = s.answered } in
       rw append-nil stands;
 }
 
@@ -77,13 +76,19 @@ TakesOn-nil g settings old kept before u = record {
 }
 
 -- what is taken, and then more
-TakesOn-then : {S E : Type 0} (g : Ghosts S) (settings : Settings) (a : World) (ka xs : Text) (b : World) (kb : Text) (wa wb : Option Text) (u : Unit {0}) (ys : Text) (c : World) (kc : Text) (wc : Option Text) (v : Unit {0})
-    → TakesOn {E = E} g settings a ka xs b kb wa wb (Ok u) → TakesOn {E = E} g settings b kb ys c kc wb wc (Ok v) → TakesOn {E = E} g settings a ka (xs ++ ys) c kc wa wc (Ok v)
-TakesOn-then g settings a ka xs b kb wa wb u ys c kc wc v p q = record {
+pub TakesOn-then : {S E : Type 0} (g : Ghosts S) (settings : Settings) (a : World) (ka xs : Text) (b : World) (kb : Text) (wa wb : Option Text) (u : Unit {0}) (ys : Text) (c : World) (kc : Text) (wc : Option Text) (result : Result (Unit {0}) E)
+    → TakesOn {E = E} g settings a ka xs b kb wa wb (Ok u) → TakesOn g settings b kb ys c kc wb wc result → TakesOn g settings a ka (xs ++ ys) c kc wa wc result
+TakesOn-then g settings a ka xs b kb wa wb u ys c kc wc (Ok v) p q = record {
   sent = p.sent ++ q.sent;
   appended = Appends-trans wa wb wc p.sent q.sent p.appended q.appended;
   outcome = λ first past text s.
       rw (← append_assoc past xs ys, ← append_assoc text p.sent q.sent) (q.outcome first (past ++ xs) (text ++ p.sent) (p.outcome first past text s));
+}
+TakesOn-then g settings a ka xs b kb wa wb u ys c kc wc (Err e) p q = record {
+  sent = p.sent ++ q.sent;
+  appended = Appends-trans wa wb wc p.sent q.sent p.appended q.appended;
+  outcome = λ first past text s more.
+      rw (← append_assoc past xs ys, ← append_assoc text p.sent q.sent) (q.outcome first (past ++ xs) (text ++ p.sent) (p.outcome first past text s) more);
 }
 
 -- by settings that stayed the same
@@ -92,25 +97,37 @@ pub TakesOn-under : {S E : Type 0} {g : Ghosts S} {settings settings' : Settings
 TakesOn-under {g = g} {old = old} {new = new} {kept = kept} {bytes = bytes} {kept' = kept'} {before = before} {after = after} {result = result} same p =
     subst (λ (s : Settings). TakesOn g s old kept bytes new kept' before after result) same p
 
--- one more byte of a piece
-pub TakesOn-more : {S E : Type 0} (g : Ghosts S) (settings : Settings) (a : World) (ka piece : Text) (i : ℕ) (b : World) (kb : Text) (wa wb : Option Text) (u : Unit {0}) (c : World) (kc : Text) (wc : Option Text) (v : Unit {0})
-    → i < length piece → TakesOn {E = E} g settings a ka (take i piece) b kb wa wb (Ok u) → TakesOn {E = E} g settings b kb (get_or piece i 0 ∷ []) c kc wb wc (Ok v) → TakesOn {E = E} g settings a ka (take (i + 1) piece) c kc wa wc (Ok v)
-TakesOn-more g settings a ka piece i b kb wa wb u c kc wc v lt p q =
-    rw (take_more piece i 0 lt) (TakesOn-then g settings a ka (take i piece) b kb wa wb u (get_or piece i 0 ∷ []) c kc wc v p q)
-
--- a byte of a piece at which it breaks, whatever is left of the piece
-pub TakesOn-stop : {S E : Type 0} (g : Ghosts S) (settings : Settings) (a : World) (ka piece : Text) (i : ℕ) (b : World) (kb : Text) (wa wb : Option Text) (u : Unit {0}) (c : World) (kc : Text) (wc : Option Text) (e e' : E)
-    → i < length piece → TakesOn {E = E} g settings a ka (take i piece) b kb wa wb (Ok u) → TakesOn {E = E} g settings b kb (get_or piece i 0 ∷ []) c kc wb wc (Err e) → TakesOn {E = E} g settings a ka piece c kc wa wc (Err e')
-TakesOn-stop g settings a ka piece i b kb wa wb u c kc wc e e' lt p q = record {
-  sent = p.sent ++ q.sent;
-  appended = Appends-trans wa wb wc p.sent q.sent p.appended q.appended;
+-- what is taken up to where it stops, whatever comes after that
+pub TakesOn-stop : {S E : Type 0} (g : Ghosts S) (settings : Settings) (a : World) (ka xs ys : Text) (c : World) (kc : Text) (wa wc : Option Text) (e e' : E)
+    → TakesOn {E = E} g settings a ka xs c kc wa wc (Err e) → TakesOn {E = E} g settings a ka (xs ++ ys) c kc wa wc (Err e')
+TakesOn-stop g settings a ka xs ys c kc wa wc e e' p = record {
+  sent = p.sent;
+  appended = p.appended;
   outcome = λ first past text s more.
-      let bytes : ((past ++ take i piece) ++ get_or piece i 0 ∷ []) ++ (drop (i + 1) piece ++ more) ≡ (past ++ piece) ++ more =
-      rejoined past (take i piece) (get_or piece i 0 ∷ []) (drop (i + 1) piece) more
-      ∙ ap (λ l. (past ++ l) ++ more) (ap (λ l. l ++ drop (i + 1) piece) (sym (take_more piece i 0 lt)) ∙ take-append-drop (i + 1) piece) in
-      let cut_short = q.outcome first (past ++ take i piece) (text ++ p.sent) (p.outcome first past text s) (drop (i + 1) piece ++ more) in
-      rw (← append_assoc text p.sent q.sent) (subst (λ (l : Text). AnswersCutShort g settings first (finished_lines l) ((text ++ p.sent) ++ q.sent) c) bytes cut_short);
+      let bytes : (past ++ xs) ++ (ys ++ more) ≡ (past ++ (xs ++ ys)) ++ more = simp append_assoc in
+      subst (λ (l : Text). AnswersCutShort g settings first (finished_lines l) (text ++ p.sent) c) bytes (p.outcome first past text s (ys ++ more));
 }
-  where
-    rejoined : (past xs ys zs more : Text) → ((past ++ xs) ++ ys) ++ (zs ++ more) ≡ (past ++ ((xs ++ ys) ++ zs)) ++ more
-    rejoined past xs ys zs more = simp append_assoc
+
+-- the end of a line, its line feed, and its answer, which another line that becomes the same has too
+pub TakesOn-finished : {S E : Type 0} (g : Ghosts S) (settings : Settings) (old : World) (kept bytes line : Text) (new : World) (kept' : Text) (before after : Option Text) (result : Result (Unit {0}) E)
+    → IsOpen bytes → kept' ≡ [] → classify line ≡ classify (strip_carriage_return (take 262 (kept ++ bytes))) → LineSent g settings old line new before after (is_ok result)
+    → TakesOn g settings old kept (bytes ++ 10 ∷ []) new kept' before after result
+TakesOn-finished g settings old kept bytes line new kept' before after result no_feed ek same p =
+    let whole = take 262 (kept ++ bytes) in
+    let sent : LineSent g settings old (strip_carriage_return whole) new before after (is_ok result) =
+    record { answer = p.answer; answered = LineAnswered-same g settings old line (strip_carriage_return whole) p.answer new same p.answered; sent = p.sent } in
+    TakesOn-then g settings old kept bytes old whole before before tt (10 ∷ []) new kept' after result
+    (TakesOn-open g settings old kept bytes whole before tt no_feed refl)
+    (TakesOn-line g settings old whole (strip_carriage_return whole) new kept' before after result ek refl sent)
+
+-- a line that comes whole becomes what its kept front does
+pub classify-whole : (kept bytes : Text) → kept ≡ [] → classify (strip_carriage_return bytes) ≡ classify (strip_carriage_return (take 262 (kept ++ bytes)))
+classify-whole kept bytes e = rw e (sym (classify-kept strip_carriage_return length-strip 262 bytes (omega arith)))
+
+pub nothing_kept : (kept : Text) (b : Bool) → b ≡ (length kept == 0) → b ≡ true → kept ≡ []
+nothing_kept [] b e h = refl
+nothing_kept (c ∷ cs) b e h = absurd (grind (arith, nat_tests, e, h))
+
+-- a piece, of which a line more is taken
+pub taken_more : (piece taken rest end after : Text) → piece ≡ taken ++ rest → rest ≡ end ++ 10 ∷ after → piece ≡ (taken ++ (end ++ 10 ∷ [])) ++ after
+taken_more piece taken rest end after whole cut = whole ∙ (ap (λ t. taken ++ t) cut ∙ simp append_assoc)

@@ -1,12 +1,13 @@
 -- SPDX-License-Identifier: Apache-2.0
 -- The words that most proofs of this crate have, in one place.
-pub use Rattle.std.proofs.Common.{Bool, Err, IfErr, IsErr, List, Ok, OnOk, Option, Result, Some, [], ap, append-nil, append_assoc, arith, drop, false, get_or, inl, inr, is_err, is_ok, length, length-append, length-drop, map, refl, rules, slice_index, subst, suc, sym, take, true, zero, ℕ, ◌++◌, ◌+◌, ◌-◌, ◌<◌, ◌==◌, ◌^◌, ◌∙◌, ◌∷◌, ◌≡◌, ◌≢◌, ◌≤◌}
+pub use Rattle.std.proofs.Common.{Bool, Err, IfErr, IsErr, List, Ok, OnOk, Option, Result, Some, [], ap, append-nil, append_assoc, arith, drop, false, get_or, inl, inr, is_err, is_ok, length, length-append, length-drop, map, min, refl, rules, slice_index, subst, suc, sym, take, true, zero, ℕ, ◌++◌, ◌+◌, ◌-◌, ◌<◌, ◌==◌, ◌^◌, ◌∙◌, ◌∷◌, ◌≡◌, ◌≢◌, ◌≤◌}
 pub use Rattle.std.proofs.KnownBytes.{Appends-kept, Appends-nil, Appends-trans, Consumes-kept, Consumes-nil, Consumes-trans}
 pub use Rattle.std.proofs.lemmas.Bool.Decides.{nat_tests}
-pub use Rattle.std.proofs.lemmas.List.{get_or-append-add, length-take-le, map-append, take-append-drop, take-append-le, take_all, take_more}
+pub use Rattle.std.proofs.lemmas.List.{get_or-append-add, length-take, length-take-le, map-append, take-append-drop, take-append-le, take_all, take_min, take_more}
 pub use Rattle.std.proofs.lemmas.List.Elements.{All-append, All-cons, All-head, All-nil, All-push, All-tail}
 pub use Rattle.std.proofs.lemmas.List.Splits.{length-slice_split, slice_split_at, slice_split_first, slice_split_none}
 pub use Rattle.std.proofs.lemmas.List.Sums.{fails_before_first, position_or_len_is}
+pub use Rattle.std.proofs.Math.Seq.{take-append-add}
 pub use Rattle.std.specs.Fmt.{decimal}
 unfoldable pub use Rattle.std.specs.Fmt.{digits}
 pub use Rattle.std.specs.Io.KnownBytes.{Appends, Consumes, IsAtEnd, Keeps}
@@ -31,7 +32,7 @@ pub use Rattle.mwire.specs.Only.{RanOnly, RepliesCutShort, ServeOnlyCutShort, Se
 pub use Rattle.mwire.specs.Progress.{AreOpen, EachAnswered, FrontSent, Gathered, HasGathered, HasServed, IsCut, IsOpen, LineSent, SentUpTo, Stands, TakesOn}
 pub use Rattle.mwire.specs.Serves.{EndsBy, ServeCutShort, Serves}
 pub use Rattle.mwire.specs.Watched.{calls_of, counted_on, failed_of, inner_of, stalls_of}
-pub use Rattle.mwire.specs.Wire.{Ignored, Runs, TooLong, Unreadable, WireLine, before_events, but_last, classify, events_of, finished_lines, is_event, is_line_end, is_space, is_terminal, line_served, lines_served, output_text, parts_of, reply_text, shown, stream_served, too_long_text, unreadable_text}
+pub use Rattle.mwire.specs.Wire.{Ignored, Runs, TooLong, Unreadable, WireLine, before_events, but_last, classify, events_of, finished_lines, is_escaped, is_event, is_line_end, is_space, is_terminal, line_served, lines_served, output_text, parts_of, reply_text, shown, shown_character, stream_served, too_long_text, unreadable_text}
 pub use Rattle.mwire.specs.WireLaws.{EventsHaveStream, HasLine, LinesHaveAnswers, NormalAnswersAreServed, NormalStreamsAreServed, line_of}
 pub use Rattle.mwire.specs.WireLines.{space_read, wire_line_in}
 pub use Rattle.mwire.specs.declared.fault.WireFault.{WireFault}

@@ -5,10 +5,10 @@ ghost use Rattle.mworld.specs.View.{event_of};
 ghost use Rattle.mwire.specs.Wire.{events_of};
 ghost use Rattle.mwire.specs.Watched.{inner_of, failed_of, calls_of, ReadFailed};
 ghost use Rattle.mwire.specs.Serves.{ReadsEvents};
-ghost use Rattle.mwire.specs.Progress.{Gathered};
+ghost use Rattle.mwire.specs.Progress.{IsOpen, Gathered};
 
 use crate::fault::WireFault;
-use crate::line_buffer::LineBuffer;
+use crate::line_buffer::{LineBuffer, cut_line};
 use crate::watched::Watched;
 use crate::wire_line::{WireLine, classify};
 use mworld::Event;
@@ -59,26 +59,27 @@ fn gather_piece(
     ensures { OnOk result ((past : List ℕ) → Gathered past line.old (map event_of events.old.items)
         → Gathered (past ++ piece.now) line.new (map event_of events.new.items)) }
 {
-    for byte in piece {
-        gather_byte(alloc, events, line, *byte)?;
+    let mut rest = piece;
+    while let Some((end, after)) = cut_line(rest) {
+        gather_end(alloc, events, line, end)?;
+        rest = after;
     }
+    line.extend(rest);
     Ok(())
 }
 
-// Takes the next byte of the stream.
-fn gather_byte(
+// Takes the bytes up to a line feed, which end a line, and the line feed.
+fn gather_end(
     alloc: Global,
     events: &mut Vec<Event>,
     line: &mut LineBuffer,
-    byte: u8,
+    bytes: &[u8],
 ) -> Result<(), AllocError>
+    requires { IsOpen bytes.now }
     ensures { OnOk result ((past : List ℕ) → Gathered past line.old (map event_of events.old.items)
-        → Gathered (past ++ byte ∷ []) line.new (map event_of events.new.items)) }
+        → Gathered (past ++ (bytes.now ++ 10 ∷ [])) line.new (map event_of events.new.items)) }
 {
-    if byte != b'\n' {
-        line.push(byte);
-        return Ok(());
-    }
+    line.extend(bytes);
     gather_line(alloc, events, line.finished())?;
     line.clear();
     Ok(())

@@ -1,15 +1,19 @@
 // SPDX-License-Identifier: Apache-2.0
 // The bytes that show a reply.
-ghost use Rattle.std.specs.Prelude.{◌≡◌, ◌+◌, ◌<◌, [], ◌∷◌, ◌++◌, length, drop, OnOk, OnErr, IfOk};
-ghost use Rattle.std.specs.List.{position_or_len, slice_split};
+ghost use Rattle.std.specs.Prelude.{◌≡◌, ◌+◌, ◌<◌, [], ◌∷◌, ◌++◌, length, drop, not, OnOk, OnErr, IfOk};
+ghost use Rattle.std.specs.List.{list_all, position_or_len, slice_split};
 ghost use Rattle.mworld.specs.View.{reply_of};
 ghost use Rattle.mwire.specs.Wire as wire;
 ghost use Rattle.mwire.specs.Wire.{is_escaped, shown_character, shown, output_text, is_line_end, reply_text};
 
 use crate::ending::push_ending;
 use itoa::Buffer;
+use memchr::memchr;
 use mworld::{LINE_END, Reply};
 use std::alloc::{AllocError, Global};
+
+// How many characters are looked at together.
+const BLOCK: usize = 64;
 
 /// Appends the bytes that show a terminal's reply: its output, line by line, and how it ended.
 ///
@@ -73,12 +77,10 @@ fn behind(output: &[u8], end: usize) -> &[u8]
 fn line_length(output: &[u8]) -> usize
     ensures { result ≡ position_or_len is_line_end output.now }
 {
-    for (i, b) in output.iter().enumerate() {
-        if *b == LINE_END {
-            return i;
-        }
+    match memchr(LINE_END, output) {
+        Some(end) => end,
+        None => output.len(),
     }
-    output.len()
 }
 
 // Appends a line of a reply: the terminal's digits, a mark and the text.
@@ -92,20 +94,56 @@ fn push_line(out: &mut Vec<u8>, digits: &[u8], mark: u8, text: &[u8]) -> Result<
     Ok(())
 }
 
+// Appends a text as a reply shows it.
 fn push_shown(out: &mut Vec<u8>, text: &[u8]) -> Result<(), AllocError>
     ensures { OnOk result (out.new.items ≡ out.old.items ++ shown text.now) }
 {
-    for c in text {
+    let mut rest = text;
+    while rest.len() > BLOCK {
+        let (block, more) = rest.split_at(BLOCK);
+        push_block(out, block)?;
+        rest = more;
+    }
+    push_block(out, rest)
+}
+
+// Appends a block of a text: at once, unless a character of it is escaped.
+fn push_block(out: &mut Vec<u8>, block: &[u8]) -> Result<(), AllocError>
+    ensures { OnOk result (out.new.items ≡ out.old.items ++ shown block.now) }
+{
+    if is_plain(block) {
+        return out.extend_from_slice(block);
+    }
+    for c in block {
         push_character(out, *c)?;
     }
     Ok(())
+}
+
+// Whether no character of a block is escaped. It looks at all of them, so that the compiler compares many together.
+fn is_plain(block: &[u8]) -> bool
+    ensures { result ≡ list_all (λ c. not (is_escaped c)) block.now }
+{
+    let mut plain = true;
+    for c in block {
+        plain &= is_shown(*c);
+    }
+    plain
+}
+
+// Whether a character is shown as it is.
+#[inline]
+fn is_shown(c: u8) -> bool
+    ensures { result ≡ not (is_escaped c) }
+{
+    c >= 32 && c != 127 && c != b'\\'
 }
 
 // Appends a character, or the backslash and the two digits that stand for it.
 fn push_character(out: &mut Vec<u8>, c: u8) -> Result<(), AllocError>
     ensures { OnOk result (out.new.items ≡ out.old.items ++ shown_character c) }
 {
-    if c >= 32 && c != 127 && c != b'\\' {
+    if is_shown(c) {
         out.push(c)?;
         return Ok(());
     }

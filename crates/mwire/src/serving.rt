@@ -5,10 +5,10 @@ ghost use Rattle.mworld.specs.View.{settings_of, world_of, reply_of};
 ghost use Rattle.mwire.specs.Wire.{reply_text};
 ghost use Rattle.mwire.specs.Watched.{inner_of, failed_of, calls_of, stalls_of, ReadFailed, WriteFailed};
 ghost use Rattle.mwire.specs.Serves.{Serves};
-ghost use Rattle.mwire.specs.Progress.{TakesOn, LineSent, FrontSent};
+ghost use Rattle.mwire.specs.Progress.{IsOpen, TakesOn, LineSent, FrontSent};
 
 use crate::fault::WireFault;
-use crate::line_buffer::LineBuffer;
+use crate::line_buffer::{LineBuffer, cut_line, without_return};
 use crate::reply_bytes::push_bytes;
 use crate::watched::Watched;
 use crate::wire_line::{WireLine, classify};
@@ -83,31 +83,35 @@ fn take_piece<S: NodeStore, W: Write>(
     ensures works { result ≢ Err WireFault.Write → failed_of writer.new ≡ failed_of writer.old }
     ensures no_stall { result ≢ Err WireFault.Write → stalls_of writer.new ≡ stalls_of writer.old }
 {
-    for byte in piece {
-        take_byte(room, world, line, *byte, writer)?;
+    let mut rest = piece;
+    while let Some((end, after)) = cut_line(rest) {
+        take_line(room, world, line, end, writer)?;
+        rest = after;
     }
+    line.extend(rest);
     Ok(())
 }
 
-// Takes the next byte of the stream.
-fn take_byte<S: NodeStore, W: Write>(
+// Takes the bytes up to a line feed, which end a line, and the line feed. A line that comes whole is not copied.
+fn take_line<S: NodeStore, W: Write>(
     room: &mut Vec<u8>,
     world: &mut World<S>,
     line: &mut LineBuffer,
-    byte: u8,
+    bytes: &[u8],
     writer: &mut Watched<W>,
 ) -> Result<(), WireFault>
-    ensures passes { TakesOn S.NodeStore (settings_of world.old) (world_of S.NodeStore world.old) line.old (byte ∷ []) (world_of S.NodeStore world.new) line.new
+    requires { IsOpen bytes.now }
+    ensures passes { TakesOn S.NodeStore (settings_of world.old) (world_of S.NodeStore world.old) line.old (bytes.now ++ 10 ∷ []) (world_of S.NodeStore world.new) line.new
         (W.contents (inner_of writer.old)) (W.contents (inner_of writer.new)) result }
     ensures settings { settings_of world.new ≡ settings_of world.old }
     ensures fault { IfErr result (λ e. (e ≢ WireFault.Read) × (e ≡ WireFault.Write → WriteFailed writer.old writer.new)) }
     ensures works { result ≢ Err WireFault.Write → failed_of writer.new ≡ failed_of writer.old }
     ensures no_stall { result ≢ Err WireFault.Write → stalls_of writer.new ≡ stalls_of writer.old }
 {
-    if byte != b'\n' {
-        line.push(byte);
-        return Ok(());
+    if line.is_empty() {
+        return answer_line(room, world, without_return(bytes), writer);
     }
+    line.extend(bytes);
     let result = answer_line(room, world, line.finished(), writer);
     line.clear();
     result

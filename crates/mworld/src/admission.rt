@@ -8,10 +8,15 @@ use mgrant::{AccountId, Settings};
 use moperator::Code;
 use mspec::limits::MAX_LINE;
 
+// Whether a text has only characters. It looks at all bytes, so that the compiler compares many together.
 fn has_characters_only(text: &[u8]) -> bool
     ensures { result ≡ is_ascii text.now }
 {
-    text.iter().all(|byte| *byte < 128)
+    let mut are_characters = true;
+    for byte in text {
+        are_characters &= *byte < 128;
+    }
+    are_characters
 }
 
 // The account of a line that passes the checks before its text is parsed, or the code of the first that it fails.

@@ -12,8 +12,10 @@ use memchr::memchr;
 use mworld::{LINE_END, Reply};
 use std::alloc::{AllocError, Global};
 
-// How many characters are looked at together.
+// How many characters are looked at together at most, and at least: fewer are done sooner one by one.
 const BLOCK: usize = 64;
+
+const FEW: usize = 8;
 
 /// Appends the bytes that show a terminal's reply: its output, line by line, and how it ended.
 ///
@@ -77,10 +79,18 @@ fn behind(output: &[u8], end: usize) -> &[u8]
 fn line_length(output: &[u8]) -> usize
     ensures { result ≡ position_or_len is_line_end output.now }
 {
-    match memchr(LINE_END, output) {
-        Some(end) => end,
-        None => output.len(),
+    if output.len() >= FEW {
+        return match memchr(LINE_END, output) {
+            Some(end) => end,
+            None => output.len(),
+        };
     }
+    for (i, b) in output.iter().enumerate() {
+        if *b == LINE_END {
+            return i;
+        }
+    }
+    output.len()
 }
 
 // Appends a line of a reply: the terminal's digits, a mark and the text.
@@ -111,7 +121,7 @@ fn push_shown(out: &mut Vec<u8>, text: &[u8]) -> Result<(), AllocError>
 fn push_block(out: &mut Vec<u8>, block: &[u8]) -> Result<(), AllocError>
     ensures { OnOk result (out.new.items ≡ out.old.items ++ shown block.now) }
 {
-    if is_plain(block) {
+    if block.len() >= FEW && is_plain(block) {
         return out.extend_from_slice(block);
     }
     for c in block {

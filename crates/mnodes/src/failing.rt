@@ -1,0 +1,132 @@
+// SPDX-License-Identifier: Apache-2.0
+// A store of which one call fails.
+ghost use Rattle.std.specs.Prelude.{◌≡◌, ◌≢◌, ◌↔◌, ◌-◌, ◌<◌, ◌==◌, IsTrue, if◌then◌else◌};
+
+use crate::store::{NodeStore, StoreFault};
+use mkey::NodeKey;
+use mnum::Bytes7;
+use std::rc::Rc;
+
+/// A kind of call of a store.
+#[derive(Clone, Copy, PartialEq, Eq, Drop)]
+pub enum StoreCall {
+    Get,
+    Put,
+    Kill,
+    Next,
+    Prev,
+}
+
+/// A store around another. One of its calls, the nth of a kind, answers `Store` and changes nothing. Each other call is passed on.
+/// It has what the store beneath has, and is as sound; it is not steady.
+///
+/// Contracts see its fields: the store beneath, the kind of call, and how many calls of that kind are left up to and including
+/// the one that fails.
+pub struct Failing<S: NodeStore> {
+    store: S,
+    call: StoreCall,
+    left: u32,
+}
+
+// Written out, so that dropping it is one call, which is proved once.
+impl<S: NodeStore + Drop> Drop for Failing<S> {
+    fn drop(self) {
+        let Failing {
+            store: _,
+            call: _,
+            left: _,
+        } = self;
+    }
+}
+
+impl<S: NodeStore> Failing<S> {
+    /// The store, of which the `n`th call of this kind fails. Takes no memory.
+    pub fn new(store: S, call: StoreCall, n: u32) -> Failing<S>
+        requires { 0 < n }
+        ensures { result ≡ record { store = store; call = call; left = n } }
+    {
+        Failing {
+            store,
+            call,
+            left: n,
+        }
+    }
+
+    /// How many calls have failed: 0, and 1 once that call was made. Takes no memory.
+    pub fn failures(&self) -> u32
+        ensures { result ≡ (if self.now.left == 0 then 1 else 0) }
+    {
+        if self.left == 0 { 1 } else { 0 }
+    }
+
+    // Counts a call, and says whether it is the one that fails.
+    fn fails(&mut self, call: StoreCall) -> bool
+        ensures due { IsTrue result ↔ (call ≡ self.old.call) × (self.old.left ≡ 1) }
+        ensures counted { call ≡ self.old.call → self.new ≡ record self.old { left = self.old.left - 1 } }
+        ensures passed { call ≢ self.old.call → self.new ≡ self.old }
+        ensures store { self.new.store ≡ self.old.store }
+    {
+        if call != self.call || self.left == 0 {
+            return false;
+        }
+        self.left -= 1;
+        self.left == 0
+    }
+}
+
+// A read that fails was answered by the store beneath, which it does not change; the answer is dropped.
+impl<S: NodeStore> NodeStore for Failing<S> {
+    ghost content = { λ failing. S.content failing.store };
+
+    ghost sound = { S.sound };
+
+    ghost steady = { ⊥ };
+
+    fn get(&mut self, key: &NodeKey) -> Result<Option<Bytes7>, StoreFault> {
+        let answer = self.store.get(key);
+        if self.fails(StoreCall::Get) {
+            return Err(StoreFault::Store);
+        }
+        answer
+    }
+
+    fn put(&mut self, key: &NodeKey, text: &Bytes7) -> Result<(), StoreFault> {
+        if self.fails(StoreCall::Put) {
+            return Err(StoreFault::Store);
+        }
+        self.store.put(key, text)
+    }
+
+    fn kill(&mut self, key: &NodeKey) -> Result<(), StoreFault> {
+        if self.fails(StoreCall::Kill) {
+            return Err(StoreFault::Store);
+        }
+        self.store.kill(key)
+    }
+
+    fn next(&mut self, low: &[u8], high: &[u8]) -> Result<Option<Vec<u8>>, StoreFault> {
+        let answer = self.store.next(low, high);
+        if self.fails(StoreCall::Next) {
+            return Err(StoreFault::Store);
+        }
+        answer
+    }
+
+    fn prev(&mut self, low: &[u8], high: &[u8]) -> Result<Option<Vec<u8>>, StoreFault> {
+        let answer = self.store.prev(low, high);
+        if self.fails(StoreCall::Prev) {
+            return Err(StoreFault::Store);
+        }
+        answer
+    }
+
+    fn kept_routine(&mut self, account: &Bytes7, name: &Bytes7) -> Option<Rc<Vec<Bytes7>>> {
+        self.store.kept_routine(account, name)
+    }
+
+    fn keep_routine(&mut self, account: &Bytes7, name: &Bytes7, lines: &Rc<Vec<Bytes7>>) {
+        self.store.keep_routine(account, name, lines);
+    }
+
+    ghost steady_is_sound = { λ steady. absurd steady };
+}

@@ -1,10 +1,9 @@
 // SPDX-License-Identifier: Apache-2.0
 // Peers, who connect one after another, and what each is answered.
-use crate::lines::{Lines, plain_world};
-use mstore::Plain;
+use crate::failing::{FailingWorld, ample_world};
+use crate::lines::Lines;
 use mtranscript::{bytes_of, print_case, print_result, print_results};
 use mwire::{AcceptFault, Peers, serve_each};
-use mworld::World;
 use std::alloc::Global;
 use std::collections::VecDeque;
 
@@ -16,7 +15,7 @@ use std::collections::VecDeque;
 /// If the document gives no settings, if not all peers are served, or if memory runs out.
 pub fn play_connections(alloc: Global, block: &Lines, out: &mut Vec<u8>) -> anyhow::Result<()> {
     let mut peers = peers_of(alloc, block.cases)?;
-    let mut world = plain_world(alloc, block.document)?;
+    let mut world = ample_world(alloc, block.document)?;
     connected(alloc, &mut world, &mut peers, block.cases, out)
 }
 
@@ -32,7 +31,7 @@ fn peers_of(alloc: Global, cases: &[&str]) -> anyhow::Result<Peers> {
 // Serves peers in a world. Both are lent, so that they are dropped in one place.
 fn connected(
     alloc: Global,
-    world: &mut World<Plain>,
+    world: &mut FailingWorld,
     peers: &mut Peers,
     cases: &[&str],
     out: &mut Vec<u8>,
@@ -54,7 +53,7 @@ fn connected(
 // Serves `count` of them.
 fn served(
     alloc: Global,
-    world: &mut World<Plain>,
+    world: &mut FailingWorld,
     peers: &mut Peers,
     count: u32,
     errors: &mut Vec<u8>,

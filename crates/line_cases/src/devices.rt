@@ -1,6 +1,7 @@
 // SPDX-License-Identifier: Apache-2.0
 // Devices that fail, and what is known of it afterwards.
-use crate::lines::{Lines, line_bytes, plain_world};
+use crate::failing::ample_world;
+use crate::lines::{Lines, line_bytes};
 use anyhow::Context;
 use mtranscript::{play, print_result, print_results};
 use mwire::{Watched, WireFault, serve};
@@ -82,7 +83,7 @@ fn breaks(word: &str) -> anyhow::Result<bool> {
 ///
 /// If the document gives no settings, if a case names no reader or writer, or if memory runs out.
 pub fn play_devices(alloc: Global, block: &Lines, out: &mut Vec<u8>) -> anyhow::Result<()> {
-    let mut world = plain_world(alloc, block.document)?;
+    let mut world = ample_world(alloc, block.document)?;
     play(block.cases, out, |case, out| {
         let (reading, rest) = case.split_once(' ').context("no reader")?;
         let (writing, line) = rest.split_once(' ').context("no writer")?;

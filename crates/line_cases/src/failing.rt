@@ -4,7 +4,7 @@ use crate::lines::{Lines, answer_of, line_bytes};
 use mcache::Cached;
 use mglobal::RoutineCache;
 use mgrant::Settings;
-use mstore::{Failing, NodeStore, Plain, StoreCall};
+use mnodes::{Failing, NodeStore, Plain, StoreCall};
 use mtranscript::{play, print_result, print_results, words_of};
 use mworld::World;
 use std::alloc::Global;

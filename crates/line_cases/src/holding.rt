@@ -2,7 +2,7 @@
 // All that a store holds.
 use anyhow::Context;
 use mkey::read;
-use mstore::NodeStore;
+use mnodes::NodeStore;
 use mtranscript::{key_of, print};
 use std::alloc::Global;
 

@@ -3,7 +3,7 @@
 use crate::failing::{FailingWorld, ample_world, world_of};
 use anyhow::Context;
 use mgrant::{AccountId, Settings};
-use mstore::{NodeStore, Plain};
+use mnodes::NodeStore;
 use mtranscript::{bytes_of, play, print_result, print_results};
 use mwire::{Watched, serve, serve_only};
 use mworld::World;
@@ -53,15 +53,6 @@ pub(crate) fn lines_of(
     Ok(lines)
 }
 
-// A new world over the plain store that keeps one tree, by the settings of the document.
-pub(crate) fn plain_world(alloc: Global, document: &[u8]) -> anyhow::Result<World<Plain>> {
-    let settings = Settings::read(alloc, document)?;
-    match World::with_entries(alloc, settings, Plain::new(alloc), 1) {
-        Ok(world) => Ok(world),
-        Err(_) => anyhow::bail!("no memory for a world"),
-    }
-}
-
 // What a world answers to bytes.
 pub(crate) fn answer_of<S: NodeStore>(
     alloc: Global,
@@ -72,19 +63,6 @@ pub(crate) fn answer_of<S: NodeStore>(
     let mut writer = Watched::new(&mut answer);
     serve(alloc, world, &mut Watched::new(bytes), &mut writer)?;
     Ok(answer)
-}
-
-/// Serves each line in the world that the lines before it left, by the settings of the document, and prints the replies below it.
-///
-/// # Errors
-///
-/// If the document gives no settings, or if memory runs out.
-pub fn play_lines(alloc: Global, block: &Lines, out: &mut Vec<u8>) -> anyhow::Result<()> {
-    let mut world = plain_world(alloc, block.document)?;
-    play(block.cases, out, |case, out| {
-        let line = line_bytes(alloc, case)?;
-        print_results(alloc, out, &answer_of(alloc, &mut world, &line)?)
-    })
 }
 
 /// Serves all lines as one stream, by the settings of the document, and prints them, then what the account is told, and whether

@@ -2,7 +2,7 @@
 // Lines of two accounts, of which each call of the store fails in turn.
 use crate::failing::{ENTRIES, FailingWorld, failing_world, served};
 use crate::lines::{Lines, Stream, lines_of};
-use mstore::StoreCall;
+use mnodes::StoreCall;
 use mtranscript::print_result;
 use std::alloc::Global;
 

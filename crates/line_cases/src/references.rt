@@ -3,15 +3,18 @@
 use crate::lines::Lines;
 use anyhow::Context;
 use meval::{Depth, Eval, Place, Session};
+use mexec::Ended;
 use mgrant::{AccountId, Mode, Settings};
 use mkey::read;
+use mnodes::Plain;
 use mnum::Bytes7;
 use moperator::Code;
 use mparse::parse_ref;
-use mstore::Plain;
 use mtranscript::{bytes_of, play, print_result};
 use mtree::Reference;
-use std::alloc::Global;
+use mwire::push_reply;
+use mworld::Reply;
+use std::alloc::{AllocError, Global};
 
 // How many steps a reference has.
 const STEPS: u32 = 1000;
@@ -65,15 +68,24 @@ fn resolved(alloc: Global, there: &mut Resolving<'_>, case: &str) -> anyhow::Res
     };
     match place_of(alloc, &mut eval, &reference) {
         Ok(place) => shown(alloc, &place),
-        Err(code) => {
-            let name = format!(in alloc; "{code:?}")?;
-            let mut told = Vec::new(alloc);
-            for byte in name.as_bytes() {
-                told.push(byte.to_ascii_uppercase())?;
-            }
-            Ok(told)
-        }
+        Err(code) => Ok(name_of(alloc, code)?),
     }
+}
+
+// The name of a code, as a reply shows it behind `1!`.
+fn name_of(alloc: Global, code: Code) -> Result<Vec<u8>, AllocError> {
+    let reply = Reply {
+        out: Vec::new(alloc),
+        ending: Ended::Fault(code),
+    };
+    let mut shown = Vec::new(alloc);
+    push_reply(&mut shown, 1, &reply)?;
+    let name = shown.iter().skip(2).filter(|byte| **byte != b'\n');
+    let mut told = Vec::new(alloc);
+    for byte in name {
+        told.push(*byte)?;
+    }
+    Ok(told)
 }
 
 // The place of a reference that is to be changed.

@@ -3,7 +3,8 @@
 use crate::failing::{ENTRIES, world_over};
 use crate::holding::held;
 use crate::lines::{Lines, Stream, answer_of, lines_of};
-use mstore::{Failing, NodeStore, Plain, StoreCall, Table};
+use mnodes::{Failing, NodeStore, Plain, StoreCall};
+use mstore::Table;
 use mtranscript::print_result;
 use mworld::World;
 use sqlite::{Alter, Connection, FileStore, Files, Options};

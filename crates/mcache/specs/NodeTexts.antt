@@ -8,7 +8,7 @@ use Rattle.mspec.specs.Globals.{Globals}
 use Rattle.mspec.specs.KeyBytes.{key_bytes, IsStored}
 use Rattle.mspec.specs.Node.{Text, Node}
 use Rattle.mspec.specs.Number.{significant_digits}
-use Rattle.mstore.specs.Held.{AreHeld}
+use Rattle.mnodes.specs.Held.{AreHeld}
 
 -- the bytes of a key, and a text
 abbrev pub Entry : Type 0

@@ -4,7 +4,7 @@ use Rattle.std.specs.Prelude.{◌≡◌, ℕ, Result}
 use Rattle.mspec.specs.Act.{Text, Act}
 use Rattle.mmeaning.specs.Expression.{Inside}
 use Rattle.mmeaning.specs.Calls.{Here, Did}
-use Rattle.mstore.specs.declared.store.NodeStore.{Ghosts}
+use Rattle.mnodes.specs.declared.store.NodeStore.{Ghosts}
 use Rattle.moperator.specs.Codes.{fault_of}
 use Rattle.moperator.specs.declared.code.Code.{Code}
 use Rattle.meval.specs.Evaluates.{KeepsEval, standing_of, eval_here, inside_at}

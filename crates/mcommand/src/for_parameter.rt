@@ -9,15 +9,15 @@ ghost use Rattle.mcommand.specs.Does.{Does};
 ghost use Rattle.mcommand.specs.ForParameters.{course_view, start_and_increment, begun_within, started, advanced, added, added_within};
 
 use crate::parts::Parts;
+use mnodes::NodeStore;
 use mnum::{Name, Num};
 use moperator::{Code, computed};
-use mstore::NodeStore;
 use mtree::{Expr, Parameter};
 use mvalue::Value;
 use std::alloc::Global;
 
 /// How a FOR goes on after a turn. Contracts see it by `course_view`, as one of the definitions.
-#[derive(Clone, Copy, Debug)]
+#[derive(Clone, Copy)]
 pub enum Course {
     /// With the next parameter.
     LastTurn,

@@ -7,8 +7,8 @@ ghost use Rattle.mcommand.specs.Does.{Does};
 
 use crate::parts::Parts;
 use mgrant::Mode;
+use mnodes::NodeStore;
 use moperator::Code;
-use mstore::NodeStore;
 use mtree::Reference;
 use std::alloc::Global;
 

@@ -13,8 +13,8 @@ ghost use Rattle.mcommand.specs.LockNames.{MayTake, locking_names};
 
 use crate::parts::Parts;
 use mlock::LockName;
+use mnodes::NodeStore;
 use moperator::Code;
-use mstore::NodeStore;
 use mtree::{Expr, LockKind, Locked, Reference};
 use mvalue::Value;
 use std::alloc::Global;

@@ -10,10 +10,10 @@ ghost use Rattle.mcommand.specs.Does.{Does};
 ghost use Rattle.mcommand.specs.Targets.{begin_apart, target_view, target_among};
 
 use crate::parts::Parts;
+use mnodes::NodeStore;
 use mnum::Bytes7;
 use moperator::Code;
 use mscan::{dots_of, label_of};
-use mstore::NodeStore;
 use mtree::Entry;
 use std::alloc::Global;
 use std::rc::Rc;

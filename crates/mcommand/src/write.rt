@@ -7,8 +7,8 @@ ghost use Rattle.mtree.specs.Tree.{expr_tree};
 ghost use Rattle.mcommand.specs.Does.{Does};
 
 use crate::parts::Parts;
+use mnodes::NodeStore;
 use moperator::Code;
-use mstore::NodeStore;
 use mtree::Expr;
 use std::alloc::Global;
 

@@ -7,7 +7,7 @@ ghost use Rattle.meval.specs.Evaluates.{depth_of};
 use mspec::limits::{MAX_INDIRECTIONS, MAX_LEVELS};
 
 /// How deep a text stands: the levels that are open, of which some are indirections under evaluation.
-#[derive(Clone, Copy, Debug, PartialEq, Eq)]
+#[derive(Clone, Copy, PartialEq, Eq)]
 pub struct Depth {
     pub levels: u32,
     pub indirections: u32,

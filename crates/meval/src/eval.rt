@@ -23,11 +23,11 @@ use crate::shortcuts::at_hand;
 use crate::value_list::Values;
 use crate::variable_name::VariableName;
 use mgrant::{AccountId, Settings};
+use mnodes::NodeStore;
 use mnum::{Name, Num};
 use moperator::{
     Code, arithmetic_of, binary, calculate, call, computed, matching, number_of, truth_of, unaries,
 };
-use mstore::NodeStore;
 use mtree::{Choice, Expr, Operand, Primary, Reference, Tail, ValueWord};
 use mvalue::{Kind, Value};
 use std::alloc::Global;

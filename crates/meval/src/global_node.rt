@@ -15,11 +15,21 @@ use std::alloc::Global;
 use std::marker::Model;
 
 /// The node that was referred to last. It holds its names. Contracts see it as the node.
-#[derive(Drop)]
 pub struct GlobalNode {
     owner: Owner,
     name: Name,
     subscripts: Values,
+}
+
+// Written out, so that dropping it is one call, which is proved once.
+impl Drop for GlobalNode {
+    fn drop(self) {
+        let GlobalNode {
+            owner: _,
+            name: _,
+            subscripts: _,
+        } = self;
+    }
 }
 
 impl Model for GlobalNode {

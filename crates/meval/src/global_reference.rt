@@ -36,11 +36,21 @@ pub(crate) fn key_with(
 
 /// A node of a global as a reference gives it, whether or not a store can have it: it may be that no grant allows it, or that no node
 /// can have its subscripts. The name is mostly lent, and the subscripts are values until the key is built. Contracts see it as the node.
-#[derive(Drop)]
 pub struct GlobalReference<'t> {
     owner: Owner,
     name: VariableName<'t>,
     subscripts: Values,
+}
+
+// Written out, so that dropping it is one call, which is proved once.
+impl<'t> Drop for GlobalReference<'t> {
+    fn drop(self) {
+        let GlobalReference {
+            owner: _,
+            name: _,
+            subscripts: _,
+        } = self;
+    }
 }
 
 impl<'t> Model for GlobalReference<'t> {
@@ -101,15 +111,25 @@ impl<'t> GlobalReference<'t> {
     pub(crate) fn into_subscripts(self) -> Values
         ensures { result ≡ self.entry.subscripts }
     {
-        self.subscripts
+        let GlobalReference {
+            owner: _,
+            name: _,
+            subscripts,
+        } = self;
+        subscripts
     }
 
     // The node, which holds its names: a name that is lent is copied.
     pub(crate) fn into_node(self) -> Result<GlobalNode, AllocError>
         ensures { IfOk result (λ node. node ≡ self.entry) }
     {
-        let name = self.name.into_name()?;
-        Ok(GlobalNode::new(self.owner, name, self.subscripts))
+        let GlobalReference {
+            owner,
+            name,
+            subscripts,
+        } = self;
+        let name = name.into_name()?;
+        Ok(GlobalNode::new(owner, name, subscripts))
     }
 
     // A copy of the node.
@@ -130,9 +150,14 @@ impl<'t> GlobalReference<'t> {
     ) -> Result<GlobalReference<'u>, AllocError>
         ensures { IfOk result (λ node. node ≡ record self.entry { subscripts = self.entry.subscripts ++ values }) }
     {
-        let name = self.name.into_own()?;
-        let subscripts = self.subscripts.joined(alloc, values)?;
-        Ok(GlobalReference::new(self.owner, name, subscripts))
+        let GlobalReference {
+            owner,
+            name,
+            subscripts,
+        } = self;
+        let name = name.into_own()?;
+        let subscripts = subscripts.joined(alloc, values)?;
+        Ok(GlobalReference::new(owner, name, subscripts))
     }
 
     // Its key; `Zsub` if no node can have its subscripts.

@@ -16,10 +16,10 @@ ghost use Rattle.meval.specs.Stores.{store_code};
 use crate::eval::Eval;
 use mglobal::{neighbour, status};
 use mkey::{Data, Direction, NodeKey};
+use mnodes::{NodeStore, StoreFault};
 use mnum::Bytes7;
 use moperator::Code;
 use mspec::limits::MAX_TEXT;
-use mstore::{NodeStore, StoreFault};
 use std::alloc::Global;
 
 // A fault of a store as the code that ends the line.

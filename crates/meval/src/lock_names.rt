@@ -16,8 +16,8 @@ use crate::value_list::Values;
 use crate::variable_name::VariableName;
 use mgrant::Mode;
 use mlock::LockName;
+use mnodes::NodeStore;
 use moperator::Code;
-use mstore::NodeStore;
 use mtree::Reference;
 use std::alloc::Global;
 

@@ -12,9 +12,9 @@ use crate::place::{Place, Walk, undefined};
 use crate::value_list::Values;
 use crate::walk::{first_or_empty, next_value};
 use mkey::{Data, Direction};
+use mnodes::NodeStore;
 use mnum::Bytes7;
 use moperator::Code;
-use mstore::NodeStore;
 use mvalue::Value;
 use std::alloc::Global;
 

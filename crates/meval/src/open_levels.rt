@@ -13,10 +13,10 @@ use crate::eval::Eval;
 use crate::globals::code_of;
 use mglobal::shared_routine;
 use mkey::is_account_name;
+use mnodes::NodeStore;
 use mnum::{Bytes7, Name};
 use moperator::Code;
 use mspec::limits::MAX_LEVELS;
-use mstore::NodeStore;
 use std::alloc::Global;
 use std::rc::Rc;
 

@@ -11,10 +11,19 @@ use std::alloc::{AllocError, Global};
 
 // What stands in place of an account: a name that an account can have, which takes no memory, or any other text that an environment gave.
 // Contracts see it by `owner_text`, as the text.
-#[derive(Drop)]
 pub(crate) enum Owner {
     Account(AccountName),
     Other(Bytes7),
+}
+
+// Written out, so that dropping it is one call, which is proved once.
+impl Drop for Owner {
+    fn drop(self) {
+        match self {
+            Owner::Account(_) => {}
+            Owner::Other(_) => {}
+        }
+    }
 }
 
 impl Owner {

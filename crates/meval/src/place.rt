@@ -70,9 +70,15 @@ pub fn bracketed(operand: &Operand) -> Option<&Expr>
 
 /// Subscripts of a node: at most 15, of 1 to 255 characters each. Contracts see them as a list of texts, and the function
 /// that gives the values says that their texts are such subscripts.
-#[derive(Drop)]
 pub struct Subscripts {
     values: Values,
+}
+
+// Written out, so that dropping it is one call, which is proved once.
+impl Drop for Subscripts {
+    fn drop(self) {
+        let Subscripts { values: _ } = self;
+    }
 }
 
 impl Model for Subscripts {
@@ -108,12 +114,21 @@ impl Subscripts {
 }
 
 /// A place that the checks let through. Contracts see it by `place_view`, as one of the definitions.
-#[derive(Drop)]
 pub enum Place<'t> {
     /// A node of a local variable: its name, and its subscripts.
     Local(VariableName<'t>, Subscripts),
     /// A node of a global.
     Node(NodeKey),
+}
+
+// Written out, so that dropping it is one call, which is proved once.
+impl<'t> Drop for Place<'t> {
+    fn drop(self) {
+        match self {
+            Place::Local(_, _) => {}
+            Place::Node(_) => {}
+        }
+    }
 }
 
 // The code of a read where there is no text.
@@ -138,10 +153,19 @@ pub fn local_place<'t>(name: VariableName<'t>, values: Values) -> Result<Place<'
 }
 
 // A place that the checks let through for $ORDER: its last subscript may be empty. Contracts see it by `walk_view`.
-#[derive(Drop)]
 pub enum Walk<'t> {
     Local(VariableName<'t>, Values),
     Node(GlobalReference<'t>),
+}
+
+// Written out, so that dropping it is one call, which is proved once.
+impl<'t> Drop for Walk<'t> {
+    fn drop(self) {
+        match self {
+            Walk::Local(_, _) => {}
+            Walk::Node(_) => {}
+        }
+    }
 }
 
 // Whether these can be the subscripts of $ORDER, which takes an empty last one.

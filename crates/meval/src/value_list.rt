@@ -9,9 +9,15 @@ use std::marker::Model;
 use std::slice::from_ref;
 
 /// Values in their order, such as those of the subscripts of a reference. Contracts see them as the list of their texts.
-#[derive(Drop)]
 pub struct Values {
     held: Held,
+}
+
+// Written out, so that dropping it is one call, which is proved once.
+impl Drop for Values {
+    fn drop(self) {
+        let Values { held: _ } = self;
+    }
 }
 
 // A single value, which most lists are, takes no memory besides its own.
@@ -81,7 +87,8 @@ impl Values {
     pub(crate) fn into_vec(self, alloc: Global) -> Result<Vec<Value>, AllocError>
         ensures { IfOk result (λ values. values.items ≡ self) }
     {
-        match self.held {
+        let Values { held } = self;
+        match held {
             Held::One(value) => {
                 let mut values = Vec::with_capacity(alloc, 1)?;
                 values.push(value)?;
@@ -95,7 +102,8 @@ impl Values {
     pub(crate) fn into_first(self) -> Option<Value>
         ensures { result ≡ slice_get self 0 }
     {
-        match self.held {
+        let Values { held } = self;
+        match held {
             Held::One(value) => Some(value),
             Held::Several(values) => values.into_iter().next(),
         }

@@ -7,12 +7,21 @@ use mnum::Name;
 use std::alloc::AllocError;
 
 /// The name of a variable, as a reference gives it. Contracts see it by `name_view`, as its text.
-#[derive(Drop)]
 pub enum VariableName<'t> {
     /// One that the tree of the line holds.
     Lent(&'t Name),
     /// One that a text gave.
     Own(Name),
+}
+
+// Written out, so that dropping it is one call, which is proved once.
+impl<'t> Drop for VariableName<'t> {
+    fn drop(self) {
+        match self {
+            VariableName::Lent(_) => {}
+            VariableName::Own(_) => {}
+        }
+    }
 }
 
 impl<'t> VariableName<'t> {

@@ -14,9 +14,9 @@ ghost use Rattle.meval.specs.Places.{place_view, IsOpen};
 
 use crate::eval::Eval;
 use crate::place::Place;
+use mnodes::NodeStore;
 use mnum::{Bytes7, Name, Num};
 use moperator::{Code, number_of};
-use mstore::NodeStore;
 use mtree::{SpecialVariable, special_of};
 use mvalue::Value;
 use std::alloc::{AllocError, Global};

@@ -11,7 +11,7 @@ use Rattle.mmeaning.specs.Frames.{View, Rests, Lists, Turns, Levels, left, Enoug
 use Rattle.mtree.specs.Tree.{spaced_tree, parameter_tree, arg_tree}
 use Rattle.mtree.specs.declared.tree.Arg.{Arg}
 use Rattle.mtree.specs.declared.tree.Line.{Line}
-use Rattle.mstore.specs.declared.store.NodeStore.{Ghosts}
+use Rattle.mnodes.specs.declared.store.NodeStore.{Ghosts}
 use Rattle.moperator.specs.Codes.{fault_of}
 use Rattle.moperator.specs.declared.code.Code.{Code}
 use Rattle.meval.specs.Evaluates.{standing_of, depth_of}

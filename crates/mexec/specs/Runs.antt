@@ -7,7 +7,7 @@ use Rattle.mmeaning.specs.LineMeaning.{Completion}
 use Rattle.mmeaning.specs.Transition as transition
 use Rattle.mmeaning.specs.Transition.{Ending, Finished, Halted, Faulted, text_run}
 use Rattle.mmeaning.specs.Calls.{Standing, Here, Gave, FailedBy}
-use Rattle.mstore.specs.declared.store.NodeStore.{Ghosts}
+use Rattle.mnodes.specs.declared.store.NodeStore.{Ghosts}
 use Rattle.moperator.specs.Codes.{fault_of}
 use Rattle.meval.specs.Evaluates.{standing_of}
 use Rattle.mcommand.specs.declared.parts.Parts.{Parts}

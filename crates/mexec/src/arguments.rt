@@ -16,8 +16,8 @@ use crate::indirection::giving;
 use crate::scratch::Scratch;
 use crate::source::Source;
 use mcommand::Parts;
+use mnodes::NodeStore;
 use moperator::Code;
-use mstore::NodeStore;
 use mtree::{Arg, Entry, Expr, Keyword, Primary};
 use std::alloc::Global;
 

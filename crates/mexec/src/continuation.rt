@@ -16,8 +16,8 @@ use crate::scratch::Scratch;
 use crate::source::Source;
 use crate::turns::{begin_turn, next_parameter};
 use mcommand::{Course, Parts};
+use mnodes::NodeStore;
 use moperator::Code;
-use mstore::NodeStore;
 use std::alloc::{AllocError, Global};
 
 // Turns of the rest of a line, without an index and without an end.

@@ -43,7 +43,7 @@ impl Drop for Position {
 }
 
 // How a level closes: not at all, as the outermost one does; its scope goes; or its scope goes and $TEST is again what it was.
-#[derive(Clone, Copy, Debug)]
+#[derive(Clone, Copy)]
 pub(crate) enum Closing {
     Stays,
     Leaves,

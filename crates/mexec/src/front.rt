@@ -13,9 +13,9 @@ use crate::arguments::{Entrance, arguments_begun};
 use crate::completion::{Completion, Progress, over, went_on, where_true};
 use crate::frames::Position;
 use mcommand::Parts;
+use mnodes::NodeStore;
 use mnum::Name;
 use moperator::Code;
-use mstore::NodeStore;
 use mtree::{Arg, Command, Keyword, Line, Parameter};
 use std::alloc::Global;
 

@@ -11,13 +11,13 @@ use crate::completion::Completion;
 use crate::line::run_line;
 use crate::scratch::Scratch;
 use mcommand::Parts;
+use mnodes::NodeStore;
 use moperator::Code;
 use mparse::ParseFault;
-use mstore::NodeStore;
 use std::alloc::Global;
 
 /// How a text ended.
-#[derive(Clone, Copy, Debug, PartialEq, Eq)]
+#[derive(Clone, Copy, PartialEq, Eq)]
 pub enum Ended {
     /// At its end, or by QUIT.
     Done,

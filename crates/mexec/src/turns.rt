@@ -19,9 +19,9 @@ use crate::front::front;
 use crate::scratch::Scratch;
 use crate::source::args_before;
 use mcommand::Parts;
+use mnodes::NodeStore;
 use mnum::Name;
 use moperator::Code;
-use mstore::NodeStore;
 use mtree::{Arg, Line, Parameter};
 use std::alloc::{AllocError, Global};
 

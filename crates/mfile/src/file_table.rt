@@ -1,8 +1,9 @@
 // SPDX-License-Identifier: Apache-2.0
 // A table in a file.
 use mkey::NodeKey;
+use mnodes::{NodeStore, StoreFault};
 use mnum::Bytes7;
-use mstore::{NodeStore, OpenFault, StoreFault, Table};
+use mstore::{OpenFault, Table};
 use sqlite::Error;
 use sqlite_std_file::File;
 use sqlite_store::FileStore;

@@ -6,4 +6,4 @@ pub use Rattle.mspec.specs.Names.{IsName}
 pub use Rattle.mspec.specs.Trees.{AreOrderSubscripts, Forward, front, is_before, last}
 pub use Rattle.mkey.specs.Front.{IsSub}
 pub use Rattle.mkey.specs.Way.{way}
-pub use Rattle.mstore.specs.Held.{AreHeld}
+pub use Rattle.mnodes.specs.Held.{AreHeld}

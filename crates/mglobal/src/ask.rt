@@ -6,8 +6,8 @@ ghost use Rattle.mglobal.specs.Words.{AreHeld, AreOrderSubscripts, IsAccountName
 
 use crate::bounds::{bounds, key_of};
 use mkey::{Data, Direction, NodeKey, front};
+use mnodes::{NodeStore, StoreFault};
 use mnum::Bytes7;
-use mstore::{NodeStore, StoreFault};
 use mvalue::Value;
 use std::alloc::Global;
 

@@ -5,8 +5,8 @@ ghost use Rattle.mglobal.specs.Next.{BoundsOnward};
 ghost use Rattle.mglobal.specs.Words.{AreOrderSubscripts, AreSubscripts, IsAccountName, IsName, front, last, way};
 
 use mkey::{Direction, KeyFault, NodeKey, last};
+use mnodes::StoreFault;
 use mnum::Bytes7;
-use mstore::StoreFault;
 use mvalue::Value;
 use std::alloc::Global;
 

@@ -9,8 +9,8 @@ ghost use Rattle.mspec.specs.Names.{IsName};
 
 use crate::bounds::key_of;
 use mkey::NodeKey;
+use mnodes::StoreFault;
 use mnum::Bytes7;
-use mstore::StoreFault;
 use mvalue::Value;
 use std::alloc::Global;
 use std::rc::Rc;

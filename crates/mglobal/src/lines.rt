@@ -8,8 +8,8 @@ ghost use Rattle.mglobal.specs.Words.{AreHeld, Forward, IsAccountName, IsName, I
 use crate::ask::neighbour;
 use crate::bounds::key_of;
 use mkey::{Direction, collate, is_numeric};
+use mnodes::{NodeStore, StoreFault};
 use mnum::Bytes7;
-use mstore::{NodeStore, StoreFault};
 use mvalue::Value;
 use std::alloc::{AllocError, Global};
 use std::rc::Rc;

@@ -4,8 +4,8 @@ ghost use Rattle.std.specs.Prelude.{◌≡◌};
 
 use crate::copies::{RoutineCopy, find, forget, keep};
 use mkey::NodeKey;
+use mnodes::{NodeStore, StoreFault};
 use mnum::Bytes7;
-use mstore::{NodeStore, StoreFault};
 use std::alloc::Global;
 use std::marker::Model;
 use std::rc::Rc;

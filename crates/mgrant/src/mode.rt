@@ -1,6 +1,6 @@
 // SPDX-License-Identifier: Apache-2.0
 /// What a grant lets an account do with another's global.
-#[derive(Clone, Copy, Debug, PartialEq, Eq, Hash)]
+#[derive(Clone, Copy, PartialEq, Eq, Hash)]
 pub enum Mode {
     /// To read: values, `$DATA`, `$GET`, `$ORDER`.
     Read,

@@ -2,7 +2,7 @@
 -- What connections of a port do to a world, one after another.
 use Rattle.std.specs.Prelude.{ℕ, [], Result}
 use Rattle.mmeaning.specs.Transition.{Settings, World}
-use Rattle.mstore.specs.declared.store.NodeStore.{Ghosts}
+use Rattle.mnodes.specs.declared.store.NodeStore.{Ghosts}
 use Rattle.mwire.specs.Connections.{ServesEach}
 use Rattle.mwire.specs.declared.fault.AcceptFault.{AcceptFault}
 

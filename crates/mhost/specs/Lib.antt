@@ -1,7 +1,9 @@
 -- SPDX-License-Identifier: Apache-2.0
-pub mod Runs
+pub mod Faults
+pub mod Asked
 pub mod Connections
-pub mod Only
-pub mod Jobs
+pub mod Reports
+pub mod Works
 pub mod Programs
+pub mod InMemory
 pub mod Words

@@ -1,119 +1,145 @@
 // SPDX-License-Identifier: Apache-2.0
 // Jobs, carried out.
-ghost use Rattle.std.specs.Prelude.{◌≡◌, false, IfErr};
+ghost use Rattle.std.specs.Prelude.{◌≡◌, false};
+ghost use Rattle.mworld.specs.View.{settings_of};
 ghost use Rattle.mwire.specs.Watched.{failed_of};
-ghost use Rattle.mhost.specs.Jobs.{IsServeFault, RunsBy, RunsOver};
+ghost use Rattle.mhost.specs.Asked.{IsQuiet, IsQuietTask};
+ghost use Rattle.mhost.specs.Works.{Does};
+ghost use Rattle.mhost.specs.Programs.{CarriesOut, InStore};
 
+use crate::documents::Documents;
 use crate::fault::RunFault;
-use crate::port::serve_connections;
-use crate::run::{run, run_file};
+use crate::host::Host;
+use crate::only_job::run_only_job;
+use crate::ports::Ports;
+use crate::run::run_job;
+use crate::serve_job::serve_job;
 use crate::settings_document::{read_document, read_settings};
-use crate::worlds::{close_file, file_world, memory_world};
+use crate::store_files::StoreFiles;
+use crate::tasks::{Task, settings_path, store_named, task_of};
+use crate::worlds::{file_world, memory_world, store_of};
 use mcache::Cached;
-use mfile::FileTable;
 use mglobal::RoutineCache;
-use mjob::jobs::Store;
+use mgrant::Settings;
+use mjob::jobs::{Job, Store};
 use mmemory::Memory;
-use mstore::{NodeStore, Table};
+use mnodes::NodeStore;
+use mstore::Table;
 use mwire::Watched;
 use mworld::World;
+use std::alloc::Global;
 use std::io::{Read, Write};
-use std::net::{Ipv4Addr, TcpListener};
 
-/// Answers the input on the output, by the settings in a file and over a store.
+/// Carries a job out: by the settings of the document that it names, and over the store that it names.
 ///
 /// # Errors
 ///
-/// `Unread`; then those of `run`, or of `run_file` if the store is in a file.
+/// In this order: `Unread`, `Settings`, `NoAccount` and `Store`, before the input and the output are asked for anything; then `Listen` and
+/// `Accept` of a job that serves connections, and `Wire` of the others.
 ///
 /// The condition: no call of the input or the output has failed yet.
-pub fn run_job<I: Read, O: Write>(
-    rt: &HostRuntime,
-    settings: &str,
-    store: &Store,
+pub fn carry_out<D: Documents, F: StoreFiles, P: Ports, I: Read, O: Write, E: Write>(
+    alloc: Global,
+    host: &mut Host<D, F, P>,
+    job: &Job,
     input: &mut Watched<I>,
     output: &mut Watched<O>,
+    errors: &mut E,
 ) -> Result<(), RunFault>
     requires input_works { failed_of input.old ≡ false }
     requires output_works { failed_of output.old ≡ false }
-    ensures { RunsBy ⟦<RoutineCache<Cached<Table<Memory>>> as NodeStore>⟧ ⟦<RoutineCache<Cached<FileTable>> as NodeStore>⟧ I.remaining O.contents
-        store.now input.old input.new output.old output.new result }
+    ensures carries { CarriesOut ⟦<RoutineCache<Cached<Table<Memory>>> as NodeStore>⟧ ⟦<RoutineCache<Cached<F::Store>> as NodeStore>⟧ I.remaining O.contents
+        (record { documents = D.tells; files = F.tells; ports = P.tells })
+        (record { document = D.held host.old.documents; stored = F.held host.old.stores; ports = record { waiting = P.waiting host.old.ports; answered = P.answered host.old.ports } })
+        (record { document = D.held host.new.documents; stored = F.held host.new.stores; ports = record { waiting = P.waiting host.new.ports; answered = P.answered host.new.ports } })
+        job.now input.old input.new output.old output.new result }
+    ensures quiet { IsQuiet job.now → errors.new ≡ errors.old }
 {
-    match read_document(rt, settings) {
-        Ok(document) => run_by(rt, document.as_slice(), store, input, output),
-        Err(fault) => Err(fault),
-    }
+    let document = match read_document(alloc, &mut host.documents, settings_path(job)) {
+        Ok(document) => document,
+        Err(fault) => return Err(fault),
+    };
+    let settings = match read_settings(alloc, document.as_slice()) {
+        Ok(settings) => settings,
+        Err(fault) => return Err(fault),
+    };
+    let task = match task_of(&settings, job) {
+        Ok(task) => task,
+        Err(fault) => return Err(fault),
+    };
+    in_store(
+        alloc,
+        &mut host.stores,
+        &mut host.ports,
+        store_named(job),
+        settings,
+        task,
+        input,
+        output,
+        errors,
+    )
 }
 
-// Answers the input by the settings of a document.
-fn run_by<I: Read, O: Write>(
-    rt: &HostRuntime,
-    document: &[u8],
+// Does what is asked for in a world over the store that is named.
+fn in_store<F: StoreFiles, P: Ports, I: Read, O: Write, E: Write>(
+    alloc: Global,
+    files: &mut F,
+    ports: &mut P,
     store: &Store,
+    settings: Settings,
+    task: Task,
     input: &mut Watched<I>,
     output: &mut Watched<O>,
+    errors: &mut E,
 ) -> Result<(), RunFault>
     requires input_works { failed_of input.old ≡ false }
     requires output_works { failed_of output.old ≡ false }
-    ensures { RunsOver ⟦<RoutineCache<Cached<Table<Memory>>> as NodeStore>⟧ ⟦<RoutineCache<Cached<FileTable>> as NodeStore>⟧ I.remaining O.contents
-        store.now document.now input.old input.new output.old output.new result }
+    ensures works { InStore ⟦<RoutineCache<Cached<Table<Memory>>> as NodeStore>⟧ ⟦<RoutineCache<Cached<F::Store>> as NodeStore>⟧ I.remaining O.contents
+        F.tells (F.held files.old) (F.held files.new) P.tells (record { waiting = P.waiting ports.old; answered = P.answered ports.old })
+        (record { waiting = P.waiting ports.new; answered = P.answered ports.new }) store.now settings task input.old input.new output.old output.new result }
+    ensures quiet { IsQuietTask task → errors.new ≡ errors.old }
 {
     match store {
-        Store::Memory => match run(rt.alloc(), document, input, output) {
-            Ok(_) => Ok(()),
+        Store::Memory => match memory_world(alloc, settings) {
+            Ok(mut world) => in_world(alloc, &mut world, ports, task, input, output, errors),
             Err(fault) => Err(fault),
         },
-        Store::File(path) => run_file(rt, path.as_str(), document, input, output),
-    }
-}
-
-/// Answers the lines of this many connections at a port of 127.0.0.1, by the settings in a file and over a store. `errors` gets a
-/// line for each connection that broke.
-///
-/// # Errors
-///
-/// In this order: `Unread`, `Settings`, `Store`, `Listen` and `Accept`.
-pub fn serve_job<E: Write>(
-    rt: &HostRuntime,
-    settings: &str,
-    store: &Store,
-    port: u16,
-    connections: u32,
-    errors: &mut E,
-) -> Result<(), RunFault>
-    ensures { IfErr result IsServeFault }
-{
-    let document = read_document(rt, settings)?;
-    let settings = read_settings(rt.alloc(), document.as_slice())?;
-    match store {
-        Store::Memory => {
-            let mut world = memory_world(rt.alloc(), settings)?;
-            listen(rt, &mut world, port, connections, errors)
-        }
         Store::File(path) => {
-            let mut world = file_world(rt, path.as_str(), settings)?;
-            let served = listen(rt, &mut world, port, connections, errors);
-            close_file(world.into_store());
-            served
+            let path = path.as_str();
+            match file_world(alloc, files, path, settings) {
+                Ok(mut world) => {
+                    let outcome = in_world(alloc, &mut world, ports, task, input, output, errors);
+                    files.close(path, store_of(world.into_store()));
+                    outcome
+                }
+                Err(fault) => Err(fault),
+            }
         }
     }
 }
 
-// Serves this many connections at a port.
-fn listen<S: NodeStore, E: Write>(
-    rt: &HostRuntime,
+// Does it in this world.
+fn in_world<S: NodeStore, P: Ports, I: Read, O: Write, E: Write>(
+    alloc: Global,
     world: &mut World<S>,
-    port: u16,
-    connections: u32,
+    ports: &mut P,
+    task: Task,
+    input: &mut Watched<I>,
+    output: &mut Watched<O>,
     errors: &mut E,
 ) -> Result<(), RunFault>
-    ensures { IfErr result IsServeFault }
+    requires input_works { failed_of input.old ≡ false }
+    requires output_works { failed_of output.old ≡ false }
+    ensures does { Does S.NodeStore world.old world.new I.remaining O.contents P.tells (record { waiting = P.waiting ports.old; answered = P.answered ports.old })
+        (record { waiting = P.waiting ports.new; answered = P.answered ports.new }) input.old input.new output.old output.new task result }
+    ensures settings { settings_of world.new ≡ settings_of world.old }
+    ensures quiet { IsQuietTask task → errors.new ≡ errors.old }
 {
-    let Ok(listener) = TcpListener::bind(rt, (Ipv4Addr::LOCALHOST, port)) else {
-        return Err(RunFault::Listen);
-    };
-    match serve_connections(rt, world, &listener, connections, errors) {
-        Ok(()) => Ok(()),
-        Err(_) => Err(RunFault::Accept),
+    match task {
+        Task::Answer => run_job(alloc, world, input, output),
+        Task::Tell(account) => run_only_job(alloc, world, account, input, output),
+        Task::Serve(port, connections) => {
+            serve_job(alloc, world, ports, port, connections, errors)
+        }
     }
 }

@@ -4,7 +4,7 @@ ghost use Rattle.std.specs.Prelude.{◌≡◌, []};
 ghost use Rattle.mworld.specs.View.{settings_of, world_of};
 ghost use Rattle.mhost.specs.Connections.{ServesConnections};
 
-use mstore::NodeStore;
+use mnodes::NodeStore;
 use mwire::{AcceptFault, Listener, serve_each};
 use mworld::World;
 use std::io::Write;
@@ -14,11 +14,30 @@ use std::time::Duration;
 // For how many seconds a peer that takes none of its replies is waited for.
 const PATIENCE: u64 = 60;
 
-// A listener at a port. It does not tell who comes: the kit gives its calls no clause.
+// A listener at a port, which is lent. It does not tell who comes: the kit gives its calls no clause.
 #[derive(Drop)]
-struct Port<'a>(&'a TcpListener);
+struct LentPort<'a>(&'a TcpListener);
 
-impl Listener for Port<'_> {
+/// The same, which owns its listener.
+#[derive(Drop)]
+pub struct BoundPort(pub TcpListener);
+
+// The reader and the writer of the next connection.
+fn next_connection(listener: &TcpListener) -> Result<(TcpStream, TcpStream), AcceptFault> {
+    let Ok((writer, _peer)) = listener.accept() else {
+        return Err(AcceptFault);
+    };
+    // if no bound can be had, the peer is waited for
+    let _ = writer.set_write_timeout(Some(Duration::from_secs(PATIENCE)));
+    // each reply goes out at once: of two lines in one packet the second reply waits else until the first one's bytes are acknowledged
+    let _ = writer.set_nodelay(true);
+    match writer.try_clone() {
+        Ok(reader) => Ok((reader, writer)),
+        Err(_) => Err(AcceptFault),
+    }
+}
+
+impl Listener for LentPort<'_> {
     type Reader = TcpStream;
 
     type Writer = TcpStream;
@@ -32,15 +51,28 @@ impl Listener for Port<'_> {
     ghost occupied = { λ _. Unit };
 
     fn accept(&mut self) -> Result<(TcpStream, TcpStream), AcceptFault> {
-        let Ok((writer, _peer)) = self.0.accept() else {
-            return Err(AcceptFault);
-        };
-        // if no bound can be had, the peer is waited for
-        let _ = writer.set_write_timeout(Some(Duration::from_secs(PATIENCE)));
-        match writer.try_clone() {
-            Ok(reader) => Ok((reader, writer)),
-            Err(_) => Err(AcceptFault),
-        }
+        next_connection(self.0)
+    }
+
+    // Both are closed when they are dropped.
+    fn close(&mut self, _reader: TcpStream, _writer: TcpStream) {}
+}
+
+impl Listener for BoundPort {
+    type Reader = TcpStream;
+
+    type Writer = TcpStream;
+
+    ghost tells = { ⊥ };
+
+    ghost waiting = { λ _. [] };
+
+    ghost answered = { λ _. [] };
+
+    ghost occupied = { λ _. Unit };
+
+    fn accept(&mut self) -> Result<(TcpStream, TcpStream), AcceptFault> {
+        next_connection(&self.0)
     }
 
     // Both are closed when they are dropped.
@@ -69,5 +101,5 @@ pub fn serve_connections<H: AllocGlobal, S: NodeStore, E: Write>(
     ensures serves { ServesConnections S.NodeStore (settings_of world.old) (world_of S.NodeStore world.old) (world_of S.NodeStore world.new) count result }
     ensures settings { settings_of world.new ≡ settings_of world.old }
 {
-    serve_each(rt.alloc(), world, &mut Port(listener), count, errors)
+    serve_each(rt.alloc(), world, &mut LentPort(listener), count, errors)
 }

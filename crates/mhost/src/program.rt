@@ -1,32 +1,30 @@
 // SPDX-License-Identifier: Apache-2.0
-// The program, over any reader and two writers.
+// The program, over any surroundings, any reader and two writers.
 ghost use Rattle.std.specs.Prelude.{◌≡◌, false, map, string_bytes};
 ghost use Rattle.mwire.specs.Watched.{failed_of};
-ghost use Rattle.mhost.specs.Jobs.{status_of, CarriesOut};
-ghost use Rattle.mhost.specs.Programs.{Ends};
+ghost use Rattle.mhost.specs.Programs.{Ends, EndsOverSystem};
 
-use crate::carrying_out::{run_job, serve_job};
-use crate::fault::RunFault;
-use crate::only_job::run_only_job;
+use crate::carrying_out::carry_out;
+use crate::documents::Documents;
+use crate::host::Host;
+use crate::ports::Ports;
+use crate::report::finish;
+use crate::store_files::StoreFiles;
+use crate::system::host_of;
 use mcache::Cached;
 use mfile::FileTable;
 use mglobal::RoutineCache;
 use mjob::command_line::job;
-use mjob::jobs::Job;
 use mjob::refusal::refused;
 use mmemory::Memory;
-use mstore::{NodeStore, Table};
+use mnodes::NodeStore;
+use mstore::Table;
 use mwire::Watched;
+use std::alloc::Global;
 use std::io::{Read, Write};
 
-/// Runs the program with these words, which come after its name on the command line, and gives the exit status.
-///
-/// 0: the job is done. 2: the words are refused or ask for help, and `errors` gets `clap`'s text, or there was no memory for them. 3, 4 and 5:
-/// a fault of the settings, of the store and of the wire, in the order in which they are found; `errors` gets the line `mserve: ` and the
-/// fault. A fault in writing to `errors` is passed over.
-///
-/// A job that serves connections asks the input and the output for nothing, nor are they asked for anything before a fault of the words, of
-/// the settings or of the store is found.
+/// Runs the program with these words, which come after its name on the command line, over the system's files and ports, and gives the exit
+/// status: `program_over` says all of it.
 ///
 /// The condition: no call of the input or the output has failed yet.
 pub fn program<I: Read, O: Write, E: Write>(
@@ -38,61 +36,50 @@ pub fn program<I: Read, O: Write, E: Write>(
 ) -> u8
     requires input_works { failed_of input.old ≡ false }
     requires output_works { failed_of output.old ≡ false }
-    ensures { Ends ⟦<RoutineCache<Cached<Table<Memory>>> as NodeStore>⟧ ⟦<RoutineCache<Cached<FileTable>> as NodeStore>⟧ I.remaining O.contents
+    ensures { EndsOverSystem ⟦<RoutineCache<Cached<Table<Memory>>> as NodeStore>⟧ ⟦<RoutineCache<Cached<FileTable>> as NodeStore>⟧ I.remaining O.contents
         (map string_bytes words.now) input.old input.new output.old output.new result }
 {
-    let job = match job(rt.alloc(), words) {
+    let mut errors = Watched::new(errors);
+    program_over(
+        rt.alloc(),
+        &mut host_of(rt),
+        words,
+        input,
+        output,
+        &mut errors,
+    )
+}
+
+/// Runs the program with these words, which come after its name on the command line, over these surroundings, and gives the exit status.
+///
+/// 0: the job is done. 2: the words are refused or ask for help, and `errors` gets `clap`'s text, or there was no memory for them. 3, 4 and 5:
+/// a fault of the settings, of the store and of the wire, in the order in which they are found; `errors` gets the line `mserve: ` and the
+/// fault. A fault in writing to `errors` is passed over.
+///
+/// A job that serves connections asks the input and the output for nothing, nor are they asked for anything before a fault of the words, of
+/// the settings or of the store is found.
+///
+/// The condition: no call of the input or the output has failed yet.
+pub fn program_over<D: Documents, F: StoreFiles, P: Ports, I: Read, O: Write, E: Write>(
+    alloc: Global,
+    host: &mut Host<D, F, P>,
+    words: &[String],
+    input: &mut Watched<I>,
+    output: &mut Watched<O>,
+    errors: &mut Watched<E>,
+) -> u8
+    requires input_works { failed_of input.old ≡ false }
+    requires output_works { failed_of output.old ≡ false }
+    ensures { Ends ⟦<RoutineCache<Cached<Table<Memory>>> as NodeStore>⟧ ⟦<RoutineCache<Cached<F::Store>> as NodeStore>⟧ I.remaining O.contents
+        (record { documents = D.tells; files = F.tells; ports = P.tells })
+        (record { document = D.held host.old.documents; stored = F.held host.old.stores; ports = record { waiting = P.waiting host.old.ports; answered = P.answered host.old.ports } })
+        (record { document = D.held host.new.documents; stored = F.held host.new.stores; ports = record { waiting = P.waiting host.new.ports; answered = P.answered host.new.ports } })
+        E.contents (map string_bytes words.now) input.old input.new output.old output.new errors.old errors.new result }
+{
+    let job = match job(alloc, words) {
         Ok(job) => job,
         Err(fault) => return refused(&fault, errors),
     };
-    let outcome = carry_out(rt, &job, input, output, errors);
-    if let Err(fault) = &outcome {
-        let _ = writeln!(errors, "mserve: {fault}");
-    }
-    status_of(&outcome)
-}
-
-// Does what the command line asks for.
-fn carry_out<I: Read, O: Write, E: Write>(
-    rt: &HostRuntime,
-    job: &Job,
-    input: &mut Watched<I>,
-    output: &mut Watched<O>,
-    errors: &mut E,
-) -> Result<(), RunFault>
-    requires input_works { failed_of input.old ≡ false }
-    requires output_works { failed_of output.old ≡ false }
-    ensures { CarriesOut ⟦<RoutineCache<Cached<Table<Memory>>> as NodeStore>⟧ ⟦<RoutineCache<Cached<FileTable>> as NodeStore>⟧ I.remaining O.contents
-        job.now input.old input.new output.old output.new result }
-{
-    match job {
-        Job::Run {
-            settings,
-            store,
-            only: None,
-        } => run_job(rt, settings.as_str(), store, input, output),
-        Job::Run {
-            settings,
-            store,
-            only: Some(name),
-        } => run_only_job(rt, settings.as_str(), store, name.as_str(), input, output),
-        Job::Serve {
-            settings,
-            store,
-            port,
-            connections,
-        } => serve_job(rt, settings.as_str(), store, *port, *connections, errors),
-    }
-}
-
-// The exit status for what a job came to.
-fn status_of(outcome: &Result<(), RunFault>) -> u8
-    ensures { result ≡ status_of outcome.now }
-{
-    match outcome {
-        Ok(()) => 0,
-        Err(RunFault::Unread | RunFault::Settings(_) | RunFault::NoAccount) => 3,
-        Err(RunFault::Store(_)) => 4,
-        Err(RunFault::Listen | RunFault::Accept | RunFault::Wire(_)) => 5,
-    }
+    let outcome = carry_out(alloc, host, &job, input, output, errors);
+    finish(&outcome, errors)
 }

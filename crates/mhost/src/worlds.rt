@@ -1,19 +1,21 @@
 // SPDX-License-Identifier: Apache-2.0
 // Worlds over the stores that a command line can name.
-ghost use Rattle.std.specs.Prelude.{◌≡◌, ◌<◌, IfOk, IfErr, IfSome};
+ghost use Rattle.std.specs.Prelude.{◌≡◌, ◌≢◌, ◌<◌, Some, IfOk, IfErr, OnOk, IfSome};
 ghost use Rattle.std.specs.FinMap.{empty};
+ghost use Rattle.mspec.specs.Act.{Text};
+ghost use Rattle.mworld.specs.Promises.{IsSound};
 ghost use Rattle.mhost.specs.Words.{Globals, cached_store, opening, settings_of, world_of};
-ghost use Rattle.mhost.specs.Runs.{IsMemoryFault, IsStoreFault};
+ghost use Rattle.mhost.specs.Faults.{IsMemoryFault, IsStoreFault};
 
 use crate::fault::RunFault;
+use crate::store_files::StoreFiles;
 use mcache::Cached;
-use mfile::FileTable;
 use mglobal::RoutineCache;
 use mgrant::Settings;
 use mmemory::Memory;
-use mstore::{NodeStore, OpenFault, Table};
+use mnodes::NodeStore;
+use mstore::{OpenFault, Table};
 use mworld::World;
-use sqlite::Alter;
 use std::alloc::Global;
 
 // How many texts of nodes are kept in front of a table.
@@ -21,9 +23,6 @@ const ENTRIES: usize = 1024;
 
 /// A world over a table in memory.
 pub type MemoryWorld = World<RoutineCache<Cached<Table<Memory>>>>;
-
-/// A world over a table in a file.
-pub type FileWorld = World<RoutineCache<Cached<FileTable>>>;
 
 // A store with texts of `entries` nodes and copies of routines in front of it, if there is memory for them.
 fn kept_over<S: NodeStore + Drop>(
@@ -67,7 +66,7 @@ fn world_over<S: NodeStore + Drop>(
 pub fn memory_world(alloc: Global, settings: Settings) -> Result<MemoryWorld, RunFault>
     ensures settings { IfOk result (λ world. settings_of world ≡ settings) }
     ensures world { IfOk result (λ world. world_of ⟦<RoutineCache<Cached<Table<Memory>>> as NodeStore>⟧ world ≡ opening empty) }
-    ensures sound { IfOk result (λ _. ⟦<RoutineCache<Cached<Table<Memory>>> as NodeStore>⟧.sound) }
+    ensures sound { IfOk result (λ _. IsSound ⟦<RoutineCache<Cached<Table<Memory>>> as NodeStore>⟧) }
     ensures early { IfErr result IsMemoryFault }
 {
     let table = match Table::open_memory(alloc) {
@@ -80,34 +79,37 @@ pub fn memory_world(alloc: Global, settings: Settings) -> Result<MemoryWorld, Ru
     }
 }
 
-/// A world without a session, over the table in a file, which is created if it does not exist.
+/// A world without a session, over the store in a file, which is created if it does not exist.
 ///
 /// # Errors
 ///
-/// `Store`, with the faults of `FileTable::open`; `Memory` also for the world and for what is kept in front of the table.
-pub fn file_world(rt: &HostRuntime, path: &str, settings: Settings) -> Result<FileWorld, RunFault>
+/// `Store`, with the faults of `StoreFiles::open`; `Memory` also for the world and for what is kept in front of the store.
+pub fn file_world<F: StoreFiles>(
+    alloc: Global,
+    files: &mut F,
+    path: &str,
+    settings: Settings,
+) -> Result<World<RoutineCache<Cached<F::Store>>>, RunFault>
     ensures settings { IfOk result (λ world. settings_of world ≡ settings) }
-    ensures world { IfOk result (λ world. (globals : Globals) × (world_of ⟦<RoutineCache<Cached<FileTable>> as NodeStore>⟧ world ≡ opening globals)) }
+    ensures world { IfOk result (λ world. (globals : Globals) × (world_of ⟦<RoutineCache<Cached<F::Store>> as NodeStore>⟧ world ≡ opening globals)
+        × (F.tells → IsSound ⟦<RoutineCache<Cached<F::Store>> as NodeStore>⟧ × (F.held files.old path.now ≡ Some globals))) }
+    ensures lent { F.tells → OnOk result (F.lent files.new path.now) }
+    ensures others { F.tells → (other : Text) → other ≢ path.now → F.held files.new other ≡ F.held files.old other }
     ensures early { IfErr result IsStoreFault }
 {
-    let table = match FileTable::open(rt, path) {
-        Ok(table) => table,
+    let store = match files.open(alloc, path) {
+        Ok(store) => store,
         Err(fault) => return Err(RunFault::Store(fault)),
     };
-    match world_over(rt.alloc(), settings, table) {
+    match world_over(alloc, settings, store) {
         Ok(world) => Ok(world),
         Err(fault) => Err(fault),
     }
 }
 
-/// The table, without the texts and the copies of routines in front of it. Takes no memory.
-pub fn table_of<S: Alter>(kept: RoutineCache<Cached<Table<S>>>) -> Table<S>
+/// The store, without the texts and the copies of routines in front of it. Takes no memory.
+pub fn store_of<S: NodeStore + Drop>(kept: RoutineCache<Cached<S>>) -> S
     ensures { result ≡ kept.store }
 {
     kept.into_store().into_store()
-}
-
-/// Ends a table over a file, as by `FileTable::close`, whose fault is passed over.
-pub fn close_file(kept: RoutineCache<Cached<FileTable>>) {
-    let _ = kept.into_store().into_store().close();
 }

@@ -2,7 +2,7 @@
 // What a command line asks for.
 
 /// Where the globals are kept.
-#[derive(Debug, Drop)]
+#[derive(Drop)]
 pub enum Store {
     /// A database in memory, which is empty at the start.
     Memory,
@@ -11,7 +11,7 @@ pub enum Store {
 }
 
 /// What a command line asks for. Its texts are as they were given.
-#[derive(Debug, Drop)]
+#[derive(Drop)]
 pub enum Job {
     /// To answer the lines of the standard input.
     Run {
@@ -36,7 +36,7 @@ pub enum Job {
 }
 
 /// Why a command line asks for nothing.
-#[derive(Debug, Drop)]
+#[derive(Drop)]
 pub enum JobFault {
     /// It is refused, or asks for help: the error has `clap`'s text.
     Line(clap::Error),

@@ -14,7 +14,7 @@ const HALF_BYTES: usize = 16;
 
 // The first thirty-two bytes, followed by zeros if there are fewer: all that two subscripts that are numbers have, except for the
 // last digits of the second. Contracts see the number that they are.
-#[derive(Debug, Drop)]
+#[derive(Drop)]
 pub struct Head {
     front: Half,
     back: Half,
@@ -55,7 +55,7 @@ impl Head {
 
 // Sixteen bytes as a number. It is held as two words, since a number of sixteen bytes would be placed at a multiple of sixteen,
 // which leaves a gap in each key.
-#[derive(Debug, Drop)]
+#[derive(Drop)]
 struct Half {
     high: u64,
     low: u64,

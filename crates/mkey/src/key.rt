@@ -34,7 +34,7 @@ const FIRST_TAG: u8 = 1;
 const BEHIND_TAGS: u8 = 3;
 
 /// The key of a node of a store, in the order of nodes. Contracts see it as the node.
-#[derive(Debug, Drop)]
+#[derive(Drop)]
 pub struct NodeKey {
     bytes: Vec<u8>,
     ghost of_node: { IsKey bytes.items } by { IsKey-prop bytes.items },

@@ -24,7 +24,7 @@ pub fn is_account_name(text: &Bytes7) -> bool
 
 /// An account's name, held in place: it takes no memory. Contracts see it as its list of bytes, and what gives its bytes says that
 /// they are such a name.
-#[derive(Debug, Drop)]
+#[derive(Drop)]
 pub struct AccountName {
     bytes: ArrayVec<u8, 16>,
 }

@@ -12,7 +12,7 @@ use mvalue::{Kind, Value};
 use std::marker::Model;
 
 /// The subscripts of a node. Contracts see them as a list of texts.
-#[derive(Debug, Drop)]
+#[derive(Drop)]
 pub struct Subs {
     pub(crate) texts: Vec<Bytes7>,
 }

@@ -27,7 +27,7 @@ use std::marker::Model;
 const BEYOND: [u8; 3] = [2, 255, 0];
 
 /// The key of a list of subscripts, in the order of subscripts. Contracts see it as the list.
-#[derive(Debug, Drop)]
+#[derive(Drop)]
 pub struct SubsKey {
     // tells most keys apart without looking at the bytes, which are elsewhere
     head: Head,

@@ -6,7 +6,7 @@ ghost use Rattle.mspec.specs.Trees.{front, last};
 use mvalue::Value;
 
 /// What a variable or a global has at a node.
-#[derive(Clone, Copy, Debug, PartialEq, Eq)]
+#[derive(Clone, Copy, PartialEq, Eq)]
 pub struct Data {
     /// The node has a text.
     pub value: bool,
@@ -15,7 +15,7 @@ pub struct Data {
 }
 
 /// Which way a walk over subscripts goes.
-#[derive(Clone, Copy, Debug, PartialEq, Eq)]
+#[derive(Clone, Copy, PartialEq, Eq)]
 pub enum Direction {
     Forward,
     Backward,

@@ -17,7 +17,7 @@ use std::marker::Model;
 
 /// The name of a lock: a node's account, name and subscripts, with or without `^`. Contracts see it as the name of the
 /// definitions.
-#[derive(Debug, Drop)]
+#[derive(Drop)]
 pub struct LockName {
     /// The node that has the lock's account, name and subscripts.
     pub key: NodeKey,

@@ -131,6 +131,8 @@ impl Store for Memory {
 
     ghost faults = { λ _. 0 };
 
+    // The kit asks what an open after a crash may find, and a store in memory is never opened again: after a crash it is gone. This
+    // claims that what was committed would be found, as of a disk that loses nothing. No contract of this program uses it.
     ghost recovers = { λ s db. db ≡ (memory_view s).committed };
 
     ghost is_shielded = { λ _. Unit {0} };

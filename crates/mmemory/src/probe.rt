@@ -15,7 +15,7 @@ use sqlite_value::row::Row;
 use sqlite_value::value::ValueRef;
 
 /// A test that the rows of a tree pass up to some place, and fail from there on.
-#[derive(Clone, Copy, Debug)]
+#[derive(Clone, Copy)]
 pub(crate) enum Probe<'a> {
     BelowKey(Order, &'a Row),
     UpToKey(Order, &'a Row),

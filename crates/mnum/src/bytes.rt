@@ -14,7 +14,7 @@ use std::marker::Model;
 
 /// A text of ASCII characters: bytes that are each under 128. Contracts see it as its list of bytes. It may have more than
 /// `MAX_TEXT` characters: whatever makes a text of the language then refuses it.
-#[derive(Debug, Drop)]
+#[derive(Drop)]
 pub struct Bytes7 {
     bytes: Vec<u8>,
 }

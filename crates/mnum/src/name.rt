@@ -49,7 +49,7 @@ pub fn is_name(text: &Bytes7) -> bool
 
 /// A name: a letter or `%` with at most 30 letters or digits after it. Contracts see it as its list of bytes, and whatever
 /// gives its text says that this is a name.
-#[derive(Debug, Drop)]
+#[derive(Drop)]
 pub struct Name {
     text: Bytes7,
 }

@@ -5,7 +5,7 @@ ghost use Rattle.std.specs.Prelude.{◌^◌, ◌<◌, ◌≤◌};
 /// A number of the language: a whole count of units of 10^-18, below 10^18 in size, with at most eighteen significant
 /// digits. Contracts see it as that count, `units`. Numbers are compared by `cmp`; there is no `==`, since one number has
 /// several representations.
-#[derive(Clone, Copy, Debug)]
+#[derive(Clone, Copy)]
 pub struct Num {
     // `digits` units of 10 ^ -places, negated if `negative` says so
     pub(crate) digits: u64,
@@ -16,11 +16,11 @@ pub struct Num {
 }
 
 /// The result would be 10^18 or more in size.
-#[derive(Clone, Copy, Debug, PartialEq, Eq)]
+#[derive(Clone, Copy, PartialEq, Eq)]
 pub struct Over;
 
 /// Why a division has no result.
-#[derive(Clone, Copy, Debug, PartialEq, Eq)]
+#[derive(Clone, Copy, PartialEq, Eq)]
 pub enum ArithFault {
     /// The divisor is zero.
     Zero,

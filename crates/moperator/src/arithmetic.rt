@@ -16,7 +16,7 @@ use mnum::{ArithFault, Num, Over};
 use mtree::Binary;
 
 /// An operator that makes one number out of two.
-#[derive(Clone, Copy, Debug, PartialEq, Eq)]
+#[derive(Clone, Copy, PartialEq, Eq)]
 pub enum Arithmetic {
     Add,
     Subtract,

@@ -1,7 +1,7 @@
 // SPDX-License-Identifier: Apache-2.0
 // The codes that end a line.
 /// A code that ends a line. Those that begin with M are the standard's, those that begin with Z mserve's own.
-#[derive(Clone, Copy, Debug, PartialEq, Eq)]
+#[derive(Clone, Copy, PartialEq, Eq)]
 pub enum Code {
     /// The naked indicator is undefined.
     M1,

@@ -7,7 +7,6 @@ ghost use Rattle.mgrammar.specs.Reading.{write_argument_at, settled_with, arg_at
 ghost use Rattle.mtree.specs.Tree.{arg_tree, keyword_tree, command_tree};
 ghost use Rattle.mscan.specs.Gives.{Gives};
 
-use crate::arity::takes_args;
 use crate::control::{for_argument, if_argument, postcondition};
 use crate::entry::{do_argument, goto_argument, xecute_argument};
 use crate::expr::expr;
@@ -15,6 +14,7 @@ use crate::list::{Items, list};
 use crate::lock_arguments::lock_argument;
 use crate::scope::{kill_argument, new_argument};
 use crate::set_arguments::set_argument;
+use mforms::takes_args;
 use mnum::Bytes7;
 use mscan::{Class, ParseFault, run};
 use mspec::limits::MAX_DEPTH;

@@ -8,9 +8,9 @@ ghost use Rattle.mtree.specs.Tree.{expr_tree, parameter_tree, keyword_tree, arg_
 ghost use Rattle.mscan.specs.Gives.{Gives};
 
 use crate::along::beside;
-use crate::arity::takes_condition;
 use crate::expr::expr;
 use crate::list::{Items, list};
+use mforms::takes_condition;
 use mscan::{ParseFault, expect, name, past};
 use mspec::limits::MAX_DEPTH;
 use mtree::{Arg, Expr, Keyword, Parameter};

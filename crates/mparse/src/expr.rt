@@ -8,7 +8,7 @@ ghost use Rattle.mtree.specs.Tree.{expr_tree, operand_tree, primary_tree, refere
 ghost use Rattle.mscan.specs.Gives.{Gives};
 ghost use Rattle.mscan.specs.Operators.{operator_tree};
 
-use crate::arity::takes;
+use mforms::takes;
 use mnum::Bytes7;
 use mscan::{
     Class, Operator, ParseFault, expect, name, next_operator, number, past, pattern, run, signs,

@@ -4,7 +4,6 @@
 #![tactic(auto)]
 
 mod along;
-mod arity;
 mod command;
 mod control;
 mod entry;

@@ -6,7 +6,7 @@ ghost use Rattle.mscan.specs.declared.fault.ParseFault.TheVariants.{Memory};
 use std::alloc::{AllocError, AllocFailed};
 
 /// Why a text was not parsed.
-#[derive(Clone, Copy, Debug, PartialEq, Eq)]
+#[derive(Clone, Copy, PartialEq, Eq)]
 pub enum ParseFault {
     /// No tree of the grammar has this text.
     Syntax,

@@ -13,7 +13,7 @@ use mspec::limits::MAX_NAME_REST;
 use std::alloc::Global;
 
 /// A kind of characters.
-#[derive(Clone, Copy, Debug, PartialEq, Eq)]
+#[derive(Clone, Copy, PartialEq, Eq)]
 pub enum Class {
     Digit,
     Letter,

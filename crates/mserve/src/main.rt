@@ -2,6 +2,9 @@
 //! mserve, a shared M server.
 //!
 //! `mserve run` answers the lines of its standard input on its standard output, `mserve serve` those of connections at a port of 127.0.0.1.
+//!
+//! `main` is one call of `program`, and nothing else. No contract says so, and this has to be read: the words are those of the command line
+//! after the program's name, in their order; the streams are the standard ones; and the status is the process's.
 #![tactic(auto)]
 
 use mhost::program::program;

@@ -16,7 +16,7 @@ use Rattle.mstore.proofs.RowTests.{key_column}
 node_shape : (r : Row) (k v : List ℕ) → is_int (rowid r) ≡ true → are_typed None 0 node.columns (drop 1 r) ≡ true → column r 1 ≡ Blob k → column r 2 ≡ Blob v → IsNode r
 node_shape r k v h e f u = grind arith
 
-int_same : (m n : ℤ) → not (int_eq m n) ≡ false → m ≡ n
+pub int_same : (m n : ℤ) → not (int_eq m n) ≡ false → m ≡ n
 int_same m n h = grind (arith, ints)
 
 module _ {S : Type 0} (g : Ghosts S) (h : Held S) (quiet : IsMemory g) (db : IsDatabase (state g h).now) (has : h.schema ≡ schema) where

@@ -1,7 +1,7 @@
 -- SPDX-License-Identifier: Apache-2.0
 -- The first and the last key of rows within bounds, as those of the globals that the rows hold.
 use Rattle.mstore.proofs.Words.{ℕ, ◌≡◌, ◌⊎◌, inl, inr, Bool, true, false, cond, ◌&&◌, Option, Some, None, option_map, is_some, List, [], ◌∷◌, map, length, reverse, refl, sym, ◌∙◌, ap, subst, arith, Ordering, Less, Equal, Greater, and_parts, option_or, AllByRecursion, eq_by_cmp, ordering_reverse, eq_by_cmp_equiv, Equal-is, slice_cmp, nat_list_cmp_total, nat_cmp-IsAntisymmetric, slice_cmp-IsAntisymmetric, len-entries, len-empty, entries, entries_sorted, entries-insert, get-entries, empty, reverse-append, find-append, Node, significant_digits, node_cmp, NoneEmpty, node_of, Globals, keys_of, is_between, node_cmp_total, key_order, IsKey, none_empty, ShowsBytes, is_below, is_nearer, lookup_by, globals_by, AreKeyed, step_key, Text}
-use Rattle.mstore.proofs.SortedEntries.{from_T}
+use Rattle.mnodes.proofs.SortedEntries.{from_T}
 use Rattle.std.specs.Prelude.{⊤, T, IsSome}
 use Rattle.std.specs.List.{find}
 use Rattle.std.specs.Ordering.{nat_cmp, is_eq, is_lt}

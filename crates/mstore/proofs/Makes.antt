@@ -1,6 +1,6 @@
 -- SPDX-License-Identifier: Apache-2.0
 -- How the tables are made.
-use Rattle.mstore.proofs.Words.{◌≡◌, ℕ, pos, true, false, List, [], ◌∷◌, codes, None, Ok, refl, sym, ap, ap₂, subst, ◌∙◌, inl, arith, Null, Int, Row, lit, Source, CreateTable, Insert, Enforced, Chosen, Tally, Does, lacks_sequence, Written, Database, State, mode_of, Opens, Writes, Executes, IsPlain, command_of, statement_of, runs_as, one_step, put_all_adds, Has, Values, over_memory, everything, understood, node, meta, schema, no_schema, version_name, this_version, IsBare, IsBlank, IsMemory, key_of, value_of, globals_by, empty, no_doubt, NodeTable, MetaTable, Version, sql, Trees}
+use Rattle.mstore.proofs.Words.{◌≡◌, ℕ, pos, true, false, List, [], ◌∷◌, codes, None, Ok, refl, sym, ap, ap₂, subst, ◌∙◌, inl, arith, Null, Int, Row, lit, Source, CreateTable, Insert, Enforced, Chosen, Tally, Does, lacks_sequence, Written, Database, State, mode_of, Opens, Writes, Executes, IsPlain, command_of, statement_of, runs_as, one_step, put_all_adds, Has, Values, over_memory, everything, understood, node, meta, schema, no_schema, version_name, this_version, IsBare, IsBlank, IsDatabase, IsMemory, GivesVersion, key_of, value_of, globals_by, empty, no_doubt, NodeTable, MetaTable, Version, sql, Trees}
 use Rattle.sqlite.specs.declared.types.Value.TheVariants.{Text}
 use Rattle.sqlite.specs.Table.{Table}
 use Rattle.sqlite.specs.Edit.{edit_of, numbered, next_rowid, put_all}
@@ -69,7 +69,14 @@ meta_table = record meta { tree = 2 }
 news_is : (db : Trees) (given : List Row) → given ≡ (Null ∷ version_name ∷ this_version ∷ []) ∷ [] → (edit_of db meta_table [] Chosen 0 given).news ≡ version_row (db 2) ∷ []
 news_is db given is = ap (λ l. (edit_of db meta_table [] Chosen 0 l).news) is ∙ ap₂ (λ a b. numbered Chosen (db 2) ((a ∷ version_name ∷ b ∷ []) ∷ [])) cast_null (cast_int (pos 2))
 
-pub adds_version : (old new : State) (count : ℕ) → HasTables old.now → Executes (sql Version) [] old new (Ok count) → IsBare new.now
+-- with the version, which a row gives
+pub record HasVersionRow (db : Database) : Type 0 where
+  pub schema_is : db.schema ≡ schema
+  pub empty : db.trees 0 ≡ []
+  pub gives : GivesVersion db this_version
+  pub sound : IsDatabase db
+
+pub adds_version : (old new : State) (count : ℕ) → HasTables old.now → Executes (sql Version) [] old new (Ok count) → HasVersionRow new.now
 adds_version old new count bare h =
     let db = old.now.trees in
     let w = runs_as (sql Version) [] old new schema bare.schema_is (Insert 1 version_source) version_is.0 version_is.1 count h in
@@ -89,14 +96,15 @@ adds_version old new count bare h =
     record {
       schema_is = ap (λ (d : Database). d.schema) now;
       empty = ap (λ (d : Database). d.trees 0) now ∙ ap (λ (t : Trees). t 0) trees ∙ kept ∙ bare.empty;
-      version = (version_row (db 2), subst (λ l. Has l (version_row (db 2))) (sym rows) added, refl, refl);
+      gives = (version_row (db 2), subst (λ l. Has l (version_row (db 2))) (sym rows) added, refl, refl);
+      sound = w.sound;
     }
 
 pub blank_from : (s : State) → Opens s → s.now.schema ≡ no_schema → IsBlank s
 blank_from s opens none = record { idle = record { autocommit = opens.autocommit; settled = opens.clean }; schema_is = none }
 
 pub memory_is : IsMemory over_memory
-memory_is = record { clean = λ s. no_doubt true refl; is_open = λ s. refl; listed = memory_is_listed; ordered = memory_is_ordered }
+memory_is = record { clean = λ s. no_doubt true refl; is_open = λ s. refl; listed = memory_is_listed; ordered = memory_is_ordered; undisturbed = λ s. refl }
 
 pub bare_is_empty : (s : State) → IsBare s.now → globals_by key_of value_of (s.now.trees 0) ≡ empty
 bare_is_empty s bare = ap (globals_by key_of value_of) bare.empty

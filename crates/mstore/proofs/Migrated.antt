@@ -96,7 +96,7 @@ module _ {S : Type 0} (g : Ghosts S) (old start : Held S) (begun : start ≡ rec
   starts_shown rows shown = subst (λ h. ShowContent (content (state g h)) rows) (sym begun) (shows_content (state g old) rows was shown)
 
   abbrev Versioned : List Row → Type 0
-  Versioned rows = (r : Row) × Has rows r × (column r 1 ≡ version_name) × (column r 2 ≡ old_version)
+  Versioned rows = ((r : Row) × Has rows r × (column r 1 ≡ version_name) × (column r 2 ≡ old_version)) × ((r s : Row) → Has rows r → Has rows s → column r 1 ≡ version_name → column s 1 ≡ version_name → r ≡ s)
 
   pub still_old : (mid : Held S) → (state g mid).now.trees 2 ≡ (state g start).now.trees 2 → HasVersion (state g mid).now old_version
   still_old mid same = subst Versioned (sym same) (subst (λ h. HasVersion (state g h).now old_version) (sym begun) was.version)

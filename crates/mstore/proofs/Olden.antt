@@ -1,6 +1,6 @@
 -- SPDX-License-Identifier: Apache-2.0
 -- A store of version 1 whose rows were read.
-use Rattle.mstore.proofs.Words.{arith, Result, OnErr, List, ap, subst, sym, Row, column, Database, Held, state, State, IsLive, Ghosts, old_digits, AreRows, IsInFormBy, IsMemory, IsIdle, IsCalm, IsUntouched, IsMigrated, HasVersion, old_version, Stays, ShowsAll, ShowsNodesBy, IsOldCalm, IsOldStore}
+use Rattle.mstore.proofs.Words.{arith, ◌∙◌, Result, OnErr, List, ap, subst, sym, HoldBy, globals_in, Row, column, Database, Held, state, State, IsLive, Ghosts, old_digits, AreRows, IsInFormBy, IsMemory, IsIdle, IsCalm, IsUntouched, IsMigrated, HasVersion, old_version, Stays, ShowsAll, ShowsNodesBy, IsOldCalm, IsOldStore}
 use Rattle.mstore.proofs.Adopts.{nodes_from}
 use Rattle.mstore.proofs.States.{stays_calm}
 
@@ -18,7 +18,12 @@ pub shown_still : (old mid : State) (rows : List Row) → Stays old mid → Show
 shown_still old mid rows stays all = grind arith
 
 pub migrated_from : (old mid new : State) → Stays old mid → IsMigrated mid new → IsMigrated old new
-migrated_from old mid new stays m = grind arith
+migrated_from old mid new stays m = record {
+  schema_is = ap (λ (d : Database). d.schema) (sym stays.same) ∙ m.schema_is;
+  was = subst (λ (d : Database). HasVersion d old_version) stays.same m.was;
+  is = m.is;
+  same = subst (λ (d : Database). HoldBy old_digits (d.trees 0) (globals_in new)) stays.same m.same;
+}
 
 pub untouched_from : (old mid new : State) → IsIdle old → Stays old mid → IsUntouched mid new → IsUntouched old new
 untouched_from old mid new idle stays n = grind arith

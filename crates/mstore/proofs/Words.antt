@@ -82,9 +82,9 @@ pub use Rattle.sqlite_value.specs.Keys.{by_key, plain}
 pub use Rattle.sqlite_value.specs.Order.{bytes}
 unfoldable pub use Rattle.sqlite_value.specs.Order.{value_cmp}
 pub use Rattle.sqlite_value.specs.declared.keys.Key.{Key}
-pub use Rattle.mstore.specs.Database.{HasVersion, IsBare, IsBlank, IsCalm, IsIdle, IsMemory, IsMigrated, IsSound, IsStore, IsUntouched, ShowsAll, ShowsNodes, ShowsNodesBy, ShowsVersion, Stays, content, globals_in, holds, old_version, stored, this_version, version_name}
-pub use Rattle.mstore.specs.Entries.{AreEntries, IsAt, IsGapFor, IsPlaceOf, bytes_of, entries_of, entry_of, held, is_before, key_within}
-pub use Rattle.mstore.specs.Held.{AreHeld, IsHeld}
+pub use Rattle.mstore.specs.Database.{GivesVersion, HasVersion, IsBare, IsBlank, IsCalm, IsIdle, IsMemory, IsMigrated, IsOneVersion, IsSound, IsStore, IsUntouched, ShowsAll, ShowsNodes, ShowsNodesBy, ShowsVersion, Stays, content, globals_in, holds, old_version, stored, this_version, version_name}
+pub use Rattle.mnodes.specs.Entries.{AreEntries, IsAt, IsGapFor, IsPlaceOf, bytes_of, entries_of, entry_of, held, is_before, key_within}
+pub use Rattle.mnodes.specs.Held.{AreHeld, IsHeld}
 pub use Rattle.mstore.specs.InMemory.{over_memory}
 pub use Rattle.mstore.specs.Keyed.{AreKeyed, globals_by, lookup_by}
 pub use Rattle.mstore.specs.Layout.{column_of, index_of, meta, no_schema, node, schema, table_of}
@@ -93,4 +93,4 @@ pub use Rattle.mstore.specs.Moving.{IsAny, IsMoving, IsOldCalm, IsOldStore, IsWo
 pub use Rattle.mstore.specs.Rows.{AreNodes, AreRows, HasOther, HasOtherBy, IsInForm, IsInFormBy, IsNode, IsValue, ShowsKey, ShowsNodeBy, ShowsValue, is_at, key_of, lookup, shown_of, value_of}
 pub use Rattle.mstore.specs.Statements.{Each, Get, Gives, Kill, MetaTable, NodeTable, Put, Set, Statement, Step, Version, Which, sql}
 pub use Rattle.mstore.specs.Versions.{HoldBy, digits_of, number_of}
-pub use Rattle.mstore.specs.declared.plain.Entry.{Entry}
+pub use Rattle.mnodes.specs.declared.plain.Entry.{Entry}

@@ -1,6 +1,6 @@
 -- SPDX-License-Identifier: Apache-2.0
 -- What the statements do inside the transaction of a migration.
-use Rattle.mstore.proofs.Words.{arith, ◌≡◌, ℕ, pos, true, List, [], ◌∷◌, codes, drop, map, None, Ok, refl, sym, ap, subst, ◌∙◌, Value, Null, Row, column, col, lit, Query, IsAnswer, Command, Update, overlay, cast, cast_row, Written, Task, Updates, Tally, Does, Database, State, mode_of, ExecutesInside, runs_as, one_step, statement_of, Enforced, Given, Has, without_all, are_fresh, ids_of, put_all_adds, given, rowid, last_term, understood, everything, schema, PutsAt, RemovesWithin, Kill, Put, Set, content, this_version, HasVersion, IsAny, IsWorking, sql, MovesKey, RanInside, ◌++◌, ◌≢◌, Trees, edit_of, put_all}
+use Rattle.mstore.proofs.Words.{arith, ◌≡◌, ℕ, pos, true, List, [], ◌∷◌, codes, drop, map, None, Ok, refl, sym, ap, subst, ◌∙◌, Value, Null, Row, column, col, lit, Query, IsAnswer, Command, Update, overlay, cast, cast_row, Written, Task, Updates, Tally, Does, Database, State, mode_of, ExecutesInside, runs_as, one_step, statement_of, Enforced, Given, Has, without_all, are_fresh, ids_of, put_all_adds, given, rowid, last_term, understood, everything, schema, PutsAt, RemovesWithin, Kill, Put, Set, content, this_version, GivesVersion, IsDatabase, IsAny, IsWorking, sql, MovesKey, RanInside, ◌++◌, ◌≢◌, Trees, edit_of, put_all}
 use Rattle.sqlite.specs.Kind.TheVariants.{Text as KindText}
 use Rattle.mstore.proofs.Answer.{rows_to, mapped_has}
 use Rattle.mstore.proofs.Edits.{left_nodes}
@@ -96,7 +96,11 @@ module _ (old new : State) (was : IsWorking old) (count : ℕ) (h : ExecutesInsi
   abbrev full : Row → Row
   full r = rowid r ∷ rowid r ∷ column r 1 ∷ this_version ∷ []
 
-  pub version_set : (v : Value) → HasVersion old.now v → HasVersion new.now this_version
+  -- the database obeys its schema still
+  pub sound_still : IsDatabase new.now
+  sound_still = (runs_as (sql Set) [] old new schema was.schema_is set_command set_is.0 set_is.1 count h.0).sound
+
+  pub version_set : (v : Value) → GivesVersion old.now v → GivesVersion new.now this_version
   version_set v has =
       let r = has.0 in
       let shown : Has asked.0 (full r) =

@@ -1,9 +1,7 @@
 -- SPDX-License-Identifier: Apache-2.0
 -- What a connection holds if its database is that of a table, and what a call leaves of it.
-use Rattle.std.specs.Prelude.{◌≡◌, ◌≢◌, ◌⊎◌, ◌||◌, ℕ, pos, List, ◌∷◌, [], codes, Bool, false, Option, Some, None, IsTrue}
-use Rattle.std.specs.List.{list_any}
+use Rattle.std.specs.Prelude.{◌≡◌, ◌≢◌, ◌⊎◌, ◌||◌, ℕ, pos, List, ◌∷◌, [], codes, false, Option, Some, None, IsTrue}
 use Rattle.sqlite_schema.specs.declared.schema.Schema.{Schema}
-use Rattle.sqlite_schema.specs.Names.{same_name}
 use Rattle.sqlite_value.specs.declared.value.Value.{Value}
 use Rattle.sqlite_value.specs.declared.value.Value.TheVariants.{Int, Text}
 use Rattle.sqlite_value.specs.Order.{Row, column}
@@ -15,6 +13,7 @@ use Rattle.sqlite.specs.State.{State}
 use Rattle.sqlite.specs.Effect.{Database}
 use Rattle.sqlite.specs.Held.{Held, state}
 use Rattle.mspec.specs.Globals.{Globals}
+use Rattle.mstore.specs.Beside.{has_table}
 use Rattle.mstore.specs.Layout.{schema, no_schema}
 use Rattle.mstore.specs.Keyed.{globals_by}
 use Rattle.mstore.specs.Map.{Content}
@@ -23,12 +22,14 @@ use Rattle.mstore.specs.Versions.{HoldBy}
 use Rattle.mkey.specs.Key.{old_digits}
 use Rattle.mstore.specs.Statements.{RefusesOne}
 
--- the store beneath is memory: it never loses what it holds, and is in order at each moment
+-- The store beneath is memory: it never loses what it holds, and is in order at each moment. It notes no fault of a disk, as each store
+-- over files does, so that none of these is memory.
 pub record IsMemory {S : Type 0} (g : Ghosts S) : Type 0 where
   pub clean : (s : S) → IsClean (g.view s)
   pub is_open : (s : S) → IsTrue (g.view s).is_open
   pub listed : (s : S) → IsListed ((g.view s).trees catalog_tree) (g.view s).shape (g.view s).reals
   pub ordered : (s : S) → IsOrdered (g.view s).shape (g.view s).trees
+  pub undisturbed : (s : S) → g.blamed s ≡ None
 
 -- between statements, outside a transaction
 pub record IsIdle (s : State) : Type 0 where
@@ -107,8 +108,16 @@ abbrev pub old_version : Value
 old_version = Int (pos 1)
 
 -- a row gives the version
+abbrev pub GivesVersion : Database → Value → Type 0
+GivesVersion db v = (r : Row) × Has (db.trees 2) r × (column r 1 ≡ version_name) × (column r 2 ≡ v)
+
+-- no two rows do
+abbrev pub IsOneVersion : Database → Type 0
+IsOneVersion db = (r s : Row) → Has (db.trees 2) r → Has (db.trees 2) s → column r 1 ≡ version_name → column s 1 ≡ version_name → r ≡ s
+
+-- one row gives a version, and it is this one
 abbrev pub HasVersion : Database → Value → Type 0
-HasVersion db v = (r : Row) × Has (db.trees 2) r × (column r 1 ≡ version_name) × (column r 2 ≡ v)
+HasVersion db v = GivesVersion db v × IsOneVersion db
 
 abbrev pub HasNoVersion : Database → Type 0
 HasNoVersion db = (r : Row) → Has (db.trees 2) r → column r 1 ≢ version_name
@@ -116,7 +125,7 @@ HasNoVersion db = (r : Row) → Has (db.trees 2) r → column r 1 ≢ version_na
 -- the row shows the version, and there is none if no row gives one
 abbrev pub ShowsVersion : Database → Option Row → Type 0
 ShowsVersion db None = HasNoVersion db
-ShowsVersion db (Some row) = (v : Value) × (row ≡ v ∷ []) × HasVersion db v
+ShowsVersion db (Some row) = (v : Value) × (row ≡ v ∷ []) × GivesVersion db v
 
 -- both tables are there, with the version and no node
 pub record IsBare (db : Database) : Type 0 where
@@ -126,16 +135,13 @@ pub record IsBare (db : Database) : Type 0 where
 
 -- ---- a database that is opened
 
-abbrev pub has_table : Schema → List ℕ → Bool
-has_table schema name = list_any (λ t. same_name t.name name) schema.tables
-
 -- it has one of the two tables, and columns that do not take one of the statements
 abbrev pub RefusesColumns : Schema → Type 0
 RefusesColumns schema = IsTrue (has_table schema (codes "node") || has_table schema (codes "meta")) × RefusesOne schema
 
 -- why a database is of no version that is opened: its columns, or it gives no version or another
 abbrev pub IsOtherVersion : Database → Type 0
-IsOtherVersion db = RefusesColumns db.schema ⊎ ((db.schema ≡ schema) × (HasNoVersion db ⊎ ((v : Value) × HasVersion db v × (v ≢ this_version) × (v ≢ old_version))))
+IsOtherVersion db = RefusesColumns db.schema ⊎ ((db.schema ≡ schema) × (HasNoVersion db ⊎ ((v : Value) × GivesVersion db v × (v ≢ this_version) × (v ≢ old_version))))
 
 -- a row is not a node's, by the digits of the version
 abbrev pub IsBadlyKeyed : Database → Type 0

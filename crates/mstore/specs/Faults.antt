@@ -1,7 +1,7 @@
 -- SPDX-License-Identifier: Apache-2.0
 -- A fault of a store, met while a table is opened.
-use Rattle.mstore.specs.declared.store.StoreFault.{StoreFault}
-use Rattle.mstore.specs.declared.store.StoreFault.TheVariants as store
+use Rattle.mnodes.specs.declared.store.StoreFault.{StoreFault}
+use Rattle.mnodes.specs.declared.store.StoreFault.TheVariants as store
 use Rattle.mstore.specs.declared.open_fault.OpenFault.{OpenFault}
 use Rattle.mstore.specs.declared.open_fault.OpenFault.TheVariants.{Store, Memory}
 

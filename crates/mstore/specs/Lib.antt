@@ -1,6 +1,6 @@
 -- SPDX-License-Identifier: Apache-2.0
+pub mod Beside
 pub mod Database
-pub mod Entries
 pub mod Faults
 pub mod Keyed
 pub mod Layout
@@ -9,5 +9,4 @@ pub mod Rows
 pub mod Statements
 pub mod Versions
 pub mod Moving
-pub mod Held
 pub mod InMemory

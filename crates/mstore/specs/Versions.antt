@@ -11,7 +11,7 @@ use Rattle.mspec.specs.KeyBytes.{key_bytes, IsStored}
 use Rattle.mspec.specs.Node.{Node}
 use Rattle.mspec.specs.Number.{significant_digits}
 use Rattle.mkey.specs.Key.{old_digits}
-use Rattle.mstore.specs.Held.{AreHeld}
+use Rattle.mnodes.specs.Held.{AreHeld}
 use Rattle.mstore.specs.Rows.{IsInFormBy, key_of, value_of, lookup}
 use Rattle.mstore.specs.declared.version.Version.{Version}
 use Rattle.mstore.specs.declared.version.Version.TheVariants.{First, Second}

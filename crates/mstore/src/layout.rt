@@ -1,10 +1,12 @@
 // SPDX-License-Identifier: Apache-2.0
-// Whether a schema is that of a store.
+// Whether a schema is that of a store, alone or beside other tables.
 
 ghost use Rattle.std.specs.Prelude.{◌≡◌, [], ◌∷◌, true, false, IsTrue, codes, ◌↔◌};
 ghost use Rattle.mstore.specs.Layout.{column_of, table_of, index_of, no_schema, schema as schema_of};
+ghost use Rattle.mstore.specs.Beside.{has_table, refers, is_referred, is_further, is_restricted, node_at, meta_at, HasNode, HasMeta, HasBoth, HasNeither, IsUnreferred};
 
 use sqlite_schema::code::Terms;
+use sqlite_schema::names::same_name;
 use sqlite_schema::schema::{Column, Index, Kind, Schema, Table};
 use sqlite_value::keys::{Collation, Order};
 use sqlite_value::value::Value;
@@ -94,18 +96,18 @@ fn is_table(table: &Table, name: &[u8], tree: u32) -> bool
     table.name.as_slice() == name && table.tree == tree && is_plain(table)
 }
 
-fn is_node(table: &Table) -> bool
-    ensures { IsTrue result ↔ (table.now ≡ table_of (codes "node") 0 (column_of (codes "k") Kind.Any true ∷ column_of (codes "v") Kind.Any true ∷ [])) }
+fn is_node(table: &Table, tree: u32) -> bool
+    ensures { IsTrue result ↔ (table.now ≡ node_at tree) }
 {
     let columns = table.columns.as_slice();
-    is_table(table, b"node", 0) && has_columns(columns, b"k", Kind::Any, b"v", Kind::Any, true)
+    is_table(table, b"node", tree) && has_columns(columns, b"k", Kind::Any, b"v", Kind::Any, true)
 }
 
-fn is_meta(table: &Table) -> bool
-    ensures { IsTrue result ↔ (table.now ≡ table_of (codes "meta") 2 (column_of (codes "name") Kind.Text false ∷ column_of (codes "n") Kind.Integer false ∷ [])) }
+fn is_meta(table: &Table, tree: u32) -> bool
+    ensures { IsTrue result ↔ (table.now ≡ meta_at tree) }
 {
     let columns = table.columns.as_slice();
-    is_table(table, b"meta", 2)
+    is_table(table, b"meta", tree)
         && has_columns(columns, b"name", Kind::Text, b"n", Kind::Integer, false)
 }
 
@@ -115,7 +117,7 @@ fn has_tables(tables: &[Table]) -> bool
     if tables.len() != 2 {
         return false;
     }
-    is_node(&tables[0]) && is_meta(&tables[1])
+    is_node(&tables[0], 0) && is_meta(&tables[1], 2)
 }
 
 fn has_indexes(indexes: &[Index]) -> bool
@@ -143,4 +145,100 @@ pub(crate) fn is_blank(schema: &Schema) -> bool
     ensures { IsTrue result ↔ (schema.now ≡ no_schema) }
 {
     schema.tables.is_empty() && schema.indexes.is_empty() && schema.views.is_empty()
+}
+
+/// Whether there is a table of a name.
+pub(crate) fn has_table(schema: &Schema, name: &[u8]) -> bool
+    ensures { result ≡ has_table schema.now name.now }
+{
+    schema
+        .tables
+        .as_slice()
+        .iter()
+        .any(|table| same_name(table.name.as_slice(), name))
+}
+
+fn refers(table: &Table, name: &[u8]) -> bool
+    ensures { result ≡ refers table.now name.now }
+{
+    table
+        .references
+        .as_slice()
+        .iter()
+        .any(|reference| same_name(reference.parent.as_slice(), name))
+}
+
+// Whether a foreign key refers to a table of a name.
+fn is_referred(schema: &Schema, name: &[u8]) -> bool
+    ensures { result ≡ is_referred schema.now name.now }
+{
+    schema
+        .tables
+        .as_slice()
+        .iter()
+        .any(|table| refers(table, name))
+}
+
+fn is_further(index: &Index, tree: u32, own: &[u8]) -> bool
+    ensures { result ≡ is_further tree own.now index.now }
+{
+    index.table == tree && index.is_unique && !same_name(index.name.as_slice(), own)
+}
+
+// Whether an index beside the table's own restricts what rows it may have.
+fn is_restricted(schema: &Schema, tree: u32, own: &[u8]) -> bool
+    ensures { result ≡ is_restricted schema.now tree own.now }
+{
+    schema
+        .indexes
+        .as_slice()
+        .iter()
+        .any(|index| is_further(index, tree, own))
+}
+
+fn has_node(schema: &Schema) -> bool
+    ensures { IsTrue result → HasNode schema.now }
+{
+    for table in schema.tables.as_slice() {
+        if is_node(table, table.tree)
+            && !is_restricted(schema, table.tree, b"sqlite_autoindex_node_1")
+        {
+            return true;
+        }
+    }
+    false
+}
+
+fn has_meta(schema: &Schema) -> bool
+    ensures { IsTrue result → HasMeta schema.now }
+{
+    for table in schema.tables.as_slice() {
+        if is_meta(table, table.tree)
+            && !is_restricted(schema, table.tree, b"sqlite_autoindex_meta_1")
+        {
+            return true;
+        }
+    }
+    false
+}
+
+/// Whether the schema has the two tables, and no rule of others that a put or a kill could break.
+pub(crate) fn has_both(schema: &Schema) -> bool
+    ensures { IsTrue result → HasBoth schema.now }
+{
+    has_node(schema) && has_meta(schema)
+}
+
+/// Whether the schema has neither of the two tables.
+pub(crate) fn has_neither(schema: &Schema) -> bool
+    ensures { IsTrue result ↔ HasNeither schema.now }
+{
+    !has_table(schema, b"node") && !has_table(schema, b"meta")
+}
+
+/// Whether no table refers to one of the two.
+pub(crate) fn is_unreferred(schema: &Schema) -> bool
+    ensures { IsTrue result ↔ IsUnreferred schema.now }
+{
+    !is_referred(schema, b"node") && !is_referred(schema, b"meta")
 }

@@ -10,8 +10,8 @@ ghost use Rattle.mstore.specs.Database.{IsMemory, IsStore, IsUntouched, IsMigrat
 ghost use Rattle.mstore.specs.Moving.{IsWorking, RanInside, MovesKey, MovesRow, ShowContent, IsMoving, IsOldStore};
 
 use crate::statements::{KILL, PUT, SET, done, fault_of};
-use crate::store::StoreFault;
 use mkey::NodeKey;
+use mnodes::StoreFault;
 use sqlite::{Alter, Connection, Row, Transaction, params};
 use sqlite_value::value::ValueRef;
 use std::alloc::{AllocError, Global};

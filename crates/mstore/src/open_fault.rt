@@ -3,7 +3,7 @@
 ghost use Rattle.std.specs.Prelude.{◌≡◌};
 ghost use Rattle.mstore.specs.Faults.{opening_fault};
 
-use crate::store::StoreFault;
+use mnodes::StoreFault;
 use thiserror::Error;
 
 /// Why no table was opened.
@@ -16,7 +16,8 @@ pub enum OpenFault {
     /// `version` names neither version, or is missing.
     #[error("BadVersion")]
     BadVersion,
-    /// The database refused, has neither of the two tables but others, or has both with further tables or made in another way.
+    /// The database refused, or has the two tables made in another way, or a rule of other tables that could refuse a put or a kill;
+    /// of a store that is no file, also if it has other tables at all.
     #[error("Store")]
     Store,
     /// Out of memory.

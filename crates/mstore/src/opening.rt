@@ -10,25 +10,24 @@ ghost use Rattle.sqlite_rules.specs.Lists.{Has};
 ghost use Rattle.sqlite.specs.State.{IsLive};
 ghost use Rattle.mspec.specs.Node.{Node};
 ghost use Rattle.mkey.specs.Key.{IsKeyBy, old_digits};
-ghost use Rattle.mstore.specs.Database.{IsMemory, IsIdle, IsCalm, IsStore, IsUntouched, IsOpenedFrom, IsMigrated, IsBadlyKeyed, Stays, ShowsAll, ShowsNodesBy, ShowsVersion, HasVersion, has_table, RefusesColumns, IsOtherVersion};
+ghost use Rattle.mstore.specs.Database.{IsMemory, IsIdle, IsCalm, IsStore, IsUntouched, IsOpenedFrom, IsMigrated, IsBadlyKeyed, Stays, ShowsAll, ShowsNodesBy, ShowsVersion, GivesVersion, RefusesColumns, IsOtherVersion};
 ghost use Rattle.mstore.specs.Versions.{digits_of, number_of};
 ghost use Rattle.mstore.specs.Moving.{IsOldCalm};
 ghost use Rattle.mstore.specs.Layout.{schema as schema_of};
+ghost use Rattle.mstore.specs.Beside.{IsBeside};
 ghost use Rattle.mstore.specs.Statements.{statements, RefusesOne};
 ghost use Rattle.mstore.specs.Rows.{IsValue, IsInFormBy, ShowsNodeBy, HasOtherBy};
 
 use crate::create::make_tables;
-use crate::layout::{is_blank, is_store};
+use crate::layout::{has_both, has_neither, has_table, is_blank, is_store, is_unreferred};
 use crate::migrating::migrate;
 use crate::open_fault::OpenFault;
 use crate::statements::{GET, KILL, NEXT, PREV, PUT, fault_of, found};
-use crate::store::StoreFault;
 use crate::version::Version;
 use mkey::{NodeKey, read};
+use mnodes::StoreFault;
 use mspec::limits::MAX_TEXT;
 use sqlite::{Alter, Connection, Error, Row};
-use sqlite_schema::names::same_name;
-use sqlite_schema::schema::Schema;
 use sqlite_value::value::ValueRef;
 use std::alloc::{AllocError, Global};
 
@@ -159,17 +158,6 @@ fn takes_each<S: Alter>(conn: &mut Connection<S>) -> Result<bool, StoreFault>
     Ok(true)
 }
 
-// Whether there is a table of a name.
-fn has_table(schema: &Schema, name: &[u8]) -> bool
-    ensures { result ≡ has_table schema.now name.now }
-{
-    schema
-        .tables
-        .as_slice()
-        .iter()
-        .any(|table| same_name(table.name.as_slice(), name))
-}
-
 // Why a database is refused that has tables, but not those that are made here.
 fn refusal<S: Alter>(conn: &mut Connection<S>) -> OpenFault
     ensures stays { IsMemory S.Store → IsIdle (state S.Store conn.old) → Stays (state S.Store conn.old) (state S.Store conn.new) }
@@ -191,7 +179,7 @@ fn refusal<S: Alter>(conn: &mut Connection<S>) -> OpenFault
 fn read_version<S: Alter>(conn: &mut Connection<S>) -> Result<Version, OpenFault>
     ensures mode { conn.old.in_transaction ≡ false → conn.new.in_transaction ≡ false }
     ensures stays { IsMemory S.Store → IsCalm (state S.Store conn.old) → Stays (state S.Store conn.old) (state S.Store conn.new) }
-    ensures found { IsMemory S.Store → IsCalm (state S.Store conn.old) → IfOk result (λ version. HasVersion (state S.Store conn.old).now (number_of version)) }
+    ensures found { IsMemory S.Store → IsCalm (state S.Store conn.old) → IfOk result (λ version. GivesVersion (state S.Store conn.old).now (number_of version)) }
     ensures version { IsMemory S.Store → IsCalm (state S.Store conn.old) → result ≡ Err OpenFault.BadVersion → IsOtherVersion (state S.Store conn.old).now }
     ensures key { result ≢ Err OpenFault.BadKey }
 {
@@ -286,6 +274,26 @@ pub fn open_tables<S: Alter>(alloc: Global, conn: &mut Connection<S>) -> Result<
         return make_tables(conn);
     }
     if is_store(schema) {
+        return settle_tables(alloc, conn);
+    }
+    Err(refusal(conn))
+}
+
+// The same in a database that others use too: their tables stay as they are.
+pub fn open_beside<S: Alter>(alloc: Global, conn: &mut Connection<S>) -> Result<(), OpenFault>
+    ensures { OnOk result (IsBeside (state S.Store conn.old).now.schema) }
+{
+    if !conn.is_autocommit() {
+        return Err(OpenFault::Store);
+    }
+    let schema = conn.schema();
+    if !is_unreferred(schema) {
+        return Err(refusal(conn));
+    }
+    if has_neither(schema) {
+        return make_tables(conn);
+    }
+    if has_both(schema) {
         return settle_tables(alloc, conn);
     }
     Err(refusal(conn))

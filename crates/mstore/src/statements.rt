@@ -7,8 +7,8 @@ ghost use Rattle.mstore.specs.Map.{PutsAt, RemovesWithin, is_down};
 ghost use Rattle.mstore.specs.Rows.{IsInForm, ShowsValue, ShowsKey};
 ghost use Rattle.mstore.specs.Statements.{Gives, Step, sql};
 
-use crate::store::StoreFault;
 use mkey::Direction;
+use mnodes::StoreFault;
 use sqlite::{Alter, Connection, Error, ErrorCode, Row, params};
 
 pub(crate) const GET: &str = "SELECT v FROM node WHERE k = ?1";

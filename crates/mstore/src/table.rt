@@ -11,14 +11,15 @@ ghost use Rattle.mstore.specs.Map.{is_down, step_key};
 use crate::create::make_tables;
 use crate::layout::is_blank;
 use crate::open_fault::OpenFault;
-use crate::opening::open_tables;
+use crate::opening::{open_beside, open_tables};
 use crate::statements::{fault_of, find_key, find_value, remove_range, store_value};
-use crate::store::{NodeStore, StoreFault};
 use mkey::{Direction, NodeKey};
 use mmemory::Memory;
+use mnodes::{NodeStore, StoreFault};
 use mnum::Bytes7;
 use mspec::limits::MAX_TEXT;
 use sqlite::{Alter, Connection, Row};
+use sqlite_disk::Disk;
 use sqlite_std_file::File;
 use sqlite_store::FileStore;
 use std::alloc::Global;
@@ -81,6 +82,30 @@ impl Table<Memory> {
     }
 }
 
+impl<D: Disk> Table<FileStore<D>> {
+    ghost use Rattle.sqlite.specs.Files.{file_state};
+    ghost use Rattle.mstore.specs.Beside.{IsBeside};
+
+    /// Takes a connection to a file, in which others may have tables of their own: these stay as they are. The two tables are taken
+    /// as by `adopt`, also if they were made in another order, and made if neither is there.
+    ///
+    /// # Errors
+    ///
+    /// Those of `adopt`, but that other tables are no cause of `Store`. It comes if one of them refers to `node` or `meta`, or if an
+    /// index that these were not made with is UNIQUE.
+    pub fn adopt_file(
+        alloc: Global,
+        mut conn: Connection<FileStore<D>>,
+    ) -> Result<Table<FileStore<D>>, (OpenFault, Connection<FileStore<D>>)>
+        ensures { IfOk result (λ _. IsBeside (file_state conn).now.schema) }
+    {
+        match open_beside(alloc, &mut conn) {
+            Ok(()) => Ok(Table { conn, alloc }),
+            Err(fault) => Err((fault, conn)),
+        }
+    }
+}
+
 impl Table<FileStore<File>> {
     ghost use Rattle.mstore.specs.declared.open_fault.OpenFault.TheVariants.{Store};
 
@@ -89,7 +114,7 @@ impl Table<FileStore<File>> {
     ///
     /// # Errors
     ///
-    /// Those of `adopt`. A file that is no database, or that another process has open, gives `Store`, and so does `:memory:`.
+    /// Those of `adopt_file`. A file that is no database, or that another process has open, gives `Store`, and so does `:memory:`.
     pub fn open_file(rt: &HostRuntime, path: &str) -> Result<Table<FileStore<File>>, OpenFault>
         ensures { path.now ≡ codes ":memory:" → result ≡ Err Store }
     {
@@ -97,7 +122,7 @@ impl Table<FileStore<File>> {
             Ok(conn) => conn,
             Err(error) => return Err(OpenFault::from(fault_of(&error))),
         };
-        match Table::adopt(rt.alloc(), conn) {
+        match Table::adopt_file(rt.alloc(), conn) {
             Ok(table) => Ok(table),
             Err((fault, _)) => Err(fault),
         }

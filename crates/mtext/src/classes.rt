@@ -9,7 +9,7 @@ use crate::pattern::PatternCode;
 
 /// The characters of some classes. The seven classes are joined from five kinds that have no character in common, so a set has a
 /// bit for each of these, and needs no memory.
-#[derive(Clone, Copy, Debug, PartialEq, Eq, Drop)]
+#[derive(Clone, Copy, PartialEq, Eq, Drop)]
 pub struct Classes {
     kinds: u8,
 }

@@ -13,7 +13,7 @@ use crate::classes::Classes;
 use crate::pattern::Count;
 
 /// What an atom repeats, lent from where it stands.
-#[derive(Clone, Copy, Debug, PartialEq, Eq, Drop)]
+#[derive(Clone, Copy, PartialEq, Eq, Drop)]
 pub enum LentRepeated<'a> {
     /// Characters, each of any of the classes.
     Members(Classes),
@@ -22,14 +22,14 @@ pub enum LentRepeated<'a> {
 }
 
 /// An atom of a pattern, lent from where it stands: it needs no memory.
-#[derive(Clone, Copy, Debug, PartialEq, Eq, Drop)]
+#[derive(Clone, Copy, PartialEq, Eq, Drop)]
 pub struct LentAtom<'a> {
     pub count: Count,
     pub repeated: LentRepeated<'a>,
 }
 
 /// Where the segment of the first atom of a pattern ends, whichever way the others match.
-#[derive(Clone, Copy, Debug, PartialEq, Eq, Drop)]
+#[derive(Clone, Copy, PartialEq, Eq, Drop)]
 pub enum Ending {
     /// After this many characters.
     Behind(usize),

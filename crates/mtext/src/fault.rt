@@ -8,7 +8,7 @@ use mspec::limits::MAX_TEXT;
 use std::alloc::AllocError;
 
 /// Why a text was not made.
-#[derive(Clone, Copy, Debug, PartialEq, Eq)]
+#[derive(Clone, Copy, PartialEq, Eq)]
 pub enum TextFault {
     /// An argument is out of its range.
     Arg,

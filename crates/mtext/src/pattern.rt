@@ -8,7 +8,7 @@ use mnum::Bytes7;
 use std::alloc::{AllocError, Global};
 
 /// A class of ASCII characters, by its letter in a pattern.
-#[derive(Clone, Copy, Debug, PartialEq, Eq, Drop)]
+#[derive(Clone, Copy, PartialEq, Eq, Drop)]
 pub enum PatternCode {
     /// The letters.
     A,
@@ -27,14 +27,14 @@ pub enum PatternCode {
 }
 
 /// How often an atom repeats: at least `least` times, and at most `most` times if there is a greatest count.
-#[derive(Clone, Copy, Debug, PartialEq, Eq, Drop)]
+#[derive(Clone, Copy, PartialEq, Eq, Drop)]
 pub struct Count {
     pub least: usize,
     pub most: Option<usize>,
 }
 
 /// What an atom repeats.
-#[derive(Debug, Drop)]
+#[derive(Drop)]
 pub enum Repeated {
     /// Characters, each of any of the classes.
     Members(Vec<PatternCode>),
@@ -43,14 +43,14 @@ pub enum Repeated {
 }
 
 /// An atom of a pattern.
-#[derive(Debug, Drop)]
+#[derive(Drop)]
 pub struct Atom {
     pub count: Count,
     pub repeated: Repeated,
 }
 
 /// A pattern: its atoms in turn.
-#[derive(Debug, Drop)]
+#[derive(Drop)]
 pub struct Pattern {
     pub atoms: Vec<Atom>,
 }

@@ -10,7 +10,7 @@ use mnum::{Bytes7, Name};
 use std::rc::Rc;
 
 /// A unary operator in front of a primary.
-#[derive(Clone, Copy, Debug, PartialEq, Eq)]
+#[derive(Clone, Copy, PartialEq, Eq)]
 pub enum Sign {
     Plus,
     Minus,
@@ -19,7 +19,7 @@ pub enum Sign {
 }
 
 /// An operator that gives a truth value of its two operands.
-#[derive(Clone, Copy, Debug, PartialEq, Eq)]
+#[derive(Clone, Copy, PartialEq, Eq)]
 pub enum Truth {
     /// `=`, of texts.
     Equals,
@@ -40,7 +40,7 @@ pub enum Truth {
 }
 
 /// An operator between two operands.
-#[derive(Clone, Copy, Debug, PartialEq, Eq)]
+#[derive(Clone, Copy, PartialEq, Eq)]
 pub enum Binary {
     Add,
     Subtract,
@@ -158,7 +158,7 @@ pub struct Choice {
 }
 
 /// A function of values.
-#[derive(Clone, Copy, Debug, PartialEq, Eq)]
+#[derive(Clone, Copy, PartialEq, Eq)]
 pub enum ValueFunction {
     Ascii,
     Char,
@@ -171,7 +171,7 @@ pub enum ValueFunction {
 }
 
 /// A function of a variable.
-#[derive(Clone, Copy, Debug, PartialEq, Eq)]
+#[derive(Clone, Copy, PartialEq, Eq)]
 pub enum VariableFunction {
     Data,
     Get,
@@ -179,7 +179,7 @@ pub enum VariableFunction {
 }
 
 /// What a function's word says: the function, and what its brackets hold.
-#[derive(Clone, Copy, Debug, PartialEq, Eq)]
+#[derive(Clone, Copy, PartialEq, Eq)]
 pub enum Function {
     /// At least `least` values, and at most `most`, if there is a bound.
     OfValues {
@@ -197,7 +197,7 @@ pub enum Function {
 }
 
 /// What a special variable's word says.
-#[derive(Clone, Copy, Debug, PartialEq, Eq)]
+#[derive(Clone, Copy, PartialEq, Eq)]
 pub enum SpecialVariable {
     /// What the last condition of IF gave.
     Test,
@@ -249,7 +249,7 @@ pub enum Entry {
 }
 
 /// How an argument of LOCK begins.
-#[derive(Clone, Copy, Debug, PartialEq, Eq)]
+#[derive(Clone, Copy, PartialEq, Eq)]
 pub enum LockKind {
     /// Without a sign: the locks held before are given back.
     Anew,
@@ -300,7 +300,7 @@ pub enum Arg {
 }
 
 /// What a command's word says.
-#[derive(Clone, Copy, Debug, PartialEq, Eq)]
+#[derive(Clone, Copy, PartialEq, Eq)]
 pub enum Keyword {
     Set,
     Kill,

@@ -1,9 +1,10 @@
 -- SPDX-License-Identifier: Apache-2.0
 -- How far `serve` comes, and how it ends.
-use Rattle.mwire.proofs.WireWords.{Bool, false, ◌≡◌, ◌≢◌, ◌++◌, List, [], ◌∷◌, ℕ, refl, sym, ◌∙◌, ap, subst, Ok, Err, Result, Option, append-nil, take, IfErr, is_ok, inl, inr, arith, Appends-nil, Appends-trans, Consumes-nil, Consumes-trans, lines_of_parts, strip_carriage_return, Keeps, Consumes, IsAtEnd, Text, Settings, World, Ghosts, classify, LinesAnswered, LineAnswered, AnswersCutShort, EachAnswered, TakesOn, LineSent, HasServed, ServeCutShort, EndsBy, Serves, WireFault, Read, lines, map, MatchResult}
+use Rattle.mwire.proofs.WireWords.{Bool, false, ◌≡◌, ◌≢◌, ◌++◌, List, [], ◌∷◌, ℕ, refl, sym, ◌∙◌, ap, subst, Ok, Err, Result, Option, append-nil, take, IfErr, is_ok, inl, inr, arith, Appends-nil, Appends-trans, Consumes-nil, Consumes-trans, lines_of_parts, strip_carriage_return, Keeps, Consumes, IsAtEnd, Text, Settings, World, Ghosts, classify, LinesAnswered, LineAnswered, AnswersCutShort, EachAnswered, TakesOn, LineSent, HasServed, Outcome, ServeCutShort, EndsBy, Serves, WireFault, Read, lines, map}
 use Rattle.mwire.proofs.Cuts.{classify-kept, lines-cut, finished_lines-cut, last_part}
 use Rattle.mwire.proofs.LineAnswers.{LineAnswered-same, EachAnswered-more, LinesAnswered-each, AnswersCutShort-at}
 use Rattle.mwire.proofs.Progresses.{Stands-start}
+use Rattle.mwire.proofs.Promised.{serves}
 use Rattle.mwire.proofs.Sends.{FrontSent-whole}
 
 LineAnswered-kept_end : {S : Type 0} (g : Ghosts S) (settings : Settings) (old : World) (kept rest answer : Text) (new : World)
@@ -38,16 +39,11 @@ HasServed-more g settings first now new left left' left'' held held' held'' kept
 -- no more is read
 pub Serves-read : {S : Type 0} (g : Ghosts S) (settings : Settings) (first now : World) (left left' held held' : Option Text) (kept : Text)
     → HasServed g settings first now left left' held held' kept → Serves g settings first now left left' held held' (Err Read)
-Serves-read g settings first now left left' held held' kept h = record {
-  read = h.read;
-  consumed = h.consumed;
-  sent = h.sent;
-  appended = h.appended;
-  outcome =
-      let s = h.stands in
-      let P : List Text → Type 0 = λ ls. LinesAnswered g settings first ls h.sent now in
-      subst P (sym (finished_lines-cut h.read s.finished kept s.cut)) (LinesAnswered-each g settings first (map strip_carriage_return s.finished) h.sent now s.answered);
-}
+Serves-read g settings first now left left' held held' kept h =
+    let s = h.stands in
+    let P : List Text → Type 0 = λ ls. LinesAnswered g settings first ls h.sent now in
+    serves g settings first now left left' held held' (Err Read) h.read h.sent h.consumed h.appended
+    (subst P (sym (finished_lines-cut h.read s.finished kept s.cut)) (LinesAnswered-each g settings first (map strip_carriage_return s.finished) h.sent now s.answered))
 
 EachAnswered-end : {S : Type 0} (g : Ghosts S) (settings : Settings) (first : World) (done : List Text) (rest : Text) (now : World) (text : Text) (new : World) (answer : Text)
     → EachAnswered g settings first done text now → LineAnswered g settings now rest answer new → EachAnswered g settings first (done ++ lines_of_parts (rest ∷ [])) (text ++ answer) new
@@ -78,16 +74,12 @@ serves_end : (X : WireFault → Type 0) {S : Type 0} (g : Ghosts S) (settings : 
     → HasServed g settings first now left left' held held' kept → IsAtEnd left'
     → LineSent g settings now kept new held' held'' (is_ok result) → (kept ≡ [] → result ≡ Ok tt) → IfErr result (λ e. (e ≢ Read) × X e)
     → Serves g settings first new left left' held held'' result
-serves_end X g settings first now new left left' held held' held'' kept result h z p idle f = record {
-  read = h.read;
-  consumed = h.consumed;
-  sent = h.sent ++ p.sent.part;
-  appended = Appends-trans held held' held'' h.sent p.sent.part h.appended p.sent.appended;
-  outcome = ended result p idle f;
-}
+serves_end X g settings first now new left left' held held' held'' kept result h z p idle f =
+    serves g settings first new left left' held held'' result h.read (h.sent ++ p.sent.part) h.consumed
+    (Appends-trans held held' held'' h.sent p.sent.part h.appended p.sent.appended) (ended result p idle f)
   where
     ended : (r : Result (Unit {0}) WireFault) (q : LineSent g settings now kept new held' held'' (is_ok r)) → (kept ≡ [] → r ≡ Ok tt) → IfErr r (λ e. (e ≢ Read) × X e)
-        → MatchResult r (λ _. IsAtEnd left' × LinesAnswered g settings first (lines h.read) (h.sent ++ q.sent.part) new) (EndsBy g settings first left' h.read (h.sent ++ q.sent.part) new)
+        → Outcome g settings first left' h.read (h.sent ++ q.sent.part) new r
     ended (Ok u) q idle f =
         let s = h.stands in
         let taken = LineAnswered-kept_end g settings now kept s.cut.rest q.answer new s.cut.kept_is q.answered in
@@ -113,10 +105,7 @@ Serves-end X g settings first now new left left' left'' held held' held'' kept l
 pub Serves-piece : {S : Type 0} (g : Ghosts S) (settings : Settings) (first now new : World) (left left' left'' held held' held'' : Option Text) (kept kept' piece : Text) (e : WireFault)
     → HasServed g settings first now left left' held held' kept → Consumes left' left'' piece → TakesOn g settings now kept piece new kept' held' held'' (Err e) → e ≢ Read
     → Serves g settings first new left left'' held held'' (Err e)
-Serves-piece g settings first now new left left' left'' held held' held'' kept kept' piece e h c p f = record {
-  read = h.read ++ piece;
-  consumed = Consumes-trans left left' left'' h.read piece h.consumed c;
-  sent = h.sent ++ p.sent;
-  appended = Appends-trans held held' held'' h.sent p.sent h.appended p.appended;
-  outcome = EndsBy-break g settings first left'' (h.read ++ piece) (h.sent ++ p.sent) new e f (inl (simp append-nil at (p.outcome first h.read h.sent h.stands [])));
-}
+Serves-piece g settings first now new left left' left'' held held' held'' kept kept' piece e h c p f =
+    serves g settings first new left left'' held held'' (Err e) (h.read ++ piece) (h.sent ++ p.sent) (Consumes-trans left left' left'' h.read piece h.consumed c)
+    (Appends-trans held held' held'' h.sent p.sent h.appended p.appended)
+    (EndsBy-break g settings first left'' (h.read ++ piece) (h.sent ++ p.sent) new e f (inl (simp append-nil at (p.outcome first h.read h.sent h.stands []))))

@@ -7,6 +7,7 @@ pub mod Shown
 pub mod Cuts
 pub mod LineAnswers
 pub mod Progresses
+pub mod Promised
 pub mod Ends
 pub mod Outputs
 pub mod Gathers

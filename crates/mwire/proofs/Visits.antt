@@ -3,6 +3,7 @@
 use Rattle.mwire.proofs.WireWords.{◌≡◌, ◌++◌, ◌+◌, ℕ, List, [], ◌∷◌, length, refl, sym, ap, subst, ◌∙◌, Option, Some, Result, Err, arith, map-append, All-append, All-cons, All-nil, Text, Settings, World, Ghosts, Serves, Visit, AreServed, AreOfPeers, HasServedEach, ServesEach, WireFault, map}
 use Rattle.std.proofs.lemmas.List.{append_assoc, append-nil, length-append}
 use Rattle.mwire.specs.declared.fault.AcceptFault.{AcceptFault}
+use Rattle.mwire.proofs.Promised.{each_promised}
 
 -- one batch after another
 of_peers_on : (vs ws : List Visit) (waiting waiting' waiting'' answered answered' answered'' : List Text)
@@ -31,17 +32,21 @@ module _ {S : Type 0} (g : Ghosts S) (settings : Settings) where
         fresh = All-nil (λ (v : Visit). v.held ≡ Some []);
         went = ap (λ (all : List Text). map Some all) (kept t) ∙ sym (append-nil (map Some answered));
       };
+      promise = each_promised g settings world world [] refl;
     }
 
     pub each_on : (n m : ℕ) (world between after : World) (waiting waiting' waiting'' answered answered' answered'' : List Text)
         → HasServedEach g settings n world between tells waiting waiting' answered answered' → HasServedEach g settings m between after tells waiting' waiting'' answered' answered''
         → HasServedEach g settings (n + m) world after tells waiting waiting'' answered answered''
-    each_on n m world between after waiting waiting' waiting'' answered answered' answered'' h k = record {
-      visits = h.visits ++ k.visits;
-      many = length-append h.visits k.visits ∙ ap (λ (i : ℕ). i + length k.visits) h.many ∙ ap (λ (i : ℕ). n + i) k.many;
-      served = served_on h.visits k.visits world between after h.served k.served;
-      of_peers = λ t. of_peers_on h.visits k.visits waiting waiting' waiting'' answered answered' answered'' (h.of_peers t) (k.of_peers t);
-    }
+    each_on n m world between after waiting waiting' waiting'' answered answered' answered'' h k =
+        let served : AreServed g settings (h.visits ++ k.visits) world after = served_on h.visits k.visits world between after h.served k.served in
+        record {
+          visits = h.visits ++ k.visits;
+          many = length-append h.visits k.visits ∙ ap (λ (i : ℕ). i + length k.visits) h.many ∙ ap (λ (i : ℕ). n + i) k.many;
+          served = served;
+          of_peers = λ t. of_peers_on h.visits k.visits waiting waiting' waiting'' answered answered' answered'' (h.of_peers t) (k.of_peers t);
+          promise = each_promised g settings world after (h.visits ++ k.visits) served;
+        }
 
     -- a connection that was accepted, served and closed
     pub one_served : (world after : World) (left left' held held' : Option Text) (result : Result (Unit {0}) WireFault) (waiting waiting' waiting'' answered answered' answered'' : List Text)
@@ -60,6 +65,7 @@ module _ {S : Type 0} (g : Ghosts S) (settings : Settings) where
             fresh = All-cons (λ (v : Visit). v.held ≡ Some []) visit [] (fresh t) (All-nil (λ (v : Visit). v.held ≡ Some []));
             went = went t ∙ ap (λ (front : List Text). map Some front ++ held' ∷ []) (kept t);
           };
+          promise = each_promised g settings world after (visit ∷ []) (after, s, refl);
         }
 
     -- none that could be accepted

@@ -23,14 +23,14 @@ pub use Rattle.mexec.specs.declared.text.Ended.TheVariants.{Done, Fault, Halt}
 pub use Rattle.mmeaning.specs.History.{History, answered, opening, replies, world_after}
 pub use Rattle.mmeaning.specs.Transition.{Event, Faulted, Finished, Halted, Reply, Settings, Transition, World, is_failure, max_line, normal}
 pub use Rattle.moperator.specs.declared.code.Code.TheVariants.{M1, M10, M13, M15, M4, M6, M7, M9, Zarg, Zchar, Zdepth, Zgrant, Zlevel, Zline, Zlocked, Zmem, Zover, Zsteps, Zstore, Zsub, Zsyntax, Zterm}
-pub use Rattle.mstore.specs.declared.store.NodeStore.{Ghosts}
+pub use Rattle.mnodes.specs.declared.store.NodeStore.{Ghosts}
 pub use Rattle.mworld.specs.Isolated.{IsEquallyTold, IsTold, IsToldEach, RanFirst, replies_of, told_of}
 pub use Rattle.mworld.specs.View.{event_of, reply_of, settings_of, world_of}
 pub use Rattle.mwire.specs.Answers.{AnswersCutShort, LineAnswered, LinesAnswered, RunAnswered, StoreSufficed, StoreSufficedForEach, WireLineAnswered, answer_text, line_text, replies_behind}
 pub use Rattle.mwire.specs.Connections.{AreOfPeers, AreServed, HasServedEach, ServesEach, Visit}
 pub use Rattle.mwire.specs.Only.{RanOnly, RepliesCutShort, ServeOnlyCutShort, ServesOnly, told_text}
 pub use Rattle.mwire.specs.Progress.{AreOpen, EachAnswered, FrontSent, Gathered, HasGathered, HasServed, IsCut, IsOpen, LineSent, SentUpTo, Stands, TakesOn}
-pub use Rattle.mwire.specs.Serves.{EndsBy, ServeCutShort, Serves}
+pub use Rattle.mwire.specs.Serves.{EndsBy, Outcome, ServeCutShort, Serves}
 pub use Rattle.mwire.specs.Watched.{calls_of, counted_on, failed_of, inner_of, stalls_of}
 pub use Rattle.mwire.specs.Wire.{Ignored, Runs, TooLong, Unreadable, WireLine, before_events, but_last, classify, events_of, finished_lines, is_escaped, is_event, is_line_end, is_space, is_terminal, line_served, lines_served, output_text, parts_of, reply_text, shown, shown_character, stream_served, too_long_text, unreadable_text}
 pub use Rattle.mwire.specs.WireLaws.{EventsHaveStream, HasLine, LinesHaveAnswers, NormalAnswersAreServed, NormalStreamsAreServed, line_of}

@@ -6,7 +6,7 @@ use Rattle.mspec.specs.Act.{Text}
 use Rattle.mspec.specs.Code.{Lost, Store}
 use Rattle.mmeaning.specs.Transition.{Settings, World, Event, Faulted, Reply, Transition}
 use Rattle.mmeaning.specs.History.{History}
-use Rattle.mstore.specs.declared.store.NodeStore.{Ghosts}
+use Rattle.mnodes.specs.declared.store.NodeStore.{Ghosts}
 use Rattle.mwire.specs.Wire.{WireLine, Ignored, TooLong, Unreadable, Runs, classify, reply_text, too_long_text, unreadable_text, events_of}
 
 -- the bytes that answer a line of this wire_line, whose reply is the first of these if it is run

@@ -8,7 +8,7 @@ use Rattle.mspec.specs.Act.{Text}
 use Rattle.mspec.specs.Access.{name_at}
 use Rattle.mmeaning.specs.Transition.{Event}
 use Rattle.misolation.specs.Telling.{Told}
-use Rattle.mstore.specs.declared.store.NodeStore.{Ghosts}
+use Rattle.mnodes.specs.declared.store.NodeStore.{Ghosts}
 use Rattle.mworld.specs.declared.world.World.{World}
 use Rattle.mworld.specs.View.{settings_of, world_of}
 use Rattle.mworld.specs.Isolated.{IsTold, IsEquallyTold, IsToldEach, RanFirst}

@@ -6,7 +6,7 @@ use Rattle.std.specs.Io.KnownBytes.{Appends, Consumes}
 use Rattle.std.specs.Str.Lines.{strip_carriage_return}
 use Rattle.mspec.specs.Act.{Text}
 use Rattle.mmeaning.specs.Transition.{Settings, World, Event}
-use Rattle.mstore.specs.declared.store.NodeStore.{Ghosts}
+use Rattle.mnodes.specs.declared.store.NodeStore.{Ghosts}
 use Rattle.mwire.specs.Wire.{finished_lines, events_of}
 use Rattle.mwire.specs.Answers.{LineAnswered, AnswersCutShort}
 

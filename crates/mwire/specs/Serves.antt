@@ -1,13 +1,15 @@
 -- SPDX-License-Identifier: Apache-2.0
 -- What `serve` and `read_events` do with the bytes of a reader and of a writer.
-use Rattle.std.specs.Prelude.{◌≡◌, ◌≢◌, ◌⊎◌, List, MatchResult, Result, Option}
+use Rattle.std.specs.Prelude.{◌≡◌, ◌≢◌, ◌⊎◌, List, [], ◌∷◌, ◌++◌, MatchResult, Result, Ok, Err, Option}
 use Rattle.std.specs.Io.KnownBytes.{Appends, Consumes, IsAtEnd}
 use Rattle.std.specs.Str.Lines.{lines}
+use mathlib.Core.Logic.{inl, inr}
 use Rattle.mspec.specs.Act.{Text}
-use Rattle.mmeaning.specs.Transition.{Settings, World, Event}
-use Rattle.mstore.specs.declared.store.NodeStore.{Ghosts}
-use Rattle.mwire.specs.Wire.{finished_lines, events_of}
-use Rattle.mwire.specs.Answers.{LinesAnswered, AnswersCutShort}
+use Rattle.mmeaning.specs.Transition.{Settings, World, Event, Reply}
+use Rattle.mnodes.specs.declared.store.NodeStore.{Ghosts}
+use Rattle.mworld.specs.Promises.{IsSound, KeepsPromise}
+use Rattle.mwire.specs.Wire.{WireLine, Ignored, TooLong, Unreadable, Runs, classify, finished_lines, events_of}
+use Rattle.mwire.specs.Answers.{LinesAnswered, WireLineAnswered, AnswersCutShort}
 use Rattle.mwire.specs.declared.fault.WireFault.{WireFault}
 use Rattle.mwire.specs.declared.fault.WireFault.TheVariants.{Read, Write, Memory}
 
@@ -23,14 +25,52 @@ EndsBy g settings world left read sent after Read = LinesAnswered g settings wor
 EndsBy g settings world left read sent after Write = ServeCutShort g settings world left read sent after
 EndsBy g settings world left read sent after Memory = ServeCutShort g settings world left read sent after
 
+-- ---- which lines were run, with their replies
+
+-- the line whose answer is cut off, if it was run
+abbrev pub last_ran : {S : Type 0} (g : Ghosts S) (settings : Settings) (world : World) (wire_line : WireLine) (bytes : Text) (after : World)
+    → WireLineAnswered g settings world wire_line bytes after → List (Event × Reply)
+last_ran g settings world Ignored bytes after answered = []
+last_ran g settings world TooLong bytes after answered = []
+last_ran g settings world Unreadable bytes after answered = []
+last_ran g settings world (Runs e) bytes after answered = (e, answered.reply) ∷ []
+
+abbrev pub ran_short : {S : Type 0} (g : Ghosts S) (settings : Settings) (world : World) (all : List Text) (sent : Text) (after : World)
+    → AnswersCutShort g settings world all sent after → List (Event × Reply)
+ran_short g settings world all sent after short =
+    short.answered.trace ++ last_ran g settings short.between (classify short.last) short.answer after short.last_answered.by_wire_line
+
+abbrev pub ran_cut : {S : Type 0} (g : Ghosts S) (settings : Settings) (world : World) (left : Option Text) (read sent : Text) (after : World)
+    → ServeCutShort g settings world left read sent after → List (Event × Reply)
+ran_cut g settings world left read sent after (inl short) = ran_short g settings world (finished_lines read) sent after short
+ran_cut g settings world left read sent after (inr short) = ran_short g settings world (lines read) sent after short.1
+
+abbrev pub ran_until : {S : Type 0} (g : Ghosts S) (settings : Settings) (world : World) (left : Option Text) (read sent : Text) (after : World) (fault : WireFault)
+    → EndsBy g settings world left read sent after fault → List (Event × Reply)
+ran_until g settings world left read sent after Read ends = ends.trace
+ran_until g settings world left read sent after Write ends = ran_cut g settings world left read sent after ends
+ran_until g settings world left read sent after Memory ends = ran_cut g settings world left read sent after ends
+
+-- how `serve` ended: at the stream's end all its lines are answered
+abbrev pub Outcome : {S : Type 0} → Ghosts S → Settings → World → Option Text → Text → Text → World → Result (Unit {0}) WireFault → Type 0
+Outcome g settings world left read sent after result =
+    MatchResult result (λ _. IsAtEnd left × LinesAnswered g settings world (lines read) sent after) (EndsBy g settings world left read sent after)
+
+abbrev pub lines_run : {S : Type 0} (g : Ghosts S) (settings : Settings) (world : World) (left : Option Text) (read sent : Text) (after : World) (result : Result (Unit {0}) WireFault)
+    → Outcome g settings world left read sent after result → List (Event × Reply)
+lines_run g settings world left read sent after (Ok done) outcome = outcome.1.trace
+lines_run g settings world left read sent after (Err fault) outcome = ran_until g settings world left read sent after fault outcome
+
 -- The bytes `read` were read, and `sent` were sent, if the reader tells what it has left and the writer what it holds. At the
--- stream's end all its lines are answered.
+-- stream's end all its lines are answered. Over a sound store the replies of the lines that were run keep the promise, whatever ended
+-- the stream.
 pub record Serves {S : Type 0} (g : Ghosts S) (settings : Settings) (world after : World) (left left' held held' : Option Text) (result : Result (Unit {0}) WireFault) : Type 0 where
   pub read : Text
   pub consumed : Consumes left left' read
   pub sent : Text
   pub appended : Appends held held' sent
-  pub outcome : MatchResult result (λ _. IsAtEnd left' × LinesAnswered g settings world (lines read) sent after) (EndsBy g settings world left' read sent after)
+  pub outcome : Outcome g settings world left' read sent after result
+  pub promise : IsSound g → KeepsPromise settings world (lines_run g settings world left' read sent after result outcome)
 
 -- the bytes `read` were read, and at the stream's end the events are those of its lines
 pub record ReadsEvents {V : Type 0} (events : V → List Event) (left left' : Option Text) (result : Result V WireFault) : Type 0 where

@@ -9,7 +9,7 @@ use Rattle.mspec.specs.Limits.{max_terminal}
 use Rattle.mspec.specs.Globals.{Globals}
 use Rattle.mmeaning.specs.Transition.{Settings, World, Event, max_line}
 use Rattle.mmeaning.specs.History.{opening, world_after, NoneFailed}
-use Rattle.mstore.specs.declared.store.NodeStore.{Ghosts}
+use Rattle.mnodes.specs.declared.store.NodeStore.{Ghosts}
 use Rattle.mwire.specs.Wire.{lines_served, stream_served, events_of}
 use Rattle.mwire.specs.Answers.{LinesAnswered}
 use Rattle.mwire.specs.Progress.{IsOpen}

@@ -8,7 +8,7 @@ use crate::fault::{AcceptFault, WireFault};
 use crate::listener::Listener;
 use crate::serving::serve;
 use crate::watched::Watched;
-use mstore::NodeStore;
+use mnodes::NodeStore;
 use mworld::World;
 use std::alloc::Global;
 use std::io::Write;

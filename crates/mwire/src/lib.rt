@@ -27,5 +27,5 @@ pub use listener::Listener;
 pub use only::serve_only;
 pub use peers::Peers;
 pub use reply_bytes::push_reply;
-pub use serving::serve;
+pub use serving::{serve, write_whole};
 pub use watched::Watched;

@@ -13,7 +13,7 @@ use crate::fault::WireFault;
 use crate::serving::{show_reply, write_whole};
 use crate::watched::Watched;
 use mgrant::AccountId;
-use mstore::NodeStore;
+use mnodes::NodeStore;
 use mworld::{Told, World, isolated_replies};
 use std::alloc::Global;
 use std::io::{Read, Write};

@@ -12,7 +12,7 @@ use crate::line_buffer::{LineBuffer, cut_line, without_return};
 use crate::reply_bytes::push_bytes;
 use crate::watched::Watched;
 use crate::wire_line::{WireLine, classify};
-use mstore::NodeStore;
+use mnodes::NodeStore;
 use mworld::{Reply, World};
 use std::alloc::Global;
 use std::io::{Read, Write};
@@ -157,8 +157,12 @@ pub(crate) fn show_reply(room: &mut Vec<u8>, terminal: u32, reply: &Reply) -> Re
     }
 }
 
-// Writes all of these bytes, or a front of them.
-pub(crate) fn write_whole<W: Write>(writer: &mut Watched<W>, bytes: &[u8]) -> Result<(), WireFault>
+/// Writes all of these bytes, or a front of them.
+///
+/// # Errors
+///
+/// `Write`: a write failed, or took nothing.
+pub fn write_whole<W: Write>(writer: &mut Watched<W>, bytes: &[u8]) -> Result<(), WireFault>
     ensures sent { FrontSent bytes.now (W.contents (inner_of writer.old)) (W.contents (inner_of writer.new)) (is_ok result) }
     ensures fault { IfErr result (λ e. (e ≡ WireFault.Write) × WriteFailed writer.old writer.new) }
     ensures works { OnOk result (failed_of writer.new ≡ failed_of writer.old) }

@@ -2,7 +2,7 @@
 // The laws of the wire form. Each function's contract is the law, and its body is empty: the code never calls them.
 ghost use Rattle.mwire.specs.WireLaws.{EventsHaveStream, NormalAnswersAreServed, NormalStreamsAreServed, LinesHaveAnswers};
 
-use mstore::NodeStore;
+use mnodes::NodeStore;
 
 /// Any events of terminals from 1 to 9999 have a stream, if their texts are not too long, have no line feed and do not end in a
 /// carriage return: their lines, each followed by a line feed.

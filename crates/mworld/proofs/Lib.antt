@@ -4,3 +4,4 @@ pub mod Checks
 pub mod Runs
 mod Sessions
 pub mod Tellings
+pub mod Promised

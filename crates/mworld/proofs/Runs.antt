@@ -16,7 +16,7 @@ use Rattle.misolation.specs.PlanLaws.{Actor, KeepsFit}
 use Rattle.misolation.proofs.PlansInside.{plans_keep_fit}
 use Rattle.mmeaning.proofs.Calls.{cut_all}
 use Rattle.mmeaning.proofs.OtherLocks.{others_kept}
-use Rattle.mstore.specs.declared.store.NodeStore.{Ghosts}
+use Rattle.mnodes.specs.declared.store.NodeStore.{Ghosts}
 use Rattle.moperator.specs.declared.code.Code.TheVariants.{Zmem, Zstore}
 use Rattle.meval.specs.Evaluates.{standing_of}
 use Rattle.mcommand.specs.declared.parts.Parts.{Parts}

@@ -2,4 +2,5 @@
 pub mod View
 pub mod Admits
 pub mod Ran
+pub mod Promises
 pub mod Isolated

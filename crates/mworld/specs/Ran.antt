@@ -7,7 +7,7 @@ use Rattle.mspec.specs.Act.{Text, level_begun}
 use Rattle.mgrammar.specs.Reading.{line_at}
 use Rattle.mmeaning.specs.Transition.{text_run}
 use Rattle.mmeaning.specs.Calls.{point}
-use Rattle.mstore.specs.declared.store.NodeStore.{Ghosts}
+use Rattle.mnodes.specs.declared.store.NodeStore.{Ghosts}
 use Rattle.meval.specs.declared.session.Session.{Session}
 use Rattle.mexec.specs.Runs.{EndsBy}
 use Rattle.mworld.specs.declared.reply.Reply.{Reply}

@@ -8,7 +8,7 @@ use Rattle.mspec.specs.Maps.{hash_map_of}
 use Rattle.mspec.specs.Access.{Settings}
 use Rattle.mspec.specs.LockConflict.{Locks}
 use Rattle.mmeaning.specs.Transition as transition
-use Rattle.mstore.specs.declared.store.NodeStore.{Ghosts}
+use Rattle.mnodes.specs.declared.store.NodeStore.{Ghosts}
 use Rattle.meval.specs.declared.session.Session.{Session}
 use Rattle.meval.specs.Sessions.{session_of}
 use Rattle.mexec.specs.Runs.{ending_of}

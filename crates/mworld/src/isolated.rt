@@ -8,11 +8,12 @@ ghost use Rattle.mmeaning.specs.Transition.{Transition};
 ghost use Rattle.misolation.specs.Telling.{Tells};
 ghost use Rattle.mworld.specs.View.{settings_of, world_of, reply_of, event_of};
 ghost use Rattle.mworld.specs.Isolated.{replies_of, IsTold, IsEquallyTold, IsToldEach, IsUnseen, RanFirst};
+ghost use Rattle.mworld.specs.Promises.{IsSound};
 
 use crate::reply::{Event, Reply};
 use crate::world::World;
 use mgrant::{AccountId, Settings};
-use mstore::NodeStore;
+use mnodes::NodeStore;
 use std::alloc::{AllocError, Global};
 
 /// A reply, and the terminal that it goes to.
@@ -55,8 +56,10 @@ impl Drop for Isolated {
 /// grant to write leads both ways. Over a sound store, if no line of an account that reaches this one was answered `Zmem` or `Zstore`,
 /// as `whole` says, the replies are those of the definitional interpreter run on the reaching accounts' lines, globals, sessions and
 /// locks, and the grants between them, alone: whatever other accounts store, lock, run or exhaust. After such a line they are still
-/// those of these lines alone, with the replies that they got here, in which that line failed. This holds from any world. Over any
-/// store they are replies to the account's events, one each and in their order.
+/// those of these lines alone, with the replies that they got here, in which that line failed. This holds from any world. If the run is
+/// whole, the reaching accounts' own replies are those of that interpreter too. From a world that has globals alone it keeps the promise:
+/// any other world that agrees on what reaches this account gives it the same replies. Over any store they are replies to the account's
+/// events, one each and in their order.
 ///
 /// An id that names no account of the world's settings is told nothing.
 ///
@@ -69,10 +72,10 @@ pub fn isolated_replies<S: NodeStore>(
     events: &[Event],
     account: AccountId,
 ) -> Result<Isolated, AllocError>
-    ensures told { S.sound → IfOk result (λ isolated. IsTold S.NodeStore world.old account (map event_of events.now) (replies_of isolated) isolated.whole world.new) }
-    ensures alone { S.sound → IfOk result (λ isolated. IsEquallyTold S.NodeStore world.old account (map event_of events.now) (replies_of isolated) isolated.whole) }
+    ensures told { IsSound S.NodeStore → IfOk result (λ isolated. IsTold S.NodeStore world.old account (map event_of events.now) (replies_of isolated) isolated.whole world.new) }
+    ensures alone { IsSound S.NodeStore → IfOk result (λ isolated. IsEquallyTold S.NodeStore world.old account (map event_of events.now) (replies_of isolated) isolated.whole) }
     ensures each { IfOk result (λ isolated. IsToldEach (name_at (settings_of world.old) account) (settings_of world.old) (map event_of events.now) (replies_of isolated)) }
-    ensures first { S.sound → IfErr result (λ _. RanFirst (settings_of world.old) (world_of S.NodeStore world.old) (map event_of events.now) (world_of S.NodeStore world.new)) }
+    ensures first { IsSound S.NodeStore → IfErr result (λ _. RanFirst (settings_of world.old) (world_of S.NodeStore world.old) (map event_of events.now) (world_of S.NodeStore world.new)) }
     ensures settings { settings_of world.new ≡ settings_of world.old }
 {
     let mut isolated = Isolated {

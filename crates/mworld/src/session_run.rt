@@ -9,8 +9,8 @@ use meval::{Depth, Eval, Session};
 use mexec::{Ended, Parts, Scratch, run_text};
 use mgrant::{AccountId, Settings};
 use mlock::Locks;
+use mnodes::NodeStore;
 use moperator::Code;
-use mstore::NodeStore;
 use std::alloc::Global;
 use std::mem::replace;
 

@@ -13,8 +13,8 @@ use meval::Session;
 use mexec::{Ended, Scratch};
 use mgrant::{AccountId, Settings};
 use mlock::Locks;
+use mnodes::NodeStore;
 use moperator::Code;
-use mstore::NodeStore;
 use std::alloc::Global;
 use std::collections::HashMap;
 

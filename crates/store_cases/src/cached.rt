@@ -6,7 +6,7 @@ use crate::stores::{call, node, print_answer};
 use anyhow::Context;
 use mcache::Cached;
 use mkey::NodeKey;
-use mstore::{NodeStore, Plain};
+use mnodes::{NodeStore, Plain};
 use mtranscript::{play, print_result, words_of};
 use std::alloc::Global;
 

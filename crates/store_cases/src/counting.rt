@@ -1,8 +1,8 @@
 // SPDX-License-Identifier: Apache-2.0
 // A store that counts its reads.
 use mkey::NodeKey;
+use mnodes::{NodeStore, Plain, StoreFault};
 use mnum::Bytes7;
-use mstore::{NodeStore, Plain, StoreFault};
 
 /// The plain store, which counts how often a text is asked of it. Nothing is said of what it holds.
 #[derive(Drop)]

@@ -3,8 +3,8 @@
 use anyhow::Context;
 use mglobal::{neighbour, routine, status};
 use mkey::{Direction, NodeKey, is_account_name, is_name, order_values_ok};
+use mnodes::NodeStore;
 use mnum::Bytes7;
-use mstore::NodeStore;
 use mtranscript::{data_word, text_of};
 use mvalue::Value;
 use std::alloc::Global;

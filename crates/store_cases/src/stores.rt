@@ -4,9 +4,10 @@ use crate::globals::{data, lines, order};
 use anyhow::Context;
 use mfile::FileTable;
 use mkey::{Direction, NodeKey, read};
+use mnodes::{NodeStore, Plain};
 use mnum::Bytes7;
 use mspec::limits::MAX_TEXT;
-use mstore::{NodeStore, Plain, Table};
+use mstore::Table;
 use mtranscript::{
     key_of, play, print, print_others, print_result, remove, text_of, texts_of, words_of,
 };

@@ -1,32 +1,13 @@
 // SPDX-License-Identifier: Apache-2.0
-//! Plays the cases of transcripts, and times calls.
-//!
-//! - `transcripts`, without words: plays the blocks of its standard input, and prints them with what
-//!   their cases give. The settings of lines lie where it runs.
-//! - `transcripts time COUNT [PAGE]`: times the calls of a page of `timings`, or of all pages. Each call
-//!   is made COUNT times in each of five passes, and the time of the fastest pass is printed.
+//! Plays the blocks of transcripts of its standard input, and prints them with what their cases give. The settings of lines lie where it runs.
 #![tactic(auto)]
 
-use anyhow::Context;
 use line_cases::Lines;
 use mtranscript::{Block, blocks_of, print};
 use std::io::Write;
-use std::{env, fs, io};
+use std::{fs, io};
 
 fn main(rt: HostRuntime) -> anyhow::Result<()> {
-    let mut words = env::args(&rt)?.skip(1);
-    match words.next() {
-        None => play_all(&rt),
-        Some(word) => {
-            anyhow::ensure!(word.as_str() == "time", "the words are: time COUNT [PAGE]");
-            let count = words.next().context("no count of rounds")?.parse()?;
-            time(&rt, count, words.next())
-        }
-    }
-}
-
-// Plays the blocks of the standard input.
-fn play_all(rt: &HostRuntime) -> anyhow::Result<()> {
     let text = io::read_to_string(rt.alloc(), rt.stdin())?;
     let mut out = Vec::new(rt.alloc());
     for (i, block) in blocks_of(rt.alloc(), text.as_str())?.iter().enumerate() {
@@ -34,7 +15,7 @@ fn play_all(rt: &HostRuntime) -> anyhow::Result<()> {
             out.push(b'\n')?;
         }
         print(&mut out, block.header.as_bytes())?;
-        play(rt, block, &mut out)?;
+        play(&rt, block, &mut out)?;
     }
     rt.stdout().write_all(&out)?;
     Ok(())
@@ -58,10 +39,8 @@ fn play(rt: &HostRuntime, block: &Block, out: &mut Vec<u8>) -> anyhow::Result<()
         "copies" => store_cases::play_copies(alloc, cases, out),
         "drawn" => store_cases::play_drawn(rt, cases, out),
         "database" => store_cases::play_database(alloc, cases, out),
-        "files" => store_cases::play_files(rt, cases, out),
         "migration_stops" => store_cases::play_migration_stops(alloc, cases, out),
         "reached" => store_cases::play_reached(alloc, cases, out),
-        "checksums" => timings::checksums(rt, cases, out),
         kind => play_lines(rt, kind, cases, out),
     }
 }
@@ -74,16 +53,8 @@ fn play_lines(
     out: &mut Vec<u8>,
 ) -> anyhow::Result<()> {
     let (settings, account) = match kind {
-        "lines" | "replies" | "references" | "devices" => ("one_account.toml", "ALICE"),
-        "terminals"
-        | "told"
-        | "connections"
-        | "told_failing"
-        | "cached_lines"
-        | "outsiders"
-        | "stops" => { ("three_terminals.toml", "BOB") }
-        "accounts" => ("four_accounts.toml", "ALICE"),
-        _ => anyhow::bail!("no such kind of block"),
+        "references" | "devices" => ("one_account.toml", "ALICE"),
+        _ => ("three_terminals.toml", "BOB"),
     };
     let document = fs::read(rt, settings)?;
     let alloc = rt.alloc();
@@ -93,29 +64,13 @@ fn play_lines(
         cases,
     };
     match kind {
-        "told" | "told_failing" => line_cases::play_told(alloc, &block, out),
+        "told" => line_cases::play_told(alloc, &block, out),
         "cached_lines" => line_cases::play_cached_lines(alloc, &block, out),
         "outsiders" => line_cases::play_outsiders(alloc, &block, out),
         "stops" => line_cases::play_stops(alloc, &block, out),
         "connections" => line_cases::play_connections(alloc, &block, out),
         "devices" => line_cases::play_devices(alloc, &block, out),
-        "replies" => line_cases::play_replies(alloc, &block, out),
         "references" => line_cases::play_references(alloc, &block, out),
-        _ => line_cases::play_lines(alloc, &block, out),
+        _ => anyhow::bail!("no such kind of block"),
     }
-}
-
-// Times the calls of this page, or of all.
-fn time(rt: &HostRuntime, rounds: usize, page: Option<String>) -> anyhow::Result<()> {
-    let mut out = Vec::new(rt.alloc());
-    match page {
-        Some(page) => timings::times(rt, rounds, page.as_str(), &mut out)?,
-        None => {
-            for page in timings::PAGES {
-                timings::times(rt, rounds, page, &mut out)?;
-            }
-        }
-    }
-    rt.stdout().write_all(&out)?;
-    Ok(())
 }

@@ -1,5 +1,6 @@
 -- SPDX-License-Identifier: Apache-2.0
 use Rattle.mworld.proofs.WorldWords.{◌≡◌, sym, ap, ◌∙◌, subst, map, take, take_all, name_at, told_apart, equally_told, settings_of, world_of, event_of}
+use Rattle.mworld.proofs.Promised.{promised, reaching_alone}
 use Rattle.mworld.proofs.Tellings.{take_on, ran_first, whichever}
 use Rattle.mworld.proofs.isolated.isolated_replies.Goals as goal
 
@@ -29,7 +30,12 @@ returns-clause-each g c = rw (take_all c.loop-event.event-index c.args.events.no
 pub returns-clause-told : goal.returns-clause-told
 returns-clause-told g c = λ sound.
     let told = rw (take_all c.loop-event.event-index c.args.events.now c.loop-event-test.false) at c.loop-event.invariant.told in
-    record { run = told sound; apart = λ s closed member. told_apart s _ _ _ _ _ _ _ closed member (c.args.world.now.fit sound) (told sound) }
+    record {
+      run = told sound;
+      apart = λ s closed member. told_apart s _ _ _ _ _ _ _ closed member (c.args.world.now.fit sound) (told sound);
+      reaching = λ whole. reaching_alone _ _ _ _ _ _ _ (c.args.world.now.fit sound) (told sound) whole;
+      promise = promised _ _ _ _ (told sound).history;
+    }
 
 pub returns-clause-alone : goal.returns-clause-alone
 returns-clause-alone g c = λ sound whole.

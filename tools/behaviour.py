@@ -1,8 +1,8 @@
 #!/usr/bin/env python3
 # SPDX-License-Identifier: Apache-2.0
 """Runs the tests of behaviour, those of tests/, clients/, front/ and packaging/, over the built program: several pytest processes side by side,
-one that waits more than it computes, one each for the clients, the package, the front and its journal, and one for each processor. Tests that measure a
-time run before them.
+one that waits more than it computes, one each for the clients and the package, and one for each processor. Tests that measure a time run before
+them. The front's run after them, and then those of its journal, each alone: they wait for timers, and fail on a machine that is too busy.
 
     tools/behaviour.py [--count N] [WORD ..]    draws N times as many cases; hands words on to pytest, as `-k isolation`
     tools/behaviour.py --packages               runs nothing: says whether a package is missing
@@ -34,9 +34,9 @@ SLOWEST = 10
 # Parts of the repository that have tests of their own, in a folder `tests`, with a `pytest.ini` beside it.
 OTHERS = ("clients", "front", "packaging")
 # Those of them that draw their cases.
-COUNTED = ("front",)
+COUNTED = ("clients", "front")
 # Tests of the front on its journal and what stands on that: a process of their own, since they wait for disks and databases.
-JOURNAL = [f"front/tests/test_{name}.py" for name in ("journal", "machines", "operating", "replay", "standby", "table")]
+JOURNAL = [f"front/tests/test_{name}.py" for name in ("journal", "machines", "matrix", "operating", "replay", "restarts", "standby", "table")]
 # pytest ends with this status if no case is left by its words.
 NO_CASE = 5
 
@@ -82,17 +82,18 @@ def missing() -> list[str]:
     return [package for package, ran in tried if ran.returncode] + ([] if shutil.which("cc") else ["gcc"])
 
 
-def parts(folder: str, times: int) -> list[Part]:
-    """The processes that run side by side."""
+def stages(folder: str, times: int) -> list[list[Part]]:
+    """The processes that run side by side, stage by stage."""
     count = len(os.sched_getaffinity(0))
     drawn = ["tests", f"--count={times}"]
     rest = "not waits and not alone"
     computing = [Part(f"part {number}", folder, [*drawn, "-m", rest, f"--part={number}/{count}"]) for number in range(1, count + 1)]
     given = {name: [f"--count={times}"] if name in COUNTED else [] for name in OTHERS}
     given["front"] += [f"--ignore={file}" for file in JOURNAL]
-    others = [Part(name, folder, [f"{name}/tests", *given[name]], f"{name}/pytest.ini") for name in OTHERS]
-    journal = Part("front journal", folder, [*JOURNAL, f"--count={times}"], "front/pytest.ini")
-    return [Part("waiting", folder, [*drawn, "-m", "waits"]), *others, journal, *computing]
+    others = {name: Part(name, folder, [f"{name}/tests", *given[name]], f"{name}/pytest.ini") for name in OTHERS}
+    front, journal = others.pop("front"), Part("front journal", folder, [*JOURNAL, f"--count={times}"], "front/pytest.ini")
+    side_by_side = [Part("waiting", folder, [*drawn, "-m", "waits"]), *others.values(), *computing]
+    return [[Part("alone", folder, ["tests", "-m", "alone"])], side_by_side, [front], [journal]]
 
 
 def conclude(part: Part, totals: Totals) -> None:
@@ -133,7 +134,7 @@ def main() -> int:
         return 0
     start, totals = time.monotonic(), Totals()
     with tempfile.TemporaryDirectory(prefix="mserve-tests-") as folder:
-        for together in ([Part("alone", folder, ["tests", "-m", "alone"])], parts(folder, given.count)):
+        for together in stages(folder, given.count):
             for part in together:
                 part.start(more)
             for part in together:

@@ -12,11 +12,8 @@ do the same work beside it if they are installed.
         --workloads FILE            reads others
         --twins                     times the workloads that have a twin, and the twins (benchmarks/twins.txt), over a
                                     store in memory and GT.M alone, and prints GT.M's time beside the program's of both;
-                                    what ten times as much takes; and how much of the time the store's calls take
+                                    and what ten times as much takes
                                     (a pass goes over all of them, so that a slow minute of the machine meets all)
-
-What the store's calls take alone is told by the program `transcripts`, which the gate leaves in its crate's `out`, or
-which the variable TRANSCRIPTS names: it makes them in the order in which four workloads make them.
 
 The loop is the reference since it is there wherever the script runs, asks for no memory, and is bound
 as the program is: by the clock of the processor and the branches of an interpreter. Python's version
@@ -35,6 +32,7 @@ import statistics
 import subprocess
 import sys
 import tempfile
+import textwrap
 import threading
 import time
 import zlib
@@ -42,7 +40,7 @@ from collections.abc import Iterable, Iterator
 from dataclasses import dataclass, field
 from typing import IO
 
-from running import PROGRAM, TOP, program_of, require_program, run_words
+from running import TOP, require_program, run_words
 
 WORKLOADS = os.path.join(TOP, "benchmarks", "workloads.txt")
 TWINS = os.path.join(TOP, "benchmarks", "twins.txt")
@@ -53,14 +51,15 @@ TURNS = 2_000_000
 GROWTH = 10
 # Ten times as much is timed less often.
 PASSES_OF_GROWTH = 4
-# Of each workload with a floor: the call of the page `floors` of `timings`, and how many operations one such call is.
+# The floor of a row: what the store's calls of the workload took alone, in their order and over the store as the program has it, and what all of
+# an operation took, in microseconds. It was computed once, by a program that is gone, over the release and on the machine of that day.
 FLOORS = {
-    "new nodes": ("nodes set", 1),
-    "nodes read": ("read", 1),
-    "nodes walked and read": ("walked", 1),
-    "naked references and $DATA": ("naked turn", 5),
+    "new nodes": (6.24, 6.72),
+    "nodes walked and read": (3.67, 4.57),
+    "nodes read": (3.31, 3.99),
+    "naked references and $DATA": (2.40, 2.90),
 }
-NODES_OF_FLOORS = 20_000
+FLOORS_OF = "2026-11-27, 16:22"
 ONE_ACCOUNT, MANY_ACCOUNTS = "equal lines", "lines of 1000 accounts"
 READY, DONE = "READY", "DONE"
 # So many bytes at most are read at once, and a pipe holds.
@@ -241,7 +240,8 @@ class Subjects:
         env = {**os.environ, "gtm_dist": self.dist, "gtmgbldir": os.path.join(self.folder, "bench.gld"),
                "gtmroutines": f"{self.folder} {self.dist}/libgtmutil.so", "gtm_chset": "M",
                "gtm_tmp": self.folder, "HOME": self.folder}
-        made = f"change -segment DEFAULT -file={self.folder}/bench.dat -allocation=20000\nexit\n".encode()
+        # the file's name comes last, since it goes on to the end of the line
+        made = f"change -segment DEFAULT -allocation=20000 -lock_space=65536 -file={self.folder}/bench.dat\nexit\n".encode()
         quiet = {"env": env, "cwd": self.folder, "capture_output": True, "check": True}
         subprocess.run([os.path.join(self.dist, "mumps"), "-run", "GDE"], input=made, **quiet)
         subprocess.run([os.path.join(self.dist, "mupip"), "create"], **quiet)
@@ -317,37 +317,23 @@ def speeds(found: dict[str, Measured]) -> str:
     return f"{min(gtm) / min(ours):.2f} ({statistics.median(gtm) / statistics.median(ours):.2f})"
 
 
-def floors() -> dict[str, float]:
-    """What the store's calls of each workload that has a floor take alone, in microseconds an operation."""
-    program = program_of("transcripts", "TRANSCRIPTS")
-    words = [program, "time", str(NODES_OF_FLOORS), "floors"]
-    told = subprocess.run(words, capture_output=True, check=False, text=True).stdout if os.path.exists(program) else ""
-    calls = {name: float(taken) for name, taken in re.findall(r"^ *(\S.*\S) +([\d.]+) ns$", told, re.MULTILINE)}
-    if not calls:
-        print("bench: there is no program `transcripts` that times the store's calls alone, so they are left out", file=sys.stderr)
-        return {}
-    return {name: calls[call] / operations / 1000 for name, (call, operations) in FLOORS.items()}
-
-
 def grown(own: Measured, larger: Measured) -> str:
     """By what an operation takes longer where there is ten times as much, and the memory of both."""
     longer = min(larger.passes) / GROWTH / min(own.passes)
     return f"{longer:.2f}, {own.memory:.0f} and {larger.memory:.0f} MB"
 
 
-def above(floor: float | None, work: Workload, own: Measured) -> str:
-    """What the store's calls take of an operation, in microseconds, and what the language adds to that."""
-    if floor is None:
-        return ""
-    whole = min(own.passes) / work.operations * 1e6
-    return f"{floor:.2f} of {whole:.2f} µs: {100 * (whole / floor - 1):+.0f} %"
+def floors_told() -> str:
+    """The floors of rows, as they were computed once."""
+    told = "; ".join(f"{name} {floor:.2f} of {whole:.2f} µs" for name, (floor, whole) in FLOORS.items())
+    return textwrap.fill(f"Floors, computed once (release of {FLOORS_OF}), what the store's calls alone took of an operation: {told}.", 100)
 
 
 def twin_rows(subjects: Subjects, asked: argparse.Namespace) -> Iterator[tuple[str, list[str]]]:
     """A row of the table of twins for each workload that has one, and what is wrong with the replies; and one for the
     lines of many accounts."""
     subjects.beside_reference = False
-    alone, twins = floors(), {twin.name: twin for twin in workloads(TWINS)}
+    twins = {twin.name: twin for twin in workloads(TWINS)}
     wanted = [work for work in workloads(asked.workloads) if not asked.names or any(name in work.name for name in asked.names)]
     jobs: dict[str, Job] = {}
     for work in wanted:
@@ -364,12 +350,12 @@ def twin_rows(subjects: Subjects, asked: argparse.Namespace) -> Iterator[tuple[s
         own = found[work.name]
         if twin := twins.get(work.name):
             other, larger = found[f"twin of {work.name}"], found[f"more of {work.name}"]
-            cells = [work.name, speeds(own), speeds(other), grown(own["memory"], larger["memory"]), above(alone.get(work.name), work, own["memory"])]
+            cells = [work.name, speeds(own), speeds(other), grown(own["memory"], larger["memory"])]
             yield f"| {' | '.join(cells)} |", [*faults(work, own, 1), *faults(twin, other, 1)]
         elif ONE_ACCOUNT in found:
             many, of_one = own["memory"], found[ONE_ACCOUNT]["memory"]
             longer = min(many.passes) / min(of_one.passes)
-            yield f"| {work.name} |  |  | {longer:.2f}, {of_one.memory:.0f} and {many.memory:.0f} MB |  |", [*faults(work, own, 1)]
+            yield f"| {work.name} |  |  | {longer:.2f}, {of_one.memory:.0f} and {many.memory:.0f} MB |", [*faults(work, own, 1)]
 
 
 def write_page(begin: str, table: str) -> None:
@@ -420,7 +406,7 @@ def main() -> int:
         subjects = Subjects(folder)
         if asked.twins and not subjects.dist:
             sys.exit("bench: twins are compared with GT.M, which is not installed")
-        names = ["GT.M's time / the program's", "of its twin", "ten times as much", "the store's calls"] if asked.twins else subjects.names
+        names = ["GT.M's time / the program's", "of its twin", "ten times as much"] if asked.twins else subjects.names
         first = "Workload" if asked.twins else "Workload, an operation"
         table = [f"| {first} | {' | '.join(names)} |", "|---" * (len(names) + 1) + "|"]
         for row, told in (twin_rows if asked.twins else rows)(subjects, asked):
@@ -429,6 +415,7 @@ def main() -> int:
             print(row, file=sys.stderr, flush=True)
     turns = "" if asked.twins else f", turns of Python {platform.python_version()}"
     table += ["", f"{time.strftime('%Y-%m-%d')}, {os.cpu_count()} processors, {asked.passes} passes{turns}."]
+    table += ["", floors_told()] if asked.twins else []
     text = "\n".join(table) + "\n"
     print(text, end="")
     if asked.write:

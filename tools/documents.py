@@ -302,11 +302,11 @@ def check_counts(page: Page) -> None:
 # ---- crates and the manual page
 
 def check_crates(by_path: dict[str, Page]) -> None:
-    """Each crate has a page, and each of the program a row in README.md and on the map; no row names another."""
+    """Each crate has a page, and each of the program a row in PROOFS and on the map; no row names another."""
     wanted = set(program_crates())
     listed = [name.partition(":")[0].split()[0] for name in read("crates.txt").splitlines() if ":" in name and not name.startswith("#")]
     faults.extend(f"crates/{crate}: no README.md" for crate in listed if f"crates/{crate}/README.md" not in by_path)
-    for path in ("README.md", "docs/ARCHITECTURE.md"):
+    for path in ("docs/PROOFS.md", "docs/ARCHITECTURE.md"):
         rows = [row for head, rows in tables(by_path[path]) if head[0] == "Crate" for row in rows]
         named = {name for _, cells in rows for name in re.findall(r"\[(\w+)\]|`(\w+)`", cells[0]) for name in name if name}
         faults.extend(f"{path}: no row for {crate}" for crate in sorted(wanted - named))

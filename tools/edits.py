@@ -3,18 +3,24 @@
 """Checks the tables of must-fail edits in docs/TESTING.md against the edits and the sources.
 
     tools/edits.py           prints each fault with its file, or one line with the counts
-    tools/edits.py --counts  prints how many edits each crate has
+    tools/edits.py --counts  prints how many edits each crate has, in must-fail/ and in edits/
 
 Each row names an edit that exists, each edit has a row and can be applied, each call of a row is a function of its crate,
-each clause is one of a function beside it, and each exported function of a crate that has edits has a row."""
+each clause is one of a function beside it, and each exported function of a crate that has edits has a row.
+The gate tries those of must-fail/, so these are few, in few crates."""
 import re
 import sys
 from dataclasses import dataclass, field
 from pathlib import Path
 
+from sources import PARTS, edits_of
+
 TOP = Path(__file__).resolve().parent.parent
 PAGE = "docs/TESTING.md"
-MOST_EDITS = 140
+# The folders of a crate with edits: those that each gate tries, and those that `./test edits` tries.
+OF_THE_GATE, OF_TURNS = "must-fail", "edits"
+# The most that each gate tries, and in how many crates: a crate with several is proved once more for them.
+MOST_EDITS, MOST_CRATES = 45, 14
 
 # Exported functions without a row, each with the reason.
 EXCEPTIONS = {
@@ -23,7 +29,7 @@ EXCEPTIONS = {
     "mwire::lines_have_answers": "the same",
     "mwire::normal_answers_are_served": "the same",
     "mwire::normal_streams_are_served": "the same",
-    "mhost::serve_connections": "hands on to mwire's serve_each, over a port of which no contract tells who comes",
+    "mhost::serve_connections": "hands on to mwire's serve_each, over a port of the system, of which no contract tells who comes",
     "mglobal::RoutineCache::get": "hands on to the store, with the store's contract",
     "mglobal::RoutineCache::next": "the same",
     "mglobal::RoutineCache::prev": "the same",
@@ -31,12 +37,12 @@ EXCEPTIONS = {
     "mcache::Cached::prev": "the same",
     "mcache::Cached::kept_routine": "the same",
     "mcache::Cached::keep_routine": "the same",
-    "mstore::Failing::get": "the same, but for the call that fails",
-    "mstore::Failing::kill": "the same",
-    "mstore::Failing::next": "the same",
-    "mstore::Failing::prev": "the same",
-    "mstore::Failing::kept_routine": "the same",
-    "mstore::Failing::keep_routine": "the same",
+    "mnodes::Failing::get": "the same, but for the call that fails",
+    "mnodes::Failing::kill": "the same",
+    "mnodes::Failing::next": "the same",
+    "mnodes::Failing::prev": "the same",
+    "mnodes::Failing::kept_routine": "the same",
+    "mnodes::Failing::keep_routine": "the same",
 }
 
 WORD = re.compile(r"`([A-Za-z_][A-Za-z_0-9]*(?:::[A-Za-z_][A-Za-z_0-9]*)*)`")
@@ -141,9 +147,13 @@ def unfit(edit: Path) -> str:
     """Why an edit cannot be applied, or nothing."""
     crate, path, old = edit.parent.parent, "", ""
     texts: dict[str, str] = {}
+    if not re.fullmatch(r"\w[\w.-]*\.edit", edit.name):
+        return "an edit is a file whose name ends in .edit"
     for line in edit.read_text(encoding="utf-8").split("\n"):
         if line.startswith("file: "):
             path = line.removeprefix("file: ").strip()
+            if path.partition("/")[0] not in PARTS:
+                return f"{path} is not below src/, specs/ or proofs/"
             if not (crate / path).is_file():
                 return f"there is no file {path}"
             texts.setdefault(path, (crate / path).read_text(encoding="utf-8"))
@@ -178,34 +188,54 @@ def row_faults(row: Row, own: list[str], sources: dict[str, Source]) -> list[str
     return [f"{PAGE}: {row.crate}: {fault}" for fault in faults]
 
 
-def crate_faults(crate: str, stems: list[str], rows: list[Row], source: Source) -> list[str]:
-    """What the rows of a crate leave out, and which of its edits cannot be applied."""
+def crate_faults(crate: str, paths: list[str], rows: list[Row], source: Source) -> list[str]:
+    """What the rows of a crate leave out, and which of its edits cannot be applied or have another's name."""
     cited = {stem for row in rows for stem in WORD.findall(row.edits)}
     called = {name for row in rows for pair in calls_of(row.calls) for name in pair}
-    paths = [f"crates/{crate}/must-fail/{stem}.edit" for stem in stems]
-    faults = [f"{path}: no row cites it" for path, stem in zip(paths, stems) if stem not in cited]
+    names = [stem_of(path) for path in paths]
+    faults = [f"{path}: no row cites it" for path, stem in zip(paths, names) if stem not in cited]
+    faults += [f"{path}: another edit of the crate has this name" for path, stem in zip(paths, names) if names.count(stem) > 1]
     faults += [f"{path}: {why}" for path in paths if (why := unfit(TOP / path))]
     return faults + [f"{PAGE}: {crate}: {call} has no row" for call in sorted(source.exported - called) if f"{crate}::{call}" not in EXCEPTIONS]
 
 
+def stem_of(path: str) -> str:
+    """The name of an edit."""
+    return Path(path).name.removesuffix(".edit")
+
+
+def bound_faults(gate: dict[str, list[str]]) -> list[str]:
+    """Whether the gate tries too much."""
+    count, crates = sum(map(len, gate.values())), sum(map(bool, gate.values()))
+    faults = [f"crates: {count} edits in must-fail/, and at most {MOST_EDITS} are wanted: the others go to edits/"] if count > MOST_EDITS else []
+    return faults + ([f"crates: {crates} crates have edits in must-fail/, and at most {MOST_CRATES} are wanted"] if crates > MOST_CRATES else [])
+
+
+def counts(gate: dict[str, list[str]], turns: dict[str, list[str]]) -> str:
+    """The table of how many edits each crate has."""
+    rows = [(f"`{crate}`", len(gate[crate]), len(turns[crate])) for crate in gate if gate[crate] or turns[crate]]
+    rows.append(("all", sum(row[1] for row in rows), sum(row[2] for row in rows)))
+    return "\n".join(["| Crate | `must-fail/` | `edits/` |", "|---|---|---|", *(f"| {name} | {first} | {second} |" for name, first, second in rows)])
+
+
 def main() -> int:
     """Checks all, or prints the counts."""
-    edits = {folder.parent.name: sorted(path.stem for path in folder.glob("*.edit")) for folder in sorted(TOP.glob("crates/*/must-fail"))}
-    edits = {crate: stems for crate, stems in edits.items() if stems}
-    total = sum(len(stems) for stems in edits.values())
-    if "--counts" in sys.argv[1:]:
-        print("\n".join(["| Crate | Edits |", "|---|---|", *(f"| `{crate}` | {len(stems)} |" for crate, stems in edits.items()), f"| all | {total} |"]))
-        return 0
     crates = sorted(path.parent.name for path in TOP.glob("crates/*/src"))
+    gate, turns = ({crate: edits_of(crate, folder) for crate in crates} for folder in (OF_THE_GATE, OF_TURNS))
+    if "--counts" in sys.argv[1:]:
+        print(counts(gate, turns))
+        return 0
     traits = {trait for crate in crates for trait in read_source(crate, set()).traits}
     sources = {crate: read_source(crate, traits) for crate in crates}
     rows, faults = rows_of((TOP / PAGE).read_text(encoding="utf-8"))
+    edits = {crate: gate[crate] + turns[crate] for crate in crates if gate[crate] or turns[crate]}
     for row in rows:
-        faults += row_faults(row, edits.get(row.crate, []), sources)
-    for crate, stems in edits.items():
-        faults += crate_faults(crate, stems, [row for row in rows if row.crate == crate], sources[crate])
-    faults += [f"crates: {total} edits, and at most {MOST_EDITS} are wanted"] if total > MOST_EDITS else []
-    print("\n".join(faults) if faults else f"edits: {total} in {len(edits)} crates, {len(rows)} rows")
+        faults += row_faults(row, [stem_of(path) for path in edits.get(row.crate, [])], sources)
+    for crate, paths in edits.items():
+        faults += crate_faults(crate, paths, [row for row in rows if row.crate == crate], sources[crate])
+    faults += bound_faults(gate)
+    total = [sum(map(len, folder.values())) for folder in (gate, turns)]
+    print("\n".join(faults) if faults else f"edits: {total[0]} that each gate tries and {total[1]} others, in {len(edits)} crates, {len(rows)} rows")
     return 1 if faults else 0
 
 

@@ -1,102 +1,38 @@
 #!/usr/bin/env python3
 # SPDX-License-Identifier: Apache-2.0
 """Runs the gate, `rt ci`, hands its output on, and tells before its last line where the processor time went: a table by crate,
-in seconds, of its proof, of proving its tests, and of trying its must-fail edits (with their count).
+in seconds, of its proof, of proving its tests, and of trying its edits of must-fail/ (with their count).
 
-    tools/gate_times.py               runs the gate
-    tools/gate_times.py --anew        has the gate prove and try all, also what it passed earlier on this machine; a kit whose `rt ci` knows no
-                                      `--anew` keeps nothing and always does
+    tools/gate_times.py               runs the gate: tools/chain.py first, if the kit keeps what that passes, and then `rt ci`, which takes it over
+    tools/gate_times.py --plain       runs `rt ci` alone
+    tools/gate_times.py --anew        runs `rt ci` alone, and has it prove and try all, also what it passed earlier on this machine; a kit whose
+                                      `rt ci` knows no `--anew` keeps nothing and always does
     tools/gate_times.py --write       puts the table of the run into docs/PERFORMANCE.md too
     tools/gate_times.py --change REV  runs nothing: what changed in that page's table since the revision, as `origin/main`; and what the crates took in both
                                       whose sources did not change, since a second differs from run to run: the
                                       revision's page has to be of a run over the revision's sources
 
 The times are read off the processes below the gate five times a second, so of each process up to a fifth of a second is missed."""
+import argparse
 import os
 import re
 import subprocess
 import sys
-import threading
 import time
-from collections import defaultdict
+
+import chain
+from processes import Watch
 
 TOP = os.path.realpath(os.path.join(os.path.dirname(os.path.abspath(__file__)), ".."))
 PAGE = os.path.join(TOP, "docs", "PERFORMANCE.md")
-TICKS = os.sysconf("SC_CLK_TCK")
 PARTS = ("proof", "tests", "edits")
-
-
-def processes():
-    """Of each process its parent, when it began, and the processor seconds that it used."""
-    found = {}
-    for name in os.listdir("/proc"):
-        if name.isdigit():
-            try:
-                with open(f"/proc/{name}/stat", encoding="utf-8", errors="replace") as file:
-                    fields = file.read().rpartition(")")[2].split()
-                found[int(name)] = int(fields[1]), int(fields[19]), (int(fields[11]) + int(fields[12])) / TICKS
-            except OSError:
-                pass
-    return found
-
-
-def below(top, found):
-    """The processes that the top one started, and those that they started."""
-    children = defaultdict(list)
-    for pid, (parent, _, _) in found.items():
-        children[parent].append(pid)
-    left, all_below = [top], []
-    while left:
-        pid = left.pop()
-        all_below.append(pid)
-        left += children[pid]
-    return all_below
-
-
-def task_of(pid):
-    """The crate and the part that a process of the prover works for; None for another process."""
-    try:
-        with open(f"/proc/{pid}/cmdline", encoding="utf-8", errors="replace") as file:
-            words = file.read().split("\0")
-        folder = os.readlink(f"/proc/{pid}/cwd")
-    except OSError:
-        return None
-    if "--crate-name" not in words:
-        return None
-    crate = words[words.index("--crate-name") + 1]
-    if "rt-edit-" in folder:
-        return crate, "edits"
-    return crate, "tests" if "--test" in words else "proof"
-
-
-class Watch(threading.Thread):
-    """Reads the processor times of what is below a process, until it is told to end."""
-
-    def __init__(self, top):
-        super().__init__(daemon=True)
-        self.top, self.ended, self.tasks, self.times = top, threading.Event(), {}, {}
-
-    def run(self):
-        while not self.ended.wait(0.2):
-            found = processes()
-            for pid in below(self.top, found):
-                if pid in found:
-                    key = pid, found[pid][1]
-                    if self.tasks.get(key) is None:
-                        self.tasks[key] = task_of(pid)
-                    self.times[key] = found[pid][2]
 
 
 def table(watch, seconds):
     """The table, with the most costly crates first."""
-    spent = defaultdict(lambda: dict.fromkeys(PARTS, 0.0))
-    other = 0.0
-    for key, used in watch.times.items():
-        if watch.tasks.get(key):
-            crate, part = watch.tasks[key]
-            spent[crate][part] += used
-        else:
-            other += used
+    spent, other = watch.spent()
+    for parts in spent.values():
+        parts["edits"] += parts.pop("seed")
     lines = ["| Crate | proof | tests | edits |", "|---|---|---|---|"]
     for crate, parts in sorted(spent.items(), key=lambda it: -sum(it[1].values())):
         folder = os.path.join(TOP, "crates", crate, "must-fail")
@@ -169,32 +105,42 @@ def write_page(text):
         file.write(made)
 
 
-def gate_words():
+def gate_words(anew):
     """The words that run the gate: with `--anew` if that is asked for and the kit has it."""
-    if "--anew" not in sys.argv:
+    if not anew:
         return ["rt", "ci"]
     told = subprocess.run(["rt", "help"], stdout=subprocess.PIPE, stderr=subprocess.STDOUT, text=True, errors="replace").stdout
     return ["rt", "ci", *(["--anew"] if "--anew" in told else [])]
 
 
+def asked():
+    """What the words ask for; words that it does not know end it."""
+    parser = argparse.ArgumentParser(description=__doc__, formatter_class=argparse.RawDescriptionHelpFormatter)
+    parser.add_argument("--plain", action="store_true", help="run `rt ci` alone")
+    parser.add_argument("--anew", action="store_true", help="have `rt ci` prove and try all")
+    parser.add_argument("--write", action="store_true", help="put the table into docs/PERFORMANCE.md")
+    parser.add_argument("--change", metavar="REV", help="print what changed in that table since the revision")
+    return parser.parse_args()
+
+
 def main():
-    if "--change" in sys.argv[1:-1]:
-        print_change(sys.argv[sys.argv.index("--change") + 1])
+    words = asked()
+    if words.change:
+        print_change(words.change)
         return 0
-    start = time.monotonic()
-    with subprocess.Popen(gate_words(), cwd=TOP, stdout=subprocess.PIPE, stderr=subprocess.STDOUT, text=True, errors="replace") as gate:
-        watch = Watch(gate.pid)
-        watch.start()
-        last = ""
+    start, watch, last = time.monotonic(), Watch(os.getpid()), ""
+    watch.start()
+    if not (words.anew or words.plain) and chain.is_kept():
+        # the verdict is that of `rt ci`, also on what fails here
+        subprocess.run([sys.executable, os.path.join(TOP, "tools", "chain.py"), "--edits"], cwd=TOP, stdin=subprocess.DEVNULL)
+    with subprocess.Popen(gate_words(words.anew), cwd=TOP, stdout=subprocess.PIPE, stderr=subprocess.STDOUT, text=True, errors="replace") as gate:
         for line in gate.stdout:
             print(last, end="", flush=True)
             last = line
-        gate.wait()
-        watch.ended.set()
-        watch.join()
+    watch.end()
     text = table(watch, time.monotonic() - start)
     print(text, end="")
-    if "--write" in sys.argv:
+    if words.write:
         write_page(text)
     print(last, end="", flush=True)
     return gate.returncode

@@ -2,6 +2,7 @@
 # SPDX-License-Identifier: Apache-2.0
 """What the page of the front end says of the language, made from what the clients say, so that it is said once: front/page/codes.js.
 Without a word it compares, and has status 1 if the file is another; `--write` writes it. It needs no program."""
+import dataclasses
 import json
 import os
 import re
@@ -10,7 +11,7 @@ import sys
 TOP = os.path.realpath(os.path.join(os.path.dirname(os.path.abspath(__file__)), ".."))
 sys.path.insert(0, os.path.join(TOP, "clients"))
 
-from mserve_client import codes, keys, language, reference, routine_files, walk, wire  # noqa: E402
+from mserve_client import causes, codes, grammar, keys, language, reference, routine_files, walk, wire  # noqa: E402
 
 MADE = os.path.join(TOP, "front", "page", "codes.js")
 HEAD = "// SPDX-License-Identifier: Apache-2.0\n// Made by tools/page_words.py from clients/mserve_client: change it there, and run `python3 tools/page_words.py --write`.\n"
@@ -23,8 +24,11 @@ def exported() -> dict[str, tuple[str, object]]:
                   {name: {"words": code.words, "section": code.section, "advice": code.advice} for name, code in codes.CODES.items()}),
         "COMMANDS": ("The commands of the language, in a line each.", reference.COMMANDS),
         "FUNCTIONS": ("The functions of the language, in a line each.", reference.FUNCTIONS),
-        "MISSING": ("What the language has not: a pattern that finds it in a command, its name, and what to write instead. The first that is found counts.",
-                    [{"pattern": missing.pattern.pattern, "name": missing.name, "advice": missing.advice} for missing in language.MISSING]),
+        "RULES": ("The grammar of lines, as clients/mserve_client/grammar.py has it: kinds of steps, and rules of them.", grammar.LANGUAGES[language.LANGUAGE]),
+        "DEPTH": ("How many brackets and operands of @ may be open at a place.", grammar.DEPTH),
+        "CAUSES": ("Why a line is not in the language: how that is known, its name, and what to write instead. The first that fits counts.",
+                   [cause_words(cause) for cause in causes.CAUSES]),
+        "OVER": ("What is said of a character over 127.", {"name": language.OVER.name, "advice": language.OVER.advice}),
         "NO_LABEL": ("What is said of a line that begins with no label and no space.", language.NO_LABEL),
         "LABEL_PARAMETERS": ("What is said of a label with parameters.", language.LABEL_PARAMETERS),
         "LONGEST_LINE": ("How many characters a line has at most.", wire.LONGEST_LINE),
@@ -37,8 +41,18 @@ def exported() -> dict[str, tuple[str, object]]:
     }
 
 
+def cause_words(cause: causes.Cause) -> dict[str, object]:
+    """A cause without its example, and without what it leaves open."""
+    found = dataclasses.asdict(cause)
+    return {name: value for name, value in found.items() if value and name != "example" or name == "advice"}
+
+
 def written(value: object) -> str:
-    """A value as JavaScript has it: a key that is a name stands without quotes."""
+    """A value as JavaScript has it: a key that is a name stands without quotes, and a rule or a cause in one line."""
+    if isinstance(value, list):
+        return "[\n" + "".join(f"  {json.dumps(one)},\n" for one in value) + "]"
+    if isinstance(value, dict) and value and all(isinstance(step, list) for step in value.values()):
+        return "{\n" + "".join(f"  {name}: {json.dumps(step)},\n" for name, step in value.items()) + "}"
     return re.sub(r'^( *)"([A-Za-z_$][A-Za-z0-9_$]*)":', r"\1\2:", json.dumps(value, indent=2), flags=re.MULTILINE)
 
 

@@ -1,31 +1,77 @@
 # SPDX-License-Identifier: Apache-2.0
-"""What the programs are built from: their crates, the files of these, and one digest of them all.
+"""What the programs are built from: their crates, the files of these, one digest of them all, and copies of crates to prove.
 
 The digest covers crates.txt and, of each crate that a program stands on, the folders src/, specs/ and proofs/. A change to a document,
 a tool, a test or another crate's files leaves it as it is."""
 import hashlib
 import os
-from collections.abc import Iterator
+import shutil
+from collections.abc import Iterator, Mapping, Sequence
 
 TOP = os.path.realpath(os.path.join(os.path.dirname(os.path.abspath(__file__)), ".."))
 CRATES = "crates.txt"
 # The programs, each of the crate of its name.
 PROGRAMS = ("mserve", "mislands")
 PARTS = ("src", "specs", "proofs")
+# What the gate runs a program on once it is built.
+RUN = ("args", "stdin", "stdout", "status", "data")
 
 
-def program_crates() -> dict[str, str]:
-    """The crates that the programs stand on, themselves among them, each with its line of crates.txt, in the order of that file."""
+def crates_with_below(names: Sequence[str] = ()) -> dict[str, str]:
+    """These crates, or all if none is named, and those that they stand on, each with its line of crates.txt, in the order of that file.
+    Raises KeyError with the name of one that is none."""
     with open(os.path.join(TOP, CRATES), encoding="utf-8") as file:
         lines = [line.strip() for line in file if line.strip() and not line.startswith("#")]
     lines_by_crate = {line.partition(":")[0]: line for line in lines}
-    wanted, left = set(), list(PROGRAMS)
+    wanted, left = set(), [*(names or lines_by_crate)]
+    for name in left:
+        if name not in lines_by_crate:
+            raise KeyError(name)
     while left:
         crate = left.pop()
         if crate in lines_by_crate and crate not in wanted:
             wanted.add(crate)
             left += lines_by_crate[crate].partition(":")[2].split()
     return {crate: line for crate, line in lines_by_crate.items() if crate in wanted}
+
+
+def program_crates() -> dict[str, str]:
+    """The crates that the programs stand on, themselves among them."""
+    return crates_with_below(PROGRAMS)
+
+
+def edits_of(crate: str, folder: str) -> list[str]:
+    """The wrong bodies in a crate's folder `must-fail` or `edits`, by their paths relative to the top."""
+    place = os.path.join("crates", crate, folder)
+    found = os.listdir(os.path.join(TOP, place)) if os.path.isdir(os.path.join(TOP, place)) else []
+    return [os.path.join(place, name) for name in sorted(found)]
+
+
+def copy_path(path: str, room: str) -> None:
+    """Copies a file or a folder of the tree, if it exists, to the same place below the room."""
+    source, copy = os.path.join(TOP, path), os.path.join(room, path)
+    if os.path.isdir(source):
+        shutil.copytree(source, copy)
+    elif os.path.exists(source):
+        os.makedirs(os.path.dirname(copy), exist_ok=True)
+        shutil.copyfile(source, copy)
+
+
+def copy_crates(crates: Mapping[str, str], room: str, edits: Mapping[str, Sequence[str]] = {}) -> None:
+    """Copies what is proved and run of these crates, each given with its line of crates.txt, and puts these edits into their must-fail/."""
+    for crate in crates:
+        for part in (*PARTS, *RUN):
+            copy_path(os.path.join("crates", crate, part), room)
+    for crate, paths in edits.items():
+        folder = os.path.join(room, "crates", crate, "must-fail")
+        os.makedirs(folder)
+        for path in paths:
+            shutil.copy(os.path.join(TOP, path), folder)
+    copy_path("HANDLES", room)
+    # the kit takes the top of a repository for one
+    os.mkdir(os.path.join(room, ".git"))
+    with open(os.path.join(room, CRATES), "w", encoding="utf-8") as file:
+        file.writelines(f"{line}\n" for line in crates.values())
 
 
 def folders_of(crate: str) -> list[str]:

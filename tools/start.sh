@@ -10,6 +10,8 @@ is_compared() {
     changed=$(cd "$root" && find "${paths[@]}" -newercm "$unpacked/paths" -print -quit 2>&1) && [ -z "$changed" ]
 }
 
+. "$root/tools/help.sh"
+help_on_output clients/msettings "$@"
 if [ "${1-}" != --version ] && is_compared; then
     exec "$unpacked/$program" "$@"
 fi

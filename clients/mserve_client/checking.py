@@ -1,56 +1,84 @@
 # SPDX-License-Identifier: Apache-2.0
-"""Checks lines of routines: whether each is in the language, without running any of them.
+"""Checks lines of routines, without running any: whether each is in the language, and what else a reader should know of it.
 
-A line's label and dots are taken off, and the rest is sent after `Q  `: the server reads it whole, and stops at the Q.
-A rest that is too long for that is put together in a local variable that the session does not have, and run by XECUTE,
-after `Q  ` too; then that local is killed."""
+language.py says where and why a line is not. The server has the last word: a line's label and dots are taken off, and the rest is sent after
+`Q  `, where it is read whole and never reached. A rest that is too long for that is put together in a local variable that the session does
+not have, and run by XECUTE, after `Q  ` too; then that local is killed."""
 from __future__ import annotations
 
+import re
 from collections.abc import Iterator
 from contextlib import suppress
-from dataclasses import dataclass
+from dataclasses import dataclass, replace
+from enum import Enum
 
 from . import keys, language
-from .mtext import set_lines
-from .routine_files import SourceLine
+from .mtext import is_barred, set_lines
+from .routine_files import Source, SourceLine, source_line
+from .routines import is_line, nodes_of
 from .walk import Refused, asked, free_local
 from .wire import LONGEST_LINE, ClientError, Connection
 
 GUARD = "Q  "
 LONGEST_REST = keys.MAX_TEXT - len(GUARD)
+_TIMEOUT = re.compile(r".*:(.*)", re.DOTALL)
+WAITS = "In M this waits until the lock is free; here the line ends with ZLOCKED at once: write L +A:0 E  .., and send the line again."
+NO_WAIT = "In M this waits so many seconds; here the timeout plays no part, and $TEST says at once whether the lock was taken."
+
+
+class Kind(Enum):
+    """What a finding is: a line that is not in the language, a label or a routine that is not there, or a line that means something else in M."""
+
+    REFUSED = "not in the language"
+    MISSING = "not there"
+    WARNING = "a warning"
 
 
 @dataclass(frozen=True, slots=True)
 class Finding:
-    """What is wrong with a line: its number and the column, both from 1, and what to say about it."""
+    """What is to be said of a line: its number and the column, both from 1, what it is, what to do about it, and why it is refused, in a few
+    words that do not depend on the line."""
 
     line: int
     column: int
     message: str
     advice: str = ""
+    kind: Kind = Kind.REFUSED
+    cause: str = ""
 
 
-def check(connection: Connection, lines: list[SourceLine]) -> list[Finding]:
-    """What is not in the language, line by line."""
+@dataclass(frozen=True, slots=True)
+class Entry:
+    """What a DO or a GOTO names: a label or nothing, a routine or nothing, and where that stands."""
+
+    line: int
+    column: int
+    label: str
+    routine: str
+
+
+def check(connection: Connection, lines: list[SourceLine], number: int = language.LANGUAGE) -> list[Finding]:
+    """What is not in a language, line by line, and what means something else in M."""
     found = []
-    for number, accepted in enumerate(accepted_rests(connection, [line.rest for line in lines])):
-        line = lines[number]
-        finding = _of_form(line)
-        if finding is None and not accepted:
-            finding = _refused(connection, line)
-        if finding is not None:
-            found.append(Finding(number + 1, finding.column, finding.message, finding.advice))
+    plain = [line.rest if line.rest.isascii() else "" for line in lines]
+    for place, accepted in enumerate(accepted_rests(connection, plain)):
+        line = lines[place]
+        finding = _of_form(line) or _refused(line, accepted, number)
+        found += [replace(one, line=place + 1) for one in ([finding] if finding is not None else _locks(line, number))]
     return found
 
 
 def accepted_rests(connection: Connection, rests: list[str]) -> Iterator[bool]:
-    """Whether each of these lines of M is in the language."""
-    short = (GUARD + rest for rest in rests if len(GUARD + rest) <= LONGEST_LINE)
-    replies = connection.pipeline(short)
-    answers = [reply.code for reply in replies]
-    answer = iter(answers)
+    """Whether the server takes each of these lines of M."""
+    replies = connection.pipeline(GUARD + rest for rest in rests if _is_short(rest))
+    answer = iter([reply.code for reply in replies])
     for rest in rests:
-        yield _is_accepted(GUARD + rest, next(answer)) if len(GUARD + rest) <= LONGEST_LINE else _is_accepted(rest, _long_answer(connection, rest))
+        yield _is_accepted(rest, next(answer) if _is_short(rest) else _long_answer(connection, rest))
+
+
+def _is_short(rest: str) -> bool:
+    """Whether a line of the wire can have it."""
+    return len(GUARD + rest) <= LONGEST_LINE and not is_barred(rest)
 
 
 def _is_accepted(line: str, code: str | None) -> bool:
@@ -74,28 +102,98 @@ def _long_answer(connection: Connection, rest: str) -> str | None:
 
 
 def _of_form(line: SourceLine) -> Finding | None:
-    """What is wrong with a line before its first command."""
+    """What is wrong with a line before its first command, or with its characters."""
+    if (over := language.OVER_PLACE.search(line.text)) is not None:
+        return Finding(0, over.start() + 1, f"the character {over[0]!r} is over 127: values and lines are ASCII, comments too", language.OVER.advice,
+                       cause=language.OVER.name)
     if len(line.label) > 31:
-        return Finding(0, 1, f"the label {line.label} has {len(line.label)} characters", language.NO_LABEL)
+        return Finding(0, 1, f"the label {line.label} has {len(line.label)} characters", language.NO_LABEL, cause="a label of more than 31 characters")
     if line.label and not line.level and line.rest.startswith("("):
-        return Finding(0, len(line.label) + 1, f"the label {line.label} has parameters", language.LABEL_PARAMETERS)
+        return Finding(0, len(line.label) + 1, f"the label {line.label} has parameters", language.LABEL_PARAMETERS,
+                       cause="a label with parameters")
     if not line.level and line.rest and not line.rest.startswith(";"):
-        return Finding(0, len(line.label) + 1, f"the line begins with {(line.label + line.rest)[:20]!r}", language.NO_LABEL)
+        return Finding(0, len(line.label) + 1, f"the line begins with {(line.label + line.rest)[:20]!r}", language.NO_LABEL, cause="what begins the line is no label")
     if len(line.rest) > LONGEST_REST:
         return Finding(0, 1, f"the line has {len(line.text):,} characters, too many to check",
-                       f"Cut it in two: {LONGEST_REST:,} after label and dots can be checked.")
+                       f"Cut it in two: {LONGEST_REST:,} after label and dots can be checked.", cause="a line that is too long")
     return None
 
 
-def _refused(connection: Connection, line: SourceLine) -> Finding:
-    """What is wrong with a line that is not in the language: its first command that is refused, and what is known of it."""
-    commands = language.commands(line.rest)
-    heads = accepted_rests(connection, [line.rest[:end] for _, end in commands])
-    start, end = next((command for command, accepted in zip(commands, list(heads)) if not accepted), (0, len(line.rest)))
-    command = line.rest[start:end]
-    column = len(line.label) + len(line.level) + start
-    cause = language.cause(command) or language.cause(line.rest[start:])
-    if cause is None:
-        return Finding(0, column + 1, f"not in the language: {command[:60]}")
-    place, missing = cause
-    return Finding(0, column + place + 1, f"not in the language: {command[:60]}: {missing.name}", missing.advice)
+def _refused(line: SourceLine, accepted: bool, number: int) -> Finding | None:
+    """Why a line is not in a language; None if it is. Of the server's own language the server has the last word."""
+    is_own = number == language.LANGUAGE
+    if is_own and accepted:
+        return None
+    found = language.fault(line.rest, number)
+    if found is None:
+        return Finding(0, before(line) + 1, f"not in the language: {line.rest[:60]}", "The server refuses it.", cause="another cause") if is_own else None
+    return Finding(0, before(line) + found.place + 1, f"not in the language: {line.rest[found.command:][:60]}: {found.name}", found.advice,
+                   cause=found.name)
+
+
+def before(line: SourceLine) -> int:
+    """How many characters stand before a line's first command."""
+    return len(line.label) + len(line.level)
+
+
+def _locks(line: SourceLine, number: int) -> Iterator[Finding]:
+    """The arguments of LOCK that would wait in M."""
+    if "L" not in line.rest.upper():
+        return
+    for name, start, end in language.reader(number).read(line.rest).marks:
+        text = line.rest[start:end]
+        if name != "lock" or text.startswith(("-", "@")):
+            continue
+        timeout = _TIMEOUT.fullmatch(language.blanked(text))
+        if timeout is None:
+            yield Finding(0, before(line) + start + 1, f"LOCK {text[:60]} does not wait", WAITS, Kind.WARNING)
+        elif timeout[1] != "0":
+            yield Finding(0, before(line) + start + 1, f"LOCK {text[:60]} does not wait", NO_WAIT, Kind.WARNING)
+
+
+def entries(lines: list[SourceLine], number: int = language.LANGUAGE) -> Iterator[Entry]:
+    """What the DOs and GOTOs of a routine name. What stands in strings, or behind an @, is not looked at."""
+    for place, line in enumerate(lines, 1):
+        for name, start, end in language.reader(number).read(line.rest).marks if _may_call(line) else ():
+            if name == "entry":
+                label, _, routine = line.rest[start:end].partition("^")
+                yield Entry(place, before(line) + start + 1, label, routine)
+
+
+def _may_call(line: SourceLine) -> bool:
+    """Whether a line may have a DO or a GOTO."""
+    return line.rest.isascii() and re.search(r"(?:^|[ ])(?:D|DO|G|GOTO)[ :]", line.rest, re.IGNORECASE) is not None
+
+
+class Labels:
+    """The labels of routines: of those that are checked, and of those that the account has."""
+
+    def __init__(self, connection: Connection, checked: list[Source]) -> None:
+        self._connection = connection
+        self._known: dict[str, set[str] | None] = {source.name: {line.label for line in source.lines if line.label} for source in checked}
+
+    def of(self, routine: str) -> set[str] | None:
+        """The labels of a routine; None if there is no such routine."""
+        if routine not in self._known:
+            texts = [node[1] for node in nodes_of(self._connection, routine) if is_line(node)]
+            self._known[routine] = {source_line(text).label for text in texts} if texts else None
+        return self._known[routine]
+
+    def missing(self, source: Source, number: int = language.LANGUAGE) -> Iterator[Finding]:
+        """The labels and routines that a routine's DOs and GOTOs name and that are not there."""
+        for entry in entries(source.lines, number):
+            labels = self.of(entry.routine or source.name)
+            if labels is None:
+                yield Finding(entry.line, entry.column, f"there is no routine {entry.routine}", "Neither these files nor the account have it: M13.",
+                              Kind.MISSING)
+            elif entry.label and entry.label not in labels:
+                yield Finding(entry.line, entry.column, f"the routine {entry.routine or source.name} has no label {entry.label}",
+                              "A label begins its line, and its case of letters counts: M13.", Kind.MISSING)
+
+
+def findings(connection: Connection, checked: list[Source], number: int = language.LANGUAGE) -> Iterator[tuple[Source, list[Finding]]]:
+    """What is to be said of each of some routines, line by line."""
+    labels = Labels(connection, checked)
+    for source in checked:
+        found = check(connection, source.lines, number)
+        yield source, sorted([*found, *labels.missing(source, number)], key=lambda one: (one.line, one.column))

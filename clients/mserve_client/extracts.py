@@ -14,7 +14,7 @@ from functools import lru_cache
 from itertools import chain, islice
 from typing import IO, NamedTuple
 
-from . import keys, mtext
+from . import escape, keys, mtext
 from .wire import ClientError
 
 FORMATS = ("zwr", "go", "json")
@@ -54,6 +54,42 @@ Record = Entry | Problem
 
 
 @dataclass(frozen=True, slots=True)
+class Form:
+    """How a file is written: `zwr`, `go` or `json`, or None to find that out; what stands for an empty subscript, if any does; and whether the
+    file is UTF-8, so that escapes stand for its characters over 127."""
+
+    name: str | None = None
+    null: str = ""
+    in_utf_8: bool = False
+
+    @property
+    def encoding(self) -> str:
+        """The encoding of the file."""
+        return "utf-8" if self.in_utf_8 else "latin1"
+
+    def is_plain(self, line: str) -> bool:
+        """Whether the texts of a line are those of the node as they stand."""
+        return line.isascii() and not (self.in_utf_8 and "~" in line)
+
+    def taken(self, text: str) -> str:
+        """A text of the file as the node has it. Unreadable if it has bytes that are no UTF-8."""
+        try:
+            return escape.stored(text) if self.in_utf_8 else text
+        except escape.NotText as error:
+            raise Unreadable(str(error)) from error
+
+    def taken_subscripts(self, subscripts: keys.Subscripts) -> keys.Subscripts:
+        """The subscripts of the file as the node has them."""
+        return tuple(self.taken(text) or self.null for text in subscripts)
+
+    def given(self, subscripts: keys.Subscripts, text: str) -> tuple[keys.Subscripts, str]:
+        """The subscripts and the text of a node as the file has them."""
+        if self.null:
+            subscripts = tuple("" if part == self.null else part for part in subscripts)
+        return (tuple(map(escape.shown, subscripts)), escape.shown(text)) if self.in_utf_8 else (subscripts, text)
+
+
+@dataclass(frozen=True, slots=True)
 class Unreadable(Exception):
     """A node that is not written as the form asks, or that no store can take."""
 
@@ -82,8 +118,12 @@ def text_fault(text: str) -> str:
     return f"its text has the code {ord(found[0])}: a text has the codes 0 to 127" if found else ""
 
 
-def record(line: int, name: str, subscripts: keys.Subscripts, text: str) -> Record:
+def record(form: Form, line: int, name: str, subscripts: keys.Subscripts, text: str) -> Record:
     """The node, or why it cannot come in."""
+    try:
+        subscripts, text = form.taken_subscripts(subscripts), form.taken(text)
+    except Unreadable as error:
+        return Problem(line, f"{shown_node(name, subscripts)}: {error.reason}")
     if not keys.is_name(name):
         return Problem(line, f"^{name[:40]}: a name has at most 31 letters and digits, and begins with a letter or %")
     fault = subscripts_fault(subscripts) or text_fault(text)
@@ -96,16 +136,16 @@ def shown_node(name: str, subscripts: keys.Subscripts) -> str:
     return text if len(text) <= 80 else text[:77] + "..."
 
 
-def read(file: IO[bytes], form: str | None = None) -> Iterator[Record]:
+def read(file: IO[bytes], form: Form = Form()) -> Iterator[Record]:
     """The nodes of a file, and what cannot come in. The form is found by the first lines if it is not given."""
-    form, lines = numbered(file, form)
-    return READERS[form](lines)
+    name, lines = numbered(file, form)
+    return READERS[name](lines, form)
 
 
-def rows(file: IO[bytes], form: str | None, account: str, tell: Callable[[Problem], None]) -> Iterator[tuple[bytes, bytes]]:
+def rows(file: IO[bytes], form: Form, account: str, tell: Callable[[Problem], None]) -> Iterator[tuple[bytes, bytes]]:
     """The keys and the texts of a file's nodes in an account; `tell` gets what cannot come in."""
-    form, lines = numbered(file, form)
-    for found in _zwr_rows(lines, account) if form == "zwr" else READERS[form](lines):
+    name, lines = numbered(file, form)
+    for found in _zwr_rows(lines, account, form) if name == "zwr" else READERS[name](lines, form):
         if type(found) is tuple:
             yield found
         elif isinstance(found, Entry):
@@ -114,11 +154,11 @@ def rows(file: IO[bytes], form: str | None, account: str, tell: Callable[[Proble
             tell(found)
 
 
-def numbered(file: IO[bytes], form: str | None) -> tuple[str, Iterator[tuple[int, str]]]:
-    """The form of a file, and its lines with their numbers."""
-    lines = io.TextIOWrapper(file, encoding="latin1", newline="\n")
+def numbered(file: IO[bytes], form: Form) -> tuple[str, Iterator[tuple[int, str]]]:
+    """The name of a file's form, and its lines with their numbers."""
+    lines = io.TextIOWrapper(file, encoding=form.encoding, errors="surrogateescape" if form.in_utf_8 else "strict", newline="\n")
     first = list(islice(lines, 3))
-    return form or form_of(first), enumerate(chain(first, lines), 1)
+    return form.name or form_of(first), enumerate(chain(first, lines), 1)
 
 
 def form_of(first: list[str]) -> str:
@@ -127,7 +167,7 @@ def form_of(first: list[str]) -> str:
         return "json"
     if first and first[0].startswith("^") and '="' in first[0] or len(first) > 1 and first[1].rstrip().endswith("ZWR"):
         return "zwr"
-    if len(first) > 2 and first[2].startswith("^") and "=" not in first[2]:
+    if len(first) > 2 and is_node_alone(first[2]):
         return "go"
     if len(first) == 2 or not first:
         return "zwr"
@@ -135,41 +175,50 @@ def form_of(first: list[str]) -> str:
                      "--format says which form it has")
 
 
-def read_zwr(lines: Iterable[tuple[int, str]]) -> Iterator[Record]:
+def is_node_alone(line: str) -> bool:
+    """Whether a line is a node and nothing more, as those of a GO extract are."""
+    node = line.rstrip("\r\n")
+    try:
+        return parsed_node(node, 0)[2] == len(node)
+    except Unreadable:
+        return False
+
+
+def read_zwr(lines: Iterable[tuple[int, str]], form: Form) -> Iterator[Record]:
     """The nodes of a ZWR extract."""
     for number, line in lines:
-        found = _plain_entry(number, line) or _full_record(number, line)
+        found = _plain_entry(form, number, line) or _full_record(form, number, line)
         if found is not None:
             yield found
 
 
-def _zwr_rows(lines: Iterable[tuple[int, str]], account: str) -> Iterator[tuple[bytes, bytes] | Record]:
+def _zwr_rows(lines: Iterable[tuple[int, str]], account: str, form: Form) -> Iterator[tuple[bytes, bytes] | Record]:
     """The nodes of a ZWR extract, the plain ones as the rows of a store."""
     for number, line in lines:
         found: tuple[bytes, bytes] | Record | None = None
-        if plain := _plain_parts(line):
+        if plain := _plain_parts(form, line):
             above, last = _plain_above(account, plain[0]), _plain_last_bytes(plain[1])
             found = (above + last, plain[2].encode("ascii")) if above and last else None
-        found = found or _full_record(number, line)
+        found = found or _full_record(form, number, line)
         if found is not None:
             yield found
 
 
-def _full_record(number: int, line: str) -> Record | None:
+def _full_record(form: Form, number: int, line: str) -> Record | None:
     """What a line of ZWR has, read in full; None for one of the head, or an empty one."""
     if not line.strip() or number <= 2 and not line.startswith("^"):
         return None
     try:
-        return record(number, *parsed_line(line.rstrip("\r\n")))
+        return record(form, number, *parsed_line(line.rstrip("\r\n")))
     except Unreadable as error:
         return Problem(number, error.reason)
 
 
-def _plain_parts(line: str) -> tuple[str, str, str] | None:
+def _plain_parts(form: Form, line: str) -> tuple[str, str, str] | None:
     """The node above, the last subscript and the text of a line whose text has no quotes and no codes; None if it has to be read in full."""
     node, _, rest = line.partition('="')
     text = rest[:-2]
-    if rest[-2:] != '"\n' or '"' in text or len(text) > keys.MAX_TEXT or not line.isascii():
+    if rest[-2:] != '"\n' or '"' in text or len(text) > keys.MAX_TEXT or not form.is_plain(line):
         return None
     above, comma, last = node.rpartition(",")
     if not comma:
@@ -177,9 +226,9 @@ def _plain_parts(line: str) -> tuple[str, str, str] | None:
     return above, last, text
 
 
-def _plain_entry(number: int, line: str) -> Entry | None:
+def _plain_entry(form: Form, number: int, line: str) -> Entry | None:
     """The node of a plain line; None if it has to be read in full."""
-    if plain := _plain_parts(line):
+    if plain := _plain_parts(form, line):
         parent, subscript = _plain_parent(plain[0]), _plain_last(plain[1])
         if parent is not None and subscript is not None:
             return Entry(number, parent[0], (*parent[1], subscript), plain[2])
@@ -276,7 +325,7 @@ def _part(found: re.Match[str]) -> str:
     return "".join(map(chr, codes))
 
 
-def read_go(lines: Iterable[tuple[int, str]]) -> Iterator[Record]:
+def read_go(lines: Iterable[tuple[int, str]], form: Form) -> Iterator[Record]:
     """The nodes of a GO extract: a line with the node, and one with its text."""
     pairs = iter(lines)
     for number, line in pairs:
@@ -293,21 +342,21 @@ def read_go(lines: Iterable[tuple[int, str]]) -> Iterator[Record]:
             continue
         _, text = next(pairs, (0, None))
         yield Problem(number, f"{shown_node(name, subscripts)}: the file ends before its text") if text is None else record(
-            number, name, subscripts, text.removesuffix("\n"))
+            form, number, name, subscripts, text.removesuffix("\n"))
 
 
-def read_json(lines: Iterable[tuple[int, str]]) -> Iterator[Record]:
+def read_json(lines: Iterable[tuple[int, str]], form: Form) -> Iterator[Record]:
     """The nodes of JSON lines: {"global": "X", "subscripts": ["1", "a"], "text": "t"}."""
     for number, line in lines:
         if not line.strip():
             continue
         try:
-            found = json.loads(line.encode("latin1"))
+            found = json.loads(line.encode(form.encoding, "surrogateescape"))
         except (ValueError, RecursionError) as error:
             yield Problem(number, f"no JSON: {error}")
             continue
         if _is_entry(found):
-            yield record(number, found["global"], tuple(found["subscripts"]), found["text"])
+            yield record(form, number, found["global"], tuple(found["subscripts"]), found["text"])
         else:
             yield Problem(number, 'no node: it is {"global": "X", "subscripts": ["1", "a"], "text": "t"}, all of them texts')
 
@@ -318,18 +367,21 @@ def _is_entry(found: object) -> bool:
     return all(isinstance(text, str) for text in [found["global"], found["text"], *found["subscripts"]])
 
 
-def header(form: str) -> str:
-    """The lines that a file begins with."""
+def header(how: Form) -> str:
+    """The lines that a file begins with. The first one says UTF-8 for those who read it, as GT.M's do."""
+    form = how.name
     if form == "json":
         return ""
     now = time.strftime("%d-%b-%Y  %H:%M:%S", time.gmtime()).upper()
-    return f"{TITLE}\n{now}{' ZWR' if form == 'zwr' else ''}\n"
+    return f"{TITLE}{' UTF-8' if how.in_utf_8 else ''}\n{now}{' ZWR' if form == 'zwr' else ''}\n"
 
 
-def written(form: str, name: str, subscripts: keys.Subscripts, text: str) -> str:
+def written(how: Form, name: str, subscripts: keys.Subscripts, text: str) -> str:
     """The line or the lines of a node. Unreadable if the form cannot have it."""
+    form = how.name
+    subscripts, text = how.given(subscripts, text)
     if form == "json":
-        return json.dumps({"global": name, "subscripts": list(subscripts), "text": text}) + "\n"
+        return json.dumps({"global": name, "subscripts": list(subscripts), "text": text}, ensure_ascii=not how.in_utf_8) + "\n"
     node = f"^{name}({','.join(map(_subscript, subscripts))})" if subscripts else f"^{name}"
     if form == "zwr":
         return f"{node}={mtext.in_quotes(text)}\n"

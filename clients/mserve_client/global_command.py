@@ -10,8 +10,8 @@ from contextlib import contextmanager
 from itertools import groupby, islice
 from typing import IO
 
-from . import extracts, keys, options
-from .extracts import FORMATS, Entry, Problem, Unreadable, shown_node
+from . import extracts, keys, options, settings_file
+from .extracts import FORMATS, Entry, Form, Problem, Unreadable, shown_node
 from .options import FOUND
 from .progress import Progress
 from .routine_command import counted
@@ -39,11 +39,12 @@ class NotWanted(ClientError):
     """What was asked for cannot be done; nothing was."""
 
 
-def words() -> argparse.ArgumentParser:
+def words(arguments: list[str] | None = None) -> argparse.ArgumentParser:
     """The reader of the command's words."""
     reader = options.parser(NAME, ABOUT)
-    reader.add_argument("where", metavar="PORT|FILE", help="the server's port, or a store file (./9000, if its name is a number)")
-    reader.add_argument("who", metavar="TERMINAL|ACCOUNT", help="a terminal of the account; of a store file the account itself")
+    if not options.is_fronted(arguments):
+        reader.add_argument("where", metavar="PORT|FILE", help="the server's port, or a store file (./9000, if its name is a number)")
+        reader.add_argument("who", metavar="TERMINAL|ACCOUNT", help="a terminal of the account; of a store file the account itself")
     acts = reader.add_subparsers(dest="act", required=True, metavar="COMMAND")
     export = acts.add_parser("export", help="write nodes to a file")
     export.add_argument("globals", nargs="*", metavar="^GLOBAL", help="a global, or a node with what is below it: ^X, '^X(1,\"a\")'")
@@ -57,8 +58,13 @@ def words() -> argparse.ArgumentParser:
     compare.add_argument("file", metavar="FILE", help="an extract, in the order in which export writes")
     for act in (take, compare):
         act.add_argument("--format", choices=FORMATS, help="the file's form, if its first lines do not show it")
+    for act in (take, compare, export):
+        act.add_argument("--null-subscript", default="", metavar="TEXT", help="the subscript of a node that stands for an empty one in the file")
     count = acts.add_parser("count", help="count nodes, global by global")
     count.add_argument("globals", nargs="*", metavar="^GLOBAL")
+    for act in (take, compare, export, count):
+        act.add_argument("--settings", metavar="FILE", help="of a store file: the server's settings, which name its accounts")
+        act.add_argument("--new-account", action="store_true", help="of a store file: take an account that neither it nor the settings name")
     return reader
 
 
@@ -71,7 +77,7 @@ def run(chosen: argparse.Namespace) -> int:
             os.stat(chosen.file)
         with way(chosen) as found:
             return ACTS[chosen.act](found, chosen)
-    except (NotWanted, BadStore, ImportStopped, Refused, extracts.BadExtract) as error:
+    except (NotWanted, BadStore, settings_file.BadSettings, ImportStopped, Refused, extracts.BadExtract) as error:
         options.tell(NAME, str(error))
         return FOUND
 
@@ -82,8 +88,16 @@ Way = TerminalWay | StoreFile
 @contextmanager
 def way(chosen: argparse.Namespace) -> Iterator[Way]:
     """The way to the nodes that the words ask for."""
+    if chosen.front is not None:
+        with options.connected(chosen) as connection:
+            chosen.text = "utf-8" if connection.in_utf_8 else chosen.text
+            yield TerminalWay(connection)
+        return
     if not chosen.where.isdigit():
-        with StoreFile(chosen.where, chosen.who, make=chosen.act == "import") as file:
+        known = is_named(chosen)
+        with StoreFile(chosen.where, chosen.who, make=chosen.act == "import" and known) as file:
+            if not known and not file.has_account():
+                raise NotWanted(no_account(chosen.where, chosen.who, file.accounts()))
             yield file
         return
     try:
@@ -92,6 +106,25 @@ def way(chosen: argparse.Namespace) -> Iterator[Way]:
         raise NotWanted(f"{error}; a store file with such a name is ./{chosen.where}") from error
     with Connection(port, terminal, host=chosen.host, timeout=chosen.timeout or None) as connection:
         yield TerminalWay(connection)
+
+
+def is_named(chosen: argparse.Namespace) -> bool:
+    """Whether the words or the settings name the account of a store file."""
+    return chosen.new_account or chosen.settings is not None and chosen.who in settings_file.read(chosen.settings).names
+
+
+def no_account(path: str, name: str, there: list[str]) -> str:
+    """What is said of an account that nobody has."""
+    has = f"it has those of {', '.join(there[:20])}{' ..' if there[20:] else ''}" if there else "it is empty"
+    return f"{path} has no node of an account {name}: {has}. If that is its name, --settings FILE has it from the server's settings, and --new-account " \
+           "takes it as it is"
+
+
+def form(chosen: argparse.Namespace, name: str | None) -> Form:
+    """How the file that the words name is written."""
+    if chosen.null_subscript and (fault := extracts.subscripts_fault((chosen.null_subscript,))):
+        raise NotWanted(f"--null-subscript: {fault}")
+    return Form(name, chosen.null_subscript, chosen.text == "utf-8")
 
 
 def places(found: Way, texts: list[str]) -> list[tuple[str, keys.Subscripts]]:
@@ -120,15 +153,19 @@ def export(found: Way, chosen: argparse.Namespace) -> int:
     wanted = places(found, chosen.globals)
     left, far = 0, Far(found, wanted)
     with output(chosen.to) as file, Progress("export", far.part) as progress:
-        file.write(extracts.header(chosen.format))
+        how = form(chosen, chosen.format)
+        file.write(extracts.header(how))
         for name, start in wanted:
+            before = progress.count + left
             for subscripts, text in far.followed(start, found.nodes(name, start)):
                 try:
-                    file.write(extracts.written(chosen.format, name, subscripts, text))
+                    file.write(extracts.written(how, name, subscripts, text))
                     progress.step()
                 except Unreadable as error:
                     left += 1
                     options.tell(NAME, f"left out: {error.reason}")
+            if progress.count + left == before:
+                options.tell(NAME, f"{shown_node(name, start)}: there is no such node")
     options.tell(NAME, f"{counted(progress.count, 'node')} exported" + (f", {left:,} left out" if left else "") + progress.shown_rate)
     return FOUND if left else 0
 
@@ -166,7 +203,7 @@ def output(path: str | None) -> Iterator[IO[str]]:
         return
     part = path + ".part"
     try:
-        with open(part, "w", encoding="ascii", newline="\n") as file:
+        with open(part, "w", encoding="utf-8", newline="\n") as file:
             yield file
         os.replace(part, path)
     finally:
@@ -179,7 +216,7 @@ class Reading:
 
     def __init__(self, file: IO[bytes], chosen: argparse.Namespace) -> None:
         self._file, self._size = file, max(os.fstat(file.fileno()).st_size, 1)
-        self._form = chosen.format
+        self._form = form(chosen, chosen.format)
         self.problems = 0
 
     def part(self) -> float:

@@ -28,7 +28,7 @@ No server may have the files, and they stay as they are. What is written is comp
 STATUSES = "Status: 0 all went well; 1 something was refused, and nothing was written; 2 the words are wrong; 130 an interrupt."
 
 
-def words() -> argparse.ArgumentParser:
+def words(_: list[str] | None = None) -> argparse.ArgumentParser:
     """The reader of the command's words."""
     reader = argparse.ArgumentParser(prog=NAME, description=ABOUT, epilog=STATUSES, formatter_class=argparse.RawDescriptionHelpFormatter)
     acts = reader.add_subparsers(dest="act", required=True, metavar="COMMAND")

@@ -1,104 +1,87 @@
 # SPDX-License-Identifier: Apache-2.0
-"""What M of other systems has and mserve has not, and what to write instead.
+"""Where a line leaves the language, why, and what to write instead: for the shell, for `check` and, by the same tables, for the page.
 
-The server alone decides whether a line is in the language. This looks at a command that was refused, with its strings
-blanked out, for what mostly is the cause."""
+The server alone decides whether a line is in the language. This agrees with it on drawn texts and on every line of GT.M's routines
+(clients/tests/test_language.py). Each verdict is of a language, by its number: the server speaks language 0."""
 from __future__ import annotations
 
 import re
 from dataclasses import dataclass
+from functools import cache
 
-_COMMAND = r"^(?:{})(?::\S+)?(?= |$)"
+from .causes import CAUSES, END, Cause
+from .grammar import LANGUAGES, Outcome, Reader
+
+LANGUAGE = max(LANGUAGES)
+NO_LABEL = "a label begins with a letter or %, and has at most 31 letters and digits; a line without one begins with a space"
+LABEL_PARAMETERS = "a label takes no parameters: the caller SETs the variables, and the line begins with LABEL and a space"
+OVER = Cause("a character over 127", "Values and lines are ASCII, comments too: write another character.", "")
 _STRING = re.compile(r'"(?:[^"]|"")*"?')
+OVER_PLACE = re.compile(r"[^\x00-\x7f]")
+# The word of a command with its condition, and the space after it.
+_HEAD = re.compile(r"[A-Za-z]+(?::\S+)? ")
 
 
 @dataclass(frozen=True, slots=True)
-class Missing:
-    """Something that the language has not: how it is found in a command, its name, what to write instead, and a line that has it."""
+class Fault:
+    """Why a line is not in the language: the code that it is answered, the place from 0, where its command begins, the cause, and what to
+    write instead."""
 
-    pattern: re.Pattern[str]
+    code: str
+    place: int
+    command: int
     name: str
     advice: str
-    example: str
 
 
-def _missing(pattern: str, name: str, advice: str, example: str) -> Missing:
-    return Missing(re.compile(pattern, re.IGNORECASE | re.ASCII), name, advice, example)
+@cache
+def reader(language: int = LANGUAGE) -> Reader:
+    """The reader of a language. ValueError if there is none of this number."""
+    if language not in LANGUAGES:
+        raise ValueError(f"there is no language {language}: mserve speaks {', '.join(map(str, LANGUAGES))}")
+    return Reader(LANGUAGES[language])
 
 
-def _command(words: str, name: str, advice: str, example: str) -> Missing:
-    return _missing(_COMMAND.format(words), name, advice, example)
+def fault(text: str, language: int = LANGUAGE) -> Fault | None:
+    """Why a line, without label and dots, is not in a language; None if it is. A line's length is not looked at."""
+    if found := OVER_PLACE.search(text):
+        return Fault("ZCHAR", found.start(), found.start(), OVER.name, OVER.advice)
+    outcome = reader(language).read(text)
+    if outcome.end >= 0:
+        return None
+    blank = blanked(text)
+    cause = next(cause for cause in CAUSES if _fits(cause, blank, outcome, language))
+    place = argument_place(blank, outcome) - 1 if cause.reads == "argument" else max(outcome.place - cause.back, 0)
+    command = place if cause.wanted == "command" and not cause.back else outcome.command
+    return Fault("ZSYNTAX", place, command, cause.name, cause.advice)
 
 
-# The order matters: the first that is found is shown.
-MISSING = [
-    _missing(r"\t", "a tab", "Write a space: a tab is one only before the first command of a routine's line.", "S X=1\tW X"),
-    _missing(r"[^\x00-\x7f]", "a character over 127", "Values and lines are ASCII.", ""),
-    _missing(r"\$\$", "an extrinsic function", "DO the label, which leaves its result in a variable: S A=1 D ADD^R W SUM.", "S X=$$ADD^R(1)"),
-    _command(r"R|READ", "READ", "Nothing is asked for: the caller sets the variable before it runs the line: S NAME=\"Ada\" D ADD.", 'R "Name: ",X'),
-    _command(r"O|OPEN|U|USE|C|CLOSE", "a command of devices",
-             "There are no devices: WRITE goes into the reply, and files are the client's: mroutine, mglobal.", "U 0"),
-    _command(r"J|JOB", "JOB", "Lines run one after the other: send the line from another terminal.", "J ^R"),
-    _command(r"H \S+|HANG \S+", "HANG", "Nothing waits in the server: leave it out, and wait in the client.", "H 5"),
-    _command(r"B|BREAK|V|VIEW", "BREAK or VIEW", "Leave it out: there is no debugger, and no view of memory.", "B"),
-    _command(r"M|MERGE", "MERGE", "Copy by a loop of $ORDER and SET, or by mglobal export and import.", "M ^A=^B"),
-    _command(r"TS|TSTART|TC|TCOMMIT|TRO|TROLLBACK|TRE|TRESTART", "a transaction",
-             "Lines run one at a time, so nothing comes between; a line that fails keeps what it did: check first, then SET.", "TSTART"),
-    _command(r"Z[A-Z]*", "a Z command", "It is another system's own: mroutine loads and saves routines, mglobal shows globals.", "ZWRITE ^X"),
-    _command(r"(?:Q|QUIT)(?::\S+)? [^\s;]\S*", "QUIT with a value", "SET a variable, then QUIT: S RESULT=X Q. The caller reads RESULT.", "Q X+1"),
-    _missing(r"^(?:D|DO|G|GOTO)(?::\S+)? (?:\S*,)?[A-Z%][A-Z0-9]*\+", "an offset from a label", "Give that line a label of its own.", "D A+1^R"),
-    _missing(r"^(?:D|DO|G|GOTO|J|JOB)(?::\S+)? (?:\S*,)?(?:[A-Z%][A-Z0-9]*)?(?:\^%?[A-Z0-9]+)?\(", "parameters",
-             "SET variables before the DO, and NEW them in the caller: N A,B S A=1,B=2 D ADD^R.", "D ADD^R(1,2)"),
-    _missing(r"^(?:D|DO|G|GOTO)(?::\S+)? (?:\S*,)?(?:@\S+\^|[A-Z%]?[A-Z0-9]*\^@)", "indirection of a label or a routine alone",
-             'Put the whole entry into the text: S E="A^R" D @E.', "D A^@R"),
-    _missing(r"^(?:D|DO|G|GOTO)(?::\S+)? (?:\S*,)?\d", "a label of digits", "Labels begin with a letter or %.", "D 1^R"),
-    _missing(r"^(?:D|DO|G|GOTO)(?::\S+)? (?:\S*,)?[A-Z0-9%]*\^\|", "a routine of another account", "Routines are one's own: load it into this account.",
-             'D ^|"B"|R'),
-    _missing(r"^(?:N|NEW)(?::\S+)? .*\$", "NEW of a special variable",
-             "Leave it out: there are no $ETRAP, $ESTACK and the like; a line ends at its first code.", "N $ETRAP"),
-    _missing(r"^(?:I|IF|E|ELSE|F|FOR):", "a condition on IF, ELSE or FOR", "Put the condition into the IF, or on the commands after it.",
-             "I:X=1 Y W 1"),
-    _missing(r"^(?:W|WRITE)(?::\S+)? (?:\S*,)?(?:\S*!)?#", "WRITE #", "Leave it out: the output is lines, without pages.", "W #"),
-    _missing(r"^(?:W|WRITE)(?::\S+)? (?:\S*,)?(?:\S*!)?\?", "WRITE ?n",
-             'Fill up by $JUSTIFY, which sets to the right: W $J(X,20); to the left: W X,$J("",20-$L(X)).', "W X,?20"),
-    _missing(r"^(?:W|WRITE)(?::\S+)? (?:\S*,)?(?:\S*!)?\*", "WRITE *n", "Write the character by its code: W $C(65).", "W *65"),
-    _missing(r"^(?:S|SET)(?::\S+)? (?:\S*[,(])?\$(?:E|EXTRACT)\(", "SET $EXTRACT", 'Put the text together: S X=$E(X,1,2)_"new"_$E(X,4,$L(X)).',
-             'S $E(X,3)="n"'),
-    _missing(r"^(?:S|SET)(?::\S+)? (?:\S*[,(])?\$(?!P\(|PIECE\()", "SET of a special variable", "Leave it out: $TEST is set by IF and LOCK alone.", 'S $X=0'),
-    _missing(r"^(?:S|SET)(?::\S+)? (?:\S*[,(])?\$(?:P|PIECE)\([^,()]*(?:\([^()]*\))?,[^,]*,[^,]*,", "SET $PIECE of several pieces",
-             "Set one piece at a time.",
-             'S $P(X,",",1,2)="a"'),
-    _missing(r"\^\$", "a structured system variable", "There is none: mglobal knows what a store file has.", 'W $D(^$GLOBAL("X"))'),
-    _missing(r"\$(?:H|HOROLOG)(?![A-Z(])", "$HOROLOG", 'The server has no clock: the client sends the time: S NOW="67530,43200".', "S X=$H"),
-    _missing(r"\$(?:T|TEXT)\(", "$TEXT", 'A routine\'s lines are a global: ^ROUTINE("R",1).', "W $T(A+1)"),
-    _missing(r"\$(?:Q|QUERY|QL|QLENGTH|QS|QSUBSCRIPT|NA|NAME)\(", "$QUERY and the like",
-             "Walk level by level by $ORDER; build names by `_` and use them by @.", "S X=$Q(^A)"),
-    _missing(r"\$(?:N|NEXT)\(", "$NEXT", 'Use $ORDER, which begins and ends with "".', 'S X=$N(^A(-1))'),
-    _missing(r"\$(?:FN|FNUMBER)\(", "$FNUMBER", "Put the text together by $PIECE, $EXTRACT and $JUSTIFY.", 'W $FN(X,",")'),
-    _missing(r"\$(?:R|RANDOM)\(", "$RANDOM", "The server answers the same lines alike: the client sends random numbers.", "S X=$R(10)"),
-    _missing(r"\$(?:RE|REVERSE)\(", "$REVERSE", 'Loop: F I=$L(X):-1:1 S Y=Y_$E(X,I).', "W $RE(X)"),
-    _missing(r"\$(?:J|JUSTIFY)\((?:[^,()]|\([^()]*\))*,[^,()]*,", "$JUSTIFY with three arguments", "Round first: $J(X*100+.5\\1/100,8), for X from 0 on.",
-             "W $J(X,8,2)"),
-    _missing(r"\$(?:ST|STACK|V|VIEW|I|INCREMENT|D\b(?!\()|DEVICE|IO|I(?!\()|JOB|J(?!\()|K|KEY|P(?!\()|PRINCIPAL|"
-             r"S(?!\()|STORAGE|SY|SYSTEM|X|Y|EC|ECODE|ES|ESTACK|ET|ETRAP|TL|TLEVEL|TR(?!\()|TRESTART|"
-             r"Q(?!\()|QUIT)(?![A-Z])", "a special variable or function that is not there",
-             "The session has $TEST alone; $INCREMENT(X) is S X=$G(X)+1.", "S X=$I(^N)"),
-    _missing(r"\$Z[A-Z]*", "a $Z function or variable", "It is another system's own.", "W $ZV"),
-    _missing(r"\$[A-Z]+", "a function that is not there, or arguments that it does not take", 'docs/LANGUAGE.md, "Functions", has all of them.',
-             "W $L(1,2,3)"),
-    _missing(r"\*\*", "the operator **", "Multiply in a loop: S P=1 F I=1:1:N S P=P*X.", "W 2**3"),
-    _missing(r"\?\d*\.?\d*\(", "alternation in a pattern", "Test each pattern by itself: X?1N!(X?1A).", 'W X?1(1N,1A)'),
-    _missing(r"\?@", "indirection of a pattern", 'Put it into a text and run it: S C="I X?"_P X C.', "W X?@P"),
-    _missing(r"&&|\|\|", "&& or ||", "Write & and !, which evaluate both sides.", "I A&&B W 1"),
-    _missing(r"[{}]", "a block in braces", "Use DO without arguments and lines with one dot more.", "I A {W 1}"),
-    _missing(r"//|#;|/\*", "a comment that is not ;", "Comments begin with ;.", "S X=1 // one"),
-    _missing(r"\.\d+e[+-]?\d|\d(?-i:e)[+-]?\d", "a small e as exponent mark", "Write a large E: 1E3.", "W 1e3"),
-    _missing(r"==|!=|<>|>=|<=", "an operator of other languages", "Equal is =, not equal '=, not less '<, not greater '>.", "I A==B W 1"),
-    _missing(r"^(?:Q|QUIT|E|ELSE|F|FOR|D|DO|K|KILL|L|LOCK|N|NEW)(?::\S+)? \S", "maybe one space for two",
-             "Two spaces follow a command without arguments, if another command comes after it.", "E W 1"),
-]
-NO_LABEL = "a label begins with a letter or %, and has at most 31 letters and digits; a line without one begins with a space"
-LABEL_PARAMETERS = "a label takes no parameters: the caller SETs the variables, and the line begins with LABEL and a space"
+def _fits(cause: Cause, blank: str, outcome: Outcome, language: int) -> bool:
+    """Whether a cause is that of a fault."""
+    if cause.wanted and not any(wanted.startswith(cause.wanted) for wanted in outcome.wanted):
+        return False
+    if not _pattern(cause.here).match(blank, outcome.place) or not _pattern(cause.command).match(blank, outcome.command):
+        return False
+    if cause.before and not _pattern(f"(?:{cause.before}){END}").search(blank[:outcome.place]):
+        return False
+    return not cause.reads or _reads(cause.reads, blank, outcome, language)
+
+
+def _reads(where: str, blank: str, outcome: Outcome, language: int) -> bool:
+    """Whether a command can be read at the place of a fault, or at the argument of the command that it stands in."""
+    at = argument_place(blank, outcome) if where == "argument" else outcome.place
+    return reader(language).read(blank, "command", at).end >= 0
+
+
+def argument_place(blank: str, outcome: Outcome) -> int:
+    """Where the first argument of the command stands that a fault is in; the command's own place if it has none."""
+    head = _HEAD.match(blank, outcome.command)
+    return head.end() if head else outcome.command
+
+
+@cache
+def _pattern(pattern: str) -> re.Pattern[str]:
+    return re.compile(pattern, re.IGNORECASE | re.ASCII)
 
 
 def blanked(text: str) -> str:
@@ -107,39 +90,8 @@ def blanked(text: str) -> str:
     return text.partition(";")[0]
 
 
-def cause(command: str) -> tuple[int, Missing] | None:
-    """What a command has that the language has not, and at which place in it; None if nothing known is found."""
-    blank = blanked(command)
-    for missing in MISSING:
-        found = missing.pattern.search(blank)
-        if found:
-            return (0 if missing.pattern.pattern.startswith("^") else found.start()), missing
-    return None
-
-
-def commands(text: str) -> list[tuple[int, int]]:
-    """The commands of a line, each from its first place to the one after it: a word, and after one space its arguments."""
-    blank = blanked(text)
-    found, at = [], _next_word(blank, 0)
-    while at < len(blank):
-        end = _word_end(blank, at)
-        if blank[end:end + 1] == " " and blank[end + 1:end + 2] not in (" ", ""):
-            end = _word_end(blank, end + 1)
-        found.append((at, end))
-        at = _next_word(blank, end)
-    return found
-
-
-def _next_word(text: str, at: int) -> int:
-    """The first place from one on that is no space."""
-    return len(text) - len(text[at:].lstrip(" "))
-
-
-def _word_end(text: str, at: int) -> int:
-    """The place of the first space outside of brackets from a place on, or the end."""
-    depth = 0
-    for place in range(at, len(text)):
-        depth += (text[place] == "(") - (text[place] == ")")
-        if text[place] == " " and depth <= 0:
-            return place
-    return len(text)
+def pointed(text: str, found: Fault) -> list[str]:
+    """The lines that show a fault to a person: the text, and below it the place with the cause, and what to write instead."""
+    plain = text.replace("\t", " ")
+    told = f"{' ' * found.place}^ {found.code}: {found.name}"
+    return [plain, told, *([f"{' ' * found.place}  {found.advice}"] if found.advice else [])]

@@ -9,13 +9,20 @@ from functools import lru_cache
 from . import keys
 from .wire import LONGEST_LINE
 
+_BARRED = re.compile(r"[\x00\n\r]")
 _CONTROLS = re.compile(r"[\x00-\x1f\x7f]+")
 _REFERENCE = re.compile(r"(?:\^(?:\|[^|]+\|)?)?[A-Za-z%][A-Za-z0-9]{0,30}(?:\((.*)\))?", re.ASCII | re.DOTALL)
 
 
 def quoted(text: str) -> str:
-    """The text as an expression that fits into a line: a line feed, which no line can have, by $C(10)."""
-    return '"' + text.replace('"', '""').replace("\n", '"_$C(10)_"') + '"'
+    """The text as an expression that fits into a line: what no line can have, or none through a front, by $C with its code."""
+    text = text.replace('"', '""')
+    return '"' + (_BARRED.sub(lambda found: f'"_$C({ord(found[0])})_"', text) if _BARRED.search(text) else text) + '"'
+
+
+def is_barred(text: str) -> bool:
+    """Whether a text has a character that no line can have, or none through a front."""
+    return _BARRED.search(text) is not None
 
 
 def written(text: str) -> str:

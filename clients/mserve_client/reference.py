@@ -41,6 +41,8 @@ DOT_COMMANDS = {
     ".globals": ".globals [^NAME ..]    the globals that are there, of those that routines and lines of this session name",
     ".routines": ".routines              the account's routines",
     ".show": ".show ^X(1)            a node and all below it, one page at a time; a local too",
+    ".list": ".list ROUTINE          the lines of a routine, each with its number",
+    ".edit": ".edit ROUTINE          a routine, or a new one, in $VISUAL or $EDITOR; what was changed is checked and loaded",
     ".load": ".load FILE.m ..        replaces routines by files, or by those of a folder",
     ".save": ".save ROUTINE [FILE]   writes a routine to ROUTINE.m, or to the file; one that is there is not written over",
     ".check": ".check FILE.m ..       what is not in the language, and what to write instead",

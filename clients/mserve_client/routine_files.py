@@ -2,15 +2,18 @@
 """Routines as files: what a `.m` file has, line by line, and which routine it is."""
 from __future__ import annotations
 
+import difflib
 import os
 import re
 from dataclasses import dataclass
 
-from . import keys
+from . import escape, keys
 from .wire import ClientError
 
 SUFFIX = ".m"
 _HEAD = re.compile(r"([A-Za-z%][A-Za-z0-9]*)?([ \t][ \t.]*)?(.*)", re.ASCII | re.DOTALL)
+# A string or a comment, whose tabs are its own; or a tab, which M reads as a space.
+_TAB = re.compile(r'("(?:[^"]|"")*"?|;.*)|\t', re.DOTALL)
 
 
 class BadFile(ClientError):
@@ -45,9 +48,9 @@ class Source:
 
 
 def source_line(text: str) -> SourceLine:
-    """A line of a file cut into its parts. Tabs before the first command become spaces."""
+    """A line of a file cut into its parts. Tabs become spaces, but for those of strings and comments."""
     label, level, rest = _HEAD.fullmatch(text).groups(default="")
-    return SourceLine(label, level.replace("\t", " "), rest)
+    return SourceLine(label, level.replace("\t", " "), _TAB.sub(lambda found: found[1] or " ", rest))
 
 
 def routine_name(path: str) -> str:
@@ -65,22 +68,38 @@ def file_name(name: str) -> str:
 
 
 def read_source(path: str) -> Source:
-    """The routine of a file. BadFile, with the place, if it has a character over 127 or a line that is too long."""
-    name = routine_name(path)
-    with open(path, "rb") as file:
-        data = file.read()
-    lines = []
-    for number, line in enumerate(data.split(b"\n"), 1):
-        text = line.removesuffix(b"\r").decode("utf-8", "replace")
-        found = re.search(r"[^\x00-\x7f]", text)
-        if found:
-            raise BadFile(f"{path}:{number}:{found.start() + 1}: the character {found[0]!r} is over 127: values and lines are ASCII, comments too")
+    """The routine of a file. BadFile, with the place, if it has a line that is too long."""
+    name, lines = routine_name(path), file_lines(path)
+    for number, text in enumerate(lines, 1):
         if len(text) > keys.MAX_TEXT:
             raise BadFile(f"{path}:{number}: {len(text):,} characters: a line has at most {keys.MAX_TEXT:,}")
-        lines.append(source_line(text))
-    if lines and not lines[-1].text:
-        lines.pop()
-    return Source(path, name, lines)
+    return Source(path, name, list(map(source_line, lines)))
+
+
+def file_lines(path: str) -> list[str]:
+    """The lines that a file has, as they stand there."""
+    with open(path, "rb") as file:
+        data = file.read()
+    lines = [line.removesuffix(b"\r").decode("utf-8", "surrogateescape") for line in data.split(b"\n")]
+    return lines if lines[-1] else lines[:-1]
+
+
+def with_tabs_of(path: str, text: str) -> str:
+    """What the file of a routine is to have, with the tabs that it has now: a line that differs from one of the file by tabs alone stays as the
+    file has it."""
+    lines, before = text.split("\n"), file_lines(path)
+    alike = difflib.SequenceMatcher(None, [source_line(line).text for line in before], lines, autojunk=False)
+    for block in alike.get_matching_blocks():
+        lines[block.b:block.b + block.size] = before[block.a:block.a + block.size]
+    return "\n".join(lines)
+
+
+def refuse_over(found: list[Source]) -> None:
+    """BadFile, with the place, if a line of a routine has a character over 127."""
+    for source in found:
+        for number, line in enumerate(source.lines, 1):
+            if over := re.search(r"[^\x00-\x7f]", line.text):
+                raise BadFile(f"{source.path}:{number}:{over.start() + 1}: the character {over[0]!r} is over 127: values and lines are ASCII, comments too")
 
 
 def sources(paths: list[str]) -> list[Source]:
@@ -104,9 +123,21 @@ def _files(path: str) -> list[str]:
     return files
 
 
-def file_text(name: str, texts: list[str]) -> str:
-    """What the file of a routine has. BadFile if a line of the routine cannot be a line of a file."""
+def stored_source(source: Source) -> Source:
+    """The routine of a file with an escape for each character over 127. BadFile, with the place, if it has bytes that are no UTF-8."""
+    lines = []
+    for number, line in enumerate(source.lines, 1):
+        try:
+            lines.append(source_line(escape.stored(line.text)))
+        except escape.NotText as error:
+            raise BadFile(f"{source.path}:{number}: {error}") from error
+    return Source(source.path, source.name, lines)
+
+
+def file_text(name: str, texts: list[str], in_utf_8: bool = False) -> str:
+    """What the file of a routine has, with the characters for which escapes stand if that is wanted. BadFile if a line of the routine cannot be
+    a line of a file."""
     for number, text in enumerate(texts, 1):
         if "\n" in text or text.endswith("\r"):
             raise BadFile(f"{name}: its line {number} has a line feed, or ends by a carriage return: no file can have it as one line")
-    return "".join(text + "\n" for text in texts)
+    return "".join((escape.shown(text) if in_utf_8 else text) + "\n" for text in texts)

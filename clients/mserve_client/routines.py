@@ -4,7 +4,7 @@ from __future__ import annotations
 
 import signal
 from collections.abc import Iterable, Iterator
-from contextlib import contextmanager
+from contextlib import contextmanager, suppress
 
 from . import keys
 from .codes import in_words
@@ -21,12 +21,32 @@ class LoadFailed(ClientError):
     """A routine was not replaced; the text says at which line, and whether the old one is back."""
 
 
+class Deploying(ClientError):
+    """Somebody else is changing the account's routines."""
+
+
 class Stopped(Exception):
     """A line that sets a node was answered by a code."""
 
     def __init__(self, node: keys.Subscripts, code: str) -> None:
         super().__init__(code)
         self.node, self.code = node, code
+
+
+@contextmanager
+def deploying(connection: Connection) -> Iterator[None]:
+    """Holds the lock ^ROUTINE for the block, which all who change routines by these clients take. Deploying if another terminal has it."""
+    code = connection.send(f"L +{ROUTINE}").code
+    if code == "ZLOCKED":
+        raise Deploying("another terminal of the account holds the lock ^ROUTINE, as who loads or deletes routines does: nothing was changed; try again. "
+                        "If nobody does, a client was killed there: LOCK at that terminal releases it")
+    if code is not None:
+        raise Deploying(f"L +{ROUTINE}: {in_words(code)}")
+    try:
+        yield
+    finally:
+        with suppress(ClientError):
+            connection.send(f"L -{ROUTINE}")
 
 
 def nodes_of(connection: Connection, name: str) -> list[Node]:

@@ -2,6 +2,7 @@
 """A settings file of the server: its accounts and grants, and parts of it. docs/FORMATS.md has the form."""
 from __future__ import annotations
 
+import codecs
 import tomllib
 from collections import Counter
 from collections.abc import Iterable, Iterator
@@ -85,7 +86,7 @@ def parsed(source: str, data: bytes) -> Settings:
     if len(data) > MAX_BYTES:
         raise BadSettings(f"{source}: Read: it has more than {MAX_BYTES:,} bytes")
     try:
-        document = tomllib.loads(data.decode())
+        document = tomllib.loads(data.removeprefix(codecs.BOM_UTF8).decode())
     except (UnicodeDecodeError, tomllib.TOMLDecodeError) as error:
         raise BadSettings(f"{source}: Toml: {error}") from error
     for fault in _shape_faults(document):

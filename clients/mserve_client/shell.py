@@ -6,20 +6,26 @@ import argparse
 import glob
 import os
 import re
+import shlex
+import shutil
+import subprocess
 import sys
+import tempfile
 import threading
 import time
 from collections.abc import Callable, Iterable, Iterator
 from contextlib import contextmanager
+from types import TracebackType
+from typing import Self
 
-from . import checking, keys, mtext, options, reference, routines
+from . import checking, escape, keys, language, mtext, options, reference, routines
 from .codes import in_words, place
-from .options import FOUND
+from .options import FOUND, Line
 from .routine_command import counted, write_whole
-from .routine_files import file_name, file_text, sources
+from .routine_files import Source, file_name, file_text, refuse_over, sources, stored_source
 from .screen import Screen, history_file, is_person, pages, prompt
 from .walk import Refused, Walker, asked, routine_names
-from .wire import ClientError, Connection, Reply, ServerGone, TimedOut
+from .wire import ClientError, NoServer, Reply, ServerGone, TimedOut
 
 NAME = "mshell"
 ABOUT = """Runs lines of M as a terminal, and shows their replies.
@@ -29,7 +35,12 @@ From a pipe it is plain: each line's output as written, and a code in words; sta
 
   echo 'W 2/3' | mshell 9000 1"""
 PROMPT = "> "
+# What a person may type who does not know the shell yet.
+HINTS = {**dict.fromkeys(("help", "?"), ".help lists what can be typed here; .help M7 says what a code means"),
+         **dict.fromkeys(("exit", "quit", "bye"), ".quit leaves, and so does Ctrl-D; HALT ends the terminal's session")}
 DEEPEST_RUN = 8
+# Seconds from one attempt to connect to the next.
+PAUSE = 0.5
 _GLOBAL = re.compile(r"\^(?:\|[^|]*\|)?(%?[A-Za-z][A-Za-z0-9]*|%)")
 _CONTROL = re.compile(r"[\x00-\x08\x0a-\x1f\x7f]")
 
@@ -41,8 +52,9 @@ class Trouble(ClientError):
 class Shell:
     """Lines and commands of one terminal, and what they show."""
 
-    def __init__(self, connection: Connection, screen: Screen, person: bool) -> None:
-        self._connection, self._screen, self._person = connection, screen, person
+    def __init__(self, connection: Line, screen: Screen, person: bool, connect: Callable[[], Line] | None = None) -> None:
+        """`connect` makes a connection anew, once the server that went away is back."""
+        self._connection, self._screen, self._person, self._connect = connection, screen, person, connect
         self._names = {"ROUTINE"}
         self._has_read_routines = False
         self._timing = False
@@ -50,21 +62,56 @@ class Shell:
         self.failed = False
         self._commands: dict[str, Callable[[str], None]] = {
             ".help": self._help, ".globals": self._globals, ".routines": self._routines, ".show": self._show, ".load": self._load,
-            ".save": self._save, ".check": self._check, ".run": self._run, ".time": self._time,
+            ".save": self._save, ".list": self._list, ".edit": self._edit, ".check": self._check, ".run": self._run, ".time": self._time,
         }
+
+    def __enter__(self) -> Self:
+        return self
+
+    def __exit__(self, kind: type[BaseException] | None, error: BaseException | None, trace: TracebackType | None) -> None:
+        self._connection.__exit__(kind, error, trace)
 
     def obey(self, line: str) -> bool:
         """Does a line: a command of the shell, or a line of M. False if it leaves the shell."""
         word, _, rest = line.strip().partition(" ")
-        if not word.startswith("."):
-            self._send(line)
+        if self._person and not self._depth and line.strip().lower() in HINTS:
+            self._screen.show(HINTS[line.strip().lower()], "note")
+        elif not word.startswith("."):
+            self._connected_again(self._send, line)
         elif word in (".quit", ".exit"):
             return False
         elif word in self._commands:
-            self._guarded(self._commands[word], rest.strip())
+            self._connected_again(self._guarded, self._commands[word], rest.strip())
         else:
             self._complain(f"{word}: no such command; .help names them")
         return True
+
+    def _connected_again(self, act: Callable[..., None], *given: object) -> None:
+        """Does something; if the server goes away meanwhile, a person is connected again once it is back, and hears what was lost."""
+        try:
+            act(*given)
+        except ServerGone as error:
+            if not self._person or self._connect is None:
+                raise
+            self._complain(str(error))
+            self._come_back(self._connect)
+
+    def _come_back(self, connect: Callable[[], Line]) -> None:
+        """Connects anew, as soon as there is a server."""
+        before = self._connection
+        before.close()
+        self._screen.show("waiting for the server; Ctrl-C leaves", "note")
+        while True:
+            try:
+                self._connection = connect()
+                break
+            except NoServer:
+                time.sleep(PAUSE)
+        is_new = before.is_new_server()
+        lost = "the terminal's variables and locks are gone, and with a store in memory all globals" if is_new else \
+            "the server is the one of before: the terminal's variables and locks are as they were" if is_new is False else \
+            "the terminal's variables and locks may be gone: W $D(A) says whether A is there"
+        self._screen.show(f"connected again, as terminal {self._connection.terminal}; {lost}", "note")
 
     def learn(self, line: str) -> None:
         """Keeps the names of globals that a line has, for .globals and completion."""
@@ -90,11 +137,16 @@ class Shell:
         if not line.strip():
             return
         self.learn(line)
+        try:
+            line = escape.stored_line(line) if self._connection.in_utf_8 else line
+        except escape.NotText as error:
+            self._complain(f"{error}: the line was not sent")
+            return
         began = time.monotonic()
         with self._patient():
             reply = self._connection.send(line)
         took = time.monotonic() - began
-        self._show_reply(reply)
+        self._show_reply(reply, line)
         if self._timing:
             self._screen.show(f"{took * 1000:.1f} ms", "note")
 
@@ -104,23 +156,32 @@ class Shell:
         if not self._person:
             yield
             return
-        text = "waiting: another client may be connected, since the server serves one at a time; Ctrl-C gives up"
-        note = threading.Timer(2, options.tell, (NAME, text))
+        note = threading.Timer(2, lambda: options.tell(NAME, f"waiting: {self._connection.why_it_waits()}; Ctrl-C gives up"))
         note.start()
         try:
             yield
         finally:
             note.cancel()
 
-    def _show_reply(self, reply: Reply) -> None:
+    def _show_reply(self, reply: Reply, line: str) -> None:
         self._screen.show_reply(map(self._visible, reply.output))
-        if reply.code is not None:
-            self.failed = True
+        self.failed = self.failed or reply.code is not None
+        line = escape.shown_line(line) if self._connection.in_utf_8 else line
+        fault = language.fault(as_read(line, self._connection.in_utf_8)) if reply.code in ("ZSYNTAX", "ZCHAR") else None
+        if fault is None and reply.note:
+            self._screen.show(reply.note, "note")
+        if fault is not None and self._person:
+            for text in language.pointed(_CONTROL.sub(" ", line), fault):
+                self._screen.show(f"  {text}", "code")
+        elif fault is not None:
+            self._screen.show(f"{in_words(reply.code)}: column {fault.place + 1}: {fault.name}", "code")
+        elif reply.code is not None:
             where = f"  ({place(reply.code)})" if self._person and place(reply.code) else ""
             self._screen.show(in_words(reply.code) + where, "code")
 
     def _visible(self, text: str) -> str:
         """The text as it is written; controls, which a screen would obey, as they stand on the wire."""
+        text = escape.shown(text) if self._connection.in_utf_8 else text
         return _CONTROL.sub(lambda found: f"\\{ord(found[0]):02X}", text) if self._person else text
 
     def _help(self, word: str) -> None:
@@ -180,22 +241,59 @@ class Shell:
 
     def _node_lines(self, name: str, subscripts: keys.Subscripts) -> Iterator[str]:
         for found, text in Walker(self._connection, name).nodes(subscripts):
-            yield f"{mtext.written_node(name, found)}={mtext.written(text)}"
+            node = f"{mtext.written_node(name, found)}={mtext.written(text)}"
+            yield escape.shown(node) if self._connection.in_utf_8 else node
         self.learn(name)
 
     def _paged(self, lines: Iterable[str]) -> Iterable[str]:
         return pages(lines, input) if self._person else lines
 
     def _load(self, words: str) -> None:
-        for source in sources(words.split() or [""]):
-            others = routines.load(self._connection, source.name, source.texts())
-            self._screen.show(f"{source.name}: {counted(len(source.lines), 'line')} from {source.path}")
-            if others:
-                self._screen.show(f"{counted(len(others), 'node')} of it that were no lines are gone with the old routine", "note")
+        found = self._ascii(sources(words.split() or [""]))
+        refuse_over(found)
+        with routines.deploying(self._connection):
+            for source in found:
+                others = routines.load(self._connection, source.name, source.texts())
+                self._screen.show(f"{source.name}: {counted(len(source.lines), 'line')} from {source.path}")
+                if others:
+                    self._screen.show(f"{counted(len(others), 'node')} of it that were no lines are gone with the old routine", "note")
+
+    def _ascii(self, found: list[Source]) -> list[Source]:
+        """The routines of files, with escapes for characters over 127 if that is wanted."""
+        return [stored_source(source) for source in found] if self._connection.in_utf_8 else found
+
+    def _list(self, name: str) -> None:
+        """The lines of a routine, each with its number."""
+        texts = routines.texts_of(self._connection, name)
+        for line in self._paged(f"{number:>5}  {self._visible(text)}" for number, text in enumerate(texts, 1)):
+            self._screen.show(line)
+
+    def _edit(self, name: str) -> None:
+        """Opens a routine, or a new one, in the editor of the variable EDITOR; loads what was changed."""
+        if not keys.is_name(name):
+            raise Trouble(".edit wants the name of a routine, as .edit ADD")
+        before = file_text(name, [node[1] for node in routines.nodes_of(self._connection, name) if routines.is_line(node)], self._connection.in_utf_8)
+        with tempfile.TemporaryDirectory(prefix="mshell-") as folder:
+            path = os.path.join(folder, file_name(name))
+            write_whole(path, before)
+            if subprocess.call([*shlex.split(os.environ.get("VISUAL") or os.environ.get("EDITOR") or "vi"), path]):
+                raise Trouble("the editor ended with a fault: nothing was loaded")
+            with open(path, encoding="utf-8", errors="surrogateescape") as file:
+                if file.read() == before:
+                    self._note(f"{name}: not changed")
+                    return
+            kept = f"{file_name(name)}.edited"
+            try:
+                self._check(path)
+                self._load(path)
+            except ClientError:
+                shutil.copy(path, kept)
+                self._screen.show(f"what was edited is in {kept}", "note")
+                raise
 
     def _save(self, words: str) -> None:
         name, _, path = words.partition(" ")
-        text = file_text(name, routines.texts_of(self._connection, name))
+        text = file_text(name, routines.texts_of(self._connection, name), self._connection.in_utf_8)
         path = path.strip() or file_name(name)
         if os.path.exists(path):
             raise Trouble(f"{path} is there already: give another file, .save {name} FILE")
@@ -203,13 +301,12 @@ class Shell:
         self._screen.show(f"{name}: {path}")
 
     def _check(self, words: str) -> None:
-        for source in sources(words.split() or [""]):
-            findings = checking.check(self._connection, source.lines)
-            for finding in findings:
-                self.failed = True
+        for source, found in checking.findings(self._connection, self._ascii(sources(words.split() or [""]))):
+            for finding in found:
+                self.failed = self.failed or finding.kind is not checking.Kind.WARNING
                 self._screen.show(f"{source.path}:{finding.line}:{finding.column}: {finding.message}", "code")
                 self._screen.show(f"    {finding.advice}")
-            if not findings:
+            if not any(finding.kind is checking.Kind.REFUSED for finding in found):
                 self._screen.show(f"{source.path}: {counted(len(source.lines), 'line')}, all in the language")
 
     def _run(self, words: str) -> None:
@@ -245,7 +342,7 @@ class Shell:
                 return len(word), [name for name in reference.DOT_COMMANDS if name.startswith(word)]
             if word in (".load", ".run", ".check"):
                 return len(rest), sorted(glob.glob(glob.escape(rest) + "*"))
-            if word == ".save":
+            if word in (".save", ".list", ".edit"):
                 return len(rest), [name for name in self._routine_names() if name.startswith(rest)]
         return self._complete_line(before)
 
@@ -277,11 +374,15 @@ class Shell:
             return []
 
 
-def words() -> argparse.ArgumentParser:
+def as_read(line: str, in_utf_8: bool) -> str:
+    """A line with its places kept, as the language reads it: a character that a string may have by an escape counts as one of ASCII."""
+    return re.sub(r'"(?:[^"]|"")*"?', lambda found: re.sub(r"[^\x00-\x7f]", "x", found[0]), line) if in_utf_8 else line
+
+
+def words(arguments: list[str] | None = None) -> argparse.ArgumentParser:
     """The reader of the command's words."""
     reader = options.parser(NAME, ABOUT)
-    reader.add_argument("port", type=options.port, help="the server's port")
-    reader.add_argument("terminal", type=options.terminal, help="the terminal that the lines are of")
+    options.add_place(reader, arguments, "the terminal that the lines are of")
     reader.add_argument("--history", default=history_file(), metavar="FILE", help="where lines are kept between runs (default %(default)s)")
     reader.add_argument("--no-history", dest="history", action="store_const", const=None, help="keep no lines")
     reader.add_argument("--plain", action="store_true", help="no prompt, no colour, no pages: as from a pipe")
@@ -291,8 +392,8 @@ def words() -> argparse.ArgumentParser:
 def run(chosen: argparse.Namespace) -> int:
     """Runs lines until they end."""
     person = is_person() and not chosen.plain
-    with options.connected(chosen) as connection:
-        shell = Shell(connection, Screen(person), person)
+    known = options.secret(chosen) if chosen.front is not None and (chosen.user or chosen.token) else None
+    with Shell(options.connected(chosen, known), Screen(person), person, lambda: options.connected(chosen, known)) as shell:
         if person:
             converse(shell, prompt(chosen.history, shell.complete))
             return 0

@@ -1,7 +1,8 @@
 # SPDX-License-Identifier: Apache-2.0
 """A store in a file, while no server has it: docs/FORMATS.md has the form.
 
-A change is one transaction, and the file is left as the program leaves it: two tables, version 2, and no log beside it."""
+A change is one transaction, and the file is left as the program leaves it: two tables, version 2, no log beside it, and what others have in it as
+it was."""
 from __future__ import annotations
 
 import hashlib
@@ -17,11 +18,16 @@ from .wire import ClientError
 
 VERSION = 2
 TABLES = ("CREATE TABLE node (k BLOB PRIMARY KEY NOT NULL, v BLOB NOT NULL)", "CREATE TABLE meta (name TEXT PRIMARY KEY, n INTEGER)")
+# What is there of the two tables, and which rules of others the program refuses beside them.
+OURS = "SELECT sql FROM sqlite_master WHERE lower(name) IN ('node', 'meta') ORDER BY lower(name) DESC"
+RULES = """SELECT name FROM sqlite_master WHERE type = 'trigger' AND lower(tbl_name) IN ('node', 'meta')
+    UNION ALL SELECT i.name FROM sqlite_master AS t JOIN pragma_index_list(t.name) AS i
+        WHERE lower(t.name) IN ('node', 'meta') AND (i."unique" OR i.partial) AND i.origin = 'c'
+    UNION ALL SELECT t.name FROM sqlite_master AS t JOIN pragma_foreign_key_list(t.name) AS f
+        WHERE t.type = 'table' AND lower(f."table") IN ('node', 'meta')"""
 PUT = "INSERT INTO node (k, v) VALUES (?, ?) ON CONFLICT (k) DO UPDATE SET v = excluded.v"
 # Memory for pages of the file.
 CACHE_KB = 16_384
-# Bytes of a log's head, of the head of a page in it, and of the smallest page.
-LOG_HEAD, PAGE_HEAD, LEAST_PAGE = 32, 24, 512
 # Rows that are read at once.
 BATCH = 2000
 # The key of the row that comes so many after the first of a range; and how many rows a range has, with their bytes put together in the order
@@ -52,7 +58,7 @@ class Store:
     def __init__(self, path: str, make: bool = False) -> None:
         """Opens the file, which is made if it is not there and `make` is given."""
         self.path = path
-        refuse_log(path)
+        refuse_journal(path)
         if not os.path.exists(path) and not make:
             raise BadStore(f"{path}: there is no such file")
         try:
@@ -60,7 +66,7 @@ class Store:
         except sqlite3.Error as error:
             raise refusal(path, error) from error
         try:
-            self._take()
+            self._take(make)
         except sqlite3.Error as error:
             self._base.close()
             raise refusal(path, error) from error
@@ -80,15 +86,19 @@ class Store:
             self._base.rollback()
         self._base.close()
 
-    def _take(self) -> None:
-        """Takes the file for itself, and makes the tables of an empty one."""
+    def _take(self, make: bool) -> None:
+        """Takes the file for itself. Makes the tables if it is empty, or if `make` is given and it has none of the two."""
         self._base.execute("PRAGMA locking_mode = EXCLUSIVE")
         self._base.execute("BEGIN IMMEDIATE")
-        found = tuple(row[0] for row in self._base.execute("SELECT sql FROM sqlite_master WHERE sql IS NOT NULL ORDER BY rowid"))
+        found = tuple(row[0] for row in self._base.execute(OURS))
+        if rule := self._base.execute(RULES).fetchone():
+            raise BadStore(f"{self.path}: this is no store of mserve: {rule[0]} is a rule of others on its tables")
         if not found:
+            if not make and self._base.execute("SELECT 1 FROM sqlite_master").fetchone():
+                raise BadStore(f"{self.path}: this is no store of mserve: it has tables of others alone")
             self._make_tables("main")
         elif found != TABLES:
-            raise BadStore(f"{self.path}: this is no store of mserve: it has other tables")
+            raise BadStore(f"{self.path}: this is no store of mserve: its tables `node` and `meta` are others")
         version = self._base.execute("SELECT n FROM meta WHERE name = 'version'").fetchone()
         if version != (VERSION,):
             raise BadStore(f"{self.path}: the store is of version {version[0] if version else 'none'}, and this is for version {VERSION}")
@@ -120,6 +130,14 @@ class Store:
     def put(self, nodes: Iterable[tuple[bytes, bytes]]) -> None:
         """Gives nodes, by their keys, their texts."""
         self._base.executemany(PUT, nodes)
+
+    def remove(self, nodes: Iterable[bytes]) -> None:
+        """Takes nodes away, by their keys; one that is not there stays so."""
+        self._base.executemany("DELETE FROM node WHERE k = ?", ((key,) for key in nodes))
+
+    def clear(self) -> None:
+        """Takes all nodes away."""
+        self._base.execute("DELETE FROM node")
 
     def accounts(self) -> list[str]:
         """The accounts that have nodes, in their order."""
@@ -199,6 +217,10 @@ class StoreFile(Store):
         for row, text in self.rows(name, subscripts):
             yield keys.subscripts(row, skipped), text.decode("ascii")
 
+    def has_account(self) -> bool:
+        """Whether the account has a node."""
+        return self._base.execute("SELECT 1 FROM node WHERE k >= ? AND k < ? LIMIT 1", keys.bounds(self.account)).fetchone() is not None
+
     def names(self) -> list[str]:
         """The names of the account's globals."""
         found: list[str] = []
@@ -210,20 +232,12 @@ class StoreFile(Store):
         return found
 
 
-def refuse_log(path: str) -> None:
-    """BadStore if a log with changes that the file has not, or a journal, stands beside the file."""
-    for log in (path + "-wal", path + "-journal"):
-        if os.path.exists(log) and has_changes(log):
-            raise BadStore(f"{path}: its log {log} stands beside it: a server has the file, or one was ended by a signal. If none runs, "
-                           f"./mserve run --settings FILE --store {path} </dev/null copies the log into the file")
-
-
-def has_changes(log: str) -> bool:
-    """Whether a log has room for a page; the program leaves one with its head alone. A journal has changes if it is not empty."""
-    with open(log, "rb") as file:
-        head = file.read(LOG_HEAD)
-        size = os.fstat(file.fileno()).st_size
-    return size > 0 if log.endswith("-journal") else size >= LOG_HEAD + PAGE_HEAD + max(int.from_bytes(head[8:12], "big"), LEAST_PAGE)
+def refuse_journal(path: str) -> None:
+    """BadStore if a journal of another program stands beside the file. The log that a server leaves which was ended by a signal is no hindrance:
+    it is read as the program reads it, and copied into the file."""
+    journal = path + "-journal"
+    if os.path.exists(journal) and os.path.getsize(journal):
+        raise BadStore(f"{path}: a journal {journal} stands beside it, which mserve never makes: what has changed the file was not mserve")
 
 
 def refusal(path: str, error: sqlite3.Error) -> BadStore:

@@ -21,7 +21,11 @@ from dataclasses import dataclass
 from select import select
 from types import TracebackType
 
+from .holder import holder, listener
+
 HOST = "127.0.0.1"
+# The hosts whose processes can be looked at.
+LOCAL = (HOST, "localhost")
 LONGEST_LINE = 255
 # Seconds without a byte from the server, after which a wait for a reply ends.
 PATIENCE = 60.0
@@ -58,11 +62,12 @@ class BadLine(ClientError):
 
 @dataclass(frozen=True, slots=True)
 class Reply:
-    """The reply of a line: each line of output that `!` ended, the unfinished rest, and the code of a fault or None."""
+    """The reply of a line: each line of output that `!` ended, the unfinished rest, the code of a fault or None, and what a front says besides."""
 
     lines: tuple[str, ...] = ()
     rest: str = ""
     code: str | None = None
+    note: str = ""
 
     @property
     def ok(self) -> bool:
@@ -122,6 +127,11 @@ class ReplyReader:
         return reply
 
 
+def late(timeout: float | None, why: str) -> str:
+    """What is said of a reply that does not come."""
+    return f"no reply within {timeout:g} seconds: {why}, or the line runs long; --timeout 0 waits as long as it takes"
+
+
 def line_bytes(terminal: int, text: str | bytes) -> bytes:
     """The bytes that a text is sent as. A carriage return at its end is doubled by the one that goes with the line feed."""
     data = text.encode("utf-8", "surrogateescape") if isinstance(text, str) else text
@@ -134,9 +144,14 @@ class Connection:
     """A connection for one terminal. As a context manager it is closed after the block; where an interrupt ends the block, the
     terminal's session is ended by HALT first."""
 
+    # Whether texts are shown, and given, with the characters for which escapes stand. Lines and replies are ASCII in any case.
+    in_utf_8 = False
+
     def __init__(self, port: int, terminal: int, *, host: str = HOST, timeout: float | None = PATIENCE) -> None:
         """Connects. With a `timeout` of None, replies are waited for without end."""
         self.port, self.terminal, self.timeout = port, terminal, timeout
+        self._host = host
+        self._listener = listener(port) if host in LOCAL else None
         # bytes that are not sent yet; whether the line before them is sent in part; how many whole lines are sent and not answered
         self._out = bytearray()
         self._unfinished = False
@@ -190,6 +205,17 @@ class Connection:
             due -= len(ready)
             yield from ready
 
+    def why_it_waits(self) -> str:
+        """What a long wait may come from: who has the server, if that can be seen."""
+        has = holder(self.port) if self._host in LOCAL else ""
+        return f"the server serves one connection at a time, and {has} has it" if has else \
+            "the server serves one connection at a time, so another client may be connected"
+
+    def is_new_server(self) -> bool | None:
+        """Whether another server listens at the port than when this connection was made; None if that cannot be seen."""
+        now = listener(self.port) if self._host in LOCAL else None
+        return None if now is None or self._listener is None else now != self._listener
+
     def end_session(self, patience: float = 5.0) -> Reply:
         """Ends the terminal's session by HALT: a line that is partly sent is finished, those after it are not sent, and replies that
         are due are passed over. The terminal's variables are gone then, and its locks given back."""
@@ -217,8 +243,7 @@ class Connection:
         while not self._moved():
             left = None if limit is None else limit - time.monotonic()
             if left is not None and left <= 0:
-                raise TimedOut(f"no reply within {self.timeout:g} seconds: the server serves one connection at a time, so another client may be "
-                               "connected, or the line runs long; --timeout 0 waits as long as it takes")
+                raise TimedOut(late(self.timeout, self.why_it_waits()))
             select([self._socket], [self._socket] if self._out else [], [], left)
 
     def _moved(self) -> bool:
@@ -247,6 +272,8 @@ class Connection:
 
     def _read(self) -> bool:
         try:
+            # The server writes each reply by itself, and waits with the next one until this one was acknowledged: that is asked for at once.
+            self._socket.setsockopt(socket.IPPROTO_TCP, socket.TCP_QUICKACK, 1)
             data = self._socket.recv(1 << 18)
         except BlockingIOError:
             return False

@@ -34,6 +34,18 @@ STORES = os.environ.get("STORES", "memory file").split()
 NAMES = ("ROUTINE", "X", "Y", "Z", "DATA", "INR", "HERE", "%P", "UNSEEN", "PATIENT", "VISIT", "NONE")
 
 
+def pytest_addoption(parser: pytest.Parser) -> None:
+    """`--count N`: tests that draw their cases draw N times as many. Those of tests/ have the same option, and may run in the same process."""
+    with contextlib.suppress(ValueError):
+        parser.addoption("--count", type=int, default=1, metavar="N", help="draw N times as many cases")
+
+
+@pytest.fixture(scope="session")
+def times(request: pytest.FixtureRequest) -> int:
+    """How many times as many cases are to be drawn."""
+    return request.config.getoption("--count")
+
+
 def pytest_configure() -> None:
     """Ends the run if there is no program to test, and has the clients take the one for islands from where it is."""
     if not os.path.exists(running.PROGRAM) or not os.path.exists(running.ISLANDS):
@@ -62,9 +74,14 @@ class Server:
 def start(store: str) -> Server:
     """A server over a store, which takes connections once this returns."""
     port = running.free_port()
+    return Server(start_at(store, port), port, store)
+
+
+def start_at(store: str, port: int) -> subprocess.Popen[bytes]:
+    """The process of a server over a store, at a port, which takes connections once this returns."""
     process = subprocess.Popen(running.serve_words(port, CONNECTIONS, store, SETTINGS), stdin=subprocess.DEVNULL, stdout=subprocess.DEVNULL)
     running.connected(port).close()
-    return Server(process, port, store)
+    return process
 
 
 def served(kind: str, folder: Path) -> Iterator[Server]:

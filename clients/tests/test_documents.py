@@ -48,7 +48,7 @@ def test_overview_has_each_word() -> None:
     assert all(FUNCTIONS[word] in text for word in FUNCTIONS)
 
 
-COMMAND_PAGES = ("mshell", "mroutine", "mglobal", "misland")
+COMMAND_PAGES = ("mshell", "mroutine", "mglobal", "misland", "msettings")
 
 
 @pytest.mark.parametrize("name", COMMAND_PAGES)
@@ -56,11 +56,11 @@ def test_page_of_a_command_has_each_option_and_word(command: Command, name: str)
     """The man page has each option and each word that `--help` has."""
     page = (CLIENTS / "man" / f"{name}.1").read_text(encoding="utf-8").replace("\\-", "-")
     helped = command(name, "--help").output
-    acts = re.findall(r"^    (load|check|diff|list|save|delete|export|import|compare|count|split|join)\b", helped, re.MULTILINE)
+    acts = re.findall(r"^    (load|check|diff|list|save|delete|test|export|import|compare|count|split|join)\b", helped, re.MULTILINE)
     for act in acts:
         helped += command(name, *([] if name == "misland" else [1, 1]), act, "--help").output
         assert re.search(rf"^\.B[RI]? {act}\b", page, re.MULTILINE)
-    assert len(acts) == {"mshell": 0, "mroutine": 6, "mglobal": 4, "misland": 3}[name]
+    assert len(acts) == {"mshell": 0, "mroutine": 7, "mglobal": 4, "misland": 3, "msettings": 0}[name]
     options = set(re.findall(r"--[a-z-]+", helped)) - {"--help"}
     assert options and all(option in page for option in options)
 

@@ -7,8 +7,8 @@ import io
 import pytest
 from hypothesis import given
 from hypothesis import strategies as st
-from mserve_client import extracts
-from mserve_client.extracts import BadExtract, Entry, Problem, Record
+from mserve_client import escape, extracts
+from mserve_client.extracts import BadExtract, Entry, Form, Problem, Record
 
 ZWR = b"GT.M MUPIP EXTRACT\n26-NOV-2026  01:45:37 ZWR\n"
 GO = b"GT.M MUPIP EXTRACT\n26-NOV-2026  01:45:37\n"
@@ -16,7 +16,7 @@ GO = b"GT.M MUPIP EXTRACT\n26-NOV-2026  01:45:37\n"
 
 def read(data: bytes, form: str | None = None) -> list[Record]:
     """What a file with these bytes has."""
-    return list(extracts.read(io.BytesIO(data), form))
+    return list(extracts.read(io.BytesIO(data), Form(form)))
 
 
 # The lines are those that GT.M V7.0-005 wrote, or are after its manual.
@@ -119,7 +119,7 @@ def test_json_line_that_cannot_come_in(line: bytes, reason: str) -> None:
 
 @pytest.mark.parametrize(("data", "form"), [
     (ZWR + b'^X="1"\n', "zwr"), (GO + b"^X\n1\n", "go"), (b'^X(1)="a"\n', "zwr"), (b"", "zwr"), (ZWR, "zwr"), (b'{"global": "X"}\n', "json"),
-    (b"YottaDB MUPIP EXTRACT UTF-8\n01-JAN-2025  00:00:00 ZWR\n", "zwr"),
+    (b"YottaDB MUPIP EXTRACT UTF-8\n01-JAN-2025  00:00:00 ZWR\n", "zwr"), (GO + b'^%PCT(1,"%",";",",",")(","=")\n1\n', "go"),
 ])
 def test_form_of_a_file(data: bytes, form: str) -> None:
     assert extracts.form_of(data.decode().splitlines(True)[:3]) == form
@@ -138,11 +138,35 @@ NODES = st.tuples(st.sampled_from(["X", "%Z9"]), st.lists(st.text(st.characters(
 @given(nodes=st.lists(NODES, max_size=5))
 def test_what_is_written_is_read_back(form: str, nodes: list[tuple[str, tuple[str, ...], str]]) -> None:
     kept = [node for node in nodes if form != "go" or "\n" not in node[2]]
-    data = extracts.header(form) + "".join(extracts.written(form, *node) for node in kept)
+    data = extracts.header(Form(form)) + "".join(extracts.written(Form(form), *node) for node in kept)
     assert [tuple(record[1:]) for record in read(data.encode(), form)] == kept
 
 
 def test_go_cannot_have_a_line_feed() -> None:
     with pytest.raises(extracts.Unreadable) as error:
-        extracts.written("go", "X", ("1",), "a\nb")
+        extracts.written(Form("go"), "X", ("1",), "a\nb")
     assert "^X(1): its text has a line feed" in error.value.reason
+
+
+def test_null_subscripts_are_mapped_there_and_back() -> None:
+    form = Form("zwr", null="(none)")
+    data = ZWR + b'^X("")="a"\n^X(1,"",2)="b"\n'
+    found = list(extracts.read(io.BytesIO(data), form))
+    assert found == [Entry(3, "X", ("(none)",), "a"), Entry(4, "X", ("1", "(none)", "2"), "b")]
+    assert "".join(extracts.written(form, *entry[1:]) for entry in found).encode() == data[len(ZWR):]
+
+
+def test_bytes_that_are_no_utf_8() -> None:
+    [problem] = extracts.read(io.BytesIO(ZWR + b'^X(1)="\xe9"\n'), Form("zwr", in_utf_8=True))
+    assert isinstance(problem, Problem) and problem.reason == "^X(1): the character at place 1 is no UTF-8"
+
+
+@pytest.mark.parametrize("form", ["zwr", "json", "go"])
+@given(nodes=st.lists(st.tuples(st.just("X"), st.lists(st.text("~7e;9é\u4e2d\U0001f600", min_size=1, max_size=6), max_size=2).map(tuple),
+                                st.text("~7e;9\"é\u4e2d\U0001f600", max_size=12)), max_size=4))
+def test_what_is_written_in_utf_8_is_read_back(form: str, nodes: list[tuple[str, tuple[str, ...], str]]) -> None:
+    """Nodes of any stored texts: those that drawn texts stand for."""
+    how = Form(form, in_utf_8=True)
+    kept = [(name, tuple(map(escape.stored, subscripts)), escape.stored(text)) for name, subscripts, text in nodes]
+    data = extracts.header(how) + "".join(extracts.written(how, *node) for node in kept)
+    assert [tuple(record[1:]) for record in extracts.read(io.BytesIO(data.encode()), how)] == kept

@@ -3,6 +3,7 @@
 from __future__ import annotations
 
 import argparse
+import contextlib
 import os
 import pty
 import re
@@ -16,8 +17,10 @@ import pytest
 import running
 from conftest import ALICE, BOB, CLIENTS, SETTINGS, SHORT, Command, Server, start
 from mserve_client import keys
+from mserve_client.extracts import Entry
 from mserve_client.global_command import reading
-from mserve_client.store_file import TABLES, has_changes
+from mserve_client.store_file import TABLES
+from mserve_client.terminal_way import ImportStopped, TerminalWay
 from mserve_client.walk import Walker
 
 HEAD = "GT.M MUPIP EXTRACT\n26-NOV-2026  01:45:37 ZWR\n"
@@ -140,10 +143,10 @@ def test_names_that_are_none(server: Server, command: Command, text: str, told: 
 @pytest.mark.parametrize("form", ["zwr", "json", "go"])
 def test_forms_straight(command: Command, tmp_path: Path, form: str) -> None:
     (tmp_path / "in.zwr").write_text(ZWR)
-    assert command("mglobal", "store.db", "LAB", "import", "in.zwr").status == 0
+    assert command("mglobal", "store.db", "LAB", "import", "--new-account", "in.zwr").status == 0
     ran = command("mglobal", "store.db", "LAB", "export", "--format", form, "--to", "out")
     assert ran.status == (1 if form == "go" else 0) and ("1 left out" in ran.told) == (form == "go")
-    assert command("mglobal", "other.db", "LAB", "import", "out").status == 0
+    assert command("mglobal", "other.db", "LAB", "import", "--new-account", "out").status == 0
     left = [node for node in NODES if form != "go" or "$C(10,13)" not in node]
     assert without_head(command("mglobal", "other.db", "LAB", "export").output) == "".join(node + "\n" for node in left)
     assert not [name for name in os.listdir(tmp_path) if name.endswith(("-wal", "-shm", ".part"))]
@@ -151,11 +154,11 @@ def test_forms_straight(command: Command, tmp_path: Path, form: str) -> None:
 
 def test_straight_in_and_the_program_reads_it(command: Command, tmp_path: Path) -> None:
     (tmp_path / "in.zwr").write_text(ZWR)
-    assert command("mglobal", "store.db", "ALICE", "import", "in.zwr").status == 0
+    assert command("mglobal", "store.db", "ALICE", "import", "--new-account", "in.zwr").status == 0
     lines = b'1 W ^X(1),^X("a",$C(9)_"b"_$C(10)),$L(^Y("z")),$O(^X(""),-1)\n3 W $D(^X)\n1 S ^X(1)="new"\n'
     assert running.run(lines, SETTINGS, str(tmp_path / "store.db")) == (0, b'1-q"uote10004095' + DEEP[0].encode() + b"\n1.\n3-0\n3.\n1.\n", b"")
     assert '^X(1)="new"\n' in command("mglobal", "store.db", "ALICE", "export").output
-    assert command("mglobal", "store.db", "BOB", "export").output.count("\n") == 2
+    assert command("mglobal", "store.db", "BOB", "export", "--settings", SETTINGS).output.count("\n") == 2
 
 
 def test_straight_out_of_what_the_program_wrote(command: Command, tmp_path: Path) -> None:
@@ -169,11 +172,11 @@ def test_straight_out_of_what_the_program_wrote(command: Command, tmp_path: Path
 def test_file_is_left_as_the_program_leaves_it(command: Command, tmp_path: Path) -> None:
     """Tables, version, journal mode and keys are those of a file that the program made of the same nodes."""
     (tmp_path / "in.zwr").write_text(HEAD + '^X(1)="a"\n^X("b")="c"\n')
-    assert command("mglobal", "made.db", "ALICE", "import", "in.zwr").status == 0
+    assert command("mglobal", "made.db", "ALICE", "import", "--new-account", "in.zwr").status == 0
     assert running.run(b'1 S ^X(1)="a",^X("b")="c"\n', SETTINGS, str(tmp_path / "program.db"))[0] == 0
     found = []
     for name in ("made.db", "program.db"):
-        assert not (tmp_path / f"{name}-wal").exists() or not has_changes(str(tmp_path / f"{name}-wal"))
+        assert not (tmp_path / f"{name}-wal").exists() or (tmp_path / f"{name}-wal").stat().st_size < 512
         with sqlite3.connect(tmp_path / name) as base:
             found.append([base.execute(words).fetchall() for words in (
                 "SELECT sql FROM sqlite_master ORDER BY rowid", "SELECT * FROM meta", "SELECT k, v FROM node ORDER BY k", "PRAGMA journal_mode", "PRAGMA integrity_check")])
@@ -184,12 +187,12 @@ def test_file_is_left_as_the_program_leaves_it(command: Command, tmp_path: Path)
 def test_straight_import_is_everything_or_nothing(command: Command, tmp_path: Path) -> None:
     (tmp_path / "good.zwr").write_text(HEAD + '^X(1)="old"\n')
     (tmp_path / "bad.zwr").write_text(HEAD + '^X(1)="new"\n^X("")="b"\n^X(1E30)="c"\n^X(2)="d"\n')
-    assert command("mglobal", "store.db", "LAB", "import", "good.zwr").status == 0
-    ran = command("mglobal", "store.db", "LAB", "import", "bad.zwr")
+    assert command("mglobal", "store.db", "LAB", "import", "--new-account", "good.zwr").status == 0
+    ran = command("mglobal", "store.db", "LAB", "import", "--new-account", "bad.zwr")
     assert ran.status == 1 and ran.output.startswith("0 nodes imported, 2 lines cannot come in; nothing was changed")
     assert ran.told.startswith('mglobal: line 4: ^X(""): its subscript 1 is empty\nmglobal: line 5: ^X: the number 1E30 is no number here')
     assert without_head(command("mglobal", "store.db", "LAB", "export").output) == '^X(1)="old"\n'
-    ran = command("mglobal", "store.db", "LAB", "import", "bad.zwr", "--skip")
+    ran = command("mglobal", "store.db", "LAB", "import", "--new-account", "bad.zwr", "--skip")
     assert ran.status == 1 and ran.output.startswith("2 nodes imported, 2 lines cannot come in")
     assert without_head(command("mglobal", "store.db", "LAB", "export").output) == '^X(1)="new"\n^X(2)="d"\n'
 
@@ -197,9 +200,9 @@ def test_straight_import_is_everything_or_nothing(command: Command, tmp_path: Pa
 def test_interrupt_of_a_straight_import(command: Command, tmp_path: Path) -> None:
     """The reading of a pipe that stays open is interrupted: nothing of what came stands."""
     (tmp_path / "good.zwr").write_text(HEAD + '^X(1)="old"\n')
-    assert command("mglobal", "store.db", "LAB", "import", "good.zwr").status == 0
+    assert command("mglobal", "store.db", "LAB", "import", "--new-account", "good.zwr").status == 0
     os.mkfifo(tmp_path / "pipe")
-    process = subprocess.Popen([sys.executable, CLIENTS / "mglobal", "store.db", "LAB", "import", "pipe"], cwd=tmp_path, stdout=subprocess.PIPE, stderr=subprocess.PIPE)
+    process = subprocess.Popen([sys.executable, CLIENTS / "mglobal", "store.db", "LAB", "import", "--new-account", "pipe"], cwd=tmp_path, stdout=subprocess.PIPE, stderr=subprocess.PIPE)
     with open(tmp_path / "pipe", "wb") as pipe:
         pipe.write(HEAD.encode() + b"".join(b'^X(%d)="new"\n' % number for number in range(20_000)))
         pipe.flush()
@@ -211,14 +214,14 @@ def test_interrupt_of_a_straight_import(command: Command, tmp_path: Path) -> Non
 
 def test_dry_run_changes_nothing(command: Command, tmp_path: Path) -> None:
     (tmp_path / "bad.zwr").write_text(HEAD + '^X(1)="new"\n^X("")="b"\n')
-    ran = command("mglobal", "store.db", "LAB", "import", "bad.zwr", "--dry-run")
+    ran = command("mglobal", "store.db", "LAB", "import", "--new-account", "bad.zwr", "--dry-run")
     assert (ran.output, ran.status) == ("1 node can come in, 1 line cannot; nothing was changed\n", 1)
     assert not os.path.exists(tmp_path / "store.db")
 
 
 @pytest.mark.parametrize(("words", "told"), [
-    (("store.db", "LAB", "import", "none.zwr"), "none.zwr: No such file or directory"), (("none/store.db", "LAB", "import", "in.zwr"), "unable to open database file"),
-    ((".", "LAB", "count"), "unable to open database file"), (("store.db", "LAB", "import", "."), ".: Is a directory"),
+    (("store.db", "LAB", "import", "none.zwr"), "none.zwr: No such file or directory"), (("none/store.db", "LAB", "import", "--new-account", "in.zwr"), "unable to open database file"),
+    ((".", "LAB", "count"), "unable to open database file"), (("store.db", "LAB", "import", "--new-account", "."), ".: Is a directory"),
 ])
 def test_files_that_cannot_be_opened(command: Command, tmp_path: Path, words: tuple[str, ...], told: str) -> None:
     (tmp_path / "in.zwr").write_text(ZWR)
@@ -230,7 +233,7 @@ def test_compare(command: Command, tmp_path: Path) -> None:
     (tmp_path / "a.zwr").write_text(HEAD + '^A="1"\n^X(1)="a"\n^X(2)="b"\n^X(4)="d"\n^Y="1"\n')
     (tmp_path / "b.zwr").write_text(HEAD + '^X(2)="B"\n^X(3)="c"\n^X(4)="d"\n^Y="1"\n^Z="2"\n')
     (tmp_path / "c.zwr").write_text(HEAD + '^X(2)="B"\n^X(1)="c"\n')
-    assert command("mglobal", "store.db", "LAB", "import", "a.zwr").status == 0
+    assert command("mglobal", "store.db", "LAB", "import", "--new-account", "a.zwr").status == 0
     ran = command("mglobal", "store.db", "LAB", "compare", "b.zwr")
     assert ran.output.splitlines() == ["only in the store: ^X(1)", "different: ^X(2)", "only in the file: ^X(3)", "only in the file: ^Z", "only in the store: ^A, 1 node",
                                        "5 nodes compared: 5 nodes different"]
@@ -240,26 +243,120 @@ def test_compare(command: Command, tmp_path: Path) -> None:
 
 
 def test_file_that_a_server_has(file_server: Server, command: Command, tmp_path: Path) -> None:
+    """It is refused while the server runs, and read once that was ended by a signal, with all that its log has."""
     (tmp_path / "in.zwr").write_text(ZWR)
     with file_server.connection() as connection:
         assert connection.send("S ^X(1)=1").ok
-    for act in (["import", "in.zwr"], ["export"], ["count"]):
+    for act in (["import", "--new-account", "in.zwr"], ["export"], ["count"]):
         ran = command("mglobal", file_server.store, "ALICE", *act)
-        assert ran.status == 1 and f"its log {file_server.store}-wal stands beside it: a server has the file" in ran.told
+        assert ran.status == 1 and "the file is in use (SQLITE_BUSY" in ran.told
     with file_server.connection() as connection:
-        assert connection.send("W ^X(1)").rest == "1"
+        assert connection.send("W ^X(1) S ^X(2)=2").rest == "1"
     file_server.stop()
-    ran = command("mglobal", file_server.store, "ALICE", "count")
-    assert ran.status == 1 and f"its log {file_server.store}-wal stands beside it" in ran.told and "</dev/null copies the log" in ran.told
-    fold(file_server.store)
-    assert command("mglobal", file_server.store, "ALICE", "count").output == "^X: 1 node\n"
+    assert os.path.getsize(f"{file_server.store}-wal") > 4096
+    assert command("mglobal", file_server.store, "ALICE", "count").output == "^X: 2 nodes\n"
+    assert running.run(b"1 W ^X(2)\n", SETTINGS, file_server.store)[1] == b"1-2\n1.\n"
+
+
+def test_file_of_a_server_that_was_killed(file_server: Server, command: Command) -> None:
+    with file_server.connection() as connection:
+        assert connection.send("F I=1:1:200 S ^X(I)=I").ok
+    file_server.process.kill()
+    file_server.process.wait()
+    assert command("mglobal", file_server.store, "ALICE", "count").output == "^X: 200 nodes\n"
+
+
+def test_journal_of_another_program(command: Command, tmp_path: Path) -> None:
+    (tmp_path / "store.db-journal").write_text("x")
+    ran = command("mglobal", "store.db", "ALICE", "count")
+    assert ran.status == 1 and "which mserve never makes" in ran.told
+
+
+def test_account_that_nobody_has(command: Command, tmp_path: Path) -> None:
+    """A name that neither the store nor the settings have is taken for a wrong one."""
+    (tmp_path / "in.zwr").write_text(HEAD + '^X(1)="a"\n')
+    ran = command("mglobal", "store.db", "ALICE", "import", "in.zwr")
+    assert ran.status == 1 and "there is no such file" in ran.told and not (tmp_path / "store.db").exists()
+    assert command("mglobal", "store.db", "ALICE", "import", "--settings", SETTINGS, "in.zwr").output == "1 node imported\n"
+    for act in (["import", "in.zwr"], ["export"], ["count"], ["compare", "in.zwr"], ["import", "--settings", SETTINGS, "in.zwr"]):
+        ran = command("mglobal", "store.db", "ALICCE", *act)
+        assert ran.status == 1 and "store.db has no node of an account ALICCE: it has those of ALICE" in ran.told and "--new-account takes it" in ran.told
+    assert command("mglobal", "store.db", "ALICCE", "import", "--new-account", "in.zwr").output == "1 node imported\n"
+    assert command("mglobal", "store.db", "ALICCE", "count").output == "^X: 1 node\n"
+
+
+def test_null_subscripts(server: Server, command: Command, tmp_path: Path) -> None:
+    (tmp_path / "in.zwr").write_text(HEAD + '^X("")="a"\n^X("",2)="b"\n')
+    null = ["--null-subscript", "(none)"]
+    assert command("mglobal", server.port, ALICE, "import", *null, "in.zwr").output == "2 nodes imported\n"
+    assert command("mglobal", server.port, ALICE, "compare", *null, "in.zwr").status == 0
+    assert without_head(command("mglobal", server.port, ALICE, "export", *null, "^X").output) == '^X("")="a"\n^X("",2)="b"\n'
+    assert without_head(command("mglobal", server.port, ALICE, "export", "^X").output) == '^X("(none)")="a"\n^X("(none)",2)="b"\n'
+    ran = command("mglobal", server.port, ALICE, "import", "--null-subscript", "x" * 256, "in.zwr")
+    assert ran.status == 1 and "--null-subscript: its subscript 1 has 256 characters" in ran.told
+
+
+def test_several_nodes_go_by_one_line(server: Server, command: Command, tmp_path: Path) -> None:
+    """Short and long texts in turns; a name twice keeps the last text; what a code stops is said node by node."""
+    nodes = {f"{number}": "x" * (number % 9 * 40 if number % 50 else 3000) for number in range(1, 300)}
+    (tmp_path / "in.zwr").write_text(HEAD + '^X(1)="first"\n' + "".join(f'^X({name})="{text}"\n' for name, text in nodes.items()))
+    assert command("mglobal", server.port, ALICE, "import", "in.zwr").output == "300 nodes imported\n"
+    with server.connection() as connection:
+        assert {place[0]: text for place, text in TerminalWay(connection).nodes("X")} == nodes
+
+
+def test_nodes_of_an_account_with_few_steps(server: Server) -> None:
+    """A line of several nodes that runs out of steps is sent again, node by node, and further lines set fewer."""
+    with server.connection(SHORT) as connection:
+        TerminalWay(connection).put((Entry(number, "X", (str(number % 40), "a"), str(number)) for number in range(400)), lambda: None)
+        assert [(place[0], text) for place, text in TerminalWay(connection).nodes("X")] == [(str(number), str(360 + number)) for number in range(40)]
+
+
+@pytest.mark.parametrize("place", [0, 3, 70, 199])
+def test_node_that_is_refused_among_others(server: Server, place: int) -> None:
+    """A text that takes more steps than a line has, among nodes that go by one line."""
+    nodes = [Entry(number, "X", (str(number),), '\n' * 30 if number == place else "a") for number in range(200)]
+    counted: list[int] = []
+    with server.connection(SHORT) as connection:
+        with pytest.raises(ImportStopped, match=rf"^line {place}: \^X\({place}\) was answered ZSTEPS") as error:
+            TerminalWay(connection).put(nodes, lambda: counted.append(1))
+        there = {int(found[0]) for found, _ in TerminalWay(connection).nodes("X")}
+    told = re.search(r"; ([\d,]+) nodes stand(?:, those up to line (\d+))?(?:, and ([\d,]+) of the lines after it)?", str(error.value))
+    assert set(range(place)) <= there and place not in there
+    assert int(told[1]) == len(there) and int(told[2] or place - 1) == place - 1 and int(told[3] or 0) == len(there) - place
+
+
+# A name, or a word for a person, of thirty languages.
+NAMES_OF_LANGUAGES = ["Müller", "Noël", "Muñoz", "São", "Dvořák", "Łukasz", "Szűcs", "Šimić", "Ștefan", "Çelik", "Øystein", "Åsa", "Þóra", "Siân", "Ċensu", "Jānis", "Žemaitė", "Õnne",
+                      "Иван", "Юлія", "Παύλος", "Արամ", "გიორგი", "אברהם", "محمد", "فریدون", "अमित", "தமிழ்", "สมชาย", "Nguyễn", "陈伟", "佐藤ゆき", "김철수", "𝔘𝔫𝔦", "👩‍⚕️"]
+
+
+@pytest.mark.parametrize("way", ["straight", "terminal"])
+def test_names_of_thirty_languages(server: Server, command: Command, tmp_path: Path, way: str) -> None:
+    """A file of UTF-8 comes in, is ASCII there, and comes back byte for byte; texts that look like escapes do too."""
+    assert len(NAMES_OF_LANGUAGES) >= 30
+    texts = [*NAMES_OF_LANGUAGES, "~e9;", "~7e;e9;", "~", "~E9;", "~~fc;", 'a ""quote"" ~']
+    nodes = "".join(f'^X("n{number:02}",1)="{text}"\n' for number, text in enumerate(texts))
+    nodes += "".join(f'^Y("{name}")="{number}"\n' for name, number in sorted((name, number) for number, name in enumerate(NAMES_OF_LANGUAGES)))
+    (tmp_path / "in.zwr").write_text("GT.M MUPIP EXTRACT UTF-8\n26-NOV-2026  01:45:37 ZWR\n" + nodes)
+    place = [server.port, ALICE] if way == "terminal" else ["store.db", "ALICE"]
+    new = [] if way == "terminal" else ["--new-account"]
+    ran = command("mglobal", "--text", "utf-8", *place, "import", *new, "in.zwr")
+    assert (ran.output, ran.told) == (f"{len(texts) + len(NAMES_OF_LANGUAGES)} nodes imported\n", "")
+    for names in (["^X"], ["^Y"]):
+        assert command("mglobal", "--text", "utf-8", *place, "export", *names, "--to", names[0][1:]).status == 0
+    found = (tmp_path / "X").read_bytes().split(b"\n", 2)[2]
+    assert found == nodes.encode()[:len(found)] and found.count(b"\n") == len(texts)
+    assert sorted((tmp_path / "Y").read_bytes().splitlines()[2:]) == sorted(line for line in nodes.encode().splitlines() if line.startswith(b"^Y"))
+    plain = command("mglobal", *place, "export", "^X")
+    assert plain.output.isascii() and '^X("n00",1)="M~fc;ller"\n' in plain.output and '="~7e;e9;"\n' in plain.output
 
 
 def test_file_that_a_server_has_and_has_not_changed(command: Command, tmp_path: Path) -> None:
     fold(tmp_path / "store.db")
     server = start(str(tmp_path / "store.db"))
     try:
-        ran = command("mglobal", "store.db", "ALICE", "import", "/dev/null")
+        ran = command("mglobal", "store.db", "ALICE", "import", "--new-account", "/dev/null")
         assert ran.status == 1 and "store.db: the file is in use (SQLITE_BUSY" in ran.told and "stop the server" in ran.told
         with server.connection() as connection:
             assert connection.send("S ^X=1 W ^X").rest == "1"
@@ -269,7 +366,7 @@ def test_file_that_a_server_has_and_has_not_changed(command: Command, tmp_path: 
 
 def test_file_that_another_process_has(command: Command, tmp_path: Path) -> None:
     (tmp_path / "in.zwr").write_text(ZWR)
-    assert command("mglobal", "store.db", "LAB", "import", "in.zwr").status == 0
+    assert command("mglobal", "store.db", "LAB", "import", "--new-account", "in.zwr").status == 0
     base = sqlite3.connect(tmp_path / "store.db", isolation_level=None)
     base.execute("PRAGMA journal_mode = DELETE")
     base.execute("BEGIN EXCLUSIVE")
@@ -279,7 +376,7 @@ def test_file_that_another_process_has(command: Command, tmp_path: Path) -> None
 
 
 @pytest.mark.parametrize(("made", "told"), [
-    (None, "there is no such file"), ("text", "it is no database"), ("other", "it has other tables"), ("version", "is of version 1"), ("none", "is of version none"),
+    (None, "there is no such file"), ("text", "it is no database"), ("other", "it has tables of others alone"), ("version", "is of version 1"), ("none", "is of version none"),
 ])
 def test_files_that_are_no_stores(command: Command, tmp_path: Path, made: str | None, told: str) -> None:
     path = tmp_path / "store.db"
@@ -299,6 +396,36 @@ def test_files_that_are_no_stores(command: Command, tmp_path: Path, made: str | 
     assert (path.read_bytes() if path.exists() else None) == before
 
 
+@pytest.mark.parametrize("before", [[], TABLES[::-1]], ids=["none of the two", "both, made in the other order"])
+def test_a_file_that_others_use(command: Command, tmp_path: Path, before: list[str]) -> None:
+    """Globals go into it and come out, and what is others' stays."""
+    with contextlib.closing(sqlite3.connect(tmp_path / "store.db")) as base:
+        for statement in ["CREATE TABLE theirs (a UNIQUE)", "INSERT INTO theirs VALUES (1), ('b')", *before]:
+            base.execute(statement)
+        if before:
+            base.execute("INSERT INTO meta VALUES ('version', 2)")
+        base.commit()
+    (tmp_path / "in.zwr").write_text(ZWR)
+    assert command("mglobal", "store.db", "LAB", "import", "--new-account", "in.zwr").status == 0
+    assert without_head(command("mglobal", "store.db", "LAB", "export").output) == without_head(ZWR)
+    with contextlib.closing(sqlite3.connect(tmp_path / "store.db")) as base:
+        assert base.execute("SELECT a FROM theirs").fetchall() == [(1,), ("b",)]
+
+
+@pytest.mark.parametrize(("rule", "named"), [
+    ("CREATE TABLE more (k REFERENCES node (k))", "more"), ("CREATE UNIQUE INDEX once ON node (v)", "once"),
+    ("CREATE TRIGGER t AFTER INSERT ON node BEGIN DELETE FROM meta; END", "t"), ("CREATE INDEX some ON node (v) WHERE v > 1", "some"),
+])
+def test_rules_of_others(command: Command, tmp_path: Path, rule: str, named: str) -> None:
+    """What the program refuses beside the two tables is refused here too."""
+    (tmp_path / "in.zwr").write_text(ZWR)
+    assert command("mglobal", "store.db", "LAB", "import", "--new-account", "in.zwr").status == 0
+    with contextlib.closing(sqlite3.connect(tmp_path / "store.db")) as base:
+        base.execute(rule)
+    ran = command("mglobal", "store.db", "LAB", "export")
+    assert ran.status == 1 and f"{named} is a rule of others on its tables" in ran.told
+
+
 @pytest.mark.parametrize("account", ["", "A_B", "A" * 17, "\u00e9"])
 def test_accounts_that_are_none(command: Command, account: str) -> None:
     ran = command("mglobal", "store.db", account, "count")
@@ -312,7 +439,7 @@ def test_numbers_for_where_and_who(command: Command) -> None:
 
 def test_key_of_the_store_is_the_key_of_the_module(command: Command, tmp_path: Path) -> None:
     (tmp_path / "in.zwr").write_text(ZWR)
-    assert command("mglobal", "store.db", "LAB", "import", "in.zwr").status == 0
+    assert command("mglobal", "store.db", "LAB", "import", "--new-account", "in.zwr").status == 0
     base = sqlite3.connect(tmp_path / "store.db")
     found = [keys.node(row[0])[2] for row in base.execute("SELECT k FROM node ORDER BY k")]
     base.close()
@@ -342,7 +469,7 @@ def shown_to_a_person(words: list[str | Path]) -> bytes:
 def test_part_of_a_file_that_is_read(tmp_path: Path) -> None:
     """The whole, once the last line is read: the replies that are due then are counted too."""
     (tmp_path / "in.zwr").write_text(HEAD + '^X(1)="a"\n')
-    with reading(argparse.Namespace(file=tmp_path / "in.zwr", format=None)) as source:
+    with reading(argparse.Namespace(file=tmp_path / "in.zwr", format=None, null_subscript="", text="ascii")) as source:
         assert source.part() == 0
         assert len(list(source.entries(is_strict=True))) == 1 and source.part() == 1
 

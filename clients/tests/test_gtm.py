@@ -98,11 +98,11 @@ def test_there_and_back(server: Server, command: Command, filled: Gtm, tmp_path:
     nodes = filled.extract("there.zwr")
     assert nodes.count("\n") >= 60
     place = [server.port, ALICE] if way == "terminal" else ["store.db", "ALICE"]
-    assert command("mglobal", *place, "import", filled.folder / "there.zwr").status == 0
+    assert command("mglobal", *place, "import", *([] if way == "terminal" else ["--new-account"]), filled.folder / "there.zwr").status == 0
     assert command("mglobal", *place, "export", "^X", "--to", "back", "--format", form).status == 0
     assert command("mglobal", *place, "compare", filled.folder / "there.zwr").output.endswith(" compared: all equal\n")
     if form == "json":
-        assert command("mglobal", "other.db", "ALICE", "import", "back").status == 0
+        assert command("mglobal", "other.db", "ALICE", "import", "--new-account", "back").status == 0
         assert command("mglobal", "other.db", "ALICE", "export", "^X", "--to", "back").status == 0
     assert (tmp_path / "back").read_text("latin1").split("\n", 2)[2] == nodes
     again = gtm(tmp_path / "again")
@@ -123,7 +123,7 @@ def test_go_of_gtm(command: Command, tmp_path: Path) -> None:
     base = gtm(tmp_path / "gtm")
     base.lines('S ^X(1)="a""b",^X("x",$C(9))=" ",^X("y")="",^Y=$C(1)')
     nodes = base.extract("there.go", "go")
-    assert command("mglobal", "store.db", "A", "import", "gtm/there.go").status == 0
+    assert command("mglobal", "store.db", "A", "import", "--new-account", "gtm/there.go").status == 0
     assert command("mglobal", "store.db", "A", "export", "--format", "go", "--to", "back.go").status == 0
     assert (tmp_path / "back.go").read_text("latin1").split("\n", 2)[2] == nodes
     again = gtm(tmp_path / "again")
@@ -136,7 +136,7 @@ def test_what_gtm_has_and_mserve_has_not(command: Command, tmp_path: Path) -> No
     base = gtm(tmp_path / "gtm")
     base.lines('S ^X(1)="good",^X(1E18)=1,^X(1E-19)=1,^X($C(233))=1,^X(2)=$C(200),^X(3)=$J("",4096),^X(4)=$J("",4095)')
     base.extract("there.zwr")
-    ran = command("mglobal", "store.db", "A", "import", "gtm/there.zwr", "--skip")
+    ran = command("mglobal", "store.db", "A", "import", "--new-account", "gtm/there.zwr", "--skip")
     assert ran.output.startswith("2 nodes imported, 5 lines cannot come in") and ran.status == 1
     for reason in ("^X: the number 1000000000000000000 is no number here", "^X: the number .0000000000000000001 is no number here", "has the code 233", "has the code 200",
                    "^X(3): its text has 4,096 characters"):

@@ -244,7 +244,7 @@ def damaged(source: islands.Pair, tmp_path: Path, how: str) -> None:
     elif how == "version":
         base.execute("UPDATE meta SET n = 1")
     elif how == "table":
-        base.execute("CREATE TABLE more (k)")
+        base.execute("CREATE TABLE more (k BLOB REFERENCES node (k))")
     base.commit()
     base.close()
     if how == "database":
@@ -260,7 +260,7 @@ def damaged(source: islands.Pair, tmp_path: Path, how: str) -> None:
 
 
 @pytest.mark.parametrize(("how", "told"), [
-    ("row", "a row that mserve did not write"), ("version", "of version 1"), ("table", "it has other tables"), ("database", "it is no database"), ("cut", "malformed"),
+    ("row", "a row that mserve did not write"), ("version", "of version 1"), ("table", "more is a rule of others on its tables"), ("database", "it is no database"), ("cut", "malformed"),
     ("store", "there is no such file"), ("settings", "Shape: there is no key x"), ("folder", "it is there already"),
 ])
 def test_what_cannot_be_split(source: islands.Pair, command: Command, tmp_path: Path, how: str, told: str) -> None:
@@ -302,7 +302,7 @@ def test_file_that_a_server_has(file_server: Server, command: Command) -> None:
         assert connection.send("S ^X(1)=1").ok
     for words in (["list", SETTINGS, file_server.store], ["split", SETTINGS, file_server.store, "--to", "parts"]):
         ran = command("misland", *words)
-        assert ran.status == 1 and "a server has the file" in ran.told
+        assert ran.status == 1 and "the file is in use (SQLITE_BUSY" in ran.told
 
 
 def test_folder_is_made_whole_or_not_at_all(source: islands.Pair, monkeypatch: pytest.MonkeyPatch, tmp_path: Path) -> None:

@@ -8,6 +8,7 @@ from pathlib import Path
 import pytest
 from conftest import ALICE, BOB, SHORT, Command, Server
 from mserve_client import language, routines
+from mserve_client.causes import CAUSES
 from mserve_client.checking import check
 from mserve_client.routine_files import SourceLine, file_name, routine_name, source_line
 from mserve_client.walk import Walker
@@ -21,8 +22,10 @@ def nodes(server: Server, terminal: int = ALICE) -> dict[tuple[str, ...], str]:
 
 @pytest.mark.parametrize(("text", "parts"), [
     ("\tS X=1", ("", " ", "S X=1")), ("LABEL\tS X=1", ("LABEL", " ", "S X=1")), ("LABEL \t\t; note\there", ("LABEL", "   ", "; note\there")),
-    ("\t.\t. S X=1\tY", ("", " . . ", "S X=1\tY")), ("", ("", "", "")), ("%A1", ("%A1", "", "")), (";x", ("", "", ";x")), ("A;x", ("A", "", ";x")),
+    ("\t.\t. S X=1\tY", ("", " . . ", "S X=1 Y")), ("", ("", "", "")), ("%A1", ("%A1", "", "")), (";x", ("", "", ";x")), ("A;x", ("A", "", ";x")),
     ("A(B) Q", ("A", "", "(B) Q")), ("1 Q", ("", "", "1 Q")), ('\tW "\t"', ("", " ", 'W "\t"')),
+    ("A\tQ:B\t\tW \"a\t\"\"\t\",1\t; to\tday \"\t", ("A", " ", "Q:B  W \"a\t\"\"\t\",1 ; to\tday \"\t")), ("A(B,C)\tQ", ("A", "", "(B,C) Q")),
+    ('\tW "open\t;\t', ("", " ", 'W "open\t;\t')),
 ])
 def test_parts_of_a_line(text: str, parts: tuple[str, str, str]) -> None:
     assert source_line(text) == SourceLine(*parts)
@@ -125,7 +128,7 @@ def test_files_that_are_no_routines(server: Server, command: Command, tmp_path: 
         (tmp_path / name).write_bytes(data)
     for act in ("load", "check", "diff"):
         ran = command("mroutine", server.port, 1, act, name)
-        assert ran.status == 1 and told in ran.told.encode("latin1").decode().replace("é", "\xc3\xa9")
+        assert ran.status == 1 and (act == "diff" or told in (ran.told + ran.output).encode("latin1").decode().replace("é", "\xc3\xa9"))
     assert nodes(server) == {}
 
 
@@ -148,6 +151,20 @@ def test_save_does_not_write_over_a_file(server: Server, command: Command, tmp_p
     assert command("mroutine", server.port, 1, "save", "A", "--to", "-").output == "A\n Q\n"
     assert command("mroutine", server.port, 1, "save", "A", "--force").status == 0
     assert (tmp_path / "A.m").read_text() == "A\n Q\n"
+
+
+def test_save_leaves_the_tabs_of_a_file(server: Server, command: Command, tmp_path: Path) -> None:
+    """Lines that are the stored ones but for tabs stay as they are, also after lines that are new, changed or gone."""
+    (tmp_path / "A.m").write_text('A\tS X=1\tS Y="\t"\t;\tone\n\tQ:X\t\tW 2\n\t. \tW 3\n\tQ\n')
+    assert command("mroutine", server.port, 1, "load", "A.m").status == 0
+    before = nodes(server)
+    assert before == {("A", "1"): 'A S X=1 S Y="\t" ;\tone', ("A", "2"): " Q:X  W 2", ("A", "3"): " .  W 3", ("A", "4"): " Q"}
+    assert command("mroutine", server.port, 1, "save", "A", "--force").status == 0
+    assert (tmp_path / "A.m").read_text() == 'A\tS X=1\tS Y="\t"\t;\tone\n\tQ:X\t\tW 2\n\t. \tW 3\n\tQ\n'
+    with server.connection() as connection:
+        connection.send('S ^ROUTINE("A",.5)="; new",^ROUTINE("A",2)=" Q:Y  W 2" K ^ROUTINE("A",3)')
+    assert command("mroutine", server.port, 1, "save", "A", "--force").status == 0
+    assert (tmp_path / "A.m").read_text() == '; new\nA\tS X=1\tS Y="\t"\t;\tone\n Q:Y  W 2\n\tQ\n'
 
 
 def test_save_of_what_no_file_can_have(server: Server, command: Command) -> None:
@@ -189,7 +206,7 @@ def test_check_of_files(server: Server, command: Command, tmp_path: Path) -> Non
     assert ran.output.splitlines() == [
         "BAD.m:1:4: the label BAD has parameters", f"    {language.LABEL_PARAMETERS}",
         "BAD.m:2:10: not in the language: S X=$$ADD^R(A): an extrinsic function", f"    {advice('an extrinsic function')}",
-        "BAD.m:3:4: not in the language: Q X+1: QUIT with a value", f"    {advice('QUIT with a value')}",
+        "BAD.m:3:6: not in the language: Q X+1: QUIT with a value", f"    {advice('QUIT with a value')}",
         "BAD.m:5:1: the line begins with '1 Q'", f"    {language.NO_LABEL}",
         "BAD.m:6:16: not in the language: R X: READ", f"    {advice('READ')}",
         "2 files, 12 lines: 5 lines not in the language"]
@@ -202,7 +219,7 @@ def test_check_of_files(server: Server, command: Command, tmp_path: Path) -> Non
 
 def advice(name: str) -> str:
     """What is advised for something that is missing."""
-    return next(missing.advice for missing in language.MISSING if missing.name == name)
+    return next(cause.advice for cause in CAUSES if cause.name == name)
 
 
 def test_check_runs_nothing_and_leaves_the_session(server: Server) -> None:
@@ -221,21 +238,14 @@ def test_lines_in_the_language(server: Server, text: str) -> None:
         assert check(connection, [source_line(text)]) == []
 
 
-@pytest.mark.parametrize("missing", [missing for missing in language.MISSING if missing.example], ids=lambda missing: missing.name)
-def test_what_is_said_of_other_systems_lines(server: Server, missing: language.Missing) -> None:
-    """Each example is refused by the server, and is told by its own name."""
-    with server.connection() as connection:
-        [finding] = check(connection, [source_line(f" {missing.example}")])
-    assert (finding.advice, missing.name in finding.message) == (missing.advice, True), finding
-
-
 @pytest.mark.parametrize(("text", "place"), [
-    ("S A=1 W $H", 7), ("W 1 F  R X", 8), ('W "a b $$" W $$X', 12), ("I A(1, 2)=3", 1), ("F I=1:1 Q:I>3  H 5", 16), ("S X=", 1), ("W 1  Q 5", 6), ("D  U 0", 4), ("W 1 W", 5),
+    ("S A=1 W $H", 8), ("W 1 F  R X", 7), ('W "a b $$" W $$X', 13), ("I A(1, 2)=3", 6), ("F I=1:1 Q:I>3  H 5", 17), ("S X=", 4), ("W 1  Q 5", 7), ("D  U 0", 3), ("W 1 W", 5),
 ])
 def test_place_of_what_is_refused(server: Server, text: str, place: int) -> None:
+    """The column is that of the fault, counted from 1 in the line with the space before it."""
     with server.connection() as connection:
         [finding] = check(connection, [source_line(f" {text}")])
-    assert finding.message.startswith("not in the language") and 1 <= finding.column - 1 - place + 1 <= 6
+    assert finding.message.startswith("not in the language") and finding.column == place + 2
 
 
 def test_line_that_is_too_long_to_check(server: Server) -> None:
@@ -260,3 +270,100 @@ def test_no_server(command: Command, tmp_path: Path) -> None:
     (tmp_path / "A.m").write_text("A\n")
     ran = command("mroutine", 1, 1, "load", "A.m")
     assert ran.status == 3 and "no server at 127.0.0.1 port 1" in ran.told
+
+
+def test_folder_of_a_save_is_made(server: Server, command: Command, tmp_path: Path) -> None:
+    with server.connection() as connection:
+        routines.load(connection, "A", ["A", " Q"])
+    assert command("mroutine", server.port, 1, "save", "--to", "new/folder").status == 0
+    assert (tmp_path / "new" / "folder" / "A.m").read_text() == "A\n Q\n"
+
+
+def test_two_who_deploy(server: Server, command: Command, tmp_path: Path) -> None:
+    """Who loads or deletes holds ^ROUTINE meanwhile, and gives it back; who comes then is refused, and nothing of theirs is loaded."""
+    (tmp_path / "A.m").write_text("A\n")
+    with server.connection(2) as other:
+        with routines.deploying(other):
+            pass
+    assert command("mroutine", server.port, 1, "load", "A.m").status == 0
+    with server.connection(2) as other:
+        other.send("L +^ROUTINE(1)")
+    for words in (("load", "A.m"), ("delete", "A"), ("test", "A.m")):
+        ran = command("mroutine", server.port, 1, *words)
+        assert ran.status == 1 and "another terminal of the account holds the lock ^ROUTINE" in ran.told
+    ran = command("mshell", server.port, 1, stdin="I 1\n.load A.m\nW $T\n")
+    assert "holds the lock ^ROUTINE" in ran.output and ran.output.endswith("\n1\n")
+    with server.connection(2) as other:
+        other.send("L")
+    assert command("mroutine", server.port, 1, "delete", "A").status == 0
+    with server.connection(2) as other:
+        assert other.send("L +^ROUTINE:0 W $T").rest == "1"
+
+
+TESTS = """TCALC ; tests of CALC
+TSUM S A=1,B=2 D SUM^CALC
+ S %GOT=C,%WANT=3,%NAME="1 and 2" D EQ^%TEST
+ S %OK=C>2,%NAME="above two" D OK^%TEST
+ Q
+TWRONG W "a note",! S %GOT=1,%WANT=2,%NAME="one" D EQ^%TEST Q
+TFAULT W NOTHERE Q
+TNONE S LEFT=1 L +^X Q
+TLEFT S %OK='$D(LEFT),%NAME="no variable is left" D OK^%TEST Q
+OTHER Q
+"""
+
+
+def test_unit_tests(server: Server, command: Command, tmp_path: Path) -> None:
+    (tmp_path / "t").mkdir()
+    (tmp_path / "t" / "TCALC.m").write_text(TESTS)
+    (tmp_path / "t" / "CALC.m").write_text("CALC Q\nSUM S C=A+B Q\n")
+    with server.connection() as connection:
+        routines.load(connection, "CALC", ["CALC ; of before"])
+    before = nodes(server)
+    ran = command("mroutine", server.port, 1, "test", "t")
+    assert ran.output.splitlines() == [
+        "TAP version 13", "ok 1 - TSUM^TCALC: 1 and 2", "ok 2 - TSUM^TCALC: above two", "# a note", "not ok 3 - TWRONG^TCALC: one", "# got:  1", "# want: 2",
+        "not ok 4 - TFAULT^TCALC: M6: undefined local variable", "not ok 5 - TNONE^TCALC: it made no check: D OK^%TEST or EQ^%TEST", "ok 6 - TLEFT^TCALC: no variable is left", "1..6"]
+    assert (ran.status, ran.told) == (1, "") and nodes(server) == before
+    (tmp_path / "t" / "TCALC.m").write_text("TCALC ;\n" + "\n".join(TESTS.splitlines()[1:5]) + "\n")
+    assert command("mroutine", server.port, 1, "test", "t").status == 0
+    (tmp_path / "t" / "TCALC.m").unlink()
+    ran = command("mroutine", server.port, 1, "test", "t")
+    assert ran.status == 1 and "no routine has a test" in ran.told and nodes(server) == before
+
+
+def test_routines_in_utf_8(server: Server, command: Command, tmp_path: Path) -> None:
+    """Comments and strings come back byte for byte, and a string is shown as it was written; a name outside of strings is refused."""
+    text = 'GRUSS ; Grüße, ~e9;\n W "Müller",! ;é\n Q\n'
+    (tmp_path / "GRUSS.m").write_text(text)
+    assert command("mroutine", "--text", "utf-8", server.port, 1, "load", "--check", "GRUSS.m").status == 0
+    assert nodes(server)["GRUSS", "2"] == ' W "M~fc;ller",! ;~e9;'
+    assert command("mroutine", "--text", "utf-8", server.port, 1, "save", "GRUSS", "--to", "out").status == 0
+    assert (tmp_path / "out" / "GRUSS.m").read_text() == text
+    ran = command("mshell", "--text", "utf-8", server.port, 1, stdin='D ^GRUSS S ^X="Ærø",^X("ü")=1 W ^X\n.show ^X\nW "ü"_~fc;\nW ü\n.list GRUSS\n')
+    lines = ran.output.encode("latin1").decode().splitlines()
+    assert lines[:4] == ["Müller", "Ærø", '^X="Ærø"', '^X("ü")=1'] and lines[-2] == '    2   W "Müller",! ;é'
+    assert "column 3: a character over 127" in lines[5]
+    assert command("mshell", server.port, 1, stdin="W ^X\n").output == "~c6;r~f8;\n"
+
+
+def test_edit(server: Server, command: Command, tmp_path: Path) -> None:
+    """The editor of EDITOR gets the routine as a file; what it leaves is checked and loaded, and what was not changed is left."""
+    (tmp_path / "editor").write_text("#!/bin/sh\ncat \"$1\" >>seen\nif [ -e fail ]; then exit 1; fi\nif [ -e keep ]; then exit 0; fi\necho \" W 1 2\" >>\"$1\"\n")
+    (tmp_path / "editor").chmod(0o755)
+    with server.connection() as connection:
+        routines.load(connection, "A", ["A", " Q"])
+    ran = command("mshell", server.port, 1, stdin=".edit A\n", EDITOR="./editor", VISUAL="")
+    assert "A.m:3:5: not in the language: W 1 2: two expressions" in ran.output and "A: 3 lines from" in ran.output
+    assert (tmp_path / "seen").read_text() == "A\n Q\n" and nodes(server)["A", "3"] == " W 1 2"
+    (tmp_path / "keep").touch()
+    assert command("mshell", server.port, 1, stdin=".edit A\n", EDITOR="./editor", VISUAL="").output == ""
+    (tmp_path / "fail").touch()
+    assert "the editor ended with a fault: nothing was loaded" in command("mshell", server.port, 1, stdin=".edit NEW\n.edit 1\n", EDITOR="./editor", VISUAL="").output
+    assert set(name for name, _ in nodes(server)) == {"A"}
+
+
+def test_list_of_a_routine(server: Server, command: Command) -> None:
+    with server.connection() as connection:
+        routines.load(connection, "A", ["A ; \"x\"", " Q"])
+    assert command("mshell", server.port, 1, stdin=".list A\n").output == '    1  A ; "x"\n    2   Q\n'

@@ -3,21 +3,17 @@
 from __future__ import annotations
 
 import os
-import pty
 import re
-import select
-import subprocess
-import sys
-import time
 from collections.abc import Iterator
 from contextlib import contextmanager
 from pathlib import Path
 
 import pytest
-from conftest import ALICE, BOB, CLIENTS, Command, Server
+from conftest import ALICE, BOB, Command, Server, start_at
 from mserve_client import ServerGone
 from mserve_client.screen import Screen
 from mserve_client.shell import Shell
+from pseudo_terminal import Terminal, opened
 
 
 def test_lines_from_a_pipe(server: Server, command: Command) -> None:
@@ -35,7 +31,7 @@ def test_lines_that_no_code_answers(server: Server, command: Command, lines: str
 
 
 @pytest.mark.parametrize(("line", "output"), [
-    ("W \"é\"", "ZCHAR: character over 127\n"), ("W " + "1" * 300, "ZLINE: line too long\n"), ("HELLO", "ZSYNTAX: not in the language\n"),
+    ("W \"é\"", "ZCHAR: character over 127: column 4: a character over 127\n"), ("W " + "1" * 300, "ZLINE: line too long\n"), ("HELLO", "ZSYNTAX: not in the language: column 1: no command has this name\n"),
     ("F  S Z=1", "ZSTEPS: steps used up\n"), ("W 5,!,B", "5\nM6: undefined local variable\n"), ("L +^X", "ZLOCKED: locked by another terminal\n"),
     (".nothing", ".nothing: no such command; .help names them\n"), (".help NOTHING", "NOTHING: no command, function or code; .help lists them\n"),
     (".show", ".show wants a variable by its name, as .show ^X(1), .show X, or .show ^|\"LAB\"|X\n"),
@@ -63,7 +59,7 @@ def test_time_out(server: Server, command: Command) -> None:
     with server.connection() as other:
         other.send("W 1")
         ran = command("mshell", server.port, 1, "--timeout", "0.3", stdin="W 1\n")
-    assert ran.status == 3 and "another client may be connected" in ran.told
+    assert ran.status == 3 and f"(process {os.getpid()}) has it, or the line runs long" in ran.told
 
 
 @pytest.mark.parametrize("words", [("0", "1"), ("9000", "10000"), ("9000",), ("a", "1"), ("9000", "1", "--timeout", "-1"), ("9000", "01x")])
@@ -164,54 +160,11 @@ def test_completion_of_files(server: Server, tmp_path: Path) -> None:
         assert Shell(connection, Screen(False), False).complete(f".load {tmp_path}/A") == (len(f"{tmp_path}/A"), [f"{tmp_path}/AB.m"])
 
 
-class Terminal:
-    """A shell on a terminal of the system, as a person has it."""
-
-    def __init__(self, process: subprocess.Popen[bytes], end: int) -> None:
-        self.process, self._end, self.seen = process, end, ""
-
-    def type(self, text: str) -> None:
-        """Types a text."""
-        os.write(self._end, text.encode())
-
-    def wait(self, text: str, seconds: float = 30) -> str:
-        """What was shown up to a text that has to come."""
-        limit = time.monotonic() + seconds
-        while text not in self.seen:
-            ready = select.select([self._end], [], [], max(0.0, limit - time.monotonic()))[0]
-            assert ready, f"{text!r} does not come; shown was {self.seen!r}"
-            self.seen += re.sub(r"\x1b\[[0-9;?]*[A-Za-z]|\x1b[=>]", "", os.read(self._end, 65536).decode())
-        found, _, self.seen = self.seen.partition(text)
-        return found
-
-    def answers(self, line: str, text: str) -> str:
-        """Types a line at the next prompt; what is shown then up to a text that has to come."""
-        self.wait(">")
-        self.type(line + "\r")
-        return self.wait(text)
-
-    def leave(self) -> None:
-        """Ends the input at the next prompt, and with it the shell."""
-        self.wait(">")
-        self.type("\x04")
-        assert self.process.wait(20) == 0
-
-
 @contextmanager
 def terminal(server: Server, folder: Path, *words: str, rows: int = 24, without: str = "") -> Iterator[Terminal]:
     """A shell at a prompt; `without` names a module that is not to be found."""
-    near, far = pty.openpty()
-    hook = f"import sys; sys.modules[{without!r}] = None; " if without else "import sys; "
-    start = hook + f"import fcntl, termios; fcntl.ioctl(0, termios.TIOCSCTTY, 0); sys.path.insert(0, {str(CLIENTS)!r}); from mserve_client.shell import main; sys.exit(main())"
-    process = subprocess.Popen([sys.executable, "-c", start, str(server.port), "1", "--history", str(folder / "state" / "history"), *words], stdin=far, stdout=far, stderr=far,
-                               start_new_session=True, env={**os.environ, "TERM": "xterm", "LINES": str(rows), "COLUMNS": "200", "PROMPT_TOOLKIT_NO_CPR": "1"})
-    os.close(far)
-    try:
-        yield Terminal(process, near)
-    finally:
-        process.kill()
-        process.wait()
-        os.close(near)
+    with opened(str(server.port), "1", "--history", str(folder / "state" / "history"), *words, rows=rows, without=without) as shell:
+        yield shell
 
 
 WITHOUT = pytest.mark.parametrize("without", ["", "prompt_toolkit", "rich"])
@@ -291,3 +244,47 @@ def test_server_that_goes_away(own_server: Server) -> None:
         own_server.process.kill()
         with pytest.raises(ServerGone):
             shell.obey("W 2")
+
+
+def test_fault_is_shown_with_its_place(server: Server, tmp_path: Path) -> None:
+    with terminal(server, tmp_path) as shell:
+        shell.answers("W 1 2", "     ^ ZSYNTAX: two expressions need a comma, or two commands one space")
+        shell.answers("D F(1)", "     ^ ZSYNTAX: parameters")
+        shell.wait("SET variables before the DO")
+        shell.answers("W Müller", "     ^ ZCHAR: a character over 127")
+
+
+@pytest.mark.parametrize(("line", "text"), [("help", ".help lists what can be typed here"), ("?", ".help lists"), ("exit", ".quit leaves"), ("QUIT", ".quit leaves")])
+def test_words_of_a_person_who_does_not_know_the_shell(server: Server, tmp_path: Path, line: str, text: str) -> None:
+    with terminal(server, tmp_path) as shell:
+        shell.answers(line, text)
+        shell.answers("W 6*7", "42")
+
+
+def test_the_process_that_has_the_server_is_told(server: Server, tmp_path: Path) -> None:
+    """It is the test's own, which a shell on the same machine may see."""
+    with server.connection() as other, terminal(server, tmp_path) as shell:
+        other.send("S A=1")
+        shell.answers("W 6*7", f"(process {os.getpid()}) has it; Ctrl-C gives up")
+        other.close()
+        shell.wait("42")
+
+
+def test_shell_connects_again(own_server: Server, tmp_path: Path) -> None:
+    """After a kill of the server it waits for the next one, says what was lost, and goes on."""
+    with terminal(own_server, tmp_path) as shell:
+        # Answers that are not in what is typed, which is shown too.
+        shell.answers("S A=41,^X=2 W A+1", "42")
+        own_server.process.kill()
+        own_server.process.wait()
+        shell.answers("W A", "went away; 1 lines that were sent have no reply, and may have been run or not")
+        shell.wait("waiting for the server; Ctrl-C leaves")
+        own_server.process = start_at(own_server.store, own_server.port)
+        shell.wait("connected again, as terminal 1; the terminal's variables and locks are gone, and with a store in memory all globals")
+        shell.answers("W $D(A)", "0")
+        shell.answers("W $G(^X,8)+70", "78" if own_server.store == "memory" else "72")
+        own_server.process.kill()
+        own_server.process.wait()
+        shell.answers(".routines", "waiting for the server")
+        shell.type("\x03")
+        assert shell.process.wait(20) == 130

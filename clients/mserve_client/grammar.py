@@ -1,0 +1,291 @@
+# SPDX-License-Identifier: Apache-2.0
+"""The grammar of lines as a table, and a reader that says where a text leaves it.
+
+docs/LANGUAGE.md has the grammar in words. The table is read here and, written out by tools/page_words.py, by the page; both read it in
+the same few kinds of steps:
+
+    ["text", PATTERN, WANTED]  what the pattern finds at this place; WANTED is what a fault there is told to want, or empty
+    ["all", STEP, ..]          each step after the one before
+    ["any", STEP, ..]          the first step that goes on
+    ["many", STEP]             the step as often as it goes on, or never
+    ["rule", NAME]             the rule of this name
+    ["inner", NAME]            the same, one bracket deeper
+    ["mark", NAME, STEP]       the step, with its place kept under a name
+
+A text is in the grammar if the rule `line` reaches its end. The place that was reached at most is that of the fault: what stands before
+it begins some line of the grammar, and what follows does not go on with it."""
+from __future__ import annotations
+
+import re
+from collections.abc import Callable
+from dataclasses import dataclass
+
+Step = list[object]
+# How many brackets and operands of `@` may be open at a place.
+DEPTH = 40
+END = r"(?![\s\S])"
+NAME = "[A-Za-z%][A-Za-z0-9]{0,30}(?![A-Za-z0-9])"
+# The functions of values: how many at least, and at most.
+OF_VALUES = {"A ASCII": (1, 2), "C CHAR": (1, 255), "E EXTRACT": (1, 3), "F FIND": (2, 3), "J JUSTIFY": (2, 2), "L LENGTH": (1, 2), "P PIECE": (2, 4),
+             "TR TRANSLATE": (2, 3)}
+# The functions of a variable: how many values at most after it.
+OF_VARIABLE = {"D DATA": 0, "G GET": 1, "O ORDER": 1}
+
+
+def text(pattern: str, wanted: str = "") -> Step:
+    """What a pattern finds."""
+    return ["text", pattern, wanted]
+
+
+def rule(name: str) -> Step:
+    """A rule."""
+    return ["rule", name]
+
+
+def inner(name: str) -> Step:
+    """A rule, one bracket deeper."""
+    return ["inner", name]
+
+
+def all_of(*steps: Step) -> Step:
+    """Each step after the one before."""
+    return ["all", *steps]
+
+
+def any_of(*steps: Step) -> Step:
+    """The first step that goes on."""
+    return ["any", *steps]
+
+
+def perhaps(step: Step) -> Step:
+    """The step, or nothing."""
+    return any_of(step, text(""))
+
+
+def mark(name: str, step: Step) -> Step:
+    """The step, with its place kept."""
+    return ["mark", name, step]
+
+
+def listed(step: Step) -> Step:
+    """One or more, with commas between."""
+    return all_of(step, ["many", all_of(text(",", "more"), step)])
+
+
+def word(letters: str) -> str:
+    """The pattern of a word in any case of letters."""
+    return "".join(f"[{letter.upper()}{letter.lower()}]" for letter in letters)
+
+
+def either(words: str) -> str:
+    """The pattern of a word, whole or short: `S SET`."""
+    return "(?:" + "|".join(map(word, reversed(words.split()))) + ")"
+
+
+def command(words: str, argument: Step | None, is_bare: bool, is_conditioned: bool = True) -> Step:
+    """A command: its words, its argument or None, whether it may stand without one, and whether a condition may follow the word."""
+    begun: list[Step] = [mark("command", text(f"{either(words)}(?![A-Za-z])", "command"))]
+    if is_conditioned:
+        begun.append(rule("condition"))
+    ways = []
+    if argument is not None:
+        ways.append(all_of(text(" (?=[^ ;])", "" if is_bare else "argument"), mark("arguments", argument), text(f" *(?=;|{END})| +", "after")))
+    elif is_bare:
+        ways.append(all_of(text(" (?=[^ ;])"), text("(?!)", "gap")))
+    if is_bare:
+        ways.append(text(f"(?! [^ ;])(?: *(?=;|{END})|  +)", "gap"))
+    return all_of(*begun, any_of(*ways))
+
+
+def function(words: str, *inside: Step) -> Step:
+    """A function, its bracket, and what stands in it."""
+    whole = words.split()[-1]
+    return all_of(text(rf"\${either(words)}\(", "operand"), *inside, text(r"\)", f"close ${whole}"))
+
+
+def values(least: int, most: int) -> list[Step]:
+    """So many expressions."""
+    needed = [inner("expression"), *[all_of(text(",", "comma"), inner("expression"))] * (least - 1)]
+    further: Step | None = None
+    if most > 10:
+        return [*needed, ["many", all_of(text(",", "more"), inner("expression"))]]
+    for _ in range(most - least):
+        further = perhaps(all_of(text(",", "more"), inner("expression"), *([further] if further else [])))
+    return [*needed, *([further] if further else [])]
+
+
+def bracketed(step: Step) -> Step:
+    """A list in brackets."""
+    return all_of(text(r"\("), listed(step), text(r"\)", "close"))
+
+
+CONDITION = all_of(text(":"), rule("expression"))
+OPERAND = all_of(text("@"), inner("primary"))
+OPERATOR = r"[+\-*/\\#_=<>&!\[]|\]\]?|'(?:[=<>&!\[]|\]\]?)"
+COUNT = r"(?:[0-9]{1,4}(?![0-9.])|[0-9]{0,4}\.[0-9]{0,4}(?![0-9]))"
+ENTRY = all_of(mark("entry", any_of(all_of(text(r"\^"), text(NAME, "name")),
+                                    all_of(text(NAME, "entry"), perhaps(all_of(text(r"\^", "more"), text(NAME, "name")))))), rule("condition"))
+RULES: dict[str, Step] = {
+    "line": all_of(text(" *"), ["many", rule("command")], text(f"(?:;[\\x00-\\x7f]*)?{END}", "command")),
+    "command": any_of(
+        command("S SET", listed(rule("assignment")), False),
+        command("W WRITE", listed(any_of(text("!+"), rule("expression"))), False),
+        command("I IF", listed(rule("expression")), True, False),
+        command("Q QUIT", None, True),
+        command("D DO", listed(any_of(ENTRY, OPERAND)), True),
+        command("F FOR", all_of(text(NAME, "name"), text("=", "equals"), listed(rule("parameter"))), True, False),
+        command("K KILL", listed(any_of(bracketed(text(NAME, "name")), rule("variable"))), True),
+        command("N NEW", listed(any_of(bracketed(text(NAME, "name")), text(NAME, "name"), OPERAND)), True),
+        command("E ELSE", None, True, False),
+        command("X XECUTE", listed(all_of(rule("expression"), rule("condition"))), False),
+        command("L LOCK", listed(mark("lock", rule("locked"))), True),
+        command("G GOTO", listed(any_of(ENTRY, OPERAND)), False),
+        command("H HALT", None, True)),
+    "condition": perhaps(CONDITION),
+    "assignment": any_of(all_of(any_of(all_of(text(r"\("), listed(inner("target")), text(r"\)", "close")), rule("target")), text("=", "equals"),
+                                rule("expression")),
+                         all_of(OPERAND, text(f"(?=[ ,;]|{END})"))),
+    "target": any_of(all_of(text(rf"\${either('P PIECE')}\(", "target"), inner("variable"), text(",", "comma"), inner("expression"),
+                            perhaps(all_of(text(","), inner("expression"))), text(r"\)", "close target")), rule("variable")),
+    "parameter": all_of(rule("expression"), perhaps(all_of(text(":", "more"), rule("expression"), perhaps(all_of(text(":", "more"), rule("expression")))))),
+    "locked": all_of(text("[+-]?"), any_of(all_of(text(r"\("), listed(inner("lockable")), text(r"\)", "close")), rule("lockable")), rule("condition")),
+    "lockable": all_of(text(r"(?!\^\()", "lockable"), rule("variable")),
+    "expression": all_of(rule("operand"), ["many", any_of(all_of(text(OPERATOR, "operator"), rule("operand")),
+                                                         all_of(text(r"'?\?"), rule("atom"), ["many", rule("atom")]))]),
+    "operand": all_of(text(r"[+\-']*"), rule("primary")),
+    "atom": all_of(text(COUNT, "pattern"), text('[ACELNPUacelnpu]+|"(?:[^"]|"")*"(?!")', "pattern")),
+    "primary": any_of(
+        text(r"(?:[0-9]+(?:\.[0-9]+)?|\.[0-9]+)(?:E[+-]?[0-9]+)?", "operand"),
+        text('"(?:[^"]|"")*"(?!")', "operand"),
+        rule("variable"),
+        all_of(text(r"\("), inner("expression"), text(r"\)", "close")),
+        all_of(text(r"(?=\$)"), rule("dollar"))),
+    "dollar": any_of(text(rf"\${either('T TEST')}(?![A-Za-z(])", "operand"),
+                     *[function(words, *values(*counts)) for words, counts in OF_VALUES.items()],
+                     *[function(words, inner("variable"), *([perhaps(all_of(text(",", "more"), inner("expression")))] if most else []))
+                       for words, most in OF_VARIABLE.items()],
+                     function("S SELECT", listed(all_of(inner("expression"), text(":", "colon"), inner("expression"))))),
+    "variable": any_of(
+        all_of(text(NAME, "variable"), rule("subscripts")),
+        all_of(text(r"\^(?!\()", "variable"), perhaps(all_of(text(r"\|"), inner("expression"), text(r"\|", "bar"))), text(NAME, "name"), rule("subscripts")),
+        all_of(text(r"\^(?=\()"), rule("subscripts")),
+        all_of(OPERAND, perhaps(all_of(text(r"@(?=\()"), rule("subscripts"))))),
+    "subscripts": perhaps(all_of(text(r"\("), listed(inner("expression")), text(r"\)", "close"))),
+}
+# The tables of all languages that the server speaks.
+LANGUAGES: dict[int, dict[str, Step]] = {0: RULES}
+Mark = tuple[str, int, int]
+
+
+@dataclass(slots=True)
+class Outcome:
+    """How far a text was read: where it ends, which is -1 if it is not in the grammar; the place of the fault, what was wanted there; where
+    the command before it begins; and the marks."""
+
+    end: int = -1
+    place: int = 0
+    wanted: frozenset[str] = frozenset()
+    command: int = 0
+    marks: tuple[Mark, ...] = ()
+
+
+class Reader:
+    """Reads texts by a table. Each step becomes a function from a place and a depth to the place after it, or -1."""
+
+    def __init__(self, rules: dict[str, Step]) -> None:
+        self._line = ""
+        self._place, self._wanted = 0, set[str]()
+        self._marks: list[Mark] = []
+        self._begun: set[int] = set()
+        self._made: dict[str, Callable[[int, int], int]] = {}
+        for name, step in rules.items():
+            self._made[name] = self._step(step)
+
+    def read(self, line: str, name: str = "line", at: int = 0) -> Outcome:
+        """What a rule makes of a text from a place on."""
+        self._line, self._place, self._wanted, self._marks, self._begun = line, at, set(), [], {at}
+        end = self._made[name](at, DEPTH)
+        before = max((place for place in self._begun if place <= self._place), default=at)
+        return Outcome(end, self._place, frozenset(self._wanted), before, tuple(self._marks))
+
+    def _step(self, step: Step) -> Callable[[int, int], int]:
+        kind, *parts = step
+        return getattr(self, f"_{kind}")(*parts)
+
+    def _text(self, pattern: str, wanted: str) -> Callable[[int, int], int]:
+        match = re.compile(pattern, re.ASCII).match
+
+        def run(at: int, _: int) -> int:
+            found = match(self._line, at)
+            if found is not None:
+                return found.end()
+            self._missed(at, wanted)
+            return -1
+        return run
+
+    def _missed(self, at: int, wanted: str) -> None:
+        """Notes what was wanted, if no place further on was reached."""
+        if at > self._place:
+            self._place, self._wanted = at, set()
+        if at == self._place and wanted:
+            self._wanted.add(wanted)
+
+    def _all(self, *steps: Step) -> Callable[[int, int], int]:
+        made = [self._step(step) for step in steps]
+
+        def run(at: int, depth: int) -> int:
+            for step in made:
+                at = step(at, depth)
+                if at < 0:
+                    return -1
+            return at
+        return run
+
+    def _any(self, *steps: Step) -> Callable[[int, int], int]:
+        made = [self._step(step) for step in steps]
+
+        def run(at: int, depth: int) -> int:
+            count = len(self._marks)
+            for step in made:
+                end = step(at, depth)
+                if end >= 0:
+                    return end
+                del self._marks[count:]
+            return -1
+        return run
+
+    def _many(self, step: Step) -> Callable[[int, int], int]:
+        made = self._step(step)
+
+        def run(at: int, depth: int) -> int:
+            while True:
+                count = len(self._marks)
+                end = made(at, depth)
+                if end < 0:
+                    del self._marks[count:]
+                    return at
+                at = end
+        return run
+
+    def _rule(self, name: str) -> Callable[[int, int], int]:
+        return lambda at, depth: self._made[name](at, depth)
+
+    def _inner(self, name: str) -> Callable[[int, int], int]:
+        def run(at: int, depth: int) -> int:
+            if depth == 0:
+                self._missed(at, "depth")
+                return -1
+            return self._made[name](at, depth - 1)
+        return run
+
+    def _mark(self, name: str, step: Step) -> Callable[[int, int], int]:
+        made = self._step(step)
+
+        def run(at: int, depth: int) -> int:
+            end = made(at, depth)
+            if end >= 0:
+                self._marks.append((name, at, end))
+                if name == "command":
+                    self._begun.add(at)
+            return end
+        return run

@@ -1,0 +1,37 @@
+# SPDX-License-Identifier: Apache-2.0
+"""Texts that look like lines of M, drawn at random: rows of its parts, right ones and wrong ones, and lines of routines with a fault put in."""
+from __future__ import annotations
+
+from random import Random
+
+PARTS = [
+    "S ", "SET ", "W ", "I ", "E  ", "F ", "F  ", "Q", "Q  ", "Q:", "D ", "D  ", "K ", "N ", "X ", "L ", "G ", "H", "h ", "set ", "zz", "SE",
+    "A", "B1", "%X", "A(1)", "^A", "^B(1)", "^(1)", '^|"X"|A', "@A", "@A@(1)", "@", "^R", "A^R", "A" * 31, "A" * 32, "(", ")", "(1)", "(A,B)", ",", ":", "=",
+    '"a"', '"a""b"', '"', "1", ".5", "1.5E3", "1E", "1e3", ".", "..", "{", "+", "-", "'", "*", "/", "\\", "#", "_", "<", ">", "[", "]", "]]", "&", "!", "?1N",
+    '?.A1"x"', "?", "?5.", "?12345N", "'?", "$T", "$TEST", "$t", "$L(A)", '$P(A,",",2)', "$P(", "$O(^A(1),-1)", "$D(A)", "$D(1)", "$S(A:1,1:2)", "$S(", "$E(A,1)",
+    "$J(1,2)", "$C(65)", '$TR(A,"a","b")', "$G(A,1)", "$$F", "$H", "$", " ", "  ", ";x", "\t", "L +A:0", "!!", "W !,", "S A=", "S (A,B)=", "K (A)", "N (A)",
+    "D A^R:A,^B", "I A=1 ", "F I=1:1:3 ", "X @A:1", "D @A", "L +(A,^B)", "(" * 39, "@" * 20,
+]
+
+
+def drawn_texts(draw: Random, lines: list[str], count: int) -> list[str]:
+    """So many texts that fit into a line of the wire after `Q  `."""
+    found = []
+    while len(found) < count:
+        text = row(draw) if draw.random() < .5 or not lines else changed(draw, draw.choice(lines))
+        if len(text) <= 250 and not set(text) & set("\n\r\0"):
+            found.append(text)
+    return found
+
+
+def row(draw: Random) -> str:
+    """Parts in a row."""
+    return "".join(draw.choice(PARTS) for _ in range(draw.randint(0, 9)))
+
+
+def changed(draw: Random, line: str) -> str:
+    """A line with a part put in, or in the place of some characters; or as it is."""
+    if draw.random() < .3:
+        return line
+    place = draw.randint(0, len(line))
+    return line[:place] + draw.choice(PARTS) + line[place + draw.randint(0, 2):]

@@ -1,0 +1,153 @@
+# SPDX-License-Identifier: Apache-2.0
+"""Where a line leaves the language, why, and what to write instead; and that the verdicts are the server's."""
+from __future__ import annotations
+
+import glob
+import os
+import re
+from pathlib import Path
+from random import Random
+
+import pytest
+import running
+from conftest import CLIENTS, Command, Server
+from drawn_texts import drawn_texts
+from mserve_client import language
+from mserve_client.causes import CAUSES, Cause
+from mserve_client.checking import GUARD, Kind, check, findings
+from mserve_client.routine_files import Source, source_line
+
+GTM = sorted(glob.glob("/usr/lib/*/fis-gtm/V*"))
+# The lines of the examples, and of the clinic's routines.
+OWN = [path.read_text() for path in sorted((CLIENTS.parent / "examples").rglob("*")) if path.suffix in (".m", ".txt")]
+# So many characters of a text fit into a line of the wire with what is put before it.
+ROOM = 255 - len(GUARD)
+# So many lines go to one run of the program.
+AT_ONCE = 2000
+
+
+def rests(texts: list[str]) -> list[str]:
+    """The lines of routines without labels and dots, each once, of those that a line of the wire has room for and that are ASCII."""
+    found = {source_line(line.removesuffix("\r")).rest for text in texts for line in text.split("\n")}
+    return sorted(line for line in found if line.isascii() and len(line) <= ROOM and not set(line) & set("\r\0"))
+
+
+def served(lines: list[str]) -> list[bool]:
+    """Whether the server takes each of these lines: it reads it, and stops before it."""
+    answers: list[str] = []
+    for start in range(0, len(lines), AT_ONCE):
+        status, output, told = running.run("".join(f"1 {GUARD}{line}\n" for line in lines[start:start + AT_ONCE]).encode())
+        assert (status, told) == (0, b"")
+        answers += output.decode().splitlines()
+    assert len(answers) == len(lines) and set(answers) <= {"1.", "1!ZSYNTAX"}
+    return [answer == "1." for answer in answers]
+
+
+def disagreed(lines: list[str]) -> list[str]:
+    """The lines of which the module says another thing than the server."""
+    return [line for line, taken in zip(lines, served(lines), strict=True) if (language.fault(line) is None) is not taken]
+
+
+def test_drawn_texts_have_the_servers_verdicts(times: int) -> None:
+    """A thousand, and with `--count 20` twenty thousand; a sixth of them at least is in the language, and a fifth is not."""
+    lines = drawn_texts(Random(71), rests(OWN), 1000 * times)
+    assert disagreed(lines) == []
+    taken = sum(language.fault(line) is None for line in lines)
+    assert len(lines) / 6 < taken < len(lines) * 4 / 5
+
+
+@pytest.mark.skipif(not GTM and not os.environ.get("CI"), reason="GT.M is not there: apt-get install fis-gtm")
+def test_lines_of_gtms_routines_have_the_servers_verdicts(times: int) -> None:
+    """All lines; of the two routines of 48,072 lines every fiftieth, and with `--count 20` all."""
+    texts = [Path(path).read_bytes().decode("latin1") for path in sorted(glob.glob(f"{GTM[-1]}/*.m") + glob.glob(f"{GTM[-1]}/*/*.m"))]
+    lines = rests([text for text in texts if text.count("\n") < 2000])
+    large = rests([text for text in texts if text.count("\n") >= 2000])[::1 if times >= 20 else 50]
+    assert len(lines) > 3000 and len(large) > 500
+    assert disagreed(lines + large) == []
+
+
+@pytest.mark.parametrize("cause", CAUSES, ids=[f"{cause.name}-{number}" for number, cause in enumerate(CAUSES)])
+def test_each_cause_is_told_of_its_example(cause: Cause) -> None:
+    """The server refuses the example, and it is told by its own name."""
+    found = language.fault(cause.example)
+    assert found is not None and (found.name, found.advice) == (cause.name, cause.advice)
+
+
+def test_the_server_refuses_each_example() -> None:
+    assert served([cause.example for cause in CAUSES]) == [False] * len(CAUSES)
+
+
+@pytest.mark.parametrize(("line", "marked", "name"), [
+    ("W 1 2", "W 1^ 2", "two expressions need a comma, or two commands one space"), ("D F(1)", "D F^(1)", "parameters"), ("W $$F(1)", "W ^$$F(1)", "an extrinsic function"),
+    ('write "hello', 'write ^"hello', "a string without its closing quote"), ("foo", "^foo", "no command has this name"), ("W $HOROLOG", "W ^$HOROLOG", "$HOROLOG"),
+    ("MERGE A=B", "^MERGE A=B", "MERGE"), ("ZWRITE", "^ZWRITE", "a Z command"), ("S X=1 R X", "S X=1 ^R X", "READ"), ("D LAB^", "D LAB^^", "a name is missing"),
+    ("K ^A(1", "K ^A(1^", "a ) is missing"), ('Q:X="" W X', 'Q:X=""^ W X', "two spaces follow a command without arguments"),
+    ('F I=1:1:3 Q:I=2 W "x"', 'F I=1:1:3 Q:I=2^ W "x"', "two spaces follow a command without arguments"), ("Q X", "Q ^X", "QUIT with a value"),
+    ('s yy=$zd($h,"YEAR")', 's yy=^$zd($h,"YEAR")', "a $Z function or variable"), ("S A=1,B=$F($ZV,1)", "S A=1,B=$F(^$ZV,1)", "a $Z function or variable"),
+    ('set x=$translate($zconvert(x,"U"),"L")', 'set x=$translate(^$zconvert(x,"U"),"L")', "a $Z function or variable"), ("S A=$H,$X=0", "S A=^$H,$X=0", "$HOROLOG"),
+    ("S A=1,$X=0", "S A=1,^$X=0", "SET of a special variable"), ("I A(1, 2)=3", "I A(1,^ 2)=3", "a space within an argument"), ("W 1 W", "W 1 W^", "an argument is missing"),
+    ('W "a b $$" W $$X', 'W "a b $$" W ^$$X', "an extrinsic function"), ("S X=1\tW X", "S X=1^\tW X", "a tab"), ("W Müller", "W M^üller", "a character over 127"),
+    ("B=2", "^B=2", "a SET without its word"), ("W 1  Q 5", "W 1  Q ^5", "QUIT with a value"), ("F I=1:1 Q:I>3  H 5", "F I=1:1 Q:I>3  H ^5", "HANG"),
+])
+def test_place_and_cause(line: str, marked: str, name: str) -> None:
+    """The place is that of the fault, which the second text has marked by a ^ of its own."""
+    found = language.fault(line)
+    assert found is not None
+    assert (line[:found.place] + "^" + line[found.place:], found.name) == (marked, name)
+
+
+def test_fault_as_a_person_sees_it() -> None:
+    found = language.fault("W 1 2")
+    assert found is not None and language.pointed("W 1 2", found) == ["W 1 2", "   ^ ZSYNTAX: two expressions need a comma, or two commands one space"]
+
+
+def test_language_that_is_not_there() -> None:
+    with pytest.raises(ValueError, match="there is no language 1: mserve speaks 0"):
+        language.fault("W 1", 1)
+
+
+def test_language_of_a_check(server: Server, command: Command, tmp_path: Path) -> None:
+    (tmp_path / "A.m").write_text("A Q\n")
+    assert command("mroutine", server.port, 1, "check", "--language", "0", "A.m").status == 0
+    assert "invalid choice: 1" in command("mroutine", server.port, 1, "check", "--language", "1", "A.m").told
+
+
+def source(name: str, *lines: str) -> Source:
+    """A routine of these lines."""
+    return Source(f"{name}.m", name, [source_line(line) for line in lines])
+
+
+def told(server: Server, *sources: Source) -> list[tuple[str, int, int, Kind]]:
+    """What is found in routines: the name, the line, the column and the kind."""
+    with server.connection() as connection:
+        return [(one.name, finding.line, finding.column, finding.kind) for one, found in findings(connection, list(sources)) for finding in found]
+
+
+def test_labels_and_routines_that_are_not_there(server: Server) -> None:
+    with server.connection() as connection:
+        connection.send('S ^ROUTINE("THERE",1)="ADD Q",^ROUTINE("THERE",2)=" Q"')
+    checked = source("A", "A D ONE,TWO,ADD^THERE,SUB^THERE,^THERE,^NOWHERE", "ONE G TWO:X", " D:X ADD^B,NO^B,^A,a^A", ' X "D THREE" D @X', " . D FOUR ;D FIVE", " D SIX W 1 2")
+    assert told(server, checked, source("B", "B Q", "ADD Q")) == [
+        ("A", 1, 9, Kind.MISSING), ("A", 1, 23, Kind.MISSING), ("A", 1, 40, Kind.MISSING), ("A", 2, 7, Kind.MISSING), ("A", 3, 12, Kind.MISSING), ("A", 3, 20, Kind.MISSING),
+        ("A", 5, 6, Kind.MISSING), ("A", 6, 4, Kind.MISSING), ("A", 6, 11, Kind.REFUSED)]
+
+
+@pytest.mark.parametrize(("line", "columns"), [
+    (" L +^A", [4]), (" L ^A,B", [4, 7]), (" L +(^A,B)", [4]), (" L +^A:5", [4]), (" L +^A:T,-^A", [4]), (" L +^A:0", []), (" L -^A", []), (" L", []), (" L @A", []), (" W 1 ;L +^A", []),
+    (' W "L +^A"', []), (" LOCK +^A(1):0  E  Q", []), (' L +^A(":")', [4]),
+])
+def test_locks_that_wait_in_m(server: Server, line: str, columns: list[int]) -> None:
+    with server.connection() as connection:
+        assert [(finding.column, finding.kind) for finding in check(connection, [source_line(line)])] == [(column, Kind.WARNING) for column in columns]
+
+
+def test_check_tells_all_kinds_at_once(server: Server, command: Command, tmp_path: Path) -> None:
+    """A character over 127 is one finding among others, and warnings alone leave the status as it is."""
+    (tmp_path / "A.m").write_bytes("A ; Ärger\n D NONE W 1 2\n L +^X\n D NONE\n".encode() + b" ;\xe9\n")
+    (tmp_path / "B.m").write_text("B L +^X\n")
+    ran = command("mroutine", server.port, 1, "check", "A.m", "B.m")
+    lines = ran.output.encode("latin1").decode().splitlines()
+    assert [re.match(r"\w\.m:\d+:\d+", line)[0] for line in lines if line[0] != " " and ":" in line[:4]] == ["A.m:1:5", "A.m:2:4", "A.m:2:12", "A.m:3:4", "A.m:4:4", "A.m:5:3", "B.m:1:5"]
+    assert lines[-1] == "2 files, 6 lines: 3 lines not in the language; 2 of what a DO or a GOTO names is not there; 2 warnings"
+    ran = command("mroutine", server.port, 1, "check", "B.m")
+    assert (ran.output.splitlines()[-1], ran.status) == ("1 file, 1 line: all in the language; 1 warning", 0)

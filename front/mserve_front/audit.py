@@ -2,14 +2,14 @@
 """The audit log: who did what, when, from where and at which terminal, as JSON lines. Texts of lines stand in it only if asked for."""
 from __future__ import annotations
 
+import contextlib
 import json
 import os
-import time
 from datetime import UTC, datetime
 from pathlib import Path
 
 from .metrics import Metrics
-from .server import tell
+from .server import Fault
 
 
 class NoAudit(Exception):
@@ -17,18 +17,21 @@ class NoAudit(Exception):
 
 
 class Audit:
-    """The log at a path, or none. Each record is handed to the system by one write."""
+    """The log at a path, or none. Each record is handed to the system by one write. Those of what has happened already are kept if they cannot be
+    written; until they are, `check` fails, so that no line runs unnoted."""
 
     def __init__(self, path: Path | None, metrics: Metrics) -> None:
         """Raises OSError if the file cannot be written."""
         self._path = path
         self._metrics = metrics
-        self._told = 0.0
+        self._kept: list[bytes] = []
+        self._fault = Fault(f"{path}: the audit log cannot be written: {{}}: nobody signs on, and no line goes on until it can",
+                            f"{path}: the audit log is written again")
         self._descriptor = -1
         self.reopen()
 
     def reopen(self) -> None:
-        """Opens the file anew, after it was moved away."""
+        """Opens the file again, after it was moved away."""
         if self._path is not None:
             descriptor = os.open(self._path, os.O_WRONLY | os.O_APPEND | os.O_CREAT | os.O_CLOEXEC, 0o600)
             self.close()
@@ -41,20 +44,55 @@ class Audit:
             self._descriptor = -1
 
     def note(self, event: str, **what: object) -> None:
-        """Writes a record. Raises `NoAudit` if that fails."""
+        """Writes a record. Raises `NoAudit` if that fails, or if earlier ones still wait."""
+        if self._path is not None:
+            self.check()
+            self._write(_packed(event, what))
+
+    def note_later(self, event: str, **what: object) -> None:
+        """Writes a record of what has happened; if that fails, once it can be written."""
         if self._path is None:
             return
-        record = {"time": datetime.now(UTC).isoformat(timespec="milliseconds"), "event": event, **what}
-        data = json.dumps(record).encode() + b"\n"
+        data = _packed(event, what)
+        if not self._kept:
+            with contextlib.suppress(NoAudit):
+                self._write(data)
+                return
+        self._kept.append(data)
+
+    @property
+    def waiting(self) -> int:
+        """How many records could not be written yet."""
+        return len(self._kept)
+
+    def check(self) -> None:
+        """Raises `NoAudit` as long as records could not be written."""
+        if self._kept and not self.mend():
+            raise NoAudit(self._fault.text)
+
+    def mend(self) -> bool:
+        """Writes the records that were kept, and says whether none is left."""
         try:
-            if os.write(self._descriptor, data) != len(data):
+            while self._kept:
+                self._write(self._kept[0])
+                self._kept.pop(0)
+        except NoAudit:
+            return False
+        self._fault.goes()
+        return True
+
+    def _write(self, data: bytes) -> None:
+        """Appends a record, or nothing: a part of one is taken back."""
+        try:
+            written = os.write(self._descriptor, data)
+            if written != len(data):
+                os.ftruncate(self._descriptor, os.fstat(self._descriptor).st_size - written)
                 raise OSError("the disk is full")
         except OSError as error:
-            self._fault(error)
+            self._metrics.audit_faults += 1
+            self._fault.comes(error)
             raise NoAudit(str(error)) from error
 
-    def _fault(self, error: OSError) -> None:
-        self._metrics.audit_faults += 1
-        if time.monotonic() - self._told > 60:
-            self._told = time.monotonic()
-            tell(f"{self._path}: the audit log cannot be written: {error}")
+
+def _packed(event: str, what: dict[str, object]) -> bytes:
+    return json.dumps({"time": datetime.now(UTC).isoformat(timespec="milliseconds"), "event": event, **what}).encode() + b"\n"

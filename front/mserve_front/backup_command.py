@@ -3,14 +3,18 @@
 from __future__ import annotations
 
 import argparse
+import json
 import shutil
+import tempfile
+import time
 from collections.abc import Callable
 from pathlib import Path
 
-from . import ending
+from . import ending, journal_command
 from .control import Refused, asked
 from .ending import DEFAULT, FAILED, FOUND, USAGE
-from .folders import sync_folder
+from .figures import VERIFIED
+from .folders import sync_folder, write_whole
 from .settings import BadSettings, Table, journal_settings, read_toml
 from .snapshots import BadSnapshot, Manifest, accounts_of, check, differ, finish, put_back, read_manifest
 
@@ -35,8 +39,16 @@ def words() -> argparse.ArgumentParser:
     one.add_argument("--config", type=Path, default=Path(DEFAULT), metavar="FILE", help=f"the settings of the front (default {DEFAULT})")
     one.add_argument("--end-sessions", action="store_true",
                      help="end all sessions between the same two lines, as a restart does: a snapshot is exact if no session is open")
+    one.add_argument("--all", action="store_true", help="with --end-sessions: write all that the store holds into the journal there, so that a standby "
+                     "whose store differs goes on from it")
     one = add("check", checked, "check a snapshot", "Its store has to be sound, and to hold what was noted.")
     one.add_argument("snapshot", type=Path, metavar="SNAPSHOT")
+    one = add("verify", verified, "verify the latest snapshot of a folder by a replay", "The exact snapshot before it, or nothing if there is none, is put "
+              "into a scratch store, and the journal is run from there to the line of the latest one: each reply is compared, and what each account holds then. It "
+              "is noted beside the snapshots, for the front's figures.")
+    one.add_argument("folder", type=Path, metavar="FOLDER")
+    one.add_argument("--config", type=Path, default=Path(DEFAULT), metavar="FILE", help=f"the settings of the front (default {DEFAULT})")
+    one.add_argument("--scratch", type=Path, metavar="FOLDER", help="where the scratch store is made (default: the folder of snapshots)")
     one = add("compare", compared, "compare a store that nobody has open with a snapshot", "As after mjournal replay up to the snapshot's line.")
     one.add_argument("snapshot", type=Path, metavar="SNAPSHOT")
     one.add_argument("store", type=Path, metavar="STORE")
@@ -53,7 +65,10 @@ def take(options: argparse.Namespace) -> int:
     tables = read_toml(options.config)
     users = Table(options.config, "users", tables.get("users", {})).needed_file("file")
     control = journal_settings(Table(options.config, "journal", tables.get("journal", {})), users.parent).control
-    found = asked(control, {"ask": "snapshot", "folder": str(options.folder.absolute()), "anew": options.end_sessions}, None)
+    if options.all and not options.end_sessions:
+        raise BadSettings("--all is for a snapshot at which all sessions end: add --end-sessions")
+    request = {"ask": "snapshot", "folder": str(options.folder.absolute()), "anew": options.end_sessions, "all": options.all}
+    found = asked(control, request, None)
     part = Path(str(found["part"]))
     try:
         made = finish(part, Manifest(int(found["journal"]), int(found["number"]), str(found["time"]), list(found["open"])))
@@ -91,6 +106,33 @@ def checked(options: argparse.Namespace) -> int:
     return 0
 
 
+def verified(options: argparse.Namespace) -> int:
+    """Verifies the latest snapshot by a replay."""
+    found = snapshots_of(options.folder)
+    if not found:
+        raise BadSnapshot(f"{options.folder}: there is no snapshot")
+    latest = found[-1]
+    manifest = check(latest)
+    before = next((path for path in reversed(found[:-1]) if read_manifest(path).exact), None)
+    began = time.monotonic()
+    with tempfile.TemporaryDirectory(prefix=".verify-", dir=options.scratch or options.folder) as scratch:
+        store = Path(scratch) / "store"
+        words = ["--config", str(options.config), "replay", "--store", str(store), "--to", str(manifest.number)]
+        status = journal_command.does([*words, *(["--from", str(before)] if before else [])])
+        if status or not store.exists():
+            raise BadSnapshot(f"{latest}: the journal up to line {manifest.number} could not be replayed from {before or 'its beginning'}: status {status}")
+        differ(latest, manifest.accounts, accounts_of(store))
+    note = {"line": manifest.number, "at": time.time(), "from": before.name if before else ""}
+    write_whole(options.folder / VERIFIED, json.dumps(note).encode() + b"\n")
+    print(f"{latest}: good: a replay from {before or 'the beginning of the journal'} holds the same, in {time.monotonic() - began:.1f} s: {told(manifest)}")
+    return 0
+
+
+def snapshots_of(folder: Path) -> list[Path]:
+    """The snapshots of a folder, by their lines."""
+    return sorted(path for path in folder.iterdir() if path.name.isdigit())
+
+
 def compared(options: argparse.Namespace) -> int:
     """Compares a store with a snapshot."""
     manifest = read_manifest(options.snapshot)
@@ -110,9 +152,8 @@ def restored(options: argparse.Namespace) -> int:
 
 def listed(options: argparse.Namespace) -> int:
     """Lists snapshots."""
-    for path in sorted(options.folder.iterdir()):
-        if path.name.isdigit():
-            print(f"{path}: {told(read_manifest(path))}")
+    for path in snapshots_of(options.folder):
+        print(f"{path}: {told(read_manifest(path))}")
     return 0
 
 

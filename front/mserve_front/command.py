@@ -5,20 +5,27 @@ from __future__ import annotations
 import argparse
 import asyncio
 import getpass
+import os
 import sys
+import time
 from collections.abc import Callable
 from pathlib import Path
 
 from . import ending
 from .control import Refused, asked
+from .faults import TAKEN
+from .figures import of_standby
+from .passwords import LEAST
 from .server import NoStart, tell
 from .settings import BadSettings, Settings, Table, journal_settings, read_settings, read_terminals, read_toml
-from .users import LEAST, NAME, BadUsers, User, changed, load, new_token, password_hash
+from .users import NAME, BadUsers, User, changed, load, new_token, password_hash
 
 DEFAULT = "/etc/mserve/front.toml"
 USAGE, FAILED, INTERRUPTED = 2, 3, 130
 # Seconds for an answer of a front that runs.
 CONTROL = 60.0
+# Seconds between two promotions that are asked for.
+AGAIN = 0.1
 STATUSES = "Status: 0 all went well; 2 the words, the settings or the users' file are wrong; 3 the server does not start, or a port is taken, or " \
            "the standby stops or is not promoted; 130 an interrupt."
 
@@ -56,7 +63,7 @@ def _user_words(commands: argparse._SubParsersAction, shared: argparse.ArgumentP
     one.add_argument("account", metavar="ACCOUNT")
     one.set_defaults(act=add_user)
     one = add("passwd", parents=[shared], epilog=STATUSES, help="give a user another password",
-              description=f"Gives a user another password, and ends what was signed on by the old one. {secret}")
+              description=f"Gives a user another password, removes the user's tokens, and ends all of the user's sessions. {secret}")
     one.add_argument("name", metavar="NAME")
     one.set_defaults(act=change_password)
     one = add("remove", parents=[shared], epilog=STATUSES, description="Removes a user with all tokens, and signs them off.", help="remove a user")
@@ -84,9 +91,14 @@ def _token_words(commands: argparse._SubParsersAction, shared: argparse.Argument
 def _journal_words(commands: argparse._SubParsersAction, shared: argparse.ArgumentParser) -> None:
     one = commands.add_parser("status", parents=[shared], epilog=STATUSES, help="say where a front with a journal, or a standby, is",
                               description="Says of a front that keeps a journal, or of a standby, at which line it is, and how far behind the leader.")
+    one.add_argument("--metrics", action="store_true", help="in the text format of Prometheus, for a collector of text files")
     one.set_defaults(act=told_status)
     one = commands.add_parser("promote", parents=[shared], epilog=STATUSES, help="have a standby serve",
-                              description="Has a standby take the journal, run all that was answered, and serve. Refused while another front has the journal.")
+                              description="Has a standby take the journal, run all that was answered, and serve. Refused while another front has the "
+                              "journal, and if a line that was answered would be lost.")
+    one.add_argument("--wait", type=float, default=0.0, metavar="SECONDS", help="ask again, for so long, while another front has the journal: start this, and "
+                     "then stop the leader, so that nobody serves for a moment alone")
+    one.add_argument("--force", action="store_true", help="take the journal from a front that has it, and serve though lines are lost: these are printed")
     one.set_defaults(act=promote)
 
 
@@ -126,20 +138,38 @@ def serve(options: argparse.Namespace) -> None:
             if promoted is None:
                 return
         await Service(settings, promoted).run()
+    # What is made is for this user alone, however the front was started.
+    os.umask(0o077)
     ending.run(run())
 
 
 def told_status(options: argparse.Namespace) -> None:
     """Prints where a front is."""
     found = asked(control_of(options), {"ask": "status"}, CONTROL)
+    if options.metrics:
+        print(of_standby(found), end="")
+        return
     print(", ".join(f"{key} {value}" for key, value in found.items() if value != ""))
 
 
 def promote(options: argparse.Namespace) -> None:
     """Has a standby serve."""
-    found = asked(control_of(options), {"ask": "promote"}, None)
+    found = _promoted(control_of(options), options.force, time.monotonic() + options.wait)
     unsent = found["not run"]
+    for text in found["lost"]:
+        print(f"lost: {text}")
     print(f"promoted after line {found['line']}, in {found['seconds']} s" + (f"; not run: {', '.join(map(str, unsent))}" if unsent else ""))
+
+
+def _promoted(control: Path, force: bool, until: float) -> dict[str, object]:
+    """The answer of a standby that is promoted; while another front has the journal it is asked again, up to a moment. Raises `Refused`."""
+    while True:
+        try:
+            return asked(control, {"ask": "promote", "force": force}, None)
+        except Refused as error:
+            if TAKEN not in str(error) or time.monotonic() > until:
+                raise
+        time.sleep(AGAIN)
 
 
 def control_of(options: argparse.Namespace) -> Path:
@@ -157,6 +187,10 @@ def checked(options: argparse.Namespace) -> None:
     async def made() -> Service:
         return Service(settings)
     asyncio.run(made())
+    for key, path in (("server.store", settings.store and Path(settings.store)), ("listen.key", settings.key), ("audit.file", settings.audit),
+                      ("journal.folder", settings.journal.folder)):
+        if path is not None and path.exists() and path.stat().st_mode & 0o007:
+            raise BadSettings(f"{options.config}: {key}: {path}: every user of the machine may read it: chmod o= {path}")
     print(f"{options.config}: good: {len(load(settings.users))} users, {sum(map(len, settings.terminals.values()))} terminals")
 
 
@@ -177,7 +211,7 @@ def add_user(options: argparse.Namespace) -> None:
         raise BadUsers(f"{options.name!r} is no name: 1 to 64 letters, digits and . _ @ -, the first a letter or a digit")
     if not read_terminals(settings).get(options.account):
         raise BadUsers(f"{options.account} is no account with terminals in {settings}")
-    hashed = password_hash(read_password())
+    hashed = password_hash(read_password(), options.name)
     with changed(path) as users:
         if options.name in users:
             raise BadUsers(f"{path}: user {options.name} is there already")
@@ -185,12 +219,12 @@ def add_user(options: argparse.Namespace) -> None:
 
 
 def change_password(options: argparse.Namespace) -> None:
-    """Gives a user another password."""
+    """Gives a user another password. Who knew the old one may have made tokens by it, so these are removed."""
     path, _ = users_file(options)
     known(load(path), path, options.name)
-    hashed = password_hash(read_password())
+    hashed = password_hash(read_password(), options.name)
     with changed(path) as users:
-        known(users, path, options.name).hash = hashed
+        known(users, path, options.name).changed(hashed)
 
 
 def remove_user(options: argparse.Namespace) -> None:

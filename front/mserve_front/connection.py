@@ -10,6 +10,7 @@ from typing import TypeVar
 
 from mserve_client import BadReply
 
+from . import enclosure
 from .replies import Answer, ReplyReader
 
 HOST = "127.0.0.1"
@@ -68,10 +69,16 @@ class Connection(asyncio.Protocol):
 Kind = TypeVar("Kind", bound=Connection)
 
 
-async def joined(port: int, made: Callable[[], Kind], process: asyncio.subprocess.Process | None, patient: bool = True) -> Kind:
+async def joined(port: int, made: Callable[[], Kind], process: asyncio.subprocess.Process | None, patient: bool = True, enclosed: bool = False) -> Kind:
     """A connection to a server, which may be starting: the opening of a store takes time. Raises `NoStart` if its process ends, and at once if
-    nobody listens, unless it is `patient`."""
+    nobody listens, unless it is `patient`. `enclosed` says that it is in a network of its own."""
     loop, pause = asyncio.get_running_loop(), FIRST_PAUSE
+    if enclosed and process is not None:
+        there = await enclosure.connected(process.pid, port)
+        if there is None:
+            await process.wait()
+            raise NoStart(f"it ended with status {process.returncode} before it served")
+        return (await loop.create_connection(made, sock=there))[1]
     while True:
         if process is not None and process.returncode is not None:
             raise NoStart(f"it ended with status {process.returncode} before it served")

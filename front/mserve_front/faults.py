@@ -3,6 +3,10 @@
 from __future__ import annotations
 
 
+# What is said of a journal that another front has.
+TAKEN = "another front writes this journal"
+
+
 class NoJournal(Exception):
     """The line was not sent: the journal cannot be written."""
 

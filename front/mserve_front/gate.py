@@ -8,56 +8,85 @@ from __future__ import annotations
 import asyncio
 import contextlib
 import json
-import re
 import ssl
 from collections.abc import Awaitable, Callable
-from dataclasses import dataclass
+from typing import NamedTuple
 
-from .doors import OPTIONS
+from .doors import CHUNK, Door, Doors
+from .http_head import END, BadRequest, Head, read_head
 from .islands import Islands
+from .preamble import preamble
 from .server import HOST
 from .users import token_hash
-from .web import GATE
 
-# Bytes of a head and of a body, and seconds for them to come, for a connection to be made, and for a handshake.
-HEAD, BODY, COMING, REACHING, HANDSHAKE = 16_384, 65_536, 20.0, 5.0, 10.0
-MOST = 4000
-CHUNK = 1 << 16
+# Bytes of a head and of a body, and seconds for them to come, and for a connection to be made.
+HEAD, BODY, COMING, REACHING = 8192, 8192, 20.0, 5.0
 COOKIE, INNER = "__Host-mfront", "mfront"
 HTTP, LINES = "http", "lines"
-REQUEST = re.compile(rb"(GET|POST) (/[!-~]*) HTTP/1\.1", re.ASCII)
-FIELD = re.compile(rb"([!#$%&'*+.^_`|~0-9A-Za-z-]+):[ \t]*([\t -~\x80-\xff]*?)[ \t]*", re.ASCII)
-REASONS = {400: "Bad Request", 404: "Not Found", 413: "Content Too Large", 503: "Service Unavailable"}
+# What is carried: nothing else of an island's front is for users.
+CARRIED = {"/": "GET", "/session": "GET", "/ws": "GET", "/health": "GET", "/signon": "POST", "/signoff": "POST", "/line": "POST", "/password": "POST"}
+PAGE, FIGURES = "/page/", "/metrics/"
+REASONS = {400: "Bad Request", 404: "Not Found", 405: "Method Not Allowed", 413: "Content Too Large", 431: "Request Header Fields Too Large",
+           503: "Service Unavailable"}
+AWAY = "it cannot be reached now: try again"
 Streams = tuple[asyncio.StreamReader, asyncio.StreamWriter]
-Serve = Callable[[asyncio.StreamReader, asyncio.StreamWriter], Awaitable[None]]
 # What ends a connection, and nothing else.
 BROKEN = (OSError, ValueError, KeyError, TypeError, asyncio.IncompleteReadError, asyncio.LimitOverrunError)
 
 
 class Away(Exception):
-    """An island cannot be reached now."""
+    """An island cannot be reached now. Which one it is, is not for users."""
+
+    def __str__(self) -> str:
+        return AWAY
 
 
-class BadRequest(Exception):
-    """What came is no request that is carried: its status and why."""
+class Request(NamedTuple):
+    """A request of HTTP: its head and its body."""
 
-    def __init__(self, status: int, why: str) -> None:
-        super().__init__(why)
-        self.status = status
-
-
-@dataclass(frozen=True, slots=True)
-class Request:
-    """A request of HTTP: its method, its target, its fields in order, and its body."""
-
-    method: str
-    target: str
-    fields: tuple[tuple[str, str], ...]
+    head: Head
     body: bytes
 
-    def field(self, name: str) -> str:
-        """The value of a field; empty if there is none."""
-        return next((value for key, value in self.fields if key.lower() == name), "")
+
+class Outer:
+    """A connection of a user, of which more is read as it is wanted."""
+
+    def __init__(self, reader: asyncio.StreamReader, writer: asyncio.StreamWriter, door: Door, doors: Doors) -> None:
+        self._reader = reader
+        self.writer = writer
+        self._door = door
+        self._doors = doors
+
+    @property
+    def address(self) -> str:
+        """Where the user comes from."""
+        return self._door.address
+
+    def lasts(self) -> None:
+        """What was to come first is there: its time is the front's matter from now on."""
+        self._door.open()
+
+    def known(self) -> None:
+        """The front knows the user: the connection is not among those that end first."""
+        self._doors.is_known(self._door)
+
+    async def until(self, end: bytes) -> bytes:
+        """What comes up to an end. Raises as `StreamReader.readuntil` does."""
+        self._door.more()
+        return await self._reader.readuntil(end)
+
+    async def exactly(self, size: int) -> bytes:
+        """So many bytes, and no more than are read at once."""
+        self._door.more()
+        return await self._reader.readexactly(size)
+
+    async def read(self) -> bytes:
+        """What has come; empty at the end."""
+        self._door.more()
+        return await self._reader.read(CHUNK)
+
+
+Serve = Callable[[Outer], Awaitable[None]]
 
 
 class Gate:
@@ -68,7 +97,6 @@ class Gate:
         self._name = name
         self._islands = islands
         self._peers = peers
-        self._count = 0
 
     # ---- where to
 
@@ -79,17 +107,18 @@ class Gate:
         return island or self._any()
 
     def of_request(self, request: Request) -> str:
-        """The island of a request: of a cookie, a sign-on or a token; else one that has the page. Raises `BadRequest`."""
-        if request.target == "/signon":
+        """The island of a request: of a cookie, a sign-on or a token, or the one whose figures are wanted; else one that has the page."""
+        head = request.head
+        if head.target == "/signon":
             try:
                 return self.of_user(str(json.loads(request.body)["user"]))
             except (ValueError, KeyError, TypeError, RecursionError):
                 return self._any()
-        if request.target == "/line":
-            secret = request.field("authorization").partition(" ")[2].strip()
+        secret = head.field("authorization").partition(" ")[2].strip()
+        if head.target == "/line" or head.target == "/ws" and secret:
             return self.of_user(self._islands.of_token.get(token_hash(secret), ""))
-        island = cookies_of(request).get(COOKIE, "").partition(".")[0]
-        return island if island in self._islands.placed else self._any()
+        named = head.target.removeprefix(FIGURES) if head.target.startswith(FIGURES) else head.cookies().get(COOKIE, "").partition(".")[0]
+        return named if named in self._islands.placed else self._any()
 
     def _any(self) -> str:
         """An island of this machine, or of another one."""
@@ -99,113 +128,131 @@ class Gate:
             raise Away("no island is placed yet")
         return found
 
-    async def reach(self, island: str, kind: str) -> Streams:
-        """A connection to an island's front. Raises `Away`."""
+    async def reach(self, island: str, kind: str, address: str) -> Streams:
+        """A connection to an island's front, which knows the user's address. Raises `Away`."""
         placed = self._islands.placed.get(island)
         try:
             async with asyncio.timeout(REACHING):
                 if placed is None:
-                    raise Away(f"there is no island {island}")
+                    raise Away
                 if placed.machine == self._name:
-                    return await self._here(island, kind)
+                    return await self._here(island, kind, address)
                 machine = self._islands.machines[placed.machine]
-                reader, writer = await asyncio.open_connection(machine.host, machine.port, ssl=self._peers, server_hostname=machine.name)
-                watched(writer)
-                writer.write(json.dumps({"island": island, "kind": kind}).encode() + b"\n")
+                reader, writer = await asyncio.open_connection(machine.host, machine.port, ssl=self._peers, server_hostname=machine.name, limit=HEAD)
+                writer.write(json.dumps({"island": island, "kind": kind, "from": address}).encode() + b"\n")
                 if await reader.readline() != b"here\n":
                     writer.close()
-                    raise Away(f"{island} is on its way to another machine: try again")
+                    raise Away
                 return reader, writer
         except (OSError, TimeoutError, KeyError) as error:
-            raise Away(f"{island} cannot be reached now: try again") from error
+            raise Away from error
 
-    async def _here(self, island: str, kind: str) -> Streams:
+    async def _here(self, island: str, kind: str, address: str) -> Streams:
         port = self._islands.port(island, kind)
         if port is None:
-            raise Away(f"{island} is on its way to another machine: try again")
-        return await asyncio.open_connection(HOST, port)
+            raise Away
+        inner = await asyncio.open_connection(HOST, port, limit=HEAD)
+        inner[1].write(preamble(self._islands.secret, address))
+        return inner
 
     # ---- the ways in
 
-    async def serve_peer(self, reader: asyncio.StreamReader, writer: asyncio.StreamWriter) -> None:
+    async def serve_peer(self, outer: Outer) -> None:
         """Another machine hands a user on. It has shown its certificate."""
         async with asyncio.timeout(COMING):
-            asked = json.loads(await reader.readline())
+            asked = json.loads(await outer.until(b"\n"))
+        outer.lasts()
         try:
-            inner = await self._here(str(asked["island"]), str(asked["kind"]))
+            inner = await self._here(str(asked["island"]), str(asked["kind"]), str(asked["from"]))
         except (Away, OSError):
-            writer.write(b"away\n")
+            outer.writer.write(b"away\n")
             return
-        writer.write(b"here\n")
-        await spliced((reader, writer), inner)
+        outer.writer.write(b"here\n")
+        await spliced(outer, inner)
 
-    async def serve_lines(self, reader: asyncio.StreamReader, writer: asyncio.StreamWriter) -> None:
+    async def serve_lines(self, outer: Outer) -> None:
         """A program: its first line begins with its user's name."""
         async with asyncio.timeout(COMING):
-            first = await reader.readuntil(b"\n")
+            first = await outer.until(b"\n")
+        outer.lasts()
         try:
-            inner = await self.reach(self.of_user(first.partition(b" ")[0].decode("utf-8", "replace")), LINES)
+            inner = await self.reach(self.of_user(first.partition(b" ")[0].decode("utf-8", "replace")), LINES, outer.address)
         except Away as error:
-            writer.write(json.dumps({"error": str(error)}).encode() + b"\n")
+            outer.writer.write(json.dumps({"error": str(error)}).encode() + b"\n")
             return
-        inner[1].write(address_of(writer).encode() + b"\n" + first)
-        await spliced((reader, writer), inner)
+        try:
+            inner[1].write(first)
+            answer = await inner[0].readuntil(b"\n")
+            if "error" not in json.loads(answer):
+                outer.known()
+            outer.writer.write(answer)
+            await spliced(outer, inner)
+        finally:
+            inner[1].close()
 
-    async def serve_http(self, reader: asyncio.StreamReader, writer: asyncio.StreamWriter) -> None:
-        """A browser, or a program with a token: one request for each connection."""
+    async def serve_http(self, outer: Outer) -> None:
+        """A browser, or a program with a token: one request for each connection. What comes after it is carried on only if both sides have become a
+        WebSocket by it."""
         try:
             async with asyncio.timeout(COMING):
-                request = await read_request(reader)
+                request = await read_request(outer)
+            outer.lasts()
             island = self.of_request(request)
-            inner = await self.reach(island, HTTP)
+            inner = await self.reach(island, HTTP, outer.address)
         except BadRequest as error:
-            writer.write(refusal(error.status, str(error)))
+            outer.writer.write(refusal(error.status, str(error)))
             return
         except Away as error:
-            writer.write(refusal(503, str(error)))
+            outer.writer.write(refusal(503, str(error)))
             return
-        inner[1].write(written_request(request, address_of(writer)))
+        upgrades = request.head.target == "/ws" and request.head.upgrades
         try:
-            head = await inner[0].readuntil(b"\r\n\r\n")
+            inner[1].write(written_request(request, upgrades))
+            head = await inner[0].readuntil(END)
+            outer.writer.write(written_answer(head, island))
+            if upgrades and head.startswith(b"HTTP/1.1 101 "):
+                outer.known()
+                await spliced(outer, inner)
+            else:
+                await carried(lambda: inner[0].read(CHUNK), outer.writer)
         except (asyncio.IncompleteReadError, asyncio.LimitOverrunError):
-            writer.write(refusal(503, f"{island} ended before it answered: try again"))
+            outer.writer.write(refusal(503, AWAY))
+        finally:
             inner[1].close()
-            return
-        writer.write(written_answer(head, island))
-        await spliced((reader, writer), inner)
 
-    def kept(self, serve: Serve) -> Serve:
-        """A way in whose connections are counted and closed; one that breaks, or is too slow, is left."""
-        async def guarded(reader: asyncio.StreamReader, writer: asyncio.StreamWriter) -> None:
-            self._count += 1
-            try:
-                if self._count > MOST:
-                    raise ConnectionAbortedError
-                watched(writer)
-                await serve(reader, writer)
-                await writer.drain()
-            except BROKEN:
-                writer.transport.abort()
-            finally:
-                self._count -= 1
-                writer.close()
-        return guarded
-
-
-def watched(writer: asyncio.StreamWriter) -> None:
-    """Has a peer noticed that is gone without a word."""
-    for level, option, value in OPTIONS:
-        writer.get_extra_info("socket").setsockopt(level, option, value)
+    def door(self, serve: Serve, lasting: bool) -> Callable[[Doors, str, Callable[[Door], None]], Door]:
+        """What makes the door of a way in. A connection that breaks, or is too slow, is left; `lasting` says that it is one of another machine."""
+        def made(doors: Doors, place: str, left: Callable[[Door], None]) -> Door:
+            async def guarded(reader: asyncio.StreamReader, writer: asyncio.StreamWriter) -> None:
+                try:
+                    outer = Outer(reader, writer, door, doors)
+                    if lasting:
+                        outer.known()
+                    await serve(outer)
+                    await writer.drain()
+                except BROKEN:
+                    writer.transport.abort()
+                finally:
+                    writer.close()
+            reader = asyncio.StreamReader(limit=HEAD)
+            # The time counts for the handshake; what comes after it has its own.
+            door = Door(asyncio.StreamReaderProtocol(reader, guarded), doors.deadline(), place, left)
+            door.ready = lambda: len(reader._buffer) > HEAD
+            return door
+        return made
 
 
-async def spliced(outer: Streams, inner: Streams) -> None:
+async def carried(read: Callable[[], Awaitable[bytes]], writer: asyncio.StreamWriter) -> None:
+    """Carries bytes one way, up to their end."""
+    with contextlib.suppress(ConnectionError, ssl.SSLError, TimeoutError):
+        while data := await read():
+            writer.write(data)
+            await writer.drain()
+
+
+async def spliced(outer: Outer, inner: Streams) -> None:
     """Carries bytes both ways until one side has ended."""
-    async def carry(reader: asyncio.StreamReader, writer: asyncio.StreamWriter) -> None:
-        with contextlib.suppress(ConnectionError, ssl.SSLError, TimeoutError):
-            while data := await reader.read(CHUNK):
-                writer.write(data)
-                await writer.drain()
-    tasks = [asyncio.create_task(carry(outer[0], inner[1])), asyncio.create_task(carry(inner[0], outer[1]))]
+    tasks = [asyncio.create_task(carried(outer.read, inner[1])), asyncio.create_task(carried(lambda: inner[0].read(CHUNK), outer.writer))]
     try:
         await asyncio.wait(tasks, return_when=asyncio.FIRST_COMPLETED)
     finally:
@@ -214,47 +261,32 @@ async def spliced(outer: Streams, inner: Streams) -> None:
         inner[1].close()
 
 
-async def read_request(reader: asyncio.StreamReader) -> Request:
+async def read_request(outer: Outer) -> Request:
     """A request, with its body. Raises `BadRequest`."""
     try:
-        lines = (await reader.readuntil(b"\r\n\r\n"))[:-4].split(b"\r\n")
+        head = read_head(await outer.until(END), BODY)
     except asyncio.LimitOverrunError:
-        raise BadRequest(413, "the head of the request is too long") from None
-    first, fields = REQUEST.fullmatch(lines[0]), [FIELD.fullmatch(line) for line in lines[1:]]
-    if first is None or None in fields:
-        raise BadRequest(400, "this is no request that the service has")
-    found = tuple((field[1].decode("ascii"), field[2].decode("latin1")) for field in fields)
-    request = Request(first[1].decode(), first[2].decode(), found, b"")
-    length = request.field("content-length") or "0"
-    if request.field("transfer-encoding") or not length.isascii() or not length.isdigit():
-        raise BadRequest(400, "a body has to come with its length")
-    if int(length) > BODY:
-        raise BadRequest(413, "the body is too long")
-    return Request(request.method, request.target.partition("?")[0], found, await reader.readexactly(int(length)))
+        raise BadRequest(431, "the head of the request is too long") from None
+    target = head.target.partition("?")[0]
+    wanted = "GET" if target.startswith((PAGE, FIGURES)) else CARRIED.get(target)
+    if wanted is None:
+        raise BadRequest(404, "Not Found")
+    if head.method != wanted:
+        raise BadRequest(405, "Method Not Allowed")
+    return Request(Head(head.method, target, head.fields, head.length), await outer.exactly(head.length))
 
 
-def cookies_of(request: Request) -> dict[str, str]:
-    """The cookies of a request."""
-    parts = (part.strip().partition("=") for part in request.field("cookie").split(";"))
-    return {name: value for name, _, value in parts}
-
-
-def address_of(writer: asyncio.StreamWriter) -> str:
-    """Where a user comes from."""
-    return str(writer.get_extra_info("peername")[0])
-
-
-def written_request(request: Request, address: str) -> bytes:
-    """A request as an island's front reads it: the cookie is its own, the connection is for this request alone, and the user's address is told."""
-    lines = [f"{request.method} {request.target} HTTP/1.1"]
-    upgrade = request.field("upgrade")
-    for name, value in request.fields:
-        if name.lower() not in ("cookie", "connection", "keep-alive", GATE.lower()):
-            lines.append(f"{name}: {value}")
-    if key := cookies_of(request).get(COOKIE, "").partition(".")[2]:
+def written_request(request: Request, upgrades: bool) -> bytes:
+    """A request as an island's front reads it: the cookie is its own, the connection is for this request alone, and nothing of it is a gate's."""
+    head = request.head
+    target = "/metrics" if head.target.startswith(FIGURES) else head.target
+    lines = [f"{head.method} {target} HTTP/1.1"]
+    left_out = ("cookie", "connection", "keep-alive", "forwarded") + (() if upgrades else ("upgrade",))
+    lines += [f"{name}: {value}" for name, value in head.fields if name.lower() not in left_out and not name.lower().startswith(("x-mgate-", "x-forwarded-"))]
+    if key := head.cookies().get(COOKIE, "").partition(".")[2]:
         lines.append(f"Cookie: {INNER}={key}")
-    lines += [f"Connection: {'Upgrade' if upgrade else 'close'}", f"{GATE}: {address}"]
-    return "\r\n".join(lines).encode("latin1") + b"\r\n\r\n" + request.body
+    lines.append(f"Connection: {'Upgrade' if upgrades else 'close'}")
+    return "\r\n".join(lines).encode("latin1") + END + request.body
 
 
 def written_answer(head: bytes, island: str) -> bytes:

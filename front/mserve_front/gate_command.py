@@ -12,34 +12,46 @@ from collections.abc import Callable
 from dataclasses import dataclass
 from pathlib import Path
 
+from mserve_client import ClientError
+
 from . import ending
-from .doors import spare_memory
+from .doors import Doors, spare_memory
 from .ending import FAILED, USAGE
-from .gate import HANDSHAKE, HEAD, Gate
+from .gate import Gate
+from .init import make_islands, write_machine
 from .islands import Home, Islands
 from .journal import LogFault
-from .placement import NAME, BadPlacement, Machine, Placement
+from .placement import NAME, BadPlacement, LocalPlacement, Machine, Placed, Placement
 from .server import tell
-from .settings import BadSettings, Table, read_toml
+from .settings import PROGRAM, BadSettings, Limits, Table, read_toml
 from .users import BadUsers
 
 DEFAULT = "/etc/mserve/machine.toml"
 STATUSES = "Status: 0 all went well; 2 the words or the settings are wrong, or the placement refuses it; 3 a port is taken, or the database is away; " \
            "130 an interrupt."
 TABLES = ("machine", "listen", "peers")
+# Connections of users, and those of other machines: a gate computes no passwords, and so has room for more than a front.
+MOST = 3500
 
 
 @dataclass(frozen=True, slots=True)
 class Doorway:
-    """Where the gate listens, and with which certificates."""
+    """Where the gate listens, and with which certificates; a machine that is alone has no peers."""
 
     host: str
     port: int
     lines_port: int
     certificate: Path
     key: Path
-    peers_certificate: Path
-    peers_key: Path
+    peers: Peers | None
+
+
+@dataclass(frozen=True, slots=True)
+class Peers:
+    """What this machine shows others, and wants of them."""
+
+    certificate: Path
+    key: Path
     authority: Path
 
 
@@ -61,6 +73,17 @@ def words() -> argparse.ArgumentParser:
     one.add_argument("island", metavar="ISLAND")
     one.add_argument("settings", type=Path, metavar="SETTINGS")
     one.add_argument("machine", metavar="MACHINE")
+    one = add("change", change, "give an island other settings", "It has all accounts that it had, and may have more. The island's front is started again, and "
+              "its users' sessions end; those of other islands go on.")
+    one.add_argument("island", metavar="ISLAND")
+    one.add_argument("settings", type=Path, metavar="SETTINGS")
+    one = add("init", init, "make the islands of a machine that is alone", "Splits a settings file and its store by islands: each account is with those that a "
+              "grant ties it to. Each island gets a process, a store and a journal of its own. No server may have the store; it stays as it is.")
+    one.add_argument("settings", type=Path, metavar="SETTINGS")
+    one.add_argument("store", type=Path, metavar="STORE")
+    one.add_argument("--front", type=Path, metavar="FILE", help="if there are no settings of the machine: make them from those of a front")
+    one.add_argument("--to", type=Path, default=Path("/var/lib/mserve/islands"), metavar="FOLDER",
+                     help="where the islands are kept then (default /var/lib/mserve/islands)")
     one = add("move", move, "move an island to another machine", "Its users work on until the other machine has caught up; then their sessions end, and they "
               "sign on again.")
     one.add_argument("island", metavar="ISLAND")
@@ -79,12 +102,13 @@ def settings_of(options: argparse.Namespace) -> tuple[Home, Doorway]:
     if name is None or not NAME.fullmatch(name):
         raise machine.fault("name", "is to be 1 to 32 letters, digits, _ and -, as in the certificate for other machines")
     database = machine.text("database")
-    if database is None:
-        raise machine.fault("database", "is missing: the database of the placement and of the journals")
-    home = Home(Machine(name, str(host), _port(peers, "port")), machine.needed_file("folder"), machine.needed_file("users"), database,
-                str(machine.file("program", Path("/usr/bin/mserve"))), tuple(listen.texts("origins", [])))
-    doorway = Doorway(str(host), _port(listen, "port"), _port(listen, "lines_port"), listen.needed_file("certificate"), listen.needed_file("key"),
-                      peers.needed_file("certificate"), peers.needed_file("key"), peers.needed_file("authority"))
+    if database is None and "peers" in tables:
+        raise machine.fault("database", "is missing: the database of the placement and of the journals. A machine that is alone has no [peers]")
+    port = _port(peers, "port") if database is not None else 0
+    home = Home(Machine(name, str(host), port), machine.needed_file("folder"), machine.needed_file("users"), database,
+                str(machine.file("program", PROGRAM)), tuple(listen.texts("origins", [])))
+    others = None if database is None else Peers(peers.needed_file("certificate"), peers.needed_file("key"), peers.needed_file("authority"))
+    doorway = Doorway(str(host), _port(listen, "port"), _port(listen, "lines_port"), listen.needed_file("certificate"), listen.needed_file("key"), others)
     for table in (machine, listen, peers):
         table.end()
     return home, doorway
@@ -97,24 +121,29 @@ def _port(table: Table, key: str) -> int:
     return found
 
 
-def contexts(doorway: Doorway) -> tuple[ssl.SSLContext, ssl.SSLContext, ssl.SSLContext]:
+def contexts(doorway: Doorway) -> tuple[ssl.SSLContext, ssl.SSLContext | None, ssl.SSLContext | None]:
     """What users see, what other machines see, and what this one shows them: each of the two has to have a certificate of the authority."""
     spare_memory()
-    made = []
-    for purpose, certificate, key in ((ssl.PROTOCOL_TLS_SERVER, doorway.certificate, doorway.key),
-                                      (ssl.PROTOCOL_TLS_SERVER, doorway.peers_certificate, doorway.peers_key),
-                                      (ssl.PROTOCOL_TLS_CLIENT, doorway.peers_certificate, doorway.peers_key)):
-        context = ssl.SSLContext(purpose)
-        context.minimum_version = ssl.TLSVersion.TLSv1_2
-        try:
-            context.load_cert_chain(certificate, key, lambda: "")
-            if certificate == doorway.peers_certificate:
-                context.verify_mode = ssl.CERT_REQUIRED
-                context.load_verify_locations(doorway.authority)
-        except (OSError, ssl.SSLError, ValueError) as error:
-            raise BadSettings(f"{certificate}, {key} or {doorway.authority} cannot be used: {getattr(error, 'reason', None) or error}") from error
-        made.append(context)
-    return made[0], made[1], made[2]
+    users, peers = context_of(ssl.PROTOCOL_TLS_SERVER, doorway.certificate, doorway.key), doorway.peers
+    if peers is None:
+        return users, None, None
+    inward, outward = (context_of(purpose, peers.certificate, peers.key, peers.authority) for purpose in (ssl.PROTOCOL_TLS_SERVER, ssl.PROTOCOL_TLS_CLIENT))
+    return users, inward, outward
+
+
+def context_of(purpose: int, certificate: Path, key: Path, authority: Path | None = None) -> ssl.SSLContext:
+    """A context of TLS; with an authority the other side has to have a certificate of it. Raises `BadSettings`."""
+    context = ssl.SSLContext(purpose)
+    context.minimum_version = ssl.TLSVersion.TLSv1_2
+    try:
+        context.load_cert_chain(certificate, key)
+        if authority is not None:
+            context.verify_mode = ssl.CERT_REQUIRED
+            context.load_verify_locations(authority)
+    except (OSError, ssl.SSLError, ValueError) as error:
+        files = ", ".join(str(path) for path in (certificate, key, authority) if path is not None)
+        raise BadSettings(f"{files} cannot be used: {getattr(error, 'reason', None) or error}") from error
+    return context
 
 
 def serve(options: argparse.Namespace) -> None:
@@ -130,30 +159,60 @@ async def _serve(home: Home, doorway: Doorway) -> None:
     for number in (signal.SIGTERM, signal.SIGINT):
         ending.hear(number, stopping.set)
     users, inward, outward = contexts(doorway)
-    islands = Islands(home, Placement(home.database))
+    islands = Islands(home, placed_of(home))
     gate = Gate(home.machine.name, islands, outward)
     await islands.begin()
-    keeping, servers = asyncio.create_task(islands.run()), []
+    # Other machines' connections have doors of their own, so that users' take none of theirs.
+    outside, between = Doors(Limits(connections=MOST), users, {}), Doors(Limits(connections=MOST, connections_of_address=MOST), inward, {})
+    keeping = [asyncio.create_task(islands.run()), asyncio.create_task(swept(outside, between))]
     try:
-        for serve, port, context in ((gate.serve_http, doorway.port, users), (gate.serve_lines, doorway.lines_port, users),
-                                     (gate.serve_peer, home.machine.port, inward)):
-            servers.append(await asyncio.start_server(gate.kept(serve), doorway.host, port, ssl=context, limit=HEAD, ssl_handshake_timeout=HANDSHAKE))
+        outside.listen(doorway.host, doorway.port, gate.door(gate.serve_http, False))
+        outside.listen(doorway.host, doorway.lines_port, gate.door(gate.serve_lines, False))
+        if inward is not None:
+            between.listen(doorway.host, home.machine.port, gate.door(gate.serve_peer, True))
         tell(f"{home.machine.name}: serving at https://{doorway.host}:{doorway.port}/, lines at port {doorway.lines_port}")
         await stopping.wait()
     finally:
-        for server in servers:
-            server.close()
-        keeping.cancel()
-        with contextlib.suppress(asyncio.CancelledError):
-            await keeping
+        outside.close()
+        between.close()
+        for task in keeping:
+            task.cancel()
+            with contextlib.suppress(asyncio.CancelledError):
+                await task
         await islands.end()
 
 
-def placement_of(options: argparse.Namespace) -> Placement:
+async def swept(*doors: Doors) -> None:
+    """Once a second ends the connections of which nothing came in time."""
+    while True:
+        await asyncio.sleep(1)
+        for one in doors:
+            one.sweep()
+
+
+def placed_of(home: Home) -> Placed:
+    """Where the islands are noted: in the database, or in the folder of a machine that is alone."""
+    return LocalPlacement(home.folder, home.machine) if home.database is None else Placement(home.database)
+
+
+def placement_of(options: argparse.Namespace) -> Placed:
     """The placement that the settings name."""
-    placement = Placement(settings_of(options)[0].database)
+    placement = placed_of(settings_of(options)[0])
     placement.make()
     return placement
+
+
+def init(options: argparse.Namespace) -> None:
+    """Makes the islands of a machine that is alone."""
+    if options.front is not None and not options.config.exists():
+        write_machine(options.config, options.front, options.to)
+    home, _ = settings_of(options)
+    if home.database is not None:
+        raise BadSettings(f"{options.config}: machine.database: is for several machines: leave it out, or place each island by mgate place")
+    for part in make_islands(home, options.settings, options.store):
+        print(part)
+
+
 
 
 def listed(options: argparse.Namespace) -> None:
@@ -165,13 +224,22 @@ def listed(options: argparse.Namespace) -> None:
         print(f"island {island.name} {island.machine} {island.state}{f' {island.target}' if island.target else ''} {' '.join(island.accounts)}")
 
 
+def text_of(path: Path) -> str:
+    """The text of a settings file. Raises `BadPlacement`."""
+    try:
+        return path.read_text(encoding="utf-8")
+    except (OSError, UnicodeDecodeError) as error:
+        raise BadPlacement(f"{path}: cannot be read: {getattr(error, 'strerror', None) or error}") from error
+
+
 def place(options: argparse.Namespace) -> None:
     """Puts a new island on a machine."""
-    try:
-        text = options.settings.read_text(encoding="utf-8")
-    except (OSError, UnicodeDecodeError) as error:
-        raise BadPlacement(f"{options.settings}: cannot be read: {getattr(error, 'strerror', None) or error}") from error
-    placement_of(options).put(options.island, text, options.machine)
+    placement_of(options).put(options.island, text_of(options.settings), options.machine)
+
+
+def change(options: argparse.Namespace) -> None:
+    """Gives an island other settings."""
+    placement_of(options).change(options.island, text_of(options.settings))
 
 
 def move(options: argparse.Namespace) -> None:
@@ -182,4 +250,4 @@ def move(options: argparse.Namespace) -> None:
 def main() -> int:
     """The status of the command."""
     options = words().parse_args(namespace=argparse.Namespace(config=Path(DEFAULT), act=serve))
-    return ending.ended("mgate", options, {BadSettings: USAGE, BadUsers: USAGE, BadPlacement: USAGE, LogFault: FAILED})
+    return ending.ended("mgate", options, {BadSettings: USAGE, BadUsers: USAGE, BadPlacement: USAGE, LogFault: FAILED, ClientError: FAILED})

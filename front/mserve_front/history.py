@@ -5,7 +5,7 @@ from __future__ import annotations
 from collections.abc import Iterable, Iterator
 from dataclasses import dataclass
 
-from .records import BadJournal, Flush, LineRecord, ReplyRecord, StartRecord
+from .records import BadJournal, BeginRecord, Flush, Held, LineRecord, ReplyRecord, RowsRecord, StartRecord
 
 # Codes after which a line may have written a first part of what it was to write, and its session is gone.
 CUT_SHORT = ("ZMEM", "ZSTORE")
@@ -21,13 +21,23 @@ class Answered:
 
 @dataclass(frozen=True, slots=True)
 class Began:
-    """All sessions began anew, after the line `answered` had its reply. `unknown` are later lines that may have been run or not, `unsent` those that
-    were not."""
+    """All sessions began anew, after the line `answered` had its reply, or 0 if no reply was read yet. `unknown` are later lines that may have been run or
+    not, `unsent` those that were not. `rows` are the parts of the store that come with the start, if what these lines did is told."""
 
-    start: StartRecord
+    start: BeginRecord | StartRecord
     answered: int
     unknown: tuple[LineRecord, ...]
     unsent: tuple[LineRecord, ...]
+    rows: tuple[bytes, ...] = ()
+
+    @property
+    def held(self) -> Held:
+        """What the store held then. A start of version 1 says it less well: a store that was put back to a line before `answered` is UNKNOWN there too."""
+        if isinstance(self.start, BeginRecord):
+            return self.start.held
+        if self.start.fresh:
+            return Held.ALL
+        return Held.RUN if self.start.base is not None and self.start.base >= self.answered else Held.UNKNOWN
 
 
 Event = Answered | Began
@@ -41,6 +51,7 @@ class History:
         self._anywhere = after is None
         self._after = self.at = self.last = after or 0
         self._waiting: dict[int, LineRecord] = {}
+        self._rows: list[bytes] = []
 
     def take(self, flushes: Iterable[Flush]) -> Iterator[Event]:
         """What flushes add. Raises `BadJournal` if lines are missing."""
@@ -54,6 +65,8 @@ class History:
                 elif isinstance(record, ReplyRecord):
                     if record.number > self.at:
                         yield self._answered(record)
+                elif isinstance(record, RowsRecord):
+                    self._part(record)
                 elif record.number > self._after:
                     yield self._began(record)
 
@@ -79,13 +92,25 @@ class History:
         self.at = number
         return Answered(self._waiting.pop(number), reply)
 
-    def _began(self, start: StartRecord) -> Began:
+    def _part(self, record: RowsRecord) -> None:
+        """Notes rows for the start that comes. The first part takes the place of those of a start that never came."""
+        if record.part == 0:
+            self._rows.clear()
+        if record.part == len(self._rows):
+            self._rows.append(record.rows)
+
+    def _began(self, start: BeginRecord | StartRecord) -> Began:
         self._forget(start.number)
         self._expect(start.number)
-        answered, self.at = self.at, self.last
+        # A reader that has read no reply yet may begin with a store that stands after this start, as one of a snapshot does.
+        answered, self.at = self.at if self.at > self._after else 0, self.last
         lines, self._waiting = list(self._waiting.values()), {}
         unknown = tuple(line for line in lines if line.number <= start.sent)
-        return Began(start, answered, unknown, tuple(lines[len(unknown):]))
+        rows, self._rows = tuple(self._rows), []
+        wanted = start.parts if isinstance(start, BeginRecord) else 0
+        if len(rows) < wanted:
+            raise BadJournal(f"the start before line {start.number} has {wanted} parts of the store, and {len(rows)} are there")
+        return Began(start, answered, unknown, tuple(lines[len(unknown):]), rows[:wanted])
 
     def _forget(self, number: int) -> None:
         """Forgets lines from a number on."""

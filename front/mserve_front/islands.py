@@ -7,6 +7,7 @@ from __future__ import annotations
 import asyncio
 import contextlib
 import json
+import os
 import shutil
 import signal
 import sys
@@ -16,7 +17,8 @@ from pathlib import Path
 
 from .control import Refused, asked
 from .folders import write_whole
-from .placement import HERE, LEFT, MOVING, READY, TAKING, Island, Machine, Placement
+from .placement import HERE, LEFT, MOVING, READY, TAKING, Island, Machine, Placed
+from .preamble import new_secret
 from .server import Fault, free_port, tell, tied
 from .standing import place_of, read_standing
 from .users import Users, load, save
@@ -34,23 +36,24 @@ COMMAND = Path(__file__).resolve().parent.parent / "mfront"
 
 @dataclass(frozen=True, slots=True)
 class Home:
-    """Where a machine keeps its islands, and what all their fronts have in common."""
+    """Where a machine keeps its islands, and what all their fronts have in common. Without a database their journals are in folders beside their stores."""
 
     machine: Machine
     folder: Path
     users: Path
-    database: str
+    database: str | None
     program: str
     origins: tuple[str, ...]
 
 
 @dataclass(eq=False, slots=True)
 class House:
-    """The front of an island: its ports, its process, and whether it stands by."""
+    """The front of an island: its ports, its process, whether it stands by, and its server's settings."""
 
     island: str
     ports: dict[str, int]
     follows: bool
+    settings: str
     pause: float = PAUSE
     process: asyncio.subprocess.Process | None = None
     began: float = field(default_factory=time.monotonic)
@@ -61,13 +64,15 @@ class Islands:
     """Keeps the fronts of this machine as the placement says. `placed` and `machines` are what it said last; `of_account` has the island of an account,
     and `of_token` the user of a token's hash."""
 
-    def __init__(self, home: Home, placement: Placement) -> None:
+    def __init__(self, home: Home, placement: Placed) -> None:
         self._home = home
         self._placement = placement
         self._houses: dict[str, House] = {}
         self._users: Users = {}
         self._seen = 0
         self._fault = Fault("the islands stay as they are: {}", "the placement can be read again")
+        # What this machine's gate and its fronts have in common, and nobody else.
+        self.secret = new_secret()
         self.placed: dict[str, Island] = {}
         self.machines: dict[str, Machine] = {}
         self.of_account: dict[str, str] = {}
@@ -147,13 +152,15 @@ class Islands:
         """Starts the front of an island, if it does not run."""
         house = self._houses.get(island.name)
         if house is not None and house.process is not None and house.process.returncode is None:
-            if house.follows == follows:
+            if house.follows == follows and house.settings == island.settings:
                 return
+            if house.settings != island.settings:
+                tell(f"island {island.name} is started again, with other settings")
             await self._ended(island.name)
         elif house is not None and time.monotonic() - house.began < house.pause:
             return
         pause = PAUSE if house is None or time.monotonic() - house.began > 2 * LONGEST else min(2 * house.pause, LONGEST)
-        house = House(island.name, {"http": free_port(), "lines": free_port()}, follows, pause)
+        house = House(island.name, {"http": free_port(), "lines": free_port()}, follows, island.settings, pause)
         self._houses[island.name] = house
         if follows:
             put_aside(self._folder(island.name) / "store")
@@ -177,6 +184,11 @@ class Islands:
         try:
             found = await asyncio.to_thread(asked, self._folder(name) / "mfront.control", {"ask": "status"}, ANSWER)
         except Refused:
+            return False
+        if found.get("differs") is True:
+            # Its store is of no use, and nobody looks after it: it begins with the journal.
+            tell(f"island {name}: the standby begins with the journal: {found['fault']}")
+            await self._ended(name)
             return False
         # Where users never rest there is always a line to come: the few that are left are run at the promotion.
         return found["state"] == "standby" and found["fault"] == "" and int(str(found["behind"])) <= NEAR
@@ -208,11 +220,15 @@ class Islands:
         folder, home = self._folder(island.name), self._home
         folder.mkdir(mode=0o700, parents=True, exist_ok=True)
         write_whole(folder / "settings.toml", island.settings.encode())
+        write_secret(folder / "gate.secret", self.secret)
+        if not (folder / "metrics.token").exists():
+            write_secret(folder / "metrics.token", new_secret())
         self._write_users(island)
         tables = {"server": {"program": home.program, "settings": "settings.toml", "store": "store"},
-                  "listen": {"port": house.ports["http"], "lines_port": house.ports["lines"], "origins": list(home.origins), "gate": True},
-                  "users": {"file": "users.json"}, "audit": {"file": "audit.log"}, "journal": {"database": home.database, "name": island.name},
-                  "limits": {"connections_of_address": 4000}}
+                  "listen": {"port": house.ports["http"], "lines_port": house.ports["lines"], "origins": list(home.origins), "gate": "gate.secret"},
+                  "users": {"file": "users.json"}, "audit": {"file": "audit.log"},
+                  "journal": {"folder": "journal"} if home.database is None else {"database": home.database, "name": island.name},
+                  "metrics": {"token": "metrics.token"}}
         text = "".join(f"[{name}]\n" + "".join(f"{key} = {json.dumps(value)}\n" for key, value in keys.items()) for name, keys in tables.items())
         write_whole(folder / "front.toml", text.encode())
         return folder / "front.toml"
@@ -231,6 +247,12 @@ class Islands:
     def _write_users(self, island: Island) -> None:
         with contextlib.suppress(FileNotFoundError):
             save(self._folder(island.name) / "users.json", {name: user for name, user in self._users.items() if user.account in island.accounts})
+
+
+def write_secret(path: Path, secret: str) -> None:
+    """Writes a secret that its owner alone may read."""
+    with open(os.open(path, os.O_WRONLY | os.O_CREAT | os.O_TRUNC, 0o600), "w", encoding="ascii") as file:
+        file.write(secret + "\n")
 
 
 def put_aside(store: Path) -> None:

@@ -10,15 +10,16 @@ import asyncio
 import contextlib
 import secrets
 import time
-from collections.abc import Callable
+from collections.abc import Callable, Iterator
 from concurrent.futures import ThreadPoolExecutor
 from dataclasses import dataclass
 from typing import Protocol
 
 from .faults import HeldBack, NoJournal
+from .history import CUT_SHORT
 from .lines import HALT, Line
 from .metrics import Metrics
-from .records import Flush, LineRecord, Record, ReplyRecord, StartRecord
+from .records import BeginRecord, Flush, Held, LineRecord, Record, ReplyRecord, RowsRecord
 
 # Seconds between two attempts to write again, and those after which a reply that cannot be noted is given up.
 RETRY, HELD = 1.0, 30.0
@@ -53,8 +54,8 @@ class Tail:
 class Log(Protocol):
     """What keeps flushes. Its calls wait for the disk or the network, and are made from one thread."""
 
-    def take(self) -> Tail:
-        """Takes the journal for this process, and gives its end. Raises `LogTaken`, `LogFault` or `BadJournal`."""
+    def take(self, force: bool = False) -> Tail:
+        """Takes the journal for this process, with `force` from another one, and gives its end. Raises `LogTaken`, `LogFault` or `BadJournal`."""
 
     def append(self, flush: Flush) -> None:
         """Keeps a flush: it is durable once this returns. Raises `LogFault`, or `LogTaken` if another front has the journal by now."""
@@ -75,6 +76,7 @@ class Asked(Protocol):
     terminal: int
     line: Line
     user: str
+    since: float
     number: int
 
 
@@ -108,14 +110,42 @@ class _Reply:
 
 
 @dataclass(slots=True)
+class _Rows:
+    """Rows of the store, for the start that comes."""
+
+    part: int
+    rows: bytes
+    done: asyncio.Future[None]
+
+
+@dataclass(slots=True)
 class _Start:
     """A start: sessions begin anew."""
 
-    base: int | None
-    fresh: bool
+    held: Held
+    base: int
+    parts: int
     settings: bytes
     done: asyncio.Future[None]
     number: int = 0
+
+
+_Entry = _Lines | _Reply | _Rows | _Start
+
+
+class Witness(Protocol):
+    """Notes beside the store what a later start needs to know. `cut` says that a line was cut short, so that its reply does not tell what it wrote."""
+
+    cut: bool
+
+    def sending(self, number: int) -> None:
+        """Lines from this number on are about to be sent."""
+
+    def flushed(self, flush: Flush) -> None:
+        """A flush is durable."""
+
+    def begun(self) -> None:
+        """All sessions have begun anew."""
 
 
 class Journal:
@@ -126,7 +156,7 @@ class Journal:
         self._metrics = metrics
         self._tell = tell
         self._thread = ThreadPoolExecutor(1, thread_name_prefix="journal")
-        self._waiting: list[_Lines | _Reply | _Start] = []
+        self._waiting: list[_Entry] = []
         self._work: asyncio.Task[None] | None = None
         self._time = 0
         self._stepped = False
@@ -141,15 +171,24 @@ class Journal:
         self.answered = 0
         self.open: set[int] = set()
         self.fault: str | None = None
+        # Since when it cannot be written.
+        self.faulty = 0.0
+        self.witness: Witness | None = None
+        self.handed: Callable[[int, float], None] | None = None
         self.taken: asyncio.Future[str] = asyncio.get_running_loop().create_future()
 
-    async def take(self) -> None:
-        """Takes the journal where it ends. Raises `LogTaken`, `LogFault` or `BadJournal`."""
-        tail = await self._in_thread(self._log.take)
+    async def take(self, force: bool = False) -> None:
+        """Takes the journal where it ends, with `force` from another front that has it. Raises `LogTaken`, `LogFault` or `BadJournal`."""
+        tail = await self._in_thread(self._log.take, force)
         self.number, self.sequence, self.next, self.answered, self._time = tail.journal, tail.sequence, tail.next, tail.answered, tail.time
         self.sent, self.before = self.next - 1, tail.writer
         if tail.told:
             self._tell(tail.told)
+
+    @property
+    def waiting(self) -> int:
+        """How many lines and replies wait to be durable."""
+        return sum(len(entry.asks) if isinstance(entry, _Lines) else 1 for entry in self._waiting)
 
     def count_in(self, metrics: Metrics) -> None:
         """Has the figures counted with others from now on."""
@@ -159,14 +198,28 @@ class Journal:
         """Notes up to which line the store has run: the lines after it were not."""
         self.sent = number
 
-    async def begin(self, base: int | None, fresh: bool, settings: bytes) -> None:
-        """Notes that all sessions begin anew. Raises `NoJournal`."""
+    async def begin(self, held: Held, base: int, settings: bytes, parts: Iterator[bytes] = iter(())) -> None:
+        """Notes that all sessions begin anew, and what the store holds then: `parts` are its rows, if these are to be given. Raises `NoJournal`."""
+        count = 0
+        while (part := await asyncio.to_thread(next, parts, None)) is not None:
+            await self._kept(_Rows(count, part, asyncio.get_running_loop().create_future()))
+            count += 1
+        await self._kept(_Start(held, base, count, settings, asyncio.get_running_loop().create_future()))
+
+    async def renew(self, settings: bytes, rows: Iterator[bytes] | None) -> None:
+        """Notes that all sessions begin anew between two lines, with all rows of the store if these are given. Raises `NoJournal`."""
+        if rows is None:
+            await self.begin(Held.RUN, self.next - 1, settings)
+        else:
+            await self.begin(Held.ALL, 0, settings, rows)
+
+    async def _kept(self, entry: _Rows | _Start) -> None:
+        """Waits until an entry is durable. Raises `NoJournal`."""
         if self.fault is not None:
             raise NoJournal(self.fault)
-        start = _Start(base, fresh, settings, asyncio.get_running_loop().create_future())
-        self._waiting.append(start)
+        self._waiting.append(entry)
         self._kick()
-        await start.done
+        await entry.done
 
     def lines(self, carrier: Carrier, asks: list[Asked]) -> None:
         """Has lines sent once they are durable."""
@@ -175,6 +228,8 @@ class Journal:
 
     def reply(self, asked: Asked, digest: bytes, code: str | None, hand: Callable[[], None], drop: Callable[[Exception], None]) -> None:
         """Has a reply handed out once its digest is durable."""
+        if code in CUT_SHORT and self.witness is not None:
+            self.witness.cut = True
         self._waiting.append(_Reply(asked, digest, code or "", hand, drop))
         self._kick()
 
@@ -231,7 +286,7 @@ class Journal:
         finally:
             self._work = None
 
-    async def _flushed(self, batch: list[_Lines | _Reply | _Start]) -> bool:
+    async def _flushed(self, batch: list[_Entry]) -> bool:
         """Makes a batch durable; if that fails, its lines and all that wait are refused, and the rest waits on."""
         before = self.next, self.answered
         began = time.monotonic()
@@ -247,10 +302,12 @@ class Journal:
             self._failed(batch, error)
             return False
         self.sequence += 1
+        if self.witness is not None:
+            self.witness.flushed(flush)
         self._metrics.flushed(len(flush.records), time.monotonic() - began)
         return True
 
-    def _packed(self, batch: list[_Lines | _Reply | _Start]) -> Flush:
+    def _packed(self, batch: list[_Entry]) -> Flush:
         """A flush of a batch, whose lines get their numbers."""
         now = self._now()
         records: list[Record] = []
@@ -263,9 +320,11 @@ class Journal:
             elif isinstance(entry, _Reply):
                 self.answered = entry.asked.number
                 records.append(ReplyRecord(entry.asked.number, entry.digest, entry.code))
+            elif isinstance(entry, _Rows):
+                records.append(RowsRecord(entry.part, entry.rows))
             else:
                 entry.number, self.answered = self.next, self.next - 1
-                records.append(StartRecord(self.next, now, self.sent, entry.base, entry.fresh, entry.settings))
+                records.append(BeginRecord(self.next, now, self.sent, entry.held, entry.base, entry.parts, entry.settings))
         return Flush(self.number, self.sequence + 1, self.next, self.answered, now, records, self.writer)
 
     def _now(self) -> int:
@@ -278,9 +337,11 @@ class Journal:
         self._time = max(self._time, now)
         return self._time
 
-    def _done(self, entry: _Lines | _Reply | _Start) -> None:
+    def _done(self, entry: _Entry) -> None:
         """What was to happen once an entry is durable."""
         if isinstance(entry, _Lines):
+            if self.witness is not None:
+                self.witness.sending(entry.asks[0].number)
             if entry.carrier.go_on(entry.asks):
                 self.sent = entry.asks[-1].number
                 self.open.update(asked.terminal for asked in entry.asks)
@@ -288,13 +349,21 @@ class Journal:
             if entry.asked.line == HALT:
                 self.open.discard(entry.asked.terminal)
             entry.hand()
+            if self.handed is not None:
+                self.handed(entry.asked.terminal, entry.asked.since)
         else:
-            self.sent = entry.number - 1
-            self.open.clear()
+            if isinstance(entry, _Start):
+                self._begun(entry)
             if not entry.done.done():
                 entry.done.set_result(None)
 
-    def _failed(self, batch: list[_Lines | _Reply | _Start], error: Exception) -> None:
+    def _begun(self, start: _Start) -> None:
+        self.sent = start.number - 1
+        self.open.clear()
+        if self.witness is not None:
+            self.witness.begun()
+
+    def _failed(self, batch: list[_Entry], error: Exception) -> None:
         first, self.fault = self.fault is None, str(error)
         if isinstance(error, LogTaken) and not self.taken.done():
             self.taken.set_result(str(error))
@@ -302,11 +371,12 @@ class Journal:
         entries = batch + self._waiting
         self._waiting = [entry for entry in entries if isinstance(entry, _Reply)]
         if first:
+            self.faulty = time.monotonic()
             self._tell(f"the journal cannot be written: {error}: no line goes on until it can")
         for entry in entries:
             if isinstance(entry, _Lines):
                 entry.carrier.refuse(self.fault)
-            elif isinstance(entry, _Start) and not entry.done.done():
+            elif isinstance(entry, _Rows | _Start) and not entry.done.done():
                 entry.done.set_exception(NoJournal(self.fault))
 
     def _mend(self) -> None:

@@ -4,7 +4,9 @@ from __future__ import annotations
 
 import argparse
 import asyncio
+import os
 import re
+import tempfile
 import time
 from collections import Counter, deque
 from collections.abc import Iterator
@@ -20,7 +22,7 @@ from .journal import LogFault
 from .places import end_of, expire, last_line, reader_of
 from .player import Stage, Stopped
 from .records import BadJournal, LineRecord
-from .settings import BadSettings, JournalSettings, Table, journal_settings, read_toml
+from .settings import PROGRAM, BadSettings, JournalSettings, Table, journal_settings, read_toml
 from .snapshots import SETTINGS, BadSnapshot, check, name_store, put_back
 from .standing import Standing, forget_standing
 
@@ -28,6 +30,8 @@ NAME = "mjournal"
 STATUSES = "Status: 0 all went well; 1 something was found: damage, a reply that differs, a line whose effect is not known, or no line that was looked for; " \
            "2 the words or the settings are wrong; 3 it cannot be done; 130 an interrupt."
 TIME = "a time as 2026-11-26T10:15 or 2026-11-26T10:15:30.5+01:00; without an offset it is this machine's"
+# Where files are in memory.
+MEMORY = "/dev/shm"
 # Seconds between two looks at a journal that is being written.
 POLL = 0.2
 
@@ -73,7 +77,7 @@ def _replay_words(one: argparse.ArgumentParser) -> None:
     one.add_argument("--from", dest="snapshot", type=Path, metavar="SNAPSHOT", help="the snapshot to begin with; without it the journal's own beginning")
     one.add_argument("--store", required=True, metavar="FILE", help="the store to make, which is not there yet; memory keeps none")
     one.add_argument("--to", type=_goal, metavar="NUMBER|TIME", help=f"the last line to run, or {TIME} (default: all)")
-    one.add_argument("--program", type=Path, metavar="FILE", help="the server (default: that of the settings, or /usr/bin/mserve)")
+    one.add_argument("--program", type=Path, metavar="FILE", help="the server (default: that of the settings, or /usr/lib/mserve/mserve)")
 
 
 def moment(text: str) -> int:
@@ -244,12 +248,20 @@ def act_replay(options: argparse.Namespace) -> int:
 
 
 async def _replayed(options: argparse.Namespace) -> int:
-    journal, store = journal_of(options), None if options.store == "memory" else Path(options.store).absolute()
+    if options.store != "memory":
+        return await _replayed_into(options, Path(options.store).absolute())
+    # A start may give rows of the store, and only a file takes them: it is one where nothing waits for the disk.
+    with tempfile.TemporaryDirectory(prefix="mjournal-", dir=MEMORY if os.access(MEMORY, os.W_OK) else None) as folder:
+        return await _replayed_into(options, Path(folder) / "store")
+
+
+async def _replayed_into(options: argparse.Namespace, store: Path) -> int:
+    journal = journal_of(options)
     # It has another name until it is what it is to be.
-    part = None if store is None else store.with_name(store.name + ".part")
-    stage = Stage(_program(options), str(part or "memory"), say, connections=1)
+    part = store.with_name(store.name + ".part")
+    stage = Stage(_program(options), str(part), say, connections=1)
     replay = Replay(stage, options.to)
-    for path in () if store is None else (store, part):
+    for path in (store, part):
         if path.exists():
             raise BadSnapshot(f"{path}: is there already: move it away first")
     try:
@@ -264,17 +276,15 @@ async def _replayed(options: argparse.Namespace) -> int:
         taken, terminals = time.monotonic() - began, tuple(stage.open)
     finally:
         await stage.end()
-    if store is not None and part.exists():
+    if part.exists():
         name_store(part, store, Standing(replay.journal, stage.at, terminals, restored=True))
     count = stage.at - first + 1
     print(f"lines {first} to {stage.at} run in {taken:.1f} s, {count / taken:.0f} in a second: each was answered as it was" if count else "no line to run")
     return FOUND if stage.reported else 0
 
 
-async def _begin(replay: Replay, options: argparse.Namespace, part: Path | None) -> None:
+async def _begin(replay: Replay, options: argparse.Namespace, part: Path) -> None:
     """Begins with a snapshot."""
-    if part is None:
-        raise BadSnapshot("a snapshot is put back into a file: --store FILE")
     manifest = put_back(options.snapshot, part)
     if manifest.number > last_line(journal_of(options)):
         raise BadJournal(f"the snapshot stands after line {manifest.number}, and the journal ends before it: it has lost a part, or is another")
@@ -295,7 +305,7 @@ def _program(options: argparse.Namespace) -> Path:
         program = Table(options.config, "server", server).file("program")
         if program is not None:
             return program
-    return Path("/usr/bin/mserve")
+    return PROGRAM
 
 
 def say(text: str) -> None:
@@ -303,6 +313,11 @@ def say(text: str) -> None:
     ending.say(NAME, text)
 
 
+def does(given: list[str] | None = None) -> int:
+    """The status of the command by its words, or by those of the process."""
+    return ending.ended(NAME, words().parse_args(given), {BadSettings: USAGE, BadJournal: FOUND, BadSnapshot: FAILED, LogFault: FAILED, NoStart: FAILED})
+
+
 def main() -> int:
     """The status of the command."""
-    return ending.ended(NAME, words().parse_args(), {BadSettings: USAGE, BadJournal: FOUND, BadSnapshot: FAILED, LogFault: FAILED, NoStart: FAILED})
+    return does()

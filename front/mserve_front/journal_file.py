@@ -11,9 +11,11 @@ import secrets
 from io import FileIO
 from pathlib import Path
 
+from .faults import TAKEN
 from .folders import sync_folder
 from .journal import LogFault, LogTaken, Tail
 from .records import HEAD_SIZE, BadJournal, Flush, Torn, body_size, read_flush
+from .witness import JournalHead, Reached, lost, reached_in
 
 MARK = b"mfront1\n"
 READ = 1 << 20
@@ -70,28 +72,34 @@ class FileLog:
         self._lock = -1
         self._descriptor = -1
         self._path = folder
+        self._head = JournalHead(folder)
         # The size up to which all is durable, and whether what was written after it is a whole flush.
         self._size = 0
         self._whole = False
 
-    def take(self) -> Tail:
-        """Takes the lock of the folder, which is made if it is not there, and finds the end."""
+    def take(self, force: bool = False) -> Tail:
+        """Takes the lock of the folder, which is made if it is not there, and finds the end. With `force` the one who has the lock writes no more, and a
+        journal that has lost its end is taken as it is."""
         try:
             if not self._folder.exists():
                 self._folder.mkdir(mode=0o700)
                 sync_folder(self._folder.parent)
-            self._lock = os.open(self._folder / "lock", os.O_RDWR | os.O_CREAT | os.O_CLOEXEC, 0o600)
-            fcntl.flock(self._lock, fcntl.LOCK_EX | fcntl.LOCK_NB)
+            self._lock = _locked(self._folder / "lock", force)
+            self._head.take(force)
         except BlockingIOError:
             self.close()
-            raise LogTaken(f"{self._folder}: another front writes this journal") from None
+            raise LogTaken(f"{self._folder}: {TAKEN}") from None
         except OSError as error:
+            self.close()
             raise LogFault(f"{self._folder}: {error.strerror}") from error
-        return tail_of(self._folder)
+        tail = tail_of(self._folder, not force)
+        self._head.reached(Reached(tail.journal, tail.sequence, tail.next, tail.answered, tail.time))
+        return tail
 
     def append(self, flush: Flush) -> None:
-        """Writes a flush, and returns once it is on the disk."""
+        """Writes a flush, and returns once it is on the disk. One that another front's taking overtakes may stand there, and `LogTaken` says so."""
         try:
+            self._hold(again=True)
             if self._descriptor < 0 or self._size >= self._roll:
                 self._begin(flush.sequence)
             data, self._whole = flush.packed(), False
@@ -101,6 +109,13 @@ class FileLog:
         except OSError as error:
             raise LogFault(f"{self._path}: {error.strerror}") from error
         self._size += len(data)
+        self._head.reached(flush)
+        self._hold()
+
+    def _hold(self, again: bool = False) -> None:
+        """Raises `LogTaken` if another front has taken the journal."""
+        if not self._head.is_own(again):
+            raise LogTaken(f"{self._folder}: another front has taken this journal")
 
     def mend(self) -> bool:
         """Leaves the file in which a flush failed. A part of it is taken back, for there may be no room; a whole one may have been read, and stays."""
@@ -117,6 +132,7 @@ class FileLog:
     def close(self) -> None:
         """Gives the lock back."""
         self._leave()
+        self._head.close()
         if self._lock >= 0:
             os.close(self._lock)
             self._lock = -1
@@ -146,8 +162,37 @@ class FileLog:
             self._descriptor = -1
 
 
-def tail_of(folder: Path) -> Tail:
-    """The end of the journal in a folder; of an empty one, that of a new journal. Raises `BadJournal` if it is damaged there."""
+def _locked(path: Path, force: bool) -> int:
+    """The lock's file, locked. With `force` a new one takes the place of one that somebody has. Raises BlockingIOError or OSError."""
+    place = path.with_name(path.name + ".new") if force else path
+    while True:
+        found = os.open(place, os.O_RDWR | os.O_CREAT | os.O_CLOEXEC, 0o600)
+        try:
+            fcntl.flock(found, fcntl.LOCK_EX | fcntl.LOCK_NB)
+            if force:
+                place.replace(path)
+            if os.fstat(found).st_ino == path.stat().st_ino:
+                return found
+        except BaseException:
+            os.close(found)
+            raise
+        # Another one took its place meanwhile.
+        os.close(found)
+
+
+def tail_of(folder: Path, whole: bool = True) -> Tail:
+    """The end of the journal in a folder; of an empty one, that of a new journal. Raises `BadJournal` if it is damaged there, and, unless `whole` is not
+    wanted, if it went further once."""
+    # This comes first: a front that writes meanwhile notes in the head what is in the files already.
+    reached = reached_in(folder) if whole else None
+    tail = _tail_of(folder)
+    if reached is not None and (reached.sequence > tail.sequence or reached.journal != tail.journal and reached.sequence):
+        raise BadJournal(f"{folder}: {lost(reached, tail)}. Put back what is missing. If it is lost, a standby can be promoted with --force; or move the "
+                         "journal away, remove the store's .at and .head, and serve: a new journal begins with all that the store holds")
+    return tail
+
+
+def _tail_of(folder: Path) -> Tail:
     told = ""
     for first, path in reversed(files_of(folder)):
         begins, last, rest = ends_of(path)
@@ -214,11 +259,12 @@ class FileReader:
         return None
 
     def _first(self, files: list[tuple[int, Path]]) -> tuple[int, Path] | None:
-        """Of files that begin at the line or before it the last one, of those that begin alike the first; else the first that has a flush."""
+        """Of files that begin before the line the last one, of those that begin alike the first; else the first that has a flush. One that begins at the
+        line may begin with a later part of the rows of a start."""
         chosen, begins = None, 0
         for sequence, path in files:
             first = first_line(path)
-            if first is not None and (chosen is None or begins < first <= self._line):
+            if first is not None and (chosen is None or begins < first < self._line):
                 chosen, begins = (sequence, path), first
         return chosen or (files[0] if files else None)
 
@@ -274,7 +320,7 @@ def expire_files(folder: Path, journal: int, line: int) -> int:
     begins = [first_line(path) for _, path in files]
     removed = 0
     for (_, path), after in zip(files, begins[1:], strict=False):
-        if after is None or after > line + 1:
+        if after is None or after > line:
             break
         path.unlink()
         removed += 1

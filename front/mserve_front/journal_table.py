@@ -7,11 +7,13 @@ import contextlib
 import os
 import secrets
 import socket
+import time
 import zlib
 from collections.abc import Iterator
 
 import psycopg
 
+from .faults import TAKEN
 from .journal import LogFault, LogTaken, Tail
 from .records import BadJournal, Flush, Torn, read_flush
 
@@ -22,8 +24,15 @@ INSERT = """INSERT INTO mfront_journal (name, sequence, next, answered, at, flus
     VALUES (%s, %s, %s, %s, to_timestamp(%s / 1000000.0), %s)"""
 # The first half of the lock's key; the second is made of the journal's name.
 LOCK = 0x6D66726F
-# A database that is away is noticed within so many seconds, and milliseconds.
-CONNECTING, SILENT = 5, 10_000
+# A database that is away is noticed within so many seconds, and milliseconds; and by the database, a front that is away. The lock of a machine without
+# power would be kept for hours otherwise.
+CONNECTING, SILENT = 2, 5_000
+ALIVE = {"tcp_keepalives_idle": 2, "tcp_keepalives_interval": 1, "tcp_keepalives_count": 4, "tcp_user_timeout": SILENT}
+# Who has the lock, and since when that process is there.
+HOLDER = """SELECT pid, backend_start FROM pg_locks JOIN pg_stat_activity USING (pid) WHERE locktype = 'advisory' AND granted AND objsubid = 2
+    AND classid::bigint = %s AND objid::bigint = %s AND pg_locks.database = (SELECT oid FROM pg_database WHERE datname = current_database())"""
+# Seconds for the database to end a connection, and between two looks.
+ENDING, LOOK = 5.0, 0.05
 # How many rows are read at once.
 ROWS = 256
 
@@ -31,8 +40,8 @@ ROWS = 256
 def connected(place: str) -> psycopg.Connection:
     """A connection. Raises `LogFault`."""
     try:
-        return psycopg.connect(place, autocommit=True, connect_timeout=CONNECTING, tcp_user_timeout=SILENT, keepalives_idle=SILENT // 1000,
-                               application_name="mfront")
+        return psycopg.connect(place, autocommit=True, connect_timeout=CONNECTING, tcp_user_timeout=SILENT, keepalives_idle=2,
+                               keepalives_interval=1, keepalives_count=4, application_name="mfront")
     except psycopg.Error as error:
         raise LogFault(told(error)) from error
 
@@ -80,11 +89,16 @@ class TableLog:
         self._base: psycopg.Connection | None = None
         self._last = 0
         self._tried = 0
+        # The process of the database that has the lock for this one.
+        self._own: tuple[int, object] | None = None
 
-    def take(self) -> Tail:
-        """Takes the lock, makes the table if it is not there, and finds the end."""
+    def take(self, force: bool = False) -> Tail:
+        """Takes the lock, makes the table if it is not there, and finds the end. With `force` the connection of the one who has the lock is ended."""
         self._base = connected(self._place)
         with faults():
+            self._refuse_replica()
+            if force:
+                self._end_holder(self._holder())
             self._lock()
             if self._base.execute("SELECT to_regclass('mfront_journal')").fetchone() == (None,):
                 self._base.execute(TABLE)
@@ -102,10 +116,15 @@ class TableLog:
         self._last = flush.sequence
 
     def mend(self) -> bool:
-        """Connects anew, takes the lock, and says whether the row that failed is there all the same. `LogTaken` if others wrote meanwhile."""
+        """Connects again, takes the lock, and says whether the row that failed is there all the same. `LogTaken` if others wrote meanwhile."""
         self.close()
         self._base = connected(self._place)
         with faults():
+            self._refuse_replica()
+            holder = self._holder()
+            if holder is not None and holder == self._own:
+                # The database has not seen the end of the connection before this one.
+                self._end_holder(holder)
             self._lock()
             found = self._base.execute("SELECT max(sequence) FROM mfront_journal WHERE name = %s", (self._name,)).fetchone()[0] or 0
         if found not in (self._last, self._tried):
@@ -128,11 +147,31 @@ class TableLog:
             with contextlib.suppress(OSError, psycopg.Error), socket.socket(fileno=os.dup(base.fileno())) as peer:
                 peer.shutdown(socket.SHUT_RDWR)
 
+    def _refuse_replica(self) -> None:
+        """Raises `LogFault` if the database is a replica: it may be behind, and nothing can be written there."""
+        if self._base.execute("SELECT pg_is_in_recovery()").fetchone()[0]:
+            self.close()
+            raise LogFault("database: it is a replica, and read-only: promote it, or connect to the primary (target_session_attrs=read-write)")
+
+    def _holder(self) -> tuple[int, object] | None:
+        """The process of the database that has the lock, and since when it is there; None if nobody has it."""
+        return self._base.execute(HOLDER, (LOCK, key_of(self._name) % (1 << 32))).fetchone()
+
+    def _end_holder(self, holder: tuple[int, object] | None) -> None:
+        """Ends the connection that has the lock, and waits until it is over."""
+        end = time.monotonic() + ENDING
+        while holder is not None and self._holder() == holder and time.monotonic() < end:
+            self._base.execute("SELECT pg_terminate_backend(%s)", (holder[0],))
+            time.sleep(LOOK)
+
     def _lock(self) -> None:
         """Takes the lock. Commits are to wait for the disk, and for a synchronous replica if there is one."""
         if not self._base.execute("SELECT pg_try_advisory_lock(%s, %s)", (LOCK, key_of(self._name))).fetchone()[0]:
             self.close()
-            raise LogTaken(f"another front writes this journal (an advisory lock of the database, for {self._name})")
+            raise LogTaken(f"{TAKEN} (an advisory lock of the database, for {self._name})")
+        self._own = self._holder()
+        for name, value in ALIVE.items():
+            self._base.execute("SELECT set_config(%s, %s, false)", (name, str(value)))
         if self._base.execute("SHOW synchronous_commit").fetchone()[0] in ("off", "local"):
             self._base.execute("SET synchronous_commit = on")
 

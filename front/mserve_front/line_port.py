@@ -5,57 +5,58 @@ from __future__ import annotations
 import asyncio
 import contextlib
 import json
+from collections.abc import Callable
 
 from .audit import NoAudit
 from .doors import Door, Doors
-from .sessions import LINES, AllInUse, NotUp, Over, Record, Session, Sessions
+from .sessions import LINES, Carried, Over, Record, Session, Sessions
 from .settings import Limits
 from .signing import Signing, Slowed, Wrong
+from .terminals import AllInUse, NotUp
+from .unread import LEAST, UNCOUNTED, Unread
 from .web import plain_address
 
 
 class LinePort:
     """Serves the connections of programs."""
 
-    def __init__(self, sessions: Sessions, signing: Signing, limits: Limits, doors: Doors, gate: bool = False) -> None:
-        """`gate` says that a gate hands users on, whose first line is the address of the user."""
-        self._gate = gate
+    def __init__(self, sessions: Sessions, signing: Signing, limits: Limits, doors: Doors) -> None:
         self._sessions = sessions
         self._signing = signing
         self._limits = limits
         self._doors = doors
 
-    def protocol(self) -> asyncio.Protocol:
-        """The protocol of a new connection."""
+    def door(self, doors: Doors, place: str, left: Callable[[Door], None]) -> Door:
+        """The door of a new connection."""
         async def serve(reader: asyncio.StreamReader, writer: asyncio.StreamWriter) -> None:
-            await self._serve(reader, writer, self._doors.of(made))
+            await self._serve(reader, writer, door)
 
-        made = asyncio.StreamReaderProtocol(asyncio.StreamReader(limit=self._limits.body), serve)
-        return made
+        reader = asyncio.StreamReader(limit=self._limits.body)
+        door = Door(asyncio.StreamReaderProtocol(reader, serve), doors.deadline(), place, left)
+        door.ready = lambda: b"\n" in reader._buffer
+        return door
 
-    async def _serve(self, reader: asyncio.StreamReader, writer: asyncio.StreamWriter, door: Door | None) -> None:
-        peer = LinePeer(reader, writer, self._limits)
+    async def _serve(self, reader: asyncio.StreamReader, writer: asyncio.StreamWriter, door: Door) -> None:
+        peer = LinePeer(reader, writer, self._limits, door, self._sessions.unread)
         session = None
         try:
-            session = await self._sign_on(peer)
+            session = await self._sign_on(peer, door)
             if session is not None:
-                if door is not None:
-                    door.open()
                 await self._carry(peer, session)
         except (ConnectionError, TimeoutError, Over, ValueError):
             peer.cut()
         finally:
             if session is not None:
-                await self._sessions.sign_off(session, "left")
+                self._sessions.sign_off(session, "left")
             writer.close()
 
-    async def _sign_on(self, peer: LinePeer) -> Session | None:
-        """The session that the first line asks for, or None if it is refused."""
-        if self._gate:
-            peer.address = plain_address((await peer.line()).decode("latin1"))
+    async def _sign_on(self, peer: LinePeer, door: Door) -> Session | None:
+        """The session that the first line asks for, or None if it is refused. Once that line is there, no time runs for the connection."""
         name, _, secret = (await peer.line()).decode("utf-8", "replace").partition(" ")
+        door.open()
+        peer.address = plain_address(door.address)
         try:
-            user, proof = await self._signing.by_password(name, secret, peer.address)
+            user, proof = await self._signing.by_password(name, secret, peer.address, tokens=True)
             session = await self._sessions.sign_on(user, LINES, peer.address, proof)
         except (Wrong, Slowed, AllInUse, NotUp) as error:
             await peer.tell({"error": str(error)})
@@ -63,28 +64,34 @@ class LinePort:
         except NoAudit:
             await peer.tell({"error": "the audit log cannot be written"})
             return None
-        session.listener = peer
+        self._doors.is_known(door)
+        session.listener, peer.account = peer, session.account
         await peer.tell(self._sessions.record(session))
         return session
 
     async def _carry(self, peer: LinePeer, session: Session) -> None:
         while not session.over:
             line = await peer.line()
-            await peer.tell(await self._sessions.run(session, line))
+            with Carried(session):
+                await peer.tell(await self._sessions.run(session, line))
 
 
 class LinePeer:
     """A program's connection. One that does not take what it is sent is cut off."""
 
-    def __init__(self, reader: asyncio.StreamReader, writer: asyncio.StreamWriter, limits: Limits) -> None:
+    def __init__(self, reader: asyncio.StreamReader, writer: asyncio.StreamWriter, limits: Limits, door: Door, unread: Unread) -> None:
+        self._door = door
+        self._unread = unread
+        self.account = ""
         self._reader = reader
         self._writer = writer
         self._limits = limits
-        self.address = plain_address(writer.get_extra_info("peername")[0])
+        self.address = plain_address(door.address)
 
     async def line(self) -> bytes:
         """The next line, without its line feed. Raises ConnectionError at the end: a line that was cut off is not run; ValueError if it is far too long."""
         try:
+            self._door.more()
             return (await self._reader.readuntil(b"\n"))[:-1]
         except asyncio.IncompleteReadError as error:
             raise ConnectionResetError from error
@@ -93,9 +100,11 @@ class LinePeer:
 
     async def tell(self, event: Record) -> None:
         """Sends a line of JSON."""
-        async with asyncio.timeout(self._limits.slow):
-            self._writer.write(json.dumps(event).encode() + b"\n")
-            await self._writer.drain()
+        data = json.dumps(event).encode() + b"\n"
+        with self._unread.sent(self.account, len(data), self.cut) if len(data) >= LEAST else UNCOUNTED:
+            async with asyncio.timeout(self._limits.slow):
+                self._writer.write(data)
+                await self._writer.drain()
 
     async def end(self, event: Record) -> None:
         """Sends a last event, and closes."""

@@ -8,6 +8,8 @@ from __future__ import annotations
 import re
 from dataclasses import dataclass
 
+from .escape import NotText, stored_line
+
 LONGEST = 255
 _PLAIN = re.compile(rb"[\x01-\x09\x0b\x0c\x0e-\x7f]*")
 
@@ -37,6 +39,14 @@ class Line:
     def of(cls, text: str) -> Line:
         """The line of a text. A character over 127 counts as the bytes that it has in UTF-8."""
         return cls(text.encode("utf-8", "surrogatepass"))
+
+    @classmethod
+    def in_utf_8(cls, data: bytes) -> Line:
+        """The line of bytes of UTF-8: each character over 127 within a string becomes an escape of ASCII. Raises `Refused` for other bytes too."""
+        try:
+            return cls(stored_line(data.decode()).encode())
+        except (UnicodeDecodeError, NotText):
+            raise Refused("ZCHAR", "the line has bytes that are no UTF-8") from None
 
     def sent_by(self, terminal: int) -> bytes:
         """What goes to the server."""

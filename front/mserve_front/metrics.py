@@ -4,6 +4,7 @@ from __future__ import annotations
 
 import time
 from collections import Counter
+from collections.abc import Callable, Mapping
 
 BUCKETS = (0.001, 0.0025, 0.005, 0.01, 0.025, 0.05, 0.1, 0.25, 0.5, 1.0, 2.5, 5.0, 10.0)
 # The longest wait is that of the last one to two spans of so many seconds.
@@ -19,6 +20,8 @@ class Metrics:
         self.sign_ons: Counter[str] = Counter()
         self.audit_faults = 0
         self.journal_faults = 0
+        # What others have to tell, each as lines of text.
+        self.more: list[Callable[[], list[str]]] = []
         self._records = 0
         self._flushes = 0
         self._flushing = 0.0
@@ -59,27 +62,27 @@ class Metrics:
     def text(self, signed_on: dict[str, int], waiting: int, oldest: float, up: bool, journal: tuple[int, bool] | None = None) -> str:
         """All figures: how many are signed on by each way, how many lines wait, the oldest of them; and of the journal its last line, and whether it can
         be written."""
-        lines = _family("mfront_up", "gauge", "1 if the server is up.", {"": int(up)})
-        lines += _family("mfront_signed_on", "gauge", "Sessions that are signed on, by their way.", {f'way="{way}"': n for way, n in signed_on.items()})
-        lines += _family("mfront_sign_ons_total", "counter", "Attempts to sign on, by their end.", {f'end="{end}"': n for end, n in self.sign_ons.items()})
-        lines += _family("mfront_lines_total", "counter", "Lines that were answered, by their code; none for a line run to its end.",
+        lines = family("mfront_up", "gauge", "1 if the server is up.", {"": int(up)})
+        lines += family("mfront_signed_on", "gauge", "Sessions that are signed on, by their way.", {f'way="{way}"': n for way, n in signed_on.items()})
+        lines += family("mfront_sign_ons_total", "counter", "Attempts to sign on, by their end.", {f'end="{end}"': n for end, n in self.sign_ons.items()})
+        lines += family("mfront_lines_total", "counter", "Lines that were answered, by their code; none for a line run to its end.",
                          {f'code="{code}"': n for code, n in sorted(self.replies.items())})
-        lines += _family("mfront_lines_waiting", "gauge", "Lines that have no reply yet.", {"": waiting})
-        lines += _family("mfront_longest_wait_seconds", "gauge", "The longest wait for a reply in the last minute or two.", {"": max(oldest, self.longest())})
-        lines += _family("mfront_child_restarts_total", "counter", "How often the server was started or connected to again.", {"": self.restarts})
-        lines += _family("mfront_child_seconds_total", "counter", "Seconds that the server took for lines.", {"": self._taken})
-        lines += _family("mfront_audit_faults_total", "counter", "Records that could not be written to the audit log.", {"": self.audit_faults})
+        lines += family("mfront_lines_waiting", "gauge", "Lines that have no reply yet.", {"": waiting})
+        lines += family("mfront_longest_wait_seconds", "gauge", "The longest wait for a reply in the last minute or two.", {"": max(oldest, self.longest())})
+        lines += family("mfront_child_restarts_total", "counter", "How often the server was started or connected to again.", {"": self.restarts})
+        lines += family("mfront_child_seconds_total", "counter", "Seconds that the server took for lines.", {"": self._taken})
+        lines += family("mfront_audit_faults_total", "counter", "Records that could not be written to the audit log.", {"": self.audit_faults})
         if journal is not None:
             lines += self._journal(*journal)
-        return "\n".join([*lines, *self._histogram()]) + "\n"
+        return "\n".join([*lines, *(line for tell in self.more for line in tell()), *self._histogram()]) + "\n"
 
     def _journal(self, last: int, up: bool) -> list[str]:
-        lines = _family("mfront_journal_up", "gauge", "1 if the journal can be written.", {"": int(up)})
-        lines += _family("mfront_journal_line", "gauge", "The number of the last line in the journal.", {"": last})
-        lines += _family("mfront_journal_records_total", "counter", "Records that were written to the journal.", {"": self._records})
-        lines += _family("mfront_journal_flushes_total", "counter", "Flushes of the journal, each of one or more records.", {"": self._flushes})
-        lines += _family("mfront_journal_flush_seconds_total", "counter", "Seconds that flushes of the journal took.", {"": self._flushing})
-        return lines + _family("mfront_journal_faults_total", "counter", "Flushes of the journal that failed.", {"": self.journal_faults})
+        lines = family("mfront_journal_up", "gauge", "1 if the journal can be written.", {"": int(up)})
+        lines += family("mfront_journal_line", "gauge", "The number of the last line in the journal.", {"": last})
+        lines += family("mfront_journal_records_total", "counter", "Records that were written to the journal.", {"": self._records})
+        lines += family("mfront_journal_flushes_total", "counter", "Flushes of the journal, each of one or more records.", {"": self._flushes})
+        lines += family("mfront_journal_flush_seconds_total", "counter", "Seconds that flushes of the journal took.", {"": self._flushing})
+        return lines + family("mfront_journal_faults_total", "counter", "Flushes of the journal that failed.", {"": self.journal_faults})
 
     def _histogram(self) -> list[str]:
         name = "mfront_wait_seconds"
@@ -91,7 +94,7 @@ class Metrics:
         return [*lines, f"{name}_sum {self._waited:.6f}", f"{name}_count {total}"]
 
 
-def _family(name: str, kind: str, about: str, values: dict[str, float]) -> list[str]:
+def family(name: str, kind: str, about: str, values: Mapping[str, float]) -> list[str]:
     """The lines of a figure, one for each of its labels."""
     lines = [f"# HELP {name} {about}", f"# TYPE {name} {kind}"]
     return lines + [f"{name}{{{labels}}} {_figure(value)}" if labels else f"{name} {_figure(value)}" for labels, value in values.items()]

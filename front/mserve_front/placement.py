@@ -1,19 +1,27 @@
 # SPDX-License-Identifier: Apache-2.0
-"""Which machine has which island: two tables of the database in which the journals are.
+"""Which machine has which island: two tables of the database in which the journals are, or a file where there is one machine.
 
 An island is a set of accounts that no grant ties to others, with settings of its own. Its states: `here`, its machine serves it; `moving`, its target
 stands by and catches up; `ready`, it has; `left`, the machine before has ended; `taking`, as `moving`, and the machine before is gone."""
 from __future__ import annotations
 
+import contextlib
+import fcntl
+import json
 import re
 import threading
-from dataclasses import dataclass
+from collections.abc import Iterator
+from dataclasses import dataclass, replace
+from pathlib import Path
+from typing import TYPE_CHECKING, Protocol
 
-import psycopg
 from mserve_client import settings_file
 
+from .folders import write_whole
 from .journal import LogFault
-from .journal_table import connected, faults
+
+if TYPE_CHECKING:
+    import psycopg
 
 TABLES = ("""CREATE TABLE IF NOT EXISTS mfront_machine (name text PRIMARY KEY, host text NOT NULL, port integer NOT NULL)""",
           """CREATE TABLE IF NOT EXISTS mfront_island (
@@ -48,6 +56,40 @@ class Machine:
     name: str
     host: str
     port: int
+
+
+class Placed(Protocol):
+    """Where each island is. Each call may wait for the database or the disk, and raises `LogFault` if that is away."""
+
+    def make(self) -> None:
+        """Makes what it is kept in, if that is not there."""
+
+    def machines(self) -> dict[str, Machine]:
+        """All machines."""
+
+    def islands(self) -> dict[str, Island]:
+        """All islands; the same dictionary as long as none has changed."""
+
+    def enter(self, machine: Machine) -> None:
+        """Notes where a machine is reached."""
+
+    def put(self, name: str, settings: str, machine: str) -> None:
+        """Puts a new island on a machine. Raises `BadPlacement`."""
+
+    def change(self, name: str, settings: str) -> None:
+        """Gives an island other settings. Raises `BadPlacement`."""
+
+    def move(self, name: str, target: str, gone: bool) -> None:
+        """Has an island move to a machine; `gone` says that its own has ended. Raises `BadPlacement`."""
+
+    def turn(self, name: str, before: str, after: str) -> None:
+        """Takes an island on from a state to the next, if it is still in that."""
+
+    def arrived(self, name: str, machine: str) -> None:
+        """Notes that an island is at its target."""
+
+    def close(self) -> None:
+        """Leaves it."""
 
 
 class Placement:
@@ -87,12 +129,13 @@ class Placement:
         """Puts a new island on a machine. Raises `BadPlacement`."""
         accounts = accounts_of(name, settings)
         self._known(machine)
-        for other in self.islands().values():
-            if other.name == name:
-                raise BadPlacement(f"{name}: there is such an island already")
-            if common := sorted(set(accounts) & set(other.accounts)):
-                raise BadPlacement(f"{name}: {', '.join(common)}: the island {other.name} has it already")
+        refuse_common(name, accounts, self.islands())
         self._ask("INSERT INTO mfront_island VALUES (%s, %s, NULL, %s, %s, %s)", name, machine, HERE, list(accounts), settings)
+
+    def change(self, name: str, settings: str) -> None:
+        """Gives an island that is not on its way other settings. Raises `BadPlacement`."""
+        accounts = refuse_change(name, settings, self.islands())
+        self._ask("UPDATE mfront_island SET settings = %s, accounts = %s WHERE name = %s AND state = %s", settings, list(accounts), name, HERE)
 
     def move(self, name: str, target: str, gone: bool) -> None:
         """Has an island move to a machine; `gone` says that its own has ended. Raises `BadPlacement`."""
@@ -126,6 +169,8 @@ class Placement:
 
     def _ask(self, statement: str, *given: object) -> list[tuple[object, ...]]:
         with self._turn:
+            # Not above: it needs a package that a machine alone does without.
+            from .journal_table import connected, faults
             if self._base is None or self._base.closed:
                 self._base = connected(self._place)
             try:
@@ -135,6 +180,108 @@ class Placement:
             except LogFault:
                 self.close()
                 raise
+
+
+class LocalPlacement:
+    """The islands of the one machine that there is: a file in its folder."""
+
+    def __init__(self, folder: Path, machine: Machine) -> None:
+        self._path = folder / "placement.json"
+        self._machine = machine
+        self._seen = 0
+        self._islands: dict[str, Island] = {}
+
+    def make(self) -> None:
+        """Makes the folder, if it is not there."""
+        self._path.parent.mkdir(mode=0o700, parents=True, exist_ok=True)
+
+    def machines(self) -> dict[str, Machine]:
+        """The machine."""
+        return {self._machine.name: self._machine}
+
+    def islands(self) -> dict[str, Island]:
+        """All islands; the same dictionary as long as none has changed. Raises `LogFault` if the file cannot be read."""
+        try:
+            changed = self._path.stat().st_mtime_ns
+            if changed != self._seen:
+                found = json.loads(self._path.read_bytes())
+                self._islands = {name: Island(name, self._machine.name, None, HERE, tuple(one["accounts"]), one["settings"]) for name, one in found.items()}
+                self._seen = changed
+        except FileNotFoundError:
+            self._islands = self._islands and {}
+        except (OSError, ValueError, KeyError, TypeError, AttributeError) as error:
+            raise LogFault(f"{self._path}: cannot be read: {error}") from error
+        return self._islands
+
+    def enter(self, machine: Machine) -> None:
+        """There is no other one that would want to know."""
+
+    def put(self, name: str, settings: str, machine: str) -> None:
+        """Puts a new island on the machine. Raises `BadPlacement`."""
+        self.put_all({name: settings}, machine)
+
+    def put_all(self, settings: dict[str, str], machine: str) -> None:
+        """Puts new islands on the machine, all of them or none. Raises `BadPlacement`."""
+        if machine != self._machine.name:
+            raise BadPlacement(f"{machine}: there is no such machine: this is {self._machine.name}, and it is alone")
+        with self._changed() as found:
+            for name, text in settings.items():
+                accounts = accounts_of(name, text)
+                refuse_common(name, accounts, found)
+                found[name] = Island(name, machine, None, HERE, accounts, text)
+
+    def change(self, name: str, settings: str) -> None:
+        """Gives an island other settings. Raises `BadPlacement`."""
+        with self._changed() as found:
+            accounts = refuse_change(name, settings, found)
+            found[name] = replace(found[name], settings=settings, accounts=accounts)
+
+    @contextlib.contextmanager
+    def _changed(self) -> Iterator[dict[str, Island]]:
+        """The islands, to be changed; they are written after the block."""
+        self.make()
+        with self._path.with_name("placement.lock").open("w") as lock:
+            fcntl.flock(lock, fcntl.LOCK_EX)
+            found = dict(self.islands())
+            yield found
+            made = {island.name: {"accounts": island.accounts, "settings": island.settings} for island in found.values()}
+            write_whole(self._path, json.dumps(made, indent=1).encode() + b"\n")
+
+    def move(self, name: str, target: str, gone: bool) -> None:
+        """Raises `BadPlacement`: there is no other machine."""
+        raise BadPlacement(f"{name}: this machine is alone (machine.database is not given), so it stays here")
+
+    def turn(self, name: str, before: str, after: str) -> None:
+        """No island is on its way."""
+
+    def arrived(self, name: str, machine: str) -> None:
+        """No island is on its way."""
+
+    def close(self) -> None:
+        """Nothing is open."""
+
+
+def refuse_common(name: str, accounts: tuple[str, ...], islands: dict[str, Island]) -> None:
+    """Raises `BadPlacement` if an island of that name is there, or one that has one of the accounts."""
+    for other in islands.values():
+        if other.name == name:
+            raise BadPlacement(f"{name}: there is such an island already")
+        if common := sorted(set(accounts) & set(other.accounts)):
+            raise BadPlacement(f"{', '.join(common)}: the island {other.name} has it already")
+
+
+def refuse_change(name: str, settings: str, islands: dict[str, Island]) -> tuple[str, ...]:
+    """The accounts of an island by other settings. Raises `BadPlacement` if there is no such island, it is on its way, an account of it is missing, or
+    another island has one of them."""
+    accounts, island = accounts_of(name, settings), islands.get(name)
+    if island is None:
+        raise BadPlacement(f"{name}: there is no such island")
+    if island.state != HERE:
+        raise BadPlacement(f"{name}: it is on its way to {island.target}: change it once it is there")
+    if missing := sorted(set(island.accounts) - set(accounts)):
+        raise BadPlacement(f"{name}: {', '.join(missing)}: these settings do not have it, and its globals would be nobody's")
+    refuse_common("", accounts, {other: one for other, one in islands.items() if other != name})
+    return accounts
 
 
 def accounts_of(name: str, settings: str) -> tuple[str, ...]:

@@ -3,16 +3,21 @@
 from __future__ import annotations
 
 import asyncio
+import sqlite3
 import tempfile
 import time
 from collections import deque
 from collections.abc import Callable
 from pathlib import Path
 
+from mserve_client import ClientError
+
 from .connection import Connection, NoStart, joined
 from .history import CUT_SHORT, Answered, Began, Event
 from .lines import HALT, Line
+from .records import Held, LineRecord, StartRecord
 from .replies import Answer
+from .rows import apply
 from .server import CONNECTIONS, PATIENCE, Child, launched
 from .turns import WINDOW, Lost
 
@@ -22,6 +27,10 @@ ROOM = 4096
 
 class Stopped(Exception):
     """The lines cannot be run any further; the text says why, and at which line."""
+
+
+class NotYet(Stopped):
+    """The lines cannot be run any further until something is done; then they can, with what came last."""
 
 
 class Differs(Stopped):
@@ -102,7 +111,7 @@ class Stage:
             made.write(text)
             made.flush()
             self.child = await launched(self._program, self._settings or Path(made.name), self._store, self._connections)
-            self._player = await joined(self.child.port, Player, self.child.process)
+            self._player = await joined(self.child.port, Player, self.child.process, enclosed=self.child.enclosed)
         self.open.clear()
 
     async def take(self, event: Event) -> None:
@@ -127,6 +136,17 @@ class Stage:
         """Waits until all lines are run and compared. Raises `Stopped`."""
         while self._due:
             await self._compare()
+
+    def give_up(self) -> list[LineRecord]:
+        """Compares no more of what is due, and gives these lines: the store is not as the leader's was."""
+        lines = [event.line for event, _ in self._due]
+        self._due.clear()
+        return lines
+
+    async def begins_again(self) -> None:
+        """Starts the server again over the store that it has. Raises `NoStart`."""
+        await self.end()
+        await self.begin(self._text)
 
     def behind(self) -> float:
         """The seconds since the oldest line that is not compared yet was sent by the leader."""
@@ -159,9 +179,9 @@ class Stage:
             answer = await reply
         except Lost as error:
             raise Stopped(f"line {event.line.number} could not be run: {error}") from error
-        self._due.popleft()
         if event.reply.code not in CUT_SHORT and answer.digest != event.reply.digest:
             raise Differs(event, answer)
+        self._due.popleft()
         self.at = event.line.number
 
     async def _cut_short(self, event: Answered) -> None:
@@ -172,26 +192,50 @@ class Stage:
         await self._halt({event.line.terminal})
 
     async def _began(self, event: Began) -> None:
-        """All sessions begin anew, by settings that may be others."""
+        """All sessions begin anew, by settings that may be others, over the store as the leader's was then."""
         await self.drained()
-        start = event.start
-        if start.base is not None and start.base < event.answered:
+        start, held = event.start, event.held
+        if isinstance(start, StartRecord):
+            self._by_version_1(start, event.answered)
+        elif held is Held.RUN and start.base < event.answered:
+            raise Stopped(f"the start before line {start.number} goes on after line {start.base}, and lines up to {event.answered} have been run here: two "
+                          "fronts have written the journal")
+        if held is Held.UNKNOWN:
+            if self.child is None and not self.at:
+                raise Stopped("the journal begins over a store that was there before: begin with a snapshot")
+            for line in event.unknown:
+                self._report(f"line {line.number}, of terminal {line.terminal}, had no reply when the leader's server ended: it may have been run there, "
+                             "in part or whole, and is not run here")
+        elif event.unknown:
+            lines = f"line {event.unknown[0].number}" if len(event.unknown) == 1 else f"lines {event.unknown[0].number} to {event.unknown[-1].number}"
+            self._tell(f"{lines} had no reply when the leader's server ended: what the leader's store held then is in the journal, and stands here too")
+        anew = held is Held.ALL and self._store == "memory"
+        if held in (Held.CHANGED, Held.ALL) and not anew and (event.rows or self.at or self.child is not None):
+            await self._given(event)
+        await self._renewed(start.settings, anew)
+        self.at = start.number - 1
+
+    def _by_version_1(self, start: StartRecord, answered: int) -> None:
+        """A start of version 1 has no rows: what they would be needed for stops this. Raises `Stopped`."""
+        if start.base is not None and start.base < answered:
             raise Stopped(f"before line {start.number} the leader's store was put back to where it stood after line {start.base}: "
-                          f"lines {start.base + 1} to {event.answered} were undone there, and have been run here")
-        for line in event.unknown:
-            self._report(f"line {line.number}, of terminal {line.terminal}, had no reply when the leader's server ended: it may have been run there, "
-                         "in part or whole, and is not run here")
+                          f"lines {start.base + 1} to {answered} were undone there, and have been run here")
         if start.fresh and self._store != "memory" and self.at:
             raise Stopped(f"before line {start.number} the leader's store was made anew: begin there with an empty store")
-        if self.child is None and not start.fresh and not self.at:
-            raise Stopped("the journal begins over a store that was there before: begin with a snapshot")
-        await self._renewed(start.settings, start.fresh and self._store == "memory")
-        self.at = start.number - 1
+    async def _given(self, event: Began) -> None:
+        """Ends the server, and gives the store the rows of a start. Raises `Stopped`."""
+        if self._store == "memory":
+            raise Stopped(f"the start before line {event.start.number} gives rows of a store, and this one is in memory")
+        await self.end()
+        try:
+            await asyncio.to_thread(apply, Path(self._store), event.rows, event.held is Held.ALL)
+        except (sqlite3.Error, ClientError) as error:
+            raise Stopped(f"the rows before line {event.start.number} cannot be stored: {error}") from error
 
     async def _renewed(self, text: bytes, anew: bool) -> None:
         """Ends all sessions; the server is started again if its settings are others, or its store is a new one."""
         if self._settings is not None and self._settings.read_bytes() != text:
-            raise Stopped(f"from line {self.at + 1} on the leader has other settings than {self._settings}: copy them, and start again")
+            raise NotYet(f"from line {self.at + 1} on the leader has other settings than {self._settings}: copy them there")
         if self.child is None or anew or text != self._text:
             await self.end()
             await self.begin(text)

@@ -6,6 +6,7 @@ each with its length. Flushes are counted, so that one that is missing shows. A 
 fault of its bytes is damage."""
 from __future__ import annotations
 
+import enum
 import struct
 import zlib
 from collections.abc import Iterator, Sequence
@@ -22,6 +23,10 @@ HEAD_SIZE = _HEAD.size + _SUM.size
 _LINE = struct.Struct(">QQHB")
 _REPLY = struct.Struct(">Q16s")
 _START = struct.Struct(">QQQQB")
+_BEGIN = struct.Struct(">BQQQBQI")
+_PART = struct.Struct(">I")
+# The version of the starts that are written.
+VERSION = 2
 _UNKNOWN = (1 << 64) - 1
 # What a flush ends with, so that its last byte is not zero.
 _END = b"\n"
@@ -66,8 +71,8 @@ class ReplyRecord:
 
 @dataclass(frozen=True, slots=True)
 class StartRecord:
-    """All sessions began anew before the line of this number. Of the lines before it that have no reply, those up to `sent` may have been run, and
-    those after it were not. `base` is the last line that the store has, where that is known; `fresh` says that the store was made anew; `settings`
+    """A start of version 1, which is read and no longer written: all sessions began anew before the line of this number. Of the lines before it that have
+    no reply, those up to `sent` may have been run, and those after it were not. `base` is the last line that the store has, where that is known; `fresh` says that the store was made anew; `settings`
     are the server's."""
 
     number: int
@@ -83,7 +88,51 @@ class StartRecord:
         return b"S" + _START.pack(self.number, self.time, self.sent, base, self.fresh) + zlib.compress(self.settings)
 
 
-Record = LineRecord | ReplyRecord | StartRecord
+class Held(enum.IntEnum):
+    """What the store of the one who writes held at a start."""
+
+    # It had run all lines up to `base`, and nothing else.
+    RUN = 0
+    # What a reader's holds that has run all lines with a reply, but for the rows that are given.
+    CHANGED = 1
+    # The rows that are given, and no others.
+    ALL = 2
+    # Nobody could look: the front has joined a server, or the store is in memory.
+    UNKNOWN = 3
+
+
+@dataclass(frozen=True, slots=True)
+class RowsRecord:
+    """Rows of the store, of the start that comes: a part, counted from 0, as `rows.packed` makes it."""
+
+    part: int
+    rows: bytes
+
+    def packed(self) -> bytes:
+        """Its bytes."""
+        return b"W" + _PART.pack(self.part) + self.rows
+
+
+@dataclass(frozen=True, slots=True)
+class BeginRecord:
+    """A start: all sessions began anew before the line of this number. Lines before it that have no reply are void: what they did is in what the store
+    held. `sent` is the last line that was sent; `base` the last one that the store has run, where `held` is RUN; `parts` says how many records of rows
+    come before it."""
+
+    number: int
+    time: int
+    sent: int
+    held: Held
+    base: int
+    parts: int
+    settings: bytes
+
+    def packed(self) -> bytes:
+        """Its bytes."""
+        return b"B" + _BEGIN.pack(VERSION, self.number, self.time, self.sent, self.held, self.base, self.parts) + zlib.compress(self.settings)
+
+
+Record = LineRecord | ReplyRecord | StartRecord | RowsRecord | BeginRecord
 
 
 @dataclass(frozen=True, slots=True)
@@ -162,4 +211,15 @@ def _record(data: bytes) -> Record:
     if kind == b"S":
         number, time, sent, base, fresh = _START.unpack_from(rest)
         return StartRecord(number, time, sent, None if base == _UNKNOWN else base, bool(fresh), zlib.decompress(rest[_START.size:]))
+    if kind == b"W":
+        return RowsRecord(*_PART.unpack_from(rest), rest[_PART.size:])
+    if kind == b"B":
+        return _begin(rest)
     raise BadJournal(f"there is no record of the kind {kind!r}: a later version wrote this journal")
+
+
+def _begin(rest: bytes) -> BeginRecord:
+    if rest[0] != VERSION:
+        raise BadJournal(f"a start of version {rest[0]}, and this program knows {VERSION}: a later version wrote this journal")
+    _, number, time, sent, held, base, parts = _BEGIN.unpack_from(rest)
+    return BeginRecord(number, time, sent, Held(held), base, parts, zlib.decompress(rest[_BEGIN.size:]))

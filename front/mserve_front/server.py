@@ -4,21 +4,24 @@ from __future__ import annotations
 
 import asyncio
 import contextlib
+import errno
 import os
 import shutil
 import socket
 import sys
-from collections.abc import AsyncIterator, Awaitable, Callable, Sequence
+from collections.abc import AsyncIterator, Awaitable, Callable, Iterator, Sequence
 from dataclasses import dataclass
 from pathlib import Path
 from typing import TYPE_CHECKING
 
 from .connection import HOST, NoStart, joined
+from .enclosure import PORT, can_enclose, enclosing
 from .faults import NoJournal
 from .lines import HALT, Line
 from .metrics import Metrics
 from .replies import Answer
 from .settings import Settings
+from .shares import Shares
 from .turns import Lost, Turns, Unsent
 
 if TYPE_CHECKING:
@@ -29,6 +32,8 @@ CONNECTIONS = 1_000_000
 FIRST_PAUSE, LONGEST_PAUSE = 0.1, 5.0
 # Seconds after which a child that answers no line is ended: another process has got its connection.
 PATIENCE = 60.0
+# Seconds that a child has to end, before it is killed.
+ENDING = 5.0
 
 
 def tell(text: str) -> None:
@@ -59,16 +64,18 @@ class Fault:
 
 @dataclass(frozen=True, slots=True)
 class Child:
-    """A server that runs as a child of this process, and its port; `fresh` says that its store was made with it."""
+    """A server that runs as a child of this process, and its port; `fresh` says that its store was made with it, and `enclosed` that it is in a network
+    of its own."""
 
     process: asyncio.subprocess.Process
     port: int
     fresh: bool = False
+    enclosed: bool = False
 
 
 class Server:
     """The server and the one connection to it. `session` counts how often all terminals' sessions were begun anew; `state` is `starting`, `up`
-    or `down`."""
+    or `down`; `shares` has what each account has used of it."""
 
     def __init__(self, settings: Settings, metrics: Metrics, restarted: Callable[[], Awaitable[None]], journal: Journal | None = None) -> None:
         """`restarted` is called each time that the server is up again after it was down."""
@@ -76,14 +83,15 @@ class Server:
         self._metrics = metrics
         self._restarted = restarted
         self._journal = journal
-        self._base: int | None = None
-        self._serving: Callable[[], None] = lambda: None
+        self._began: Callable[[bool, bytes], Awaitable[None]] | None = None
         self._one = asyncio.Lock()
         self._fresh = False
         self._text = b""
         self._terminals = [terminal for terminals in settings.terminals.values() for terminal in terminals]
+        self.shares = Shares({terminal: account for account, terminals in settings.terminals.items() for terminal in terminals})
         self._process: asyncio.subprocess.Process | None = None
         self._port = settings.join or 0
+        self._enclosed = False
         self._turns: Turns | None = None
         self.state = "starting"
         self.session = 1
@@ -129,11 +137,11 @@ class Server:
             if turns.ended.done():
                 raise Unsent
 
-    async def renew(self) -> None:
-        """Between two lines (`quiet`): ends all terminals' sessions, notes that in the journal, and tells all users, as after a restart. Raises `Lost`,
-        `Unsent` or `NoJournal`."""
+    async def renew(self, rows: Iterator[bytes] | None = None) -> None:
+        """Between two lines (`quiet`): ends all terminals' sessions, notes that in the journal, with all rows of the store if these are given, and tells all
+        users, as after a restart. Raises `Lost`, `Unsent` or `NoJournal`."""
         assert self._turns is not None and self._journal is not None
-        await self._journal.begin(self._journal.next - 1, False, self._text)
+        await self._journal.renew(self._text, rows)
         # From here on it stands in the journal. If the server ends now, its start does the same.
         self.session += 1
         await self._turns.halt(self._terminals)
@@ -144,19 +152,16 @@ class Server:
         if self._turns is not None:
             self._turns.forget(terminal)
 
-    def serves(self, serving: Callable[[], None]) -> None:
-        """Has a call made each time before a start is noted in the journal, once the store is there."""
-        self._serving = serving
-
-    def stands_at(self, line: int) -> None:
-        """Notes up to which line of the journal the store has run all."""
-        self._base = line
+    def begins(self, began: Callable[[bool, bytes], Awaitable[None]]) -> None:
+        """Has a call note each start in the journal, once the store is there and no session is open: it is told whether the store was made anew, and the
+        server's settings. It raises `NoJournal` or `NoStart`."""
+        self._began = began
 
     async def begin(self, child: Child | None = None) -> None:
         """Starts the server for the first time, or takes the child that runs. Raises `NoStart` if it ends at once, as for settings or a store that it
         refuses."""
         if child is not None:
-            self._process, self._port = child.process, child.port
+            self._process, self._port, self._enclosed = child.process, child.port, child.enclosed
         elif self._settings.join is None:
             await self._launch()
         self._text = self._text or self._settings_text()
@@ -167,7 +172,8 @@ class Server:
         pause = FIRST_PAUSE
         while True:
             if self._turns is not None:
-                await self._turns.ended
+                # Others await it too: a task that is cancelled here, as at a stop, does not cancel it for them.
+                await asyncio.shield(self._turns.ended)
                 self._fell(self._turns.fault)
             await asyncio.sleep(pause)
             try:
@@ -177,13 +183,24 @@ class Server:
                 pause = min(2 * pause, LONGEST_PAUSE)
                 tell(f"the server could not be started again: {error}")
 
-    async def end(self) -> None:
-        """Ends the connection, and the child with it. What was answered is in the store."""
+    def cut(self) -> None:
+        """Ends the connection at once: lines on their way are lost."""
         if self._turns is not None:
             self._turns.abort()
+
+    @property
+    def whole(self) -> bool:
+        """Whether the server is up, and its connection has not ended."""
+        return self.state == "up" and self._turns is not None and not self._turns.ended.done()
+
+    async def end(self) -> None:
+        """Ends the connection, and the child with it. What was answered is in the store."""
+        self.cut()
         if self._process is not None and self._process.returncode is None:
             self._process.terminate()
-            await self._process.wait()
+            with contextlib.suppress(TimeoutError):
+                await asyncio.wait_for(self._process.wait(), ENDING)
+            await self._give_up()
 
     def _fell(self, fault: str | None) -> None:
         """Notes that the connection is over."""
@@ -207,13 +224,14 @@ class Server:
         """Starts the child."""
         self._text = self._settings_text()
         child = await launched(self._settings.program, self._settings.server_settings, str(self._settings.store))
-        self._process, self._port, self._fresh = child.process, child.port, child.fresh
+        self._process, self._port, self._fresh, self._enclosed = child.process, child.port, child.fresh, child.enclosed
 
     async def _connect(self) -> None:
         """Connects, and has all terminals' sessions ended; then the server is up."""
         turns = await self._connected()
         try:
-            async with asyncio.timeout(PATIENCE):
+            # In its own network nobody else can have got its connection: it may be at a long line of before.
+            async with asyncio.timeout(None if self._enclosed else PATIENCE):
                 await asyncio.gather(*(turns.ask(terminal, HALT) for terminal in self._terminals))
             await self._noted(turns)
         except (TimeoutError, Lost, Unsent, NoJournal) as error:
@@ -221,15 +239,17 @@ class Server:
             if not isinstance(error, NoJournal):
                 await self._give_up()
             raise NoStart(self._why(turns, error)) from error
-        self._base, self._fresh = None, False
+        except NoStart:
+            turns.abort()
+            raise
+        self._fresh = False
         self._turns = turns
         self.state = "up"
 
     async def _noted(self, turns: Turns) -> None:
         """Notes in the journal, if there is one, that all sessions begin anew; from now on the connection's lines are in it. Raises `NoJournal`."""
-        if self._journal is not None:
-            self._serving()
-            await self._journal.begin(self._base, self._fresh, self._text)
+        if self._journal is not None and self._began is not None:
+            await self._began(self._fresh, self._text)
             turns.keep(self._journal)
 
     def _settings_text(self) -> bytes:
@@ -254,19 +274,25 @@ class Server:
     async def _connected(self) -> Turns:
         """A connection to the server. One that was there before this process began has to be listening."""
         patient = self._process is not None or self.state != "starting"
-        return await joined(self._port, lambda: Turns(self._settings.limits.reply, self._metrics.timed), self._process, patient)
+        return await joined(self._port, lambda: Turns(self._settings.limits.reply, self._metrics.timed, self.shares), self._process, patient,
+                            self._enclosed)
 
 
 async def launched(program: Path, settings: Path, store: str, connections: int = CONNECTIONS) -> Child:
     """A child at a port that is free. It ends with this process. Raises `NoStart` if there is no such program."""
-    port, fresh = free_port(), store == "memory" or not os.path.exists(store)
+    enclosed = await asyncio.to_thread(can_enclose)
+    port, fresh = PORT if enclosed else free_port(), store == "memory" or not os.path.exists(store)
     words = [str(program), "serve", "--settings", str(settings), "--store", store, "--port", str(port), "--connections", str(connections)]
+    if not os.access(program, os.X_OK):
+        raise NoStart(f"{program}: {os.strerror(errno.EACCES if os.path.exists(program) else errno.ENOENT)}")
+    if not enclosed:
+        tell("no network of its own can be had for the server (user namespaces): other users of this machine can connect to its port")
     try:
-        process = await asyncio.create_subprocess_exec(*tied(shutil.which("setpriv")), *words, stdin=asyncio.subprocess.DEVNULL,
-                                                       stdout=asyncio.subprocess.DEVNULL, start_new_session=True)
+        process = await asyncio.create_subprocess_exec(*(enclosing(words) if enclosed else [*tied(shutil.which("setpriv")), *words]),
+                                                       stdin=asyncio.subprocess.DEVNULL, stdout=asyncio.subprocess.DEVNULL, start_new_session=True)
     except OSError as error:
         raise NoStart(f"{program}: {error.strerror}") from error
-    return Child(process, port, fresh)
+    return Child(process, port, fresh, enclosed)
 
 
 def tied(setpriv: str | None) -> Sequence[str]:

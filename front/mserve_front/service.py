@@ -4,6 +4,7 @@ from __future__ import annotations
 
 import asyncio
 import contextlib
+import logging
 import resource
 import signal
 import ssl
@@ -13,8 +14,9 @@ from typing import TYPE_CHECKING
 from aiohttp import web
 
 from . import ending
+from .admin import Admin
 from .audit import Audit
-from .doors import MOST_BYTES, Doors, spare_memory
+from .doors import Doors, Made, spare_memory
 from .line_port import LinePort
 from .metrics import Metrics
 from .server import NoStart, tell
@@ -49,9 +51,10 @@ class Service:
         for user in self._register.users.values():
             if not settings.terminals.get(user.account):
                 raise BadUsers(f"{settings.users}: user {user.name}: {user.account} is no account with terminals in {settings.server_settings}")
-        self._doors = Doors(settings.limits, self._context, promoted.places if promoted else {})
+        self._doors = Doors(settings.limits, self._context, promoted.places if promoted else {}, settings.gate)
         self._signing = Signing(self._register, self._audit, self.metrics)
-        self._sessions = Sessions(settings, self.metrics, self._audit, self._keeper.journal if self._keeper else None)
+        self._sessions = Sessions(settings, self.metrics, self._audit, self._register, self._keeper.journal if self._keeper else None)
+        self._admin = Admin(settings, self._sessions, self.metrics)
         self._stopping = promoted.stopping if promoted else asyncio.Event()
         self._why = "stopping"
 
@@ -64,18 +67,22 @@ class Service:
         for number, why in ENDS.items():
             ending.hear(number, self._stop, why)
         ending.hear(signal.SIGHUP, self._reload)
-        runner = web.AppRunner(Web(self.settings, self._sessions, self._signing, self.metrics, self._doors).application(),
-                               handle_signals=False, access_log=None, keepalive_timeout=KEPT, auto_decompress=False)
+        pages = Web(self.settings, self._sessions, self._signing, self.metrics, self._doors)
+        runner = web.AppRunner(pages.application(), handle_signals=False, access_log=None, keepalive_timeout=KEPT, auto_decompress=False,
+                               logger=_quiet("aiohttp.server"))
+        _quiet("asyncio")
         await runner.setup()
         try:
             await self._until_stopped(self._begin())
             if not self._stopping.is_set():
-                self._listen(runner)
+                self._listen(pages.doors(runner))
+                await self._admin.begin()
                 await self._serve()
         finally:
             self._doors.close()
+            await self._admin.end()
             await self._sessions.stop(self._why)
-            whole = self._sessions.server.state == "up"
+            whole = self._sessions.server.whole
             await self._sessions.server.end()
             if self._keeper is not None:
                 await self._keeper.end(whole)
@@ -108,14 +115,14 @@ class Service:
             with contextlib.suppress(asyncio.CancelledError, NoStart):
                 await task
 
-    def _listen(self, runner: web.AppRunner) -> None:
+    def _listen(self, made: Made) -> None:
         settings = self.settings
-        self._doors.listen(settings.host, settings.port, runner.server, MOST_BYTES)
+        self._doors.listen(settings.host, settings.port, made)
         kind = "https" if settings.tls else "http"
         tell(f"serving at {kind}://{f'[{settings.host}]' if ':' in settings.host else settings.host}:{settings.port}/")
         if settings.lines_port is not None:
-            port = LinePort(self._sessions, self._signing, settings.limits, self._doors, settings.gate)
-            self._doors.listen(settings.host, settings.lines_port, port.protocol, None)
+            port = LinePort(self._sessions, self._signing, settings.limits, self._doors)
+            self._doors.listen(settings.host, settings.lines_port, port.door)
             tell(f"lines at port {settings.lines_port}")
         if not settings.tls:
             tell("no certificate (listen.certificate, listen.key): listening at the loopback alone, without TLS")
@@ -123,7 +130,8 @@ class Service:
             tell("the store is volatile: all data are gone once the server ends")
 
     async def _serve(self) -> None:
-        tasks = [asyncio.create_task(self._sessions.server.run()), asyncio.create_task(self._sweep()), asyncio.create_task(self._stopping.wait())]
+        tasks = [asyncio.create_task(self._sessions.server.run()), asyncio.create_task(self._sweep()),
+                 asyncio.create_task(self._admin.run()), asyncio.create_task(self._stopping.wait())]
         if self._keeper is not None:
             tasks.append(asyncio.create_task(self._keeper.lost()))
         done, left = await asyncio.wait(tasks, return_when=asyncio.FIRST_COMPLETED)
@@ -138,14 +146,14 @@ class Service:
         while True:
             await asyncio.sleep(1)
             self._doors.sweep()
-            await self._sessions.sweep()
+            self._audit.mend()
             try:
-                if self._register.refresh():
-                    await self._sessions.revoke(self._register.users)
+                self._register.refresh()
             except BadUsers as error:
                 if time.monotonic() - told > 60:
                     told = time.monotonic()
                     tell(f"the users stay as they were: {error}")
+            self._sessions.sweep()
 
     def _reload(self) -> None:
         """Takes a new certificate, and opens the audit log anew."""
@@ -156,6 +164,13 @@ class Service:
             tell("certificate and audit log opened anew")
         except (BadSettings, OSError) as error:
             tell(f"not reloaded: {error}")
+
+
+def _quiet(name: str) -> logging.Logger:
+    """A logger that is silent: what peers send, and when they leave, is no fault of the front, and may be secret."""
+    made = logging.getLogger(name)
+    made.setLevel(logging.CRITICAL + 1)
+    return made
 
 
 def keeper_of(settings: Settings, metrics: Metrics, audit: Audit, promoted: Promoted | None) -> Keeper | None:
@@ -173,10 +188,16 @@ def tls_context(settings: Settings) -> ssl.SSLContext | None:
         return None
     spare_memory()
     context = ssl.SSLContext(ssl.PROTOCOL_TLS_SERVER)
-    context.minimum_version = ssl.TLSVersion.TLSv1_2
-    context.options |= ssl.OP_NO_RENEGOTIATION | ssl.OP_NO_COMPRESSION
+    strict(context)
     load_certificate(context, settings)
     return context
+
+
+def strict(context: ssl.SSLContext) -> None:
+    """Has a context take what is good today alone: of TLS 1.2 only suites with forward secrecy and authenticated encryption."""
+    context.minimum_version = ssl.TLSVersion.TLSv1_2
+    context.options |= ssl.OP_NO_RENEGOTIATION | ssl.OP_NO_COMPRESSION
+    context.set_ciphers("ECDHE+AESGCM:ECDHE+CHACHA20")
 
 
 def load_certificate(context: ssl.SSLContext, settings: Settings) -> None:

@@ -1,25 +1,30 @@
 # SPDX-License-Identifier: Apache-2.0
-"""Who is signed on, at which terminal. A terminal is handed out, and given back, only after HALT was sent and answered there, so that nobody meets
-variables or locks of somebody before."""
+"""Who is signed on, at which terminal, and what becomes of their lines.
+
+No clock that ends a session runs while one of its lines waits for the server: how long other accounts' lines take is no reason for any reply."""
 from __future__ import annotations
 
 import asyncio
 import secrets
 import time
-from collections import deque
 from collections.abc import Coroutine, Iterator
 from dataclasses import dataclass, field
 from typing import TYPE_CHECKING, Protocol
 
 from .audit import Audit, NoAudit
+from .escape import shown
+from .fair import Pace
 from .faults import HeldBack, NoJournal
-from .lines import HALT, Line, Refused
-from .metrics import Metrics
+from .lines import Line, Refused
+from .metrics import Metrics, family
 from .replies import Answer
 from .server import Server
 from .settings import Settings
+from .signing import Wrong
+from .terminals import NotUp, Terminals
 from .turns import Lost, Unsent
-from .users import User, Users
+from .unread import Unread
+from .users import Register, User
 
 if TYPE_CHECKING:
     from .journal import Journal
@@ -28,19 +33,17 @@ Record = dict[str, object]
 # The ways to sign on.
 PAGE, LINES, TOKEN = "page", "lines", "token"
 NOT_SENT = "the server was started again before this line was sent, and variables and locks are gone: send it again if it still holds"
-# Seconds that users have to hear of a stop, and lines to be answered.
-STOPPING = 5.0
+# Seconds that lines on their way have at a stop to be answered, and then that users have to hear of it.
+STOPPING, TELLING = 5.0, 2.0
+# Lines that are refused, and frames that are none, a second: those of all accounts together, which take turns.
+SPARED = 500.0
+# Seconds between two records that say how many lines were refused before they were sent.
+COUNTED = 10.0
 UNKNOWN = "the server ended before it replied: the line may have been run or not"
 NOT_NOTED = "the journal cannot be written, so this line was not sent"
+NOT_AUDITED = "the audit log cannot be written, so this line was not sent"
+STOPPED = "the service is being stopped, so this line was not sent"
 HELD_BACK = "the line was run, and its reply is held back: the journal cannot be written"
-
-
-class AllInUse(Exception):
-    """All terminals of the account are in use."""
-
-
-class NotUp(Exception):
-    """The server is being started."""
 
 
 class Over(Exception):
@@ -59,7 +62,8 @@ class Listener(Protocol):
 
 @dataclass(eq=False, slots=True)
 class Session:
-    """A user at a terminal. `number` is the server's session that its variables are of, `proof` the hash that it was signed on by."""
+    """A user at a terminal. `number` is the server's session that its variables are of, `proof` the hash that it was signed on by. `carried` counts its
+    lines whose replies were not taken yet; `clean` says that none was sent since HALT; `refused` counts those that were refused and not noted yet."""
 
     user: str
     account: str
@@ -73,25 +77,61 @@ class Session:
     used: float = field(default_factory=time.monotonic)
     listener: Listener | None = None
     over: bool = False
+    why: str = ""
     fresh: bool = True
+    clean: bool = True
+    carried: int = 0
+    refused: int = 0
+    counted: float = 0.0
+
+
+class Carried:
+    """While the block runs a session waits for the server, or for its peer to take a reply: it is not idle."""
+
+    __slots__ = ("_session",)
+
+    def __init__(self, session: Session) -> None:
+        self._session = session
+
+    def __enter__(self) -> None:
+        self._session.carried += 1
+
+    def __exit__(self, *error: object) -> None:
+        self._session.carried -= 1
+        self._session.used = time.monotonic()
 
 
 class Sessions:
     """All sessions, and the terminals that nobody has."""
 
-    def __init__(self, settings: Settings, metrics: Metrics, audit: Audit, journal: Journal | None = None) -> None:
+    def __init__(self, settings: Settings, metrics: Metrics, audit: Audit, register: Register, journal: Journal | None = None) -> None:
         self._journal = journal
         self._settings = settings
         self._metrics = metrics
         self._audit = audit
-        self._free = {account: deque(terminals) for account, terminals in settings.terminals.items()}
+        self._register = register
         self._tasks: set[asyncio.Task[None]] = set()
         self._of_key: dict[str, Session] = {}
+        self._stopping = False
+        self._cheap = Pace(SPARED)
+        self.unread = Unread()
         self.server = Server(settings, metrics, self.restarted, journal)
+        self._terminals = Terminals(settings.terminals, self.server, journal)
+        metrics.more.append(self._by_account)
 
     def __iter__(self) -> Iterator[Session]:
         """The sessions as they stand: they may be ended meanwhile."""
         return iter(list(self._of_key.values()))
+
+    @property
+    def audit_waiting(self) -> int:
+        """How many records wait for the audit log, which cannot be written."""
+        return self._audit.waiting
+
+    def _by_account(self) -> list[str]:
+        """The figure of what each account has used of the server."""
+        used = {f'account="{account}"': taken for account, (_, taken) in sorted(self.server.shares.used().items())}
+        return family("mfront_account_server_seconds_total", "counter", "Seconds that the server took for lines, by account.", used)
 
     def journal_figures(self) -> tuple[int, bool] | None:
         """The journal's last line, and whether it can be written; None without a journal."""
@@ -104,89 +144,77 @@ class Sessions:
     def record(self, session: Session) -> Record:
         """What a user is told of their session."""
         return {"user": session.user, "account": session.account, "terminal": session.terminal, "volatile": self._settings.volatile,
-                "session": session.number}
+                "session": session.number, **({"text": "utf-8"} if self._settings.in_utf_8 else {})}
 
     async def sign_on(self, user: User, way: str, address: str, proof: str) -> Session:
-        """Gives a user a terminal. Raises `AllInUse`, `NotUp`, or `NoAudit` if that could not be noted."""
-        await self._make_room(user, way, 1)
-        free = self._free.get(user.account)
-        if not free:
-            raise AllInUse(f"all terminals of {user.account} are in use")
-        terminal = free.popleft()
+        """Gives a user a terminal. Raises `AllInUse`, `NotUp`, `Wrong` if they are no user any more by what they signed on with, or `NoAudit` if the
+        sign-on could not be noted."""
+        if self._stopping:
+            raise NotUp("the service is being stopped")
+        self._make_room(user, way, 1)
+        terminal = await self._terminals.take(user.account)
         try:
-            await self.server.ask(terminal, HALT)
+            # Between the look at the password and this there may have been a change of the users: what comes later is met by `sweep`.
+            if not self._register.proves(user.name, user.account, proof):
+                raise Wrong
             session = Session(user.name, user.account, terminal, way, address, proof, self.server.session)
             self._note("sign-on", session)
-        except (Lost, Unsent) as error:
-            free.append(terminal)
-            raise NotUp("the server is being started") from error
-        except (NoJournal, HeldBack) as error:
-            free.append(terminal)
-            raise NotUp("the journal cannot be written") from error
         except BaseException:
-            free.append(terminal)
+            self._terminals.put_back(user.account, terminal)
             raise
         self._of_key[session.key] = session
-        await self._make_room(user, way, 0)
+        self._make_room(user, way, 0)
         return session
 
-    async def _make_room(self, user: User, way: str, more: int) -> None:
+    def _make_room(self, user: User, way: str, more: int) -> None:
         """Ends the oldest sessions of a user who would have more than a user may have."""
         own = sorted((one for one in self if one.user == user.name and one.way == way), key=lambda one: one.began)
         for session in own[:max(0, len(own) + more - self._settings.limits.sessions_of_user)]:
-            await self.sign_off(session, "replaced")
+            self.sign_off(session, "replaced")
 
-    async def sign_off(self, session: Session, why: str) -> None:
+    def keeps(self, session: Session, proof: str) -> None:
+        """The user has another password: this session goes on by it, and no other does."""
+        session.proof = proof
+
+    def sign_off(self, session: Session, why: str) -> None:
         """Ends a session. Its terminal is free once HALT was answered there."""
         if session.over:
             return
-        session.over = True
+        session.over, session.why = True, why
         del self._of_key[session.key]
         listener, session.listener = session.listener, None
-        try:
-            self._note("sign-off", session, why=why)
-        except NoAudit:
-            pass
+        self._count_refused(session)
+        self._note_later("sign-off", session, why=why)
         if listener is not None:
             self._spawn(listener.end({"event": "signed-off", "why": why}))
-        await asyncio.shield(self._spawn(self._release(session)))
-
-    async def _release(self, session: Session) -> None:
-        await self._halt(session)
-        self._free[session.account].append(session.terminal)
+        self._spawn(self._terminals.release(session.account, session.terminal))
 
     async def _halt(self, session: Session) -> None:
-        """Ends the terminal's session, after the line that is on its way. If the server is down, its start does; if the journal cannot be written, it is
-        tried until it can."""
-        self.server.forget(session.terminal)
+        """Ends the terminal's session while the user stays, unless the user goes meanwhile: then the terminal is not theirs any more."""
         session.fresh = True
-        while True:
-            try:
-                await self.server.ask(session.terminal, HALT)
-                return
-            except (Lost, Unsent, HeldBack):
-                return
-            except NoJournal:
-                await self._journal.mended()
+        with Carried(session):
+            while not session.over and not session.clean:
+                session.clean = await self._terminals.halted(session.terminal)
 
     async def attach(self, session: Session, listener: Listener) -> None:
-        """Joins a connection to a session, in place of the one before it, with no variables and no locks."""
+        """Joins a connection to a session, in place of the one before it, with no variables and no locks. Raises `Over`."""
+        if session.over:
+            raise Over
         before, session.listener = session.listener, listener
         session.used = time.monotonic()
         if before is not None:
             self._spawn(before.end({"event": "signed-off", "why": "replaced"}))
         await self._halt(session)
 
-    async def detach(self, session: Session, listener: Listener) -> None:
+    def detach(self, session: Session, listener: Listener) -> None:
         """Notes that a connection is lost: the terminal's session ends, and the user may come back for a while."""
-        if session.listener is listener:
+        if session.listener is listener and not session.over:
             session.listener = None
             session.used = time.monotonic()
-            await asyncio.shield(self._spawn(self._halt(session)))
+            self._spawn(self._halt(session))
 
     async def run(self, session: Session, data: bytes, number: int | None = None) -> Record:
         """The record of a line's reply, or of why there is none. `number` is the server's session that the line was written for. Raises `Over`."""
-        session.used = time.monotonic()
         try:
             record = await self._run(session, data, number)
         except Refused as error:
@@ -197,75 +225,100 @@ class Sessions:
             record = {"unknown": True, "why": HELD_BACK}
         except NoJournal:
             record = {"refused": "journal", "why": NOT_NOTED}
+        except NoAudit:
+            record = {"refused": "audit", "why": NOT_AUDITED}
         except Unsent:
             if session.over:
                 raise Over from None
-            record = {"refused": "restarted", "why": NOT_SENT}
-        session.used = time.monotonic()
+            record = {"refused": "stopping", "why": STOPPED} if self._stopping else {"refused": "restarted", "why": NOT_SENT}
         self._count(session, data, record)
+        if "refused" in record:
+            await self.spared(session)
         return record
+
+    async def spared(self, session: Session) -> None:
+        """Waits for the turn of what costs the server nothing: a line that is refused, a ping. Others have their turns meanwhile."""
+        await self._cheap.turn(session.account)
 
     async def _run(self, session: Session, data: bytes, number: int | None) -> Record:
         if session.over:
             raise Over
-        line = Line(data)
-        if session.number != self.server.session or number not in (None, session.number):
+        line = Line.in_utf_8(data) if self._settings.in_utf_8 else Line(data)
+        self._audit.check()
+        if self._stopping or session.number != self.server.session or number not in (None, session.number):
             raise Unsent
+        session.clean = False
         answer = await self.server.ask(session.terminal, line, session.user)
-        return replied(answer)
+        return in_utf_8(replied(answer)) if self._settings.in_utf_8 else replied(answer)
 
     def _count(self, session: Session, data: bytes, record: Record) -> None:
-        """Counts a line, and notes it."""
+        """Counts a line, and notes it; of lines that were refused before they were sent, how many there were."""
         code = "unknown" if "unknown" in record else f"refused {record['refused']}" if "refused" in record else record["code"] or "none"
         self._metrics.replies[str(code)] += 1
+        if "refused" in record:
+            session.refused += 1
+            return
         text = {"text": data.decode("latin1")} if self._settings.texts else {}
-        try:
-            self._note("line", session, code=None if code == "none" else code, **text)
-        except NoAudit:
-            pass
+        self._note_later("line", session, code=None if code == "none" else code, **text)
+
+    def _count_refused(self, session: Session) -> None:
+        """Notes how many lines were refused since the last such record."""
+        if session.refused:
+            self._note_later("refused lines", session, count=session.refused)
+            session.refused, session.counted = 0, time.monotonic()
 
     def _note(self, event: str, session: Session, **what: object) -> None:
-        self._audit.note(event, user=session.user, account=session.account, terminal=session.terminal, way=session.way,
-                         **{"from": session.address}, **what)
+        self._audit.note(event, **self._record_of(session), **what)
+
+    def _note_later(self, event: str, session: Session, **what: object) -> None:
+        self._audit.note_later(event, **self._record_of(session), **what)
+
+    def _record_of(self, session: Session) -> Record:
+        return {"user": session.user, "account": session.account, "terminal": session.terminal, "way": session.way, "from": session.address}
 
     async def restarted(self) -> None:
         """Tells all that the server was started again: their variables and locks are gone."""
-        self._note_restart()
+        self._audit.note_later("restarted", session=self.server.session)
         for session in self:
             session.number = self.server.session
-            session.fresh = True
+            session.fresh = session.clean = True
             if session.listener is not None:
                 event = {"event": "restarted", "volatile": self._settings.volatile, "session": session.number}
                 self._spawn(session.listener.tell(event))
 
-    def _note_restart(self) -> None:
-        try:
-            self._audit.note("restarted", session=self.server.session)
-        except NoAudit:
-            pass
-
-    async def sweep(self) -> None:
-        """Signs off who was idle, away or signed on for too long."""
+    def sweep(self) -> None:
+        """Signs off who was idle, away or signed on for too long, and whoever is not a user any more, by what they signed on with."""
         now, limits = time.monotonic(), self._settings.limits
         for session in self:
+            if now - session.counted > COUNTED:
+                self._count_refused(session)
             allowed = limits.token_idle if session.way == TOKEN else limits.absent if session.listener is None else limits.idle
-            if now - session.used > allowed or now - session.began > limits.longest:
-                self._spawn(self.sign_off(session, "idle"))
-
-    async def revoke(self, users: Users) -> None:
-        """Signs off who is not a user any more, by what they signed on with."""
-        for session in self:
-            user = users.get(session.user)
-            proofs = {user.hash, *(token.hash for token in user.tokens.values())} if user and user.account == session.account else set()
-            if session.proof not in proofs:
-                self._spawn(self.sign_off(session, "removed"))
+            if not self._register.proves(session.user, session.account, session.proof):
+                self.sign_off(session, "removed")
+            elif not session.carried and (now - session.used > allowed or now - session.began > limits.longest):
+                self.sign_off(session, "idle")
 
     async def stop(self, why: str) -> None:
-        """Signs all off, and waits until they have heard of it, and why."""
+        """Signs all off: no line is sent any more, those on their way have their replies, or are unknown after a while, and then users hear why."""
+        self._stopping = True
         for session in self:
-            self._spawn(self.sign_off(session, why))
+            self.server.forget(session.terminal)
+        if not await self._settled(STOPPING):
+            self.server.cut()
+            await self._settled(TELLING)
+        for session in self:
+            self.sign_off(session, why)
         if self._tasks:
-            await asyncio.wait(self._tasks, timeout=STOPPING)
+            await asyncio.wait(self._tasks, timeout=TELLING)
+
+    async def _settled(self, seconds: float) -> bool:
+        """Waits so long at most until no line waits for its reply, and says whether none does."""
+        end = time.monotonic() + seconds
+        while any(session.carried for session in self):
+            if time.monotonic() > end:
+                return False
+            await asyncio.sleep(0.01)
+        return True
 
     def _spawn(self, work: Coroutine[None, None, None]) -> asyncio.Task[None]:
         task = asyncio.get_running_loop().create_task(work)
@@ -281,3 +334,8 @@ def replied(answer: Answer) -> Record:
     if answer.cut:
         record["cut"] = answer.cut
     return record
+
+
+def in_utf_8(record: Record) -> Record:
+    """The record of a reply, with the characters for which its escapes stand."""
+    return record | {"output": list(map(shown, record["output"])), "rest": shown(record["rest"])}

@@ -7,6 +7,8 @@ import tomllib
 from dataclasses import dataclass
 from pathlib import Path
 
+from .preamble import read_secret
+
 
 class BadSettings(Exception):
     """A file cannot be used; the text says which file, which key, and what is wanted there."""
@@ -23,23 +25,25 @@ class Limits:
     sign_on: float = 20
     slow: float = 30
     heartbeat: float = 20
-    body: int = 64 * 1024
+    body: int = 8192
     reply: int = 1_000_000
-    connections: int = 4000
+    connections: int = 1400
     connections_of_address: int = 500
+    unsigned_of_address: int = 200
     sessions_of_user: int = 4
 
 
 @dataclass(frozen=True, slots=True)
 class JournalSettings:
-    """Where the journal is: a folder of files, each of `roll` bytes or a little more, or a table of a database, where it has a name; and the socket
-    for operators."""
+    """Where the journal is: a folder of files, each of `roll` bytes or a little more, or a table of a database, where it has a name; the socket
+    for operators; and the folder of snapshots, of which the figures tell."""
 
     folder: Path | None = None
     database: str | None = None
     name: str = "main"
     roll: int = 16_777_216
     control: Path | None = None
+    backup: Path | None = None
 
     @property
     def kept(self) -> bool:
@@ -60,7 +64,7 @@ class Settings:
     host: str
     port: int
     lines_port: int | None
-    gate: bool
+    gate: str | None
     certificate: Path | None
     key: Path | None
     origins: tuple[str, ...]
@@ -69,9 +73,12 @@ class Settings:
     audit: Path | None
     texts: bool
     metrics_from: tuple[ipaddress.IPv4Network | ipaddress.IPv6Network, ...]
+    metrics_token: str | None
     limits: Limits
     terminals: dict[str, tuple[int, ...]]
     journal: JournalSettings = JournalSettings()
+    in_utf_8: bool = False
+    admin: Path | None = None
 
     @property
     def tls(self) -> bool:
@@ -104,6 +111,16 @@ class Table:
         """A path; one that is not absolute counts from the folder of the file."""
         text = self.text(key)
         return default if text is None else self.path.parent.resolve() / text
+
+    def secret(self, key: str) -> str | None:
+        """The secret in a file that its owner alone may read."""
+        path = self.file(key)
+        try:
+            return None if path is None else read_secret(path)
+        except OSError as error:
+            raise self.fault(key, f"{path}: {error.strerror}") from error
+        except ValueError as error:
+            raise self.fault(key, f"{path}: {error}") from error
 
     def needed_file(self, key: str) -> Path:
         """A path that has to be given."""
@@ -143,11 +160,15 @@ class Table:
 _LIMITS = {
     "idle": (1, 86_400), "absent": (1, 86_400), "longest": (10, 604_800), "token_idle": (1, 86_400), "sign_on": (1, 600), "slow": (1, 600),
     "heartbeat": (1, 600), "body": (4096, 1 << 24), "reply": (4096, 1 << 28), "connections": (1, 100_000), "connections_of_address": (1, 100_000),
+    "unsigned_of_address": (1, 100_000),
     "sessions_of_user": (1, 9999),
 }
 
 
-TABLES = ("server", "listen", "users", "audit", "metrics", "limits", "journal")
+# The server: the clone's, where the front is a clone's, and else the package's.
+CLONE = Path(__file__).resolve().parent.parent.parent / "mserve"
+PROGRAM = CLONE if CLONE.is_file() else Path("/usr/lib/mserve/mserve")
+TABLES = ("server", "listen", "users", "audit", "metrics", "limits", "journal", "admin")
 
 
 def read_toml(path: Path) -> dict[str, object]:
@@ -183,7 +204,8 @@ def read_settings(path: Path, volatile: bool) -> Settings:
     users = taken["users"].needed_file("file")
     settings = Settings(path=path, **_server(taken["server"], volatile), **_listen(taken["listen"]), users=users,
                         journal=journal_settings(taken["journal"], users.parent), audit=taken["audit"].file("file"), texts=taken["audit"].truth("texts", False),
-                        metrics_from=_networks(taken["metrics"]), limits=_limits(taken["limits"]))
+                        metrics_from=_networks(taken["metrics"]), metrics_token=taken["metrics"].secret("token"),
+                        admin=taken["admin"].file("socket"), limits=_limits(taken["limits"]))
     for table in taken.values():
         table.end()
     return settings
@@ -192,7 +214,10 @@ def read_settings(path: Path, volatile: bool) -> Settings:
 def _server(table: Table, volatile: bool) -> dict[str, object]:
     """The server: a child of its own, or one that runs."""
     settings = table.needed_file("settings")
-    join, store, program = table.whole("join", 1, 65_535), table.text("store"), table.file("program", Path("/usr/bin/mserve"))
+    text = table.text("text", "ascii")
+    if text not in ("ascii", "utf-8"):
+        raise table.fault("text", 'is to be "ascii", or "utf-8" for characters over 127 as escapes within strings')
+    join, store, program = table.whole("join", 1, 65_535), table.text("store"), table.file("program", PROGRAM)
     if join is not None:
         if store is not None:
             raise table.fault("store", "is not for the front to say, since server.join names a server that runs")
@@ -205,7 +230,8 @@ def _server(table: Table, volatile: bool) -> dict[str, object]:
         if volatile:
             raise table.fault("store", "is a file, and --volatile is for a store in memory")
         store = str(table.path.parent.resolve() / store)
-    return {"program": program, "server_settings": settings, "store": store, "join": join, "volatile": volatile, "terminals": read_terminals(settings)}
+    return {"program": program, "server_settings": settings, "store": store, "join": join, "volatile": volatile, "terminals": read_terminals(settings),
+            "in_utf_8": text == "utf-8"}
 
 
 def _listen(table: Table) -> dict[str, object]:
@@ -224,9 +250,9 @@ def _listen(table: Table) -> dict[str, object]:
     lines_port = table.whole("lines_port", 1, 65_535)
     if port == lines_port:
         raise table.fault("lines_port", "is to be another port than listen.port")
-    gate = table.truth("gate", False)
-    if gate and not address.is_loopback:
-        raise table.fault("gate", f"is for a front at the loopback, and host is {host}: whoever connects says which address a user has")
+    gate = table.secret("gate")
+    if gate is not None and not address.is_loopback:
+        raise table.fault("gate", f"is for a front at the loopback, and host is {host}: a gate of this machine hands users on")
     return {"host": host, "port": port, "lines_port": lines_port, "gate": gate, "certificate": certificate, "key": key,
             "origins": _origins(table), "page": table.file("page", Path(__file__).resolve().parent.parent / "page")}
 
@@ -254,7 +280,8 @@ def _networks(table: Table) -> tuple[ipaddress.IPv4Network | ipaddress.IPv6Netwo
 def journal_settings(table: Table, folder: Path) -> JournalSettings:
     """Where the journal is; the socket is in a folder unless it is named."""
     roll = table.whole("roll", 4096, 1 << 40, JournalSettings().roll)
-    found = JournalSettings(table.file("folder"), table.text("database"), table.text("name", "main"), roll, table.file("control", folder / "mfront.control"))
+    found = JournalSettings(table.file("folder"), table.text("database"), table.text("name", "main"), roll, table.file("control", folder / "mfront.control"),
+                            table.file("backup"))
     if found.folder is not None and found.database is not None:
         raise table.fault("database", "is not for a journal that is in a folder: give one of the two")
     return found

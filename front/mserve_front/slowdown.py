@@ -35,6 +35,11 @@ class Slowdown:
         found = self._failures.get(key)
         return max(0.0, found.until - time.monotonic()) if found else 0.0
 
+    def count(self, key: str) -> int:
+        """How often a key failed; 0 if that is forgotten."""
+        found = self._failures.get(key)
+        return found.count if found and time.monotonic() - found.last <= FORGOTTEN else 0
+
     def failed(self, key: str) -> None:
         """Notes a failure."""
         now = time.monotonic()

@@ -1,6 +1,8 @@
 # SPDX-License-Identifier: Apache-2.0
 """A standby: it runs the journal's lines as they come over a store of its own, and compares each reply's digest. It serves nobody until it is
-promoted: then it has taken the journal, so that no other front can write it, and run all that was answered."""
+promoted: then it has taken the journal, so that no other front can write it, and run all that was answered.
+
+It outlives what befalls its leader: what keeps it from going on it tells, and waits for."""
 from __future__ import annotations
 
 import asyncio
@@ -8,19 +10,21 @@ import contextlib
 import signal
 import socket
 import time
+from collections import deque
 from dataclasses import replace
 from pathlib import Path
 
 from . import ending
 from .control import Answered, Control, Refused
 from .doors import held
-from .history import History
+from .history import Answered as Ran
+from .history import Began, Event, History
 from .journal import Journal, LogFault, LogTaken
 from .keeper import Promoted
 from .metrics import Metrics
 from .places import end_of, last_line, last_of, reader_of, writer_of
-from .player import Stage, Stopped
-from .records import BadJournal, Flush
+from .player import NotYet, Stage, Stopped
+from .records import BadJournal, Flush, Held, LineRecord
 from .server import Fault, NoStart, tell
 from .settings import Settings
 from .standing import Standing, forget_standing, place_of, read_standing, write_standing
@@ -29,6 +33,8 @@ from .standing import Standing, forget_standing, place_of, read_standing, write_
 SNAPSHOT = "put back a snapshot (mbackup restore)"
 # Seconds between two looks at the journal, and between two after one that failed.
 POLL, RETRY = 0.02, 1.0
+# Lines that are named, of those that a promotion would lose.
+SHOWN = 20
 
 
 class Standby:
@@ -43,36 +49,40 @@ class Standby:
         self._reader = reader_of(settings.journal, 1)
         self._stopping = asyncio.Event()
         self._wanted: asyncio.Future[Answered] | None = None
+        self._force = False
         self._wake = asyncio.Event()
         self._control = Control(settings.journal.control, {"status": self._status, "promote": self._promote})
         self._fault = Fault("the journal cannot be read: {}; it is tried again", "the journal can be read again")
+        # What it waits for, so that it can go on; and whether that is because its store is not as the leader's.
+        self._waits = Fault("it stands still, and waits: {}", "it goes on")
+        self._differs = False
+        self._events: deque[Event] = deque()
+        # Lines with replies that it has not run as they were answered.
+        self._lost: list[LineRecord] = []
         self._idle = False
+        self._follows = False
         self._places: dict[int, socket.socket] = {}
 
     async def run(self) -> Promoted | None:
-        """Follows until it is promoted, or stopped: then it is None. Raises `NoStart` if it cannot go on; the store is not to be used then, unless it
-        says otherwise."""
+        """Follows until it is promoted, or stopped: then it is None. Raises `NoStart` if it cannot begin, or if it is stopped while its store is not as the
+        leader's was; the store is not to be used then, unless it says otherwise."""
         for number in (signal.SIGTERM, signal.SIGINT):
             ending.hear(number, self._stop)
         promoted = None
         try:
             self._hold_ports()
+            await self._control.listen()
             try:
                 await self._begin()
             except BadJournal as error:
                 # What is noted beside the store stays: nothing was run.
                 raise NoStart(f"it cannot stand by: {error}") from error
-            await self._control.listen()
+            if self._stopping.is_set():
+                return None
+            self._follows = True
             tell(f"standing by, after line {self._stage.at} of the journal")
             promoted = await self._follow()
             return promoted
-        except Stopped as error:
-            raise NoStart(f"the standby stops: {error}") from error
-        except BadJournal as error:
-            # The store is what it was: it stands after the last line that was compared.
-            with contextlib.suppress(Stopped):
-                await self._left()
-            raise NoStart(f"the standby stops after line {self._stage.at}: {error}") from error
         finally:
             self._control.close()
             await asyncio.to_thread(self._reader.close)
@@ -96,7 +106,7 @@ class Standby:
         self._wake.set()
 
     async def _begin(self) -> None:
-        """Finds where the store stands, and starts its server."""
+        """Finds where the store stands, and starts its server. It waits for a journal that cannot be read now."""
         if self._settings.join is not None:
             raise NoStart("a standby has a server of its own: server.store in place of server.join")
         standing = None if self._store is None else read_standing(self._store)
@@ -105,27 +115,34 @@ class Standby:
                           f"{SNAPSHOT}")
         if standing is not None and not self._store.exists():
             raise NoStart(f"{place_of(self._store)}: it says where a store stands that is not there: put the store back, or remove it")
-        if standing is not None and standing.number is None:
-            standing = replace(standing, number=self._left_at(standing))
-        if standing is not None:
-            self._hold_against(standing)
-            self._journal_number, self._stage.at = standing.journal, standing.number
-            if standing.open:
-                tell(f"{len(standing.open)} sessions were open where the store stands, and their variables and locks are in no store: if a line that "
-                     "needs them comes, the standby stops; it is to begin with an exact snapshot")
-            await self._stage.begin(self._settings.server_settings.read_bytes())
-            forget_standing(self._store)
+        while standing is not None and not self._stopping.is_set():
+            try:
+                await self._begins_at(standing)
+                break
+            except LogFault as error:
+                self._fault.comes(error)
+                await self._rest(RETRY)
         self._history = History(self._stage.at)
         self._reader = reader_of(self._settings.journal, self._stage.at + 1)
+
+    async def _begins_at(self, standing: Standing) -> None:
+        """Begins over a store of which it is noted where it stands. Raises `LogFault` if the journal cannot be read now."""
+        if standing.number is None:
+            standing = replace(standing, number=await asyncio.to_thread(self._left_at, standing))
+        await asyncio.to_thread(self._hold_against, standing)
+        self._fault.goes()
+        self._journal_number, self._stage.at = standing.journal, standing.number
+        if standing.open:
+            tell(f"{len(standing.open)} sessions were open where the store stands, and their variables and locks are in no store: if a line that "
+                 "needs them comes, the standby stands still; it is to begin with an exact snapshot")
+        await self._stage.begin(self._settings.server_settings.read_bytes())
+        forget_standing(self._store)
 
     def _left_at(self, standing: Standing) -> int:
         """The line at which the front that served with the store left it, where that did not end in order. A reply is durable in the store before it is in
         the journal: if all lines that this front had in the journal have one, the store has run these, and no others."""
         begun = f"{self._store}: the front that served with it did not end in order"
-        try:
-            flush = last_of(self._settings.journal, standing.writers[0]) if standing.writers else None
-        except LogFault as error:
-            raise NoStart(f"the journal cannot be read: {error}") from error
+        flush = last_of(self._settings.journal, standing.writers[0]) if standing.writers else None
         if flush is None or flush.journal != standing.journal:
             raise NoStart(f"{begun}, and the journal has nothing of that front: {SNAPSHOT}")
         if flush.answered != flush.next - 1:
@@ -136,17 +153,14 @@ class Standby:
 
     def _hold_against(self, standing: Standing) -> None:
         """Holds where the store stands against the journal's end."""
-        try:
-            last = last_line(self._settings.journal)
-        except LogFault as error:
-            raise NoStart(f"the journal cannot be read: {error}") from error
+        last = last_line(self._settings.journal)
         if standing.number > last:
             raise BadJournal(f"the store has run it up to line {standing.number}, and it ends with line {last}: it has lost what comes between, or is another")
 
     async def _follow(self) -> Promoted | None:
         """Runs what comes, until it is promoted or stopped."""
         while True:
-            came = await self._step()
+            came = await self._advanced()
             if self._wanted is not None:
                 promoted = await self._taken()
                 if promoted is not None:
@@ -156,41 +170,111 @@ class Standby:
                 await self._left()
                 return None
             if not came:
-                with contextlib.suppress(TimeoutError):
-                    await asyncio.wait_for(self._wake.wait(), RETRY if self._fault.text else POLL)
-                self._wake.clear()
+                await self._rest(RETRY if self._fault.text or self._waits.text else POLL)
+
+    async def _rest(self, seconds: float) -> None:
+        """Waits for so long, or until something is wanted."""
+        with contextlib.suppress(TimeoutError):
+            await asyncio.wait_for(self._wake.wait(), seconds)
+        self._wake.clear()
+
+    async def _advanced(self) -> bool:
+        """Runs what has come, and says whether anything has. What keeps it from going on it waits for: it is there when it is to be promoted."""
+        try:
+            came = await self._step()
+            if not self._differs:
+                self._waits.goes()
+            return came
+        except NotYet as error:
+            self._waits.comes(error)
+        except Stopped as error:
+            self._stands_still(error)
+        except BadJournal as error:
+            # The store is what it was. The journal may be put back.
+            self._waits.comes(error)
+            await self._reads_again()
+        return False
+
+    def _stands_still(self, error: Stopped) -> None:
+        """Runs no line any more, until a start of the leader gives all that its store holds: this one is not as the leader's was."""
+        self._differs, self._waits.text = True, ""
+        self._waits.comes(Stopped(f"{error}. It goes on once the leader has written all that its store holds into the journal (mbackup take "
+                                  "--end-sessions --all), or begin with a snapshot"))
+        self._lost += self._stage.give_up()
+
+    async def _reads_again(self) -> None:
+        """Begins to read after what is run."""
+        try:
+            await self._stage.drained()
+        except Stopped as error:
+            self._stands_still(error)
+        await asyncio.to_thread(self._reader.close)
+        self._events.clear()
+        self._history = History(self._stage.at)
+        self._reader = reader_of(self._settings.journal, self._stage.at + 1)
 
     async def _step(self) -> bool:
-        """Runs what has come, and says whether anything has."""
-        if self._stage.child is not None and self._stage.child.process.returncode is not None:
-            raise Stopped(f"its server ended with status {self._stage.child.process.returncode}")
+        """Runs what has come, and says whether anything has. Raises `Stopped` or `BadJournal`."""
+        child = self._stage.child
+        if child is not None and child.process.returncode is not None and not self._differs:
+            raise Stopped(f"its server ended with status {child.process.returncode}")
+        bad = None if self._events else await self._read()
+        came = bool(self._events)
+        # A stop waits for the lines that are on their way, and for no others: the store is known to stand before them.
+        while self._events and not self._stopping.is_set():
+            event = self._events.popleft()
+            try:
+                await self._take(event)
+            except NotYet:
+                self._events.appendleft(event)
+                raise
+        if not came and not self._differs:
+            await self._stage.drained()
+        self._idle = not came
+        if bad is not None:
+            raise bad
+        return came
+
+    async def _read(self) -> BadJournal | None:
+        """Reads what has come; what is wrong after it, if anything is."""
         try:
             flushes: list[Flush] = await asyncio.to_thread(self._reader.more)
             self._fault.goes()
         except LogFault as error:
             self._fault.comes(error)
-            return False
-        for flush in flushes:
-            self._journal_number = self._journal_number or flush.journal
-            if flush.journal != self._journal_number:
-                raise BadJournal("the store has run lines of another journal than this one: put back a snapshot")
-        for event in self._history.take(flushes):
-            if self._stopping.is_set():
-                # A stop waits for the lines that are on their way, and for no others: the store is known to stand before them.
-                break
-            await self._stage.take(event)
-        if not flushes:
-            await self._stage.drained()
-        self._idle = not flushes
-        return bool(flushes)
+            return None
+        try:
+            for flush in flushes:
+                self._journal_number = self._journal_number or flush.journal
+                if flush.journal != self._journal_number:
+                    raise BadJournal("the store has run lines of another journal than this one: put back a snapshot")
+            self._events.extend(self._history.take(flushes))
+        except BadJournal as error:
+            return error
+        return None
+
+    async def _take(self, event: Event) -> None:
+        """Runs a line, or begins again. While the store differs from the leader's, lines are passed over, up to a start that gives all."""
+        if self._differs and not (isinstance(event, Began) and event.held is Held.ALL):
+            if isinstance(event, Ran):
+                self._lost.append(event.line)
+            return
+        await self._stage.take(event)
+        if self._differs:
+            self._differs = False
+            self._lost.clear()
 
     async def _left(self) -> None:
-        """Ends in order: the store is known to stand where it does."""
-        await self._stage.drained()
-        at, terminals = self._stage.at, tuple(self._stage.open)
-        await self._stage.end()
-        if self._store is not None and self._store.exists():
-            write_standing(self._store, Standing(self._journal_number, at, terminals))
+        """Ends in order: the store is known to stand where it does. Raises `NoStart` if it is not as the leader's was."""
+        if not self._differs:
+            with contextlib.suppress(Stopped):
+                await self._stage.drained()
+                at, terminals = self._stage.at, tuple(self._stage.open)
+                await self._stage.end()
+                if self._store is not None and self._store.exists():
+                    write_standing(self._store, Standing(self._journal_number, at, terminals))
+                return
+        raise NoStart(f"the standby ends, and its store is not to be used: {self._waits.text or 'its server ended'}")
 
     async def _status(self, _: dict[str, object]) -> Answered:
         try:
@@ -199,51 +283,79 @@ class Standby:
             answered = self._history.at
         behind = max(0, answered - self._stage.at)
         return {"state": "standby", "line": self._stage.at, "behind": behind, "seconds": round(self._stage.behind(), 3), "reported": self._stage.reported,
-                "caught up": self._idle and not self._fault.text, "fault": self._fault.text}
+                "caught up": self._idle and not self._fault.text and not self._waits.text, "fault": self._fault.text or self._waits.text,
+                "differs": self._differs or ""}
 
-    async def _promote(self, _: dict[str, object]) -> Answered:
+    async def _promote(self, request: dict[str, object]) -> Answered:
         """Asks for the promotion, and waits for what comes of it."""
+        if not self._follows:
+            raise Refused(f"not promoted: it has not begun, and waits for the journal: {self._fault.text}")
         if self._wanted is None:
+            self._force = request.get("force") is True
             self._wanted = asyncio.get_running_loop().create_future()
             self._wake.set()
         return await asyncio.shield(self._wanted)
 
     async def _taken(self) -> Promoted | None:
-        """Takes the journal, and runs what was answered. None if another front has it, or a stop has come."""
+        """Takes the journal, and runs what was answered. None if another front has it, something would be lost, or a stop has come."""
         wanted, began = self._wanted, time.monotonic()
         journal = Journal(writer_of(self._settings.journal), Metrics(), tell)
         try:
-            await self._ready(journal)
-        except (Stopped, BadJournal, Refused, LogTaken, LogFault) as error:
+            lost = await self._ready(journal)
+        except (Stopped, BadJournal, Refused, LogTaken, LogFault, NoStart) as error:
             await journal.close()
             self._wanted = None
             wanted.set_exception(Refused(f"not promoted: {error}"))
             # The one who asked hears of it before this process ends.
             await asyncio.sleep(0.1)
-            if isinstance(error, Stopped | BadJournal):
-                raise
             return None
         await self._stage.leave()
         unsent = [line.number for line in self._history.unanswered]
         tell(f"promoted after line {self._history.at}" + (f": lines {unsent[0]} to {unsent[-1]} had no reply, and were not run" if unsent else ""))
-        wanted.set_result({"line": self._history.at, "not run": unsent, "seconds": round(time.monotonic() - began, 3)})
+        for text in lost:
+            tell(f"promoted by force: {text}")
+        wanted.set_result({"line": self._history.at, "not run": unsent, "seconds": round(time.monotonic() - began, 3), "lost": lost})
         await asyncio.sleep(0)
-        return Promoted(self._stage.child, journal, self._history.at, self._places, self._stopping)
+        return Promoted(self._stage.child, journal, self._history.at, self._places, self._stopping, whole=bool(lost))
 
-    async def _ready(self, journal: Journal) -> None:
-        """Takes the journal, and runs what was answered. Raises `Refused` if it cannot be promoted, or a stop has come."""
+    async def _ready(self, journal: Journal) -> list[str]:
+        """Takes the journal, and runs what was answered. Gives what is lost, which is nothing unless it is promoted by force. Raises `Refused` if it cannot
+        be promoted, something would be lost, or a stop has come."""
         self._go_on()
-        await journal.take()
-        while await self._step():
-            self._go_on()
-        # From here to the promotion nothing is waited for: a stop that comes later is for the service.
+        await journal.take(self._force)
+        wrong = await self._caught_up()
+        # From here to the promotion nothing is waited for, unless something is lost: a stop that comes later is for the service.
         self._go_on()
-        if self._fault.text:
-            raise Refused(self._fault.text)
-        if self._stage.child is None:
-            raise Refused("the journal has no start: there is nothing to promote")
+        lost = [*wrong, *self._told_lost()]
         if self._history.last != journal.next - 1:
-            raise BadJournal(f"the journal was read up to line {self._history.last}, and ends with line {journal.next - 1}")
+            lost.append(f"the journal was read up to line {self._history.last}, and ends with line {journal.next - 1}")
+        if self._stage.child is None:
+            raise Refused("; ".join(lost) or "the journal has no start: there is nothing to promote")
+        if lost and not self._force:
+            raise Refused(f"{'; '.join(lost)}. To lose that, and serve: mfront promote --force")
+        if lost:
+            self._stage.give_up()
+            await self._stage.begins_again()
+        return lost
+
+    async def _caught_up(self) -> list[str]:
+        """Runs all that has come, and gives what keeps it from doing so."""
+        try:
+            while await self._step():
+                self._go_on()
+        except Stopped as error:
+            self._stands_still(error)
+        except BadJournal as error:
+            return [str(error)]
+        return [text for text in (self._fault.text, self._waits.text if self._differs else "") if text]
+
+    def _told_lost(self) -> list[str]:
+        """The lines that were answered, and are not as they were answered here."""
+        if not self._lost:
+            return []
+        shown = [f"{line.number} (terminal {line.terminal}, {line.user or 'the front'})" for line in self._lost[:SHOWN]]
+        more = f" and {len(self._lost) - SHOWN} more, up to {self._lost[-1].number}" if len(self._lost) > SHOWN else ""
+        return [f"{len(self._lost)} lines that were answered would be lost: {', '.join(shown)}{more}"]
 
     def _go_on(self) -> None:
         """Raises `Refused` if a stop has come."""

@@ -1,8 +1,8 @@
 # SPDX-License-Identifier: Apache-2.0
 """The one connection to the server: lines of many terminals go out in fair turns, and replies come back in the order of the lines.
 
-A terminal has at most one line on its way, and after its reply it comes last again, so a user who sends many lines delays another by one line
-at most. Many terminals have a line on its way at once."""
+Turns go by account, weighted by the server's time that each has used (`shares.py`). A terminal has at most one line on its way, and after its reply it
+comes last again among those of its account. Many terminals have a line on its way at once; while one takes long, no further ones are sent behind it."""
 from __future__ import annotations
 
 import asyncio
@@ -17,12 +17,10 @@ from .connection import Connection
 from .faults import NoJournal
 from .lines import HALT, Line
 from .replies import Answer
+from .shares import SLOW, WINDOW, Shares, may_take_long
 
 if TYPE_CHECKING:
     from .journal import Journal
-
-# How many lines may be on their way at once: enough to keep the server busy, and few enough that little is unknown if it ends.
-WINDOW = 64
 
 
 class Lost(Exception):
@@ -36,7 +34,7 @@ class Unsent(Exception):
 @dataclass(eq=False, slots=True)
 class Ask:
     """A line that waits for its reply: since when; whether its turn has come, which it has before it is in the journal; since when it is on its way;
-    its user, and its number in the journal."""
+    its user, and its number in the journal; whether it may take long, and what its account was charged for it."""
 
     terminal: int
     line: Line
@@ -46,6 +44,11 @@ class Ask:
     chosen: bool = False
     sent: float = 0.0
     number: int = 0
+    long: bool = False
+    charged: float = 0.0
+
+    def __post_init__(self) -> None:
+        self.long = may_take_long(self.line.data)
 
 
 Timed = Callable[[float, float], None]
@@ -54,14 +57,15 @@ Timed = Callable[[float, float], None]
 class Turns(Connection):
     """A connection. `timed` is told of each reply how long it was waited for, and how long the server took; `ended` that the connection is over."""
 
-    def __init__(self, room: int, timed: Timed) -> None:
-        """`room` is the most bytes of a reply that are kept."""
+    def __init__(self, room: int, timed: Timed, shares: Shares | None = None) -> None:
+        """`room` is the most bytes of a reply that are kept; `shares` has what each account has used of the server before."""
         super().__init__(room)
+        self._shares = Shares({}) if shares is None else shares
+        self._shares.clear()
         self._timed = timed
         self._journal: Journal | None = None
-        # what each terminal has to say, the terminals whose turn comes, and the lines that are on their way
+        # what each terminal has to say, and the lines that are on their way
         self._queues: dict[int, deque[Ask]] = {}
-        self._ready: deque[int] = deque()
         self._flying: deque[Ask] = deque()
         self._replied = 0.0
         # While somebody wants it, no line is sent; it is done once none is on its way.
@@ -91,7 +95,7 @@ class Turns(Connection):
         queue = self._queues.setdefault(terminal, deque())
         queue.append(asked)
         if len(queue) == 1:
-            self._ready.append(terminal)
+            self._shares.add(asked)
             self._send()
         return asked.reply
 
@@ -100,12 +104,13 @@ class Turns(Connection):
         queue = self._queues.get(terminal)
         if queue is None:
             return
-        kept = 1 if queue[0].chosen else 0
+        first = queue[0]
+        kept = 1 if first.chosen else 0
         while len(queue) > kept:
             _fail(queue.pop(), Unsent())
         if not queue:
             del self._queues[terminal]
-            self._ready.remove(terminal)
+            self._shares.remove(first)
 
     def keep(self, journal: Journal) -> None:
         """From now on lines are in a journal before they are sent, and digests of replies before these are handed out. No line is on its way."""
@@ -140,7 +145,7 @@ class Turns(Connection):
     def connection_lost(self, error: Exception | None) -> None:
         self.fault = self.fault or (str(error) if error else None)
         queues, self._queues = self._queues, {}
-        self._ready.clear()
+        self._shares.clear()
         self._flying.clear()
         if not self.ended.done():
             self.ended.set_result(None)
@@ -154,8 +159,10 @@ class Turns(Connection):
     def _send(self) -> None:
         """Chooses lines while there are turns, and no more than the window of them."""
         chosen = []
-        while self._quiet is None and self._ready and len(self._flying) < WINDOW:
-            asked = self._queues[self._ready.popleft()][0]
+        while self._quiet is None and len(self._flying) < WINDOW and not self._held_up():
+            asked = self._shares.next()
+            if asked is None:
+                break
             asked.chosen = True
             self._flying.append(asked)
             chosen.append(asked)
@@ -163,6 +170,10 @@ class Turns(Connection):
             self._journal.lines(self, chosen)
         elif chosen:
             self.go_on(chosen)
+
+    def _held_up(self) -> bool:
+        """Whether the server is at a line that takes long: what is sent behind it could not be overtaken any more."""
+        return bool(self._flying) and self._flying[0].sent > 0 and time.monotonic() - max(self._flying[0].sent, self._replied) > SLOW
 
     def go_on(self, chosen: list[Ask]) -> bool:
         """Sends lines whose turn has come, unless the connection has ended."""
@@ -177,10 +188,11 @@ class Turns(Connection):
     def refuse(self, why: str) -> None:
         """Ends all lines that were not sent by `NoJournal`."""
         while self._flying and not self._flying[-1].sent:
-            self._flying.pop()
-        self._ready.clear()
+            self._shares.answered(self._flying.pop(), 0.0)
         for terminal, queue in list(self._queues.items()):
             kept = 1 if queue[0].sent else 0
+            if not queue[0].chosen:
+                self._shares.remove(queue[0])
             while len(queue) > kept:
                 _fail(queue.pop(), NoJournal(why))
             if not queue:
@@ -196,13 +208,15 @@ class Turns(Connection):
         asked = self._flying.popleft()
         queue = self._queues[asked.terminal]
         queue.popleft()
+        now = time.monotonic()
+        taken = now - max(asked.sent, self._replied)
+        self._replied = now
+        self._shares.answered(asked, taken)
         if queue:
-            self._ready.append(asked.terminal)
+            self._shares.add(queue[0])
         else:
             del self._queues[asked.terminal]
-        now = time.monotonic()
-        hand = partial(self._hand, asked, answer, now - max(asked.sent, self._replied))
-        self._replied = now
+        hand = partial(self._hand, asked, answer, taken)
         if self._journal is None or not asked.number:
             hand()
         else:

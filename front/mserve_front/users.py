@@ -22,8 +22,10 @@ from pathlib import Path
 
 import argon2
 
-NAME = re.compile(r"[A-Za-z0-9][A-Za-z0-9._@-]{0,63}")
-LEAST, MOST = 12, 1024
+from .passwords import MOST, fault_of
+
+MOST_NAME = 64
+NAME = re.compile(r"[A-Za-z0-9][A-Za-z0-9._@-]{0,%d}" % (MOST_NAME - 1))
 TOKEN = "mft_"
 # The second recommended choice of RFC 9106: 64 MiB, three passes, four lanes.
 HASHER = argon2.PasswordHasher(time_cost=3, memory_cost=65_536, parallelism=4, hash_len=32, salt_len=16, type=argon2.Type.ID)
@@ -50,6 +52,11 @@ class User:
     account: str
     hash: str
     tokens: dict[str, Token] = field(default_factory=dict)
+
+    def changed(self, hashed: str) -> None:
+        """Takes another password's hash. All that proved who one is before does so no more."""
+        self.hash = hashed
+        self.tokens.clear()
 
 
 Users = dict[str, User]
@@ -123,10 +130,10 @@ def changed(path: Path) -> Iterator[Users]:
         raise BadUsers(f"{path}: cannot be written: {error.strerror}") from error
 
 
-def password_hash(password: str) -> str:
-    """The hash of a new password. Raises `BadUsers` if it is too short or too long."""
-    if not LEAST <= len(password) <= MOST:
-        raise BadUsers(f"a password has {LEAST} to {MOST} characters, and this one has {len(password)}")
+def password_hash(password: str, name: str) -> str:
+    """The hash of a new password of a user. Raises `BadUsers` if it is not taken."""
+    if fault := fault_of(password, name):
+        raise BadUsers(fault)
     return HASHER.hash(_normal(password))
 
 
@@ -172,6 +179,11 @@ class Register:
         self._seen = seen
         return True
 
+    def proves(self, name: str, account: str, proof: str) -> bool:
+        """Whether a hash is that of the password, or of a token, of this user of this account."""
+        user = self.users.get(name)
+        return user is not None and user.account == account and (proof == user.hash or any(proof == token.hash for token in user.tokens.values()))
+
     def by_password(self, name: str, password: str) -> User | None:
         """The user of this name and password. It takes as long for a name that nobody has. It computes: not for the loop's own thread."""
         user = self.users.get(name)
@@ -183,6 +195,15 @@ class Register:
         except argon2.exceptions.VerificationError:
             return None
         return user
+
+    def change(self, name: str, password: str) -> str:
+        """Gives a user another password, in the file, and gives its hash. Raises `BadUsers`. It computes: not for the loop's own thread."""
+        hashed = password_hash(password, name)
+        with changed(self._path) as users:
+            if name not in users:
+                raise BadUsers("the user is there no more")
+            users[name].changed(hashed)
+        return hashed
 
     def by_token(self, secret: str) -> tuple[User, str] | None:
         """The user of a token, and what the token is listed as."""

@@ -3,21 +3,27 @@
 from __future__ import annotations
 
 import asyncio
+import contextlib
+import hmac
 import ipaddress
 import json
 import re
 import time
 import traceback
-from collections.abc import Awaitable, Callable
+from collections.abc import Awaitable, Callable, Iterator
 
 from aiohttp import web
+from aiohttp.web_protocol import RequestHandler
 
 from .audit import NoAudit
-from .doors import MOST_BYTES, Doors
+from .doors import Door, Doors, HttpDoor, Made
+from .http_head import Head
 from .metrics import Metrics
-from .sessions import PAGE, TOKEN, AllInUse, NotUp, Over, Session, Sessions
+from .sessions import LINES, PAGE, TOKEN, Carried, Over, Session, Sessions
 from .settings import Settings
 from .signing import Signing, Slowed, Wrong
+from .terminals import AllInUse, NotUp
+from .users import BadUsers
 from .web_socket import carry
 
 NAME = re.compile(r"[a-z0-9][a-z0-9_-]*(?:\.[a-z0-9_-]+)*\.(\w+)")
@@ -30,8 +36,6 @@ HEADERS = {
     "Permissions-Policy": "camera=(), geolocation=(), microphone=(), payment=(), usb=()", "Server": "mfront",
 }
 TRANSPORT = "max-age=31536000"
-# The field in which a gate says where a user comes from.
-GATE = "X-Mgate-From"
 # Seconds that a request may take from its head to the last byte of its answer.
 REQUEST = 60.0
 
@@ -43,6 +47,19 @@ class Fault(Exception):
         super().__init__(error)
         self.status = status
         self.headers = {name.replace("_", "-"): value for name, value in headers.items()}
+
+
+class Answering(RequestHandler):
+    """A connection of aiohttp that tells its door of each answer."""
+
+    __slots__ = ("door",)
+
+    async def finish_response(self, request: web.BaseRequest, response: web.StreamResponse, started: float) -> bool:
+        """Sends the answer; only then the next request comes."""
+        try:
+            return await super().finish_response(request, response, started)
+        finally:
+            self.door.answered()
 
 
 class Web:
@@ -63,10 +80,26 @@ class Web:
         made.add_routes([
             web.get("/", self._index), web.get("/page/{name}", self._file), web.get("/session", self._session_record), web.get("/ws", self._socket),
             web.post("/signon", self._sign_on), web.post("/signoff", self._sign_off), web.post("/line", self._line),
-            web.get("/health", self._health), web.get("/metrics", self._figures),
+            web.post("/password", self._password), web.get("/health", self._health), web.get("/metrics", self._figures),
         ])
         made.on_response_prepare.append(self._headers)
         return made
+
+    def doors(self, runner: web.AppRunner) -> Made:
+        """What makes the door of each new connection."""
+        def made(doors: Doors, place: str, left: Callable[[Door], None]) -> Door:
+            inner = Answering(runner.server, loop=asyncio.get_running_loop(), **runner.server._kwargs)
+            inner.door = HttpDoor(inner, doors.deadline(), place, left, doors, self._who)
+            return inner.door
+        return made
+
+    def _who(self, head: Head, place: str) -> tuple[str, bool]:
+        """Whose turn a request takes, and whether that is an account: the address of those who are not signed on."""
+        kind, _, secret = head.field("authorization").partition(" ")
+        found = self._signing.user_of(secret.strip()) if kind.lower() == "bearer" else None
+        session = self._sessions.find(head.cookies().get(self._cookie, ""))
+        account = found.account if found is not None else session.account if session is not None else None
+        return (place, False) if account is None else (account, True)
 
     async def _headers(self, request: web.Request, response: web.StreamResponse) -> None:
         response.headers.update(HEADERS)
@@ -76,19 +109,19 @@ class Web:
 
     @web.middleware
     async def _guarded(self, request: web.Request, handler: Callable[[web.Request], Awaitable[web.StreamResponse]]) -> web.StreamResponse:
-        """Gives the connection time for this request, and ends it in order before it has sent too much."""
-        # Requests that are sent ahead would else be answered in a row, and all others wait.
-        await asyncio.sleep(0)
+        """Gives the connection time for what its peer does: to send this request, and to take its answer."""
         self._time(request, REQUEST)
-        response = await self._answer(request, handler)
+        response = await self._answer(request, handler if self._is_ours(request) else misdirected)
+        self._time(request, REQUEST)
         door = self._doors.of(request.protocol)
-        if door is not None and door.room is not None and door.room < MOST_BYTES // 2:
+        if isinstance(door, HttpDoor) and door.worn:
             response.force_close()
         return response
 
     async def _answer(self, request: web.Request, handler: Callable[[web.Request], Awaitable[web.StreamResponse]]) -> web.StreamResponse:
         """Answers each fault as JSON."""
         try:
+            await self._received(request)
             return await handler(request)
         except Fault as fault:
             return web.json_response({"error": str(fault)}, status=fault.status, headers=fault.headers)
@@ -99,6 +132,24 @@ class Web:
             # A fault of the front itself: the user hears that there was one, and the operator which.
             traceback.print_exc()
             return web.json_response({"error": "a fault of the front: its operator finds it in the log"}, status=500)
+
+    def _is_ours(self, request: web.Request) -> bool:
+        """Whether a request names this service. With TLS the certificate says that; without it a page of another origin could have its name stand for the
+        loopback, and ask here."""
+        if self._settings.tls or self._settings.gate is not None:
+            return True
+        host = request.host.rpartition(":")[0] if request.host.rpartition(":")[2].isdigit() else request.host
+        named = (origin.partition("//")[2] for origin in self._settings.origins)
+        return host in ("localhost", "[::1]") or host.startswith("127.") or request.host.lower() in named
+
+    async def _received(self, request: web.Request) -> None:
+        """Waits for the body. From there on it is not the peer who is waited for, so the connection's time does not run."""
+        try:
+            async with asyncio.timeout(self._settings.limits.sign_on):
+                await request.read()
+        except TimeoutError:
+            raise Fault(408, "the body did not come in time") from None
+        self._time(request, None)
 
     def _time(self, request: web.Request, seconds: float | None) -> None:
         """Gives the connection of a request so much time from now; None is without end."""
@@ -145,10 +196,7 @@ class Web:
         if request.content_type != "application/json":
             raise Fault(415, "the body is to be JSON: Content-Type: application/json")
         try:
-            async with asyncio.timeout(self._settings.limits.sign_on):
-                found = json.loads(await request.read())
-        except TimeoutError:
-            raise Fault(408, "the body did not come in time") from None
+            found = json.loads(await request.read())
         except (ValueError, RecursionError):
             raise Fault(400, "the body is no JSON") from None
         if not isinstance(found, dict):
@@ -163,10 +211,11 @@ class Web:
             raise Fault(400, "user and password are to be texts")
         address = self._address(request)
         try:
-            user, proof = await self._signing.by_password(name, password, address)
+            # A token is for programs: a browser names the origin of its page, and has a person before it.
+            user, proof = await self._signing.by_password(name, password, address, tokens="Origin" not in request.headers)
             before = self._sessions.find(request.cookies.get(self._cookie, ""))
             if before is not None:
-                await self._sessions.sign_off(before, "replaced")
+                self._sessions.sign_off(before, "replaced")
             session = await self._sessions.sign_on(user, PAGE, address, proof)
         except Wrong as error:
             raise Fault(401, str(error)) from None
@@ -176,31 +225,62 @@ class Web:
             raise Fault(503, str(error)) from None
         except NoAudit:
             raise Fault(503, "the audit log cannot be written") from None
+        if request.transport is None:
+            # Who has gone meanwhile does not know the key: nobody could use the terminal.
+            self._sessions.sign_off(session, "left")
         response = web.json_response(self._sessions.record(session))
         self._set_cookie(response, session.key)
         return response
 
     def _address(self, request: web.Request) -> str:
-        """The address of a user: a gate says it in a field of its own."""
-        told = request.headers.getall(GATE, [])
-        return plain_address(told[-1]) if self._settings.gate and told else address_of(request)
+        """The address of a user, which a gate has said if there is one."""
+        door = self._doors.of(request.protocol)
+        return plain_address(door.address) if door is not None else address_of(request)
 
     async def _session_record(self, request: web.Request) -> web.StreamResponse:
         return web.json_response(self._sessions.record(self._session(request)))
 
     async def _sign_off(self, request: web.Request) -> web.StreamResponse:
         self._own_origin(request, needed=False)
-        await self._sessions.sign_off(self._session(request), "signed off")
+        self._sessions.sign_off(self._session(request), "signed off")
         response = web.Response(status=204)
         self._set_cookie(response, "", 0)
         return response
+
+    async def _password(self, request: web.Request) -> web.StreamResponse:
+        """Gives a user who is signed on by a password another one. Where a gate hands users on, their file is the machine's."""
+        self._own_origin(request, needed=False)
+        session, body = self._session(request), await self._body(request)
+        old, new = body.get("old"), body.get("new")
+        if not isinstance(old, str) or not isinstance(new, str):
+            raise Fault(400, "old and new are to be texts")
+        if self._settings.gate is not None:
+            raise Fault(409, "ask the operator for another password: this machine's users are kept for all of its islands")
+        try:
+            self._sessions.keeps(session, await self._signing.change(session.user, old, new, self._address(request)))
+        except Wrong:
+            raise Fault(403, "the password is not right") from None
+        except Slowed as error:
+            raise Fault(429, str(error), Retry_After=str(error.seconds)) from None
+        except BadUsers as error:
+            raise Fault(422, str(error)) from None
+        return web.Response(status=204)
 
     def _set_cookie(self, response: web.Response, value: str, age: int | None = None) -> None:
         response.set_cookie(self._cookie, value, max_age=age, httponly=True, samesite="Strict", secure=self._settings.tls, path="/")
 
     async def _socket(self, request: web.Request) -> web.StreamResponse:
         self._own_origin(request, needed=True)
-        return await carry(request, self._session(request), self._sessions, self._settings.limits, self._doors.of(request.protocol))
+        door = self._doors.of(request.protocol)
+        if not isinstance(door, HttpDoor):
+            raise Fault(400, "the connection has ended")
+        if not _bearer(request):
+            return await carry(request, self._session(request), self._sessions, self._settings.limits, door)
+        session = await self._program_session(request)
+        try:
+            return await carry(request, session, self._sessions, self._settings.limits, door, self._sessions.record(session))
+        finally:
+            self._sessions.sign_off(session, "left")
 
     # ---- programs
 
@@ -210,12 +290,11 @@ class Web:
         text = (await self._body(request)).get("line")
         if not isinstance(text, str):
             raise Fault(400, "line is to be a text")
-        self._time(request, None)
         try:
-            record = await self._sessions.run(session, text.encode("utf-8", "surrogatepass"))
+            with Carried(session):
+                record = await self._sessions.run(session, text.encode("utf-8", "surrogatepass"))
         except Over:
             raise Fault(503, "the session was ended", Retry_After="1") from None
-        self._time(request, REQUEST)
         if session.fresh and "output" in record:
             session.fresh = False
             record["new"] = True
@@ -225,25 +304,24 @@ class Web:
 
     async def _token_session(self, request: web.Request) -> Session:
         """The session of a token; it is signed on if it is not."""
-        kind, _, secret = request.headers.get("Authorization", "").partition(" ")
-        if kind.lower() != "bearer" or not secret:
+        secret = _bearer(request)
+        if not secret:
             raise Fault(401, "a token is needed: Authorization: Bearer TOKEN", WWW_Authenticate="Bearer")
         address = self._address(request)
-        try:
-            user, proof = self._signing.by_token(secret.strip(), address)
+        with refusals_of_a_token():
+            user, proof = self._signing.by_token(secret, address)
             task = self._of_token.get(proof)
             if task is None or task.done() and (task.cancelled() or task.exception() or task.result().over):
                 task = asyncio.create_task(self._sessions.sign_on(user, TOKEN, address, proof))
                 self._of_token[proof] = task
             return await asyncio.shield(task)
-        except Wrong:
-            raise Fault(401, "wrong token", WWW_Authenticate="Bearer") from None
-        except Slowed as error:
-            raise Fault(429, str(error), Retry_After=str(error.seconds)) from None
-        except (AllInUse, NotUp) as error:
-            raise Fault(503, str(error), Retry_After="1") from None
-        except NoAudit:
-            raise Fault(503, "the audit log cannot be written") from None
+
+    async def _program_session(self, request: web.Request) -> Session:
+        """A session of its own for the WebSocket of a program, by a token. It has no cookie, so nothing of the page is open to it."""
+        address = self._address(request)
+        with refusals_of_a_token():
+            user, proof = self._signing.by_token(_bearer(request), address)
+            return await self._sessions.sign_on(user, LINES, address, proof)
 
     # ---- operators
 
@@ -251,15 +329,46 @@ class Web:
         state = self._sessions.server.state
         return web.json_response({"child": state, "volatile": self._settings.volatile}, status=200 if state == "up" else 503)
 
-    async def _figures(self, request: web.Request) -> web.StreamResponse:
+    def _may_see_figures(self, request: web.Request) -> bool:
+        """Whether a request has the token for figures, or comes from an address that needs none. Through a gate all addresses need it."""
+        token = self._settings.metrics_token
+        if token is not None and hmac.compare_digest(_bearer(request).encode(), token.encode()):
+            return True
         address = ipaddress.ip_address(address_of(request) or "0.0.0.0")
-        if not any(address in network for network in self._settings.metrics_from):
-            raise Fault(403, "figures are not for this address (metrics.from)")
+        return self._settings.gate is None and any(address in network for network in self._settings.metrics_from)
+
+    async def _figures(self, request: web.Request) -> web.StreamResponse:
+        if not self._may_see_figures(request):
+            raise Fault(403, "figures are for the addresses of metrics.from, or for the token of metrics.token")
         server, signed_on = self._sessions.server, {way: 0 for way in ("page", "lines", "token")}
         for session in self._sessions:
             signed_on[session.way] += 1
         text = self._metrics.text(signed_on, server.waiting, server.oldest(), server.state == "up", self._sessions.journal_figures())
         return web.Response(body=text.encode(), headers={"Content-Type": "text/plain; version=0.0.4; charset=utf-8"})
+
+
+@contextlib.contextmanager
+def refusals_of_a_token() -> Iterator[None]:
+    """Raises a fault where a token gives no session."""
+    try:
+        yield
+    except Wrong:
+        raise Fault(401, "wrong token", WWW_Authenticate="Bearer") from None
+    except (AllInUse, NotUp) as error:
+        raise Fault(503, str(error), Retry_After="1") from None
+    except NoAudit:
+        raise Fault(503, "the audit log cannot be written") from None
+
+
+async def misdirected(request: web.Request) -> web.StreamResponse:
+    """Answers a request for another service."""
+    raise Fault(421, "this is not the service of that name (listen.origins)")
+
+
+def _bearer(request: web.Request) -> str:
+    """The token of a request; empty if there is none."""
+    kind, _, secret = request.headers.get("Authorization", "").partition(" ")
+    return secret.strip() if kind.lower() == "bearer" else ""
 
 
 def address_of(request: web.Request) -> str:

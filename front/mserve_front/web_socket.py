@@ -5,12 +5,14 @@ from __future__ import annotations
 import asyncio
 import contextlib
 import json
+from collections.abc import Awaitable, Callable
 
 from aiohttp import WSCloseCode, WSMsgType, web
 
-from .doors import Door
-from .sessions import Over, Record, Session, Sessions
+from .doors import HttpDoor
+from .sessions import Carried, Over, Record, Session, Sessions
 from .settings import Limits
+from .unread import LEAST, UNCOUNTED, Unread
 
 MOST_ID = 1 << 53
 
@@ -22,29 +24,50 @@ class Gone(Exception):
 class PageSocket:
     """A WebSocket of a session. A peer that does not take what it is sent, or sends nothing for too long, is cut off."""
 
-    def __init__(self, request: web.Request, limits: Limits) -> None:
+    def __init__(self, request: web.Request, limits: Limits, door: HttpDoor, spared: Callable[[], Awaitable[None]], account: str, unread: Unread) -> None:
+        """`spared` is awaited for each frame that is no line: it is paced. `unread` bounds what the account does not take."""
         self._limits = limits
+        self._account = account
+        self._unread = unread
         self._transport = request.transport
-        self.socket = web.WebSocketResponse(compress=False, max_msg_size=limits.body, timeout=2.0)
+        self._door = door
+        self._spared = spared
+        self.socket = web.WebSocketResponse(compress=False, max_msg_size=limits.body, timeout=2.0, autoping=False)
+
+    async def begin(self, request: web.Request) -> None:
+        """Answers the handshake. Frames come from now on as they are wanted."""
+        await self.socket.prepare(request)
+        reader = self.socket._reader
+        self._door.become_socket(lambda: bool(reader._buffer) or reader.at_eof() or reader.exception() is not None)
 
     async def send(self, record: Record) -> None:
         """Sends a record. Raises `Gone`."""
+        text = json.dumps(record)
         try:
-            async with asyncio.timeout(self._limits.slow):
-                await self.socket.send_str(json.dumps(record))
+            with self._unread.sent(self._account, len(text), self.cut) if len(text) >= LEAST else UNCOUNTED:
+                async with asyncio.timeout(self._limits.slow):
+                    await self.socket.send_str(text)
         except (TimeoutError, ConnectionError, RuntimeError) as error:
             self.cut()
             raise Gone from error
 
     async def receive(self) -> str | None:
         """The next text, or None at the end. Raises `Gone` if not even an answer to a ping comes."""
-        try:
-            message = await self.socket.receive(timeout=2.5 * self._limits.heartbeat)
-        except TimeoutError as error:
-            self.cut()
-            raise Gone from error
-        if message.type is WSMsgType.TEXT:
-            return message.data
+        while True:
+            self._door.more()
+            try:
+                message = await self.socket.receive(timeout=2.5 * self._limits.heartbeat)
+                if message.type is WSMsgType.TEXT:
+                    return message.data
+                if message.type is WSMsgType.PING:
+                    async with asyncio.timeout(self._limits.slow):
+                        await self.socket.pong(message.data)
+            except (TimeoutError, ConnectionError, RuntimeError) as error:
+                self.cut()
+                raise Gone from error
+            if message.type not in (WSMsgType.PING, WSMsgType.PONG):
+                break
+            await self._spared()
         if message.type is WSMsgType.BINARY:
             await self.socket.close(code=WSCloseCode.UNSUPPORTED_DATA, message=b"texts only")
         return None
@@ -77,31 +100,42 @@ class PageSocket:
             self._transport.abort()
 
 
-async def carry(request: web.Request, session: Session, sessions: Sessions, limits: Limits, door: Door | None) -> web.WebSocketResponse:
-    """Carries a user's lines, one after the other, until the connection or the session ends."""
-    page = PageSocket(request, limits)
-    await page.socket.prepare(request)
-    if door is not None:
-        door.open()
+async def carry(request: web.Request, session: Session, sessions: Sessions, limits: Limits, door: HttpDoor,
+                greeting: Record | None = None) -> web.WebSocketResponse:
+    """Carries a user's lines, one after the other, until the connection or the session ends. A `greeting` is the record of a session that began with it."""
+    page = PageSocket(request, limits, door, lambda: sessions.spared(session), session.account, sessions.unread)
+    await page.begin(request)
     beat = asyncio.create_task(page.beat())
     try:
         await sessions.attach(session, page)
-        while (text := await page.receive()) is not None:
-            asked = asked_by(text)
-            if asked is None:
-                await page.socket.close(code=WSCloseCode.POLICY_VIOLATION, message=b'this is no {"id": n, "line": ".."}')
-                break
-            if session.listener is not page:
-                # Another connection has taken the session over: what was sent here before is not run there.
-                break
-            place, line, number = asked
-            await page.send({"id": place, **await sessions.run(session, line, number)})
-    except (Gone, Over):
+        if greeting is not None:
+            await page.send({"event": "signed-on", **greeting})
+        while (text := await page.receive()) is not None and await carried(page, text, session, sessions):
+            pass
+    except Gone:
         pass
+    except Over:
+        # If the session ended before this connection joined it, nobody has told it yet.
+        await page.end({"event": "signed-off", "why": session.why})
     finally:
         beat.cancel()
-        await sessions.detach(session, page)
+        sessions.detach(session, page)
     return page.socket
+
+
+async def carried(page: PageSocket, text: str, session: Session, sessions: Sessions) -> bool:
+    """Carries what a user has sent, and says whether there may be more."""
+    asked = asked_by(text)
+    if asked is None:
+        await page.socket.close(code=WSCloseCode.POLICY_VIOLATION, message=b'this is no {"id": n, "line": ".."}')
+        return False
+    if session.listener is not page:
+        # Another connection has taken the session over: what was sent here before is not run there.
+        return False
+    place, line, number = asked
+    with Carried(session):
+        await page.send({"id": place, **await sessions.run(session, line, number)})
+    return True
 
 
 def asked_by(text: str) -> tuple[int, bytes, int | None] | None:

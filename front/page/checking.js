@@ -4,8 +4,8 @@
  * A line's label and dots are taken off, and the rest is sent after `Q  `: the server reads it whole, and stops at the Q. A
  * rest that is too long for that is put together in a local variable that the session does not have, and run by XECUTE,
  * after `Q  ` too; then that local is killed. Each call wants a terminal that its caller has alone (`Terminal.alone`). */
-import { LABEL_PARAMETERS, LONGEST_LINE, LONGEST_TEXT, NO_LABEL } from "./codes.js";
-import { cause, commands, inWords } from "./language.js";
+import { LABEL_PARAMETERS, LONGEST_LINE, LONGEST_TEXT, NO_LABEL, OVER } from "./codes.js";
+import { fault, inWords } from "./language.js";
 import { setLines } from "./mtext.js";
 import { textOf } from "./routines.js";
 import { Refused } from "./service.js";
@@ -14,13 +14,14 @@ import { askedAll, withLocal } from "./walk.js";
 const GUARD = "Q  ";
 const LONGEST_REST = LONGEST_TEXT - GUARD.length;
 const LONGEST_LABEL = 31;
+const OVER_PLACE = /[^\x00-\x7f]/;
 
 /** What is not in the language, line by line: `{line, column, message, advice}`, line and column from 1. */
 export async function check(terminal, lines) {
-  const accepted = await acceptedRests(terminal, lines.map((line) => line.rest));
+  const accepted = await acceptedRests(terminal, lines.map((line) => (OVER_PLACE.test(line.rest) ? "" : line.rest)));
   const found = [];
   for (const [number, line] of lines.entries()) {
-    const finding = faultOfForm(line) ?? (accepted[number] ? null : await refused(terminal, line));
+    const finding = faultOfForm(line) ?? (accepted[number] ? null : refused(line));
     if (finding) {
       found.push({ line: number + 1, ...finding });
     }
@@ -68,6 +69,11 @@ async function longAnswer(terminal, rest) {
 /** What is wrong with a line before its first command, or null. */
 function faultOfForm(line) {
   const { label, level, rest } = line;
+  const over = OVER_PLACE.exec(textOf(line));
+  if (over) {
+    const character = String.fromCodePoint(textOf(line).codePointAt(over.index));
+    return { column: over.index + 1, message: `the character '${character}' is over 127: values and lines are ASCII, comments too`, advice: OVER.advice };
+  }
   if (label.length > LONGEST_LABEL) {
     return { column: 1, message: `the label ${label} has ${label.length} characters`, advice: NO_LABEL };
   }
@@ -87,16 +93,12 @@ function faultOfForm(line) {
   return null;
 }
 
-/** What is wrong with a line that is not in the language: its first command that is refused, and what is known of it. */
-async function refused(terminal, line) {
-  const all = commands(line.rest);
-  const heads = await acceptedRests(terminal, all.map(([, end]) => line.rest.slice(0, end)));
-  const [start, end] = all.find((_, number) => !heads[number]) ?? [0, line.rest.length];
-  const command = line.rest.slice(start, end);
-  const column = line.label.length + line.level.length + start;
-  const known = cause(command) ?? cause(line.rest.slice(start));
-  const message = `not in the language: ${command.slice(0, 60)}`;
-  return known
-    ? { column: column + known.place + 1, message: `${message}: ${known.name}`, advice: known.advice }
-    : { column: column + 1, message, advice: "" };
+/** Why a line is not in the language. */
+function refused(line) {
+  const found = fault(line.rest);
+  const column = line.label.length + line.level.length + 1;
+  if (found === null) {
+    return { column, message: `not in the language: ${line.rest.slice(0, 60)}`, advice: "The server refuses it." };
+  }
+  return { column: column + found.place, message: `not in the language: ${line.rest.slice(found.command).slice(0, 60)}: ${found.name}`, advice: found.advice };
 }

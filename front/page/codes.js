@@ -159,239 +159,133 @@ export const FUNCTIONS = {
   $TEST: "$T                     1 or 0: what the last IF, or LOCK with a timeout, gave"
 };
 
-/** What the language has not: a pattern that finds it in a command, its name, and what to write instead. The first that is found counts. */
-export const MISSING = [
-  {
-    pattern: "\\t",
-    name: "a tab",
-    advice: "Write a space: a tab is one only before the first command of a routine's line."
-  },
-  {
-    pattern: "[^\\x00-\\x7f]",
-    name: "a character over 127",
-    advice: "Values and lines are ASCII."
-  },
-  {
-    pattern: "\\$\\$",
-    name: "an extrinsic function",
-    advice: "DO the label, which leaves its result in a variable: S A=1 D ADD^R W SUM."
-  },
-  {
-    pattern: "^(?:R|READ)(?::\\S+)?(?= |$)",
-    name: "READ",
-    advice: "Nothing is asked for: the caller sets the variable before it runs the line: S NAME=\"Ada\" D ADD."
-  },
-  {
-    pattern: "^(?:O|OPEN|U|USE|C|CLOSE)(?::\\S+)?(?= |$)",
-    name: "a command of devices",
-    advice: "There are no devices: WRITE goes into the reply, and files are the client's: mroutine, mglobal."
-  },
-  {
-    pattern: "^(?:J|JOB)(?::\\S+)?(?= |$)",
-    name: "JOB",
-    advice: "Lines run one after the other: send the line from another terminal."
-  },
-  {
-    pattern: "^(?:H \\S+|HANG \\S+)(?::\\S+)?(?= |$)",
-    name: "HANG",
-    advice: "Nothing waits in the server: leave it out, and wait in the client."
-  },
-  {
-    pattern: "^(?:B|BREAK|V|VIEW)(?::\\S+)?(?= |$)",
-    name: "BREAK or VIEW",
-    advice: "Leave it out: there is no debugger, and no view of memory."
-  },
-  {
-    pattern: "^(?:M|MERGE)(?::\\S+)?(?= |$)",
-    name: "MERGE",
-    advice: "Copy by a loop of $ORDER and SET, or by mglobal export and import."
-  },
-  {
-    pattern: "^(?:TS|TSTART|TC|TCOMMIT|TRO|TROLLBACK|TRE|TRESTART)(?::\\S+)?(?= |$)",
-    name: "a transaction",
-    advice: "Lines run one at a time, so nothing comes between; a line that fails keeps what it did: check first, then SET."
-  },
-  {
-    pattern: "^(?:Z[A-Z]*)(?::\\S+)?(?= |$)",
-    name: "a Z command",
-    advice: "It is another system's own: mroutine loads and saves routines, mglobal shows globals."
-  },
-  {
-    pattern: "^(?:(?:Q|QUIT)(?::\\S+)? [^\\s;]\\S*)(?::\\S+)?(?= |$)",
-    name: "QUIT with a value",
-    advice: "SET a variable, then QUIT: S RESULT=X Q. The caller reads RESULT."
-  },
-  {
-    pattern: "^(?:D|DO|G|GOTO)(?::\\S+)? (?:\\S*,)?[A-Z%][A-Z0-9]*\\+",
-    name: "an offset from a label",
-    advice: "Give that line a label of its own."
-  },
-  {
-    pattern: "^(?:D|DO|G|GOTO|J|JOB)(?::\\S+)? (?:\\S*,)?(?:[A-Z%][A-Z0-9]*)?(?:\\^%?[A-Z0-9]+)?\\(",
-    name: "parameters",
-    advice: "SET variables before the DO, and NEW them in the caller: N A,B S A=1,B=2 D ADD^R."
-  },
-  {
-    pattern: "^(?:D|DO|G|GOTO)(?::\\S+)? (?:\\S*,)?(?:@\\S+\\^|[A-Z%]?[A-Z0-9]*\\^@)",
-    name: "indirection of a label or a routine alone",
-    advice: "Put the whole entry into the text: S E=\"A^R\" D @E."
-  },
-  {
-    pattern: "^(?:D|DO|G|GOTO)(?::\\S+)? (?:\\S*,)?\\d",
-    name: "a label of digits",
-    advice: "Labels begin with a letter or %."
-  },
-  {
-    pattern: "^(?:D|DO|G|GOTO)(?::\\S+)? (?:\\S*,)?[A-Z0-9%]*\\^\\|",
-    name: "a routine of another account",
-    advice: "Routines are one's own: load it into this account."
-  },
-  {
-    pattern: "^(?:N|NEW)(?::\\S+)? .*\\$",
-    name: "NEW of a special variable",
-    advice: "Leave it out: there are no $ETRAP, $ESTACK and the like; a line ends at its first code."
-  },
-  {
-    pattern: "^(?:I|IF|E|ELSE|F|FOR):",
-    name: "a condition on IF, ELSE or FOR",
-    advice: "Put the condition into the IF, or on the commands after it."
-  },
-  {
-    pattern: "^(?:W|WRITE)(?::\\S+)? (?:\\S*,)?(?:\\S*!)?#",
-    name: "WRITE #",
-    advice: "Leave it out: the output is lines, without pages."
-  },
-  {
-    pattern: "^(?:W|WRITE)(?::\\S+)? (?:\\S*,)?(?:\\S*!)?\\?",
-    name: "WRITE ?n",
-    advice: "Fill up by $JUSTIFY, which sets to the right: W $J(X,20); to the left: W X,$J(\"\",20-$L(X))."
-  },
-  {
-    pattern: "^(?:W|WRITE)(?::\\S+)? (?:\\S*,)?(?:\\S*!)?\\*",
-    name: "WRITE *n",
-    advice: "Write the character by its code: W $C(65)."
-  },
-  {
-    pattern: "^(?:S|SET)(?::\\S+)? (?:\\S*[,(])?\\$(?:E|EXTRACT)\\(",
-    name: "SET $EXTRACT",
-    advice: "Put the text together: S X=$E(X,1,2)_\"new\"_$E(X,4,$L(X))."
-  },
-  {
-    pattern: "^(?:S|SET)(?::\\S+)? (?:\\S*[,(])?\\$(?!P\\(|PIECE\\()",
-    name: "SET of a special variable",
-    advice: "Leave it out: $TEST is set by IF and LOCK alone."
-  },
-  {
-    pattern: "^(?:S|SET)(?::\\S+)? (?:\\S*[,(])?\\$(?:P|PIECE)\\([^,()]*(?:\\([^()]*\\))?,[^,]*,[^,]*,",
-    name: "SET $PIECE of several pieces",
-    advice: "Set one piece at a time."
-  },
-  {
-    pattern: "\\^\\$",
-    name: "a structured system variable",
-    advice: "There is none: mglobal knows what a store file has."
-  },
-  {
-    pattern: "\\$(?:H|HOROLOG)(?![A-Z(])",
-    name: "$HOROLOG",
-    advice: "The server has no clock: the client sends the time: S NOW=\"67530,43200\"."
-  },
-  {
-    pattern: "\\$(?:T|TEXT)\\(",
-    name: "$TEXT",
-    advice: "A routine's lines are a global: ^ROUTINE(\"R\",1)."
-  },
-  {
-    pattern: "\\$(?:Q|QUERY|QL|QLENGTH|QS|QSUBSCRIPT|NA|NAME)\\(",
-    name: "$QUERY and the like",
-    advice: "Walk level by level by $ORDER; build names by `_` and use them by @."
-  },
-  {
-    pattern: "\\$(?:N|NEXT)\\(",
-    name: "$NEXT",
-    advice: "Use $ORDER, which begins and ends with \"\"."
-  },
-  {
-    pattern: "\\$(?:FN|FNUMBER)\\(",
-    name: "$FNUMBER",
-    advice: "Put the text together by $PIECE, $EXTRACT and $JUSTIFY."
-  },
-  {
-    pattern: "\\$(?:R|RANDOM)\\(",
-    name: "$RANDOM",
-    advice: "The server answers the same lines alike: the client sends random numbers."
-  },
-  {
-    pattern: "\\$(?:RE|REVERSE)\\(",
-    name: "$REVERSE",
-    advice: "Loop: F I=$L(X):-1:1 S Y=Y_$E(X,I)."
-  },
-  {
-    pattern: "\\$(?:J|JUSTIFY)\\((?:[^,()]|\\([^()]*\\))*,[^,()]*,",
-    name: "$JUSTIFY with three arguments",
-    advice: "Round first: $J(X*100+.5\\1/100,8), for X from 0 on."
-  },
-  {
-    pattern: "\\$(?:ST|STACK|V|VIEW|I|INCREMENT|D\\b(?!\\()|DEVICE|IO|I(?!\\()|JOB|J(?!\\()|K|KEY|P(?!\\()|PRINCIPAL|S(?!\\()|STORAGE|SY|SYSTEM|X|Y|EC|ECODE|ES|ESTACK|ET|ETRAP|TL|TLEVEL|TR(?!\\()|TRESTART|Q(?!\\()|QUIT)(?![A-Z])",
-    name: "a special variable or function that is not there",
-    advice: "The session has $TEST alone; $INCREMENT(X) is S X=$G(X)+1."
-  },
-  {
-    pattern: "\\$Z[A-Z]*",
-    name: "a $Z function or variable",
-    advice: "It is another system's own."
-  },
-  {
-    pattern: "\\$[A-Z]+",
-    name: "a function that is not there, or arguments that it does not take",
-    advice: "docs/LANGUAGE.md, \"Functions\", has all of them."
-  },
-  {
-    pattern: "\\*\\*",
-    name: "the operator **",
-    advice: "Multiply in a loop: S P=1 F I=1:1:N S P=P*X."
-  },
-  {
-    pattern: "\\?\\d*\\.?\\d*\\(",
-    name: "alternation in a pattern",
-    advice: "Test each pattern by itself: X?1N!(X?1A)."
-  },
-  {
-    pattern: "\\?@",
-    name: "indirection of a pattern",
-    advice: "Put it into a text and run it: S C=\"I X?\"_P X C."
-  },
-  {
-    pattern: "&&|\\|\\|",
-    name: "&& or ||",
-    advice: "Write & and !, which evaluate both sides."
-  },
-  {
-    pattern: "[{}]",
-    name: "a block in braces",
-    advice: "Use DO without arguments and lines with one dot more."
-  },
-  {
-    pattern: "//|#;|/\\*",
-    name: "a comment that is not ;",
-    advice: "Comments begin with ;."
-  },
-  {
-    pattern: "\\.\\d+e[+-]?\\d|\\d(?-i:e)[+-]?\\d",
-    name: "a small e as exponent mark",
-    advice: "Write a large E: 1E3."
-  },
-  {
-    pattern: "==|!=|<>|>=|<=",
-    name: "an operator of other languages",
-    advice: "Equal is =, not equal '=, not less '<, not greater '>."
-  },
-  {
-    pattern: "^(?:Q|QUIT|E|ELSE|F|FOR|D|DO|K|KILL|L|LOCK|N|NEW)(?::\\S+)? \\S",
-    name: "maybe one space for two",
-    advice: "Two spaces follow a command without arguments, if another command comes after it."
-  }
+/** The grammar of lines, as clients/mserve_client/grammar.py has it: kinds of steps, and rules of them. */
+export const RULES = {
+  line: ["all", ["text", " *", ""], ["many", ["rule", "command"]], ["text", "(?:;[\\x00-\\x7f]*)?(?![\\s\\S])", "command"]],
+  command: ["any", ["all", ["mark", "command", ["text", "(?:[Ss][Ee][Tt]|[Ss])(?![A-Za-z])", "command"]], ["rule", "condition"], ["any", ["all", ["text", " (?=[^ ;])", "argument"], ["mark", "arguments", ["all", ["rule", "assignment"], ["many", ["all", ["text", ",", "more"], ["rule", "assignment"]]]]], ["text", " *(?=;|(?![\\s\\S]))| +", "after"]]]], ["all", ["mark", "command", ["text", "(?:[Ww][Rr][Ii][Tt][Ee]|[Ww])(?![A-Za-z])", "command"]], ["rule", "condition"], ["any", ["all", ["text", " (?=[^ ;])", "argument"], ["mark", "arguments", ["all", ["any", ["text", "!+", ""], ["rule", "expression"]], ["many", ["all", ["text", ",", "more"], ["any", ["text", "!+", ""], ["rule", "expression"]]]]]], ["text", " *(?=;|(?![\\s\\S]))| +", "after"]]]], ["all", ["mark", "command", ["text", "(?:[Ii][Ff]|[Ii])(?![A-Za-z])", "command"]], ["any", ["all", ["text", " (?=[^ ;])", ""], ["mark", "arguments", ["all", ["rule", "expression"], ["many", ["all", ["text", ",", "more"], ["rule", "expression"]]]]], ["text", " *(?=;|(?![\\s\\S]))| +", "after"]], ["text", "(?! [^ ;])(?: *(?=;|(?![\\s\\S]))|  +)", "gap"]]], ["all", ["mark", "command", ["text", "(?:[Qq][Uu][Ii][Tt]|[Qq])(?![A-Za-z])", "command"]], ["rule", "condition"], ["any", ["all", ["text", " (?=[^ ;])", ""], ["text", "(?!)", "gap"]], ["text", "(?! [^ ;])(?: *(?=;|(?![\\s\\S]))|  +)", "gap"]]], ["all", ["mark", "command", ["text", "(?:[Dd][Oo]|[Dd])(?![A-Za-z])", "command"]], ["rule", "condition"], ["any", ["all", ["text", " (?=[^ ;])", ""], ["mark", "arguments", ["all", ["any", ["all", ["mark", "entry", ["any", ["all", ["text", "\\^", ""], ["text", "[A-Za-z%][A-Za-z0-9]{0,30}(?![A-Za-z0-9])", "name"]], ["all", ["text", "[A-Za-z%][A-Za-z0-9]{0,30}(?![A-Za-z0-9])", "entry"], ["any", ["all", ["text", "\\^", "more"], ["text", "[A-Za-z%][A-Za-z0-9]{0,30}(?![A-Za-z0-9])", "name"]], ["text", "", ""]]]]], ["rule", "condition"]], ["all", ["text", "@", ""], ["inner", "primary"]]], ["many", ["all", ["text", ",", "more"], ["any", ["all", ["mark", "entry", ["any", ["all", ["text", "\\^", ""], ["text", "[A-Za-z%][A-Za-z0-9]{0,30}(?![A-Za-z0-9])", "name"]], ["all", ["text", "[A-Za-z%][A-Za-z0-9]{0,30}(?![A-Za-z0-9])", "entry"], ["any", ["all", ["text", "\\^", "more"], ["text", "[A-Za-z%][A-Za-z0-9]{0,30}(?![A-Za-z0-9])", "name"]], ["text", "", ""]]]]], ["rule", "condition"]], ["all", ["text", "@", ""], ["inner", "primary"]]]]]]], ["text", " *(?=;|(?![\\s\\S]))| +", "after"]], ["text", "(?! [^ ;])(?: *(?=;|(?![\\s\\S]))|  +)", "gap"]]], ["all", ["mark", "command", ["text", "(?:[Ff][Oo][Rr]|[Ff])(?![A-Za-z])", "command"]], ["any", ["all", ["text", " (?=[^ ;])", ""], ["mark", "arguments", ["all", ["text", "[A-Za-z%][A-Za-z0-9]{0,30}(?![A-Za-z0-9])", "name"], ["text", "=", "equals"], ["all", ["rule", "parameter"], ["many", ["all", ["text", ",", "more"], ["rule", "parameter"]]]]]], ["text", " *(?=;|(?![\\s\\S]))| +", "after"]], ["text", "(?! [^ ;])(?: *(?=;|(?![\\s\\S]))|  +)", "gap"]]], ["all", ["mark", "command", ["text", "(?:[Kk][Ii][Ll][Ll]|[Kk])(?![A-Za-z])", "command"]], ["rule", "condition"], ["any", ["all", ["text", " (?=[^ ;])", ""], ["mark", "arguments", ["all", ["any", ["all", ["text", "\\(", ""], ["all", ["text", "[A-Za-z%][A-Za-z0-9]{0,30}(?![A-Za-z0-9])", "name"], ["many", ["all", ["text", ",", "more"], ["text", "[A-Za-z%][A-Za-z0-9]{0,30}(?![A-Za-z0-9])", "name"]]]], ["text", "\\)", "close"]], ["rule", "variable"]], ["many", ["all", ["text", ",", "more"], ["any", ["all", ["text", "\\(", ""], ["all", ["text", "[A-Za-z%][A-Za-z0-9]{0,30}(?![A-Za-z0-9])", "name"], ["many", ["all", ["text", ",", "more"], ["text", "[A-Za-z%][A-Za-z0-9]{0,30}(?![A-Za-z0-9])", "name"]]]], ["text", "\\)", "close"]], ["rule", "variable"]]]]]], ["text", " *(?=;|(?![\\s\\S]))| +", "after"]], ["text", "(?! [^ ;])(?: *(?=;|(?![\\s\\S]))|  +)", "gap"]]], ["all", ["mark", "command", ["text", "(?:[Nn][Ee][Ww]|[Nn])(?![A-Za-z])", "command"]], ["rule", "condition"], ["any", ["all", ["text", " (?=[^ ;])", ""], ["mark", "arguments", ["all", ["any", ["all", ["text", "\\(", ""], ["all", ["text", "[A-Za-z%][A-Za-z0-9]{0,30}(?![A-Za-z0-9])", "name"], ["many", ["all", ["text", ",", "more"], ["text", "[A-Za-z%][A-Za-z0-9]{0,30}(?![A-Za-z0-9])", "name"]]]], ["text", "\\)", "close"]], ["text", "[A-Za-z%][A-Za-z0-9]{0,30}(?![A-Za-z0-9])", "name"], ["all", ["text", "@", ""], ["inner", "primary"]]], ["many", ["all", ["text", ",", "more"], ["any", ["all", ["text", "\\(", ""], ["all", ["text", "[A-Za-z%][A-Za-z0-9]{0,30}(?![A-Za-z0-9])", "name"], ["many", ["all", ["text", ",", "more"], ["text", "[A-Za-z%][A-Za-z0-9]{0,30}(?![A-Za-z0-9])", "name"]]]], ["text", "\\)", "close"]], ["text", "[A-Za-z%][A-Za-z0-9]{0,30}(?![A-Za-z0-9])", "name"], ["all", ["text", "@", ""], ["inner", "primary"]]]]]]], ["text", " *(?=;|(?![\\s\\S]))| +", "after"]], ["text", "(?! [^ ;])(?: *(?=;|(?![\\s\\S]))|  +)", "gap"]]], ["all", ["mark", "command", ["text", "(?:[Ee][Ll][Ss][Ee]|[Ee])(?![A-Za-z])", "command"]], ["any", ["all", ["text", " (?=[^ ;])", ""], ["text", "(?!)", "gap"]], ["text", "(?! [^ ;])(?: *(?=;|(?![\\s\\S]))|  +)", "gap"]]], ["all", ["mark", "command", ["text", "(?:[Xx][Ee][Cc][Uu][Tt][Ee]|[Xx])(?![A-Za-z])", "command"]], ["rule", "condition"], ["any", ["all", ["text", " (?=[^ ;])", "argument"], ["mark", "arguments", ["all", ["all", ["rule", "expression"], ["rule", "condition"]], ["many", ["all", ["text", ",", "more"], ["all", ["rule", "expression"], ["rule", "condition"]]]]]], ["text", " *(?=;|(?![\\s\\S]))| +", "after"]]]], ["all", ["mark", "command", ["text", "(?:[Ll][Oo][Cc][Kk]|[Ll])(?![A-Za-z])", "command"]], ["rule", "condition"], ["any", ["all", ["text", " (?=[^ ;])", ""], ["mark", "arguments", ["all", ["mark", "lock", ["rule", "locked"]], ["many", ["all", ["text", ",", "more"], ["mark", "lock", ["rule", "locked"]]]]]], ["text", " *(?=;|(?![\\s\\S]))| +", "after"]], ["text", "(?! [^ ;])(?: *(?=;|(?![\\s\\S]))|  +)", "gap"]]], ["all", ["mark", "command", ["text", "(?:[Gg][Oo][Tt][Oo]|[Gg])(?![A-Za-z])", "command"]], ["rule", "condition"], ["any", ["all", ["text", " (?=[^ ;])", "argument"], ["mark", "arguments", ["all", ["any", ["all", ["mark", "entry", ["any", ["all", ["text", "\\^", ""], ["text", "[A-Za-z%][A-Za-z0-9]{0,30}(?![A-Za-z0-9])", "name"]], ["all", ["text", "[A-Za-z%][A-Za-z0-9]{0,30}(?![A-Za-z0-9])", "entry"], ["any", ["all", ["text", "\\^", "more"], ["text", "[A-Za-z%][A-Za-z0-9]{0,30}(?![A-Za-z0-9])", "name"]], ["text", "", ""]]]]], ["rule", "condition"]], ["all", ["text", "@", ""], ["inner", "primary"]]], ["many", ["all", ["text", ",", "more"], ["any", ["all", ["mark", "entry", ["any", ["all", ["text", "\\^", ""], ["text", "[A-Za-z%][A-Za-z0-9]{0,30}(?![A-Za-z0-9])", "name"]], ["all", ["text", "[A-Za-z%][A-Za-z0-9]{0,30}(?![A-Za-z0-9])", "entry"], ["any", ["all", ["text", "\\^", "more"], ["text", "[A-Za-z%][A-Za-z0-9]{0,30}(?![A-Za-z0-9])", "name"]], ["text", "", ""]]]]], ["rule", "condition"]], ["all", ["text", "@", ""], ["inner", "primary"]]]]]]], ["text", " *(?=;|(?![\\s\\S]))| +", "after"]]]], ["all", ["mark", "command", ["text", "(?:[Hh][Aa][Ll][Tt]|[Hh])(?![A-Za-z])", "command"]], ["rule", "condition"], ["any", ["all", ["text", " (?=[^ ;])", ""], ["text", "(?!)", "gap"]], ["text", "(?! [^ ;])(?: *(?=;|(?![\\s\\S]))|  +)", "gap"]]]],
+  condition: ["any", ["all", ["text", ":", ""], ["rule", "expression"]], ["text", "", ""]],
+  assignment: ["any", ["all", ["any", ["all", ["text", "\\(", ""], ["all", ["inner", "target"], ["many", ["all", ["text", ",", "more"], ["inner", "target"]]]], ["text", "\\)", "close"]], ["rule", "target"]], ["text", "=", "equals"], ["rule", "expression"]], ["all", ["all", ["text", "@", ""], ["inner", "primary"]], ["text", "(?=[ ,;]|(?![\\s\\S]))", ""]]],
+  target: ["any", ["all", ["text", "\\$(?:[Pp][Ii][Ee][Cc][Ee]|[Pp])\\(", "target"], ["inner", "variable"], ["text", ",", "comma"], ["inner", "expression"], ["any", ["all", ["text", ",", ""], ["inner", "expression"]], ["text", "", ""]], ["text", "\\)", "close target"]], ["rule", "variable"]],
+  parameter: ["all", ["rule", "expression"], ["any", ["all", ["text", ":", "more"], ["rule", "expression"], ["any", ["all", ["text", ":", "more"], ["rule", "expression"]], ["text", "", ""]]], ["text", "", ""]]],
+  locked: ["all", ["text", "[+-]?", ""], ["any", ["all", ["text", "\\(", ""], ["all", ["inner", "lockable"], ["many", ["all", ["text", ",", "more"], ["inner", "lockable"]]]], ["text", "\\)", "close"]], ["rule", "lockable"]], ["rule", "condition"]],
+  lockable: ["all", ["text", "(?!\\^\\()", "lockable"], ["rule", "variable"]],
+  expression: ["all", ["rule", "operand"], ["many", ["any", ["all", ["text", "[+\\-*/\\\\#_=<>&!\\[]|\\]\\]?|'(?:[=<>&!\\[]|\\]\\]?)", "operator"], ["rule", "operand"]], ["all", ["text", "'?\\?", ""], ["rule", "atom"], ["many", ["rule", "atom"]]]]]],
+  operand: ["all", ["text", "[+\\-']*", ""], ["rule", "primary"]],
+  atom: ["all", ["text", "(?:[0-9]{1,4}(?![0-9.])|[0-9]{0,4}\\.[0-9]{0,4}(?![0-9]))", "pattern"], ["text", "[ACELNPUacelnpu]+|\"(?:[^\"]|\"\")*\"(?!\")", "pattern"]],
+  primary: ["any", ["text", "(?:[0-9]+(?:\\.[0-9]+)?|\\.[0-9]+)(?:E[+-]?[0-9]+)?", "operand"], ["text", "\"(?:[^\"]|\"\")*\"(?!\")", "operand"], ["rule", "variable"], ["all", ["text", "\\(", ""], ["inner", "expression"], ["text", "\\)", "close"]], ["all", ["text", "(?=\\$)", ""], ["rule", "dollar"]]],
+  dollar: ["any", ["text", "\\$(?:[Tt][Ee][Ss][Tt]|[Tt])(?![A-Za-z(])", "operand"], ["all", ["text", "\\$(?:[Aa][Ss][Cc][Ii][Ii]|[Aa])\\(", "operand"], ["inner", "expression"], ["any", ["all", ["text", ",", "more"], ["inner", "expression"]], ["text", "", ""]], ["text", "\\)", "close $ASCII"]], ["all", ["text", "\\$(?:[Cc][Hh][Aa][Rr]|[Cc])\\(", "operand"], ["inner", "expression"], ["many", ["all", ["text", ",", "more"], ["inner", "expression"]]], ["text", "\\)", "close $CHAR"]], ["all", ["text", "\\$(?:[Ee][Xx][Tt][Rr][Aa][Cc][Tt]|[Ee])\\(", "operand"], ["inner", "expression"], ["any", ["all", ["text", ",", "more"], ["inner", "expression"], ["any", ["all", ["text", ",", "more"], ["inner", "expression"]], ["text", "", ""]]], ["text", "", ""]], ["text", "\\)", "close $EXTRACT"]], ["all", ["text", "\\$(?:[Ff][Ii][Nn][Dd]|[Ff])\\(", "operand"], ["inner", "expression"], ["all", ["text", ",", "comma"], ["inner", "expression"]], ["any", ["all", ["text", ",", "more"], ["inner", "expression"]], ["text", "", ""]], ["text", "\\)", "close $FIND"]], ["all", ["text", "\\$(?:[Jj][Uu][Ss][Tt][Ii][Ff][Yy]|[Jj])\\(", "operand"], ["inner", "expression"], ["all", ["text", ",", "comma"], ["inner", "expression"]], ["text", "\\)", "close $JUSTIFY"]], ["all", ["text", "\\$(?:[Ll][Ee][Nn][Gg][Tt][Hh]|[Ll])\\(", "operand"], ["inner", "expression"], ["any", ["all", ["text", ",", "more"], ["inner", "expression"]], ["text", "", ""]], ["text", "\\)", "close $LENGTH"]], ["all", ["text", "\\$(?:[Pp][Ii][Ee][Cc][Ee]|[Pp])\\(", "operand"], ["inner", "expression"], ["all", ["text", ",", "comma"], ["inner", "expression"]], ["any", ["all", ["text", ",", "more"], ["inner", "expression"], ["any", ["all", ["text", ",", "more"], ["inner", "expression"]], ["text", "", ""]]], ["text", "", ""]], ["text", "\\)", "close $PIECE"]], ["all", ["text", "\\$(?:[Tt][Rr][Aa][Nn][Ss][Ll][Aa][Tt][Ee]|[Tt][Rr])\\(", "operand"], ["inner", "expression"], ["all", ["text", ",", "comma"], ["inner", "expression"]], ["any", ["all", ["text", ",", "more"], ["inner", "expression"]], ["text", "", ""]], ["text", "\\)", "close $TRANSLATE"]], ["all", ["text", "\\$(?:[Dd][Aa][Tt][Aa]|[Dd])\\(", "operand"], ["inner", "variable"], ["text", "\\)", "close $DATA"]], ["all", ["text", "\\$(?:[Gg][Ee][Tt]|[Gg])\\(", "operand"], ["inner", "variable"], ["any", ["all", ["text", ",", "more"], ["inner", "expression"]], ["text", "", ""]], ["text", "\\)", "close $GET"]], ["all", ["text", "\\$(?:[Oo][Rr][Dd][Ee][Rr]|[Oo])\\(", "operand"], ["inner", "variable"], ["any", ["all", ["text", ",", "more"], ["inner", "expression"]], ["text", "", ""]], ["text", "\\)", "close $ORDER"]], ["all", ["text", "\\$(?:[Ss][Ee][Ll][Ee][Cc][Tt]|[Ss])\\(", "operand"], ["all", ["all", ["inner", "expression"], ["text", ":", "colon"], ["inner", "expression"]], ["many", ["all", ["text", ",", "more"], ["all", ["inner", "expression"], ["text", ":", "colon"], ["inner", "expression"]]]]], ["text", "\\)", "close $SELECT"]]],
+  variable: ["any", ["all", ["text", "[A-Za-z%][A-Za-z0-9]{0,30}(?![A-Za-z0-9])", "variable"], ["rule", "subscripts"]], ["all", ["text", "\\^(?!\\()", "variable"], ["any", ["all", ["text", "\\|", ""], ["inner", "expression"], ["text", "\\|", "bar"]], ["text", "", ""]], ["text", "[A-Za-z%][A-Za-z0-9]{0,30}(?![A-Za-z0-9])", "name"], ["rule", "subscripts"]], ["all", ["text", "\\^(?=\\()", ""], ["rule", "subscripts"]], ["all", ["all", ["text", "@", ""], ["inner", "primary"]], ["any", ["all", ["text", "@(?=\\()", ""], ["rule", "subscripts"]], ["text", "", ""]]]],
+  subscripts: ["any", ["all", ["text", "\\(", ""], ["all", ["inner", "expression"], ["many", ["all", ["text", ",", "more"], ["inner", "expression"]]]], ["text", "\\)", "close"]], ["text", "", ""]],
+};
+
+/** How many brackets and operands of @ may be open at a place. */
+export const DEPTH = 40;
+
+/** Why a line is not in the language: how that is known, its name, and what to write instead. The first that fits counts. */
+export const CAUSES = [
+  {"name": "a tab", "advice": "Write a space: a tab is one in a routine's file alone, which the loader turns into a space.", "here": "\\t"},
+  {"name": "a SET without its word", "advice": "Write S before it: S A=1.", "wanted": "command", "here": "\\^?[A-Z%][A-Z0-9]*(?:\\(\\S*\\))?="},
+  {"name": "two spaces follow a command without arguments", "advice": "Write a second space, if another command comes after it.", "here": "\\S", "command": "(?:D|DO|K|KILL|N|NEW|L|LOCK)(?::\\S+)? [A-Z]+ ", "reads": "argument"},
+  {"name": "READ", "advice": "Nothing is asked for: the caller sets the variable before it runs the line: S NAME=\"Ada\" D ADD.", "wanted": "command", "here": "(?:R|READ)(?![A-Za-z])"},
+  {"name": "a command of devices", "advice": "There are no devices: WRITE goes into the reply, and files are the client's: mroutine, mglobal.", "wanted": "command", "here": "(?:O|OPEN|U|USE|C|CLOSE)(?![A-Za-z])"},
+  {"name": "JOB", "advice": "Lines run one after the other: send the line from another terminal.", "wanted": "command", "here": "(?:J|JOB)(?![A-Za-z])"},
+  {"name": "HANG", "advice": "Nothing waits in the server: leave it out, and wait in the client.", "wanted": "command", "here": "(?:HANG)(?![A-Za-z])"},
+  {"name": "HANG", "advice": "Nothing waits in the server: leave it out, and wait in the client.", "wanted": "gap", "here": "\\S", "before": " ", "command": "(?:H|HALT)(?::\\S+)? "},
+  {"name": "BREAK or VIEW", "advice": "Leave it out: there is no debugger, and no view of memory.", "wanted": "command", "here": "(?:B|BREAK|V|VIEW)(?![A-Za-z])"},
+  {"name": "MERGE", "advice": "Copy by a loop of $ORDER and SET, or by mglobal export and import.", "wanted": "command", "here": "(?:M|MERGE)(?![A-Za-z])"},
+  {"name": "a transaction", "advice": "Lines run one at a time, so nothing comes between; a line that fails keeps what it did: check first, then SET.", "wanted": "command", "here": "(?:TS|TSTART|TC|TCOMMIT|TRO|TROLLBACK|TRE|TRESTART)(?![A-Za-z])"},
+  {"name": "a Z command", "advice": "It is another system's own: mroutine loads and saves routines, mglobal shows globals.", "wanted": "command", "here": "(?:Z[A-Z]*)(?![A-Za-z])"},
+  {"name": "a comment that is not ;", "advice": "Comments begin with ;.", "wanted": "command", "here": "//|/\\*|#;"},
+  {"name": "a block in braces", "advice": "Use DO without arguments and lines with one dot more.", "wanted": "command", "here": "[{}]"},
+  {"name": "a space beside an operator", "advice": "No space stands within an argument: W 1+2.", "wanted": "command", "here": "[-+*/\\\\#_=<>&!'?\\[\\]]", "before": "\\S +", "back": 1},
+  {"name": "a value without a command", "advice": "A line begins with a command: W 1+2 shows a value.", "wanted": "command", "here": "[\\\"(0-9.$^@%+'-]", "before": "^ *"},
+  {"name": "two expressions need a comma, or two commands one space", "advice": "", "wanted": "command", "here": "[^A-Za-z;]", "before": "\\S ", "back": 1},
+  {"name": "no command has this name", "advice": "SET, KILL, NEW, IF, ELSE, FOR, QUIT, WRITE, DO, GOTO, XECUTE, LOCK and HALT are there, whole or by their first letter; two expressions need a comma between.", "wanted": "command", "here": "[A-Z]+"},
+  {"name": "no command begins here", "advice": "A command is a word, as SET or S; between two commands stands one space.", "wanted": "command", "here": "\\S"},
+  {"name": "QUIT with a value", "advice": "SET a variable, then QUIT: S RESULT=X Q. The caller reads RESULT.", "wanted": "gap", "here": "[A-Z]+ *(?:;|(?![\\s\\S]))", "before": " ", "command": "(?:Q|QUIT)(?::\\S+)? "},
+  {"name": "two spaces follow a command without arguments", "advice": "Write a second space, if another command comes after it.", "wanted": "gap", "before": " ", "reads": "here", "back": 1},
+  {"name": "QUIT with a value", "advice": "SET a variable, then QUIT: S RESULT=X Q. The caller reads RESULT.", "wanted": "gap", "here": "\\S", "before": " ", "command": "(?:Q|QUIT)(?::\\S+)? "},
+  {"name": "a condition on IF, ELSE or FOR", "advice": "Put the condition into the IF, or on the commands after it.", "here": ":", "command": "(?:I|IF|E|ELSE|F|FOR):"},
+  {"name": "an argument where none is taken", "advice": "Two spaces follow, if another command comes after it.", "wanted": "gap", "here": "\\S", "before": " "},
+  {"name": "one space stands before an argument, and not more", "advice": "Write one space: W 1.", "wanted": "argument", "here": " +[^ ;]"},
+  {"name": "an argument is missing", "advice": "SET, WRITE, GOTO and XECUTE do nothing without one.", "wanted": "argument", "here": " *(?:;|(?![\\s\\S]))"},
+  {"name": "no space after the command's word", "advice": "One space stands between the word and its argument.", "wanted": "argument", "here": "\\S"},
+  {"name": "no space after the command's word", "advice": "One space stands between the word and its argument; two follow a command without arguments.", "wanted": "gap", "here": "\\S"},
+  {"name": "an offset from a label", "advice": "Give that line a label of its own.", "here": "\\+", "command": "(?:D|DO|G|GOTO)(?::\\S+)? "},
+  {"name": "parameters", "advice": "SET variables before the DO, and NEW them in the caller: N A,B S A=1,B=2 D ADD^R.", "here": "\\(", "before": "[A-Z0-9%]", "command": "(?:D|DO|G|GOTO)(?::\\S+)? "},
+  {"name": "indirection of a label or a routine alone", "advice": "Put the whole entry into the text: S E=\"A^R\" D @E.", "wanted": "name", "here": "@", "before": "\\^", "command": "(?:D|DO|G|GOTO)(?::\\S+)? "},
+  {"name": "indirection of a label or a routine alone", "advice": "Put the whole entry into the text: S E=\"A^R\" D @E.", "here": "\\^", "before": "@\\S+", "command": "(?:D|DO|G|GOTO)(?::\\S+)? "},
+  {"name": "a condition after an @ alone", "advice": "Put it on the command: D:X @A.", "here": ":", "before": "@\\S+", "command": "(?:D|DO|G|GOTO)(?::\\S+)? "},
+  {"name": "a label of digits", "advice": "Labels begin with a letter or %.", "wanted": "entry", "here": "[0-9]", "command": "(?:D|DO|G|GOTO)(?::\\S+)? "},
+  {"name": "a routine of another account", "advice": "Routines are one's own: load it into this account.", "wanted": "name", "here": "\\|", "command": "(?:D|DO|G|GOTO)(?::\\S+)? "},
+  {"name": "no label or routine", "advice": "DO and GOTO want a label, a label with its routine, or a routine: D ADD, D ADD^R, D ^R.", "wanted": "entry", "here": "[^$]", "command": "(?:D|DO|G|GOTO)(?::\\S+)? "},
+  {"name": "NEW of a special variable", "advice": "Leave it out: there are no $ETRAP, $ESTACK and the like; a line ends at its first code.", "wanted": "name", "here": "\\$", "command": "(?:N|NEW)(?::\\S+)? "},
+  {"name": "NEW of a node or a global", "advice": "NEW hides local variables by their names: N A,B.", "here": "[(^]", "command": "(?:N|NEW)(?::\\S+)? "},
+  {"name": "WRITE #", "advice": "Leave it out: the output is lines, without pages.", "here": "#", "before": "[ ,!]", "command": "(?:W|WRITE)(?::\\S+)? "},
+  {"name": "WRITE ?n", "advice": "Fill up by $JUSTIFY, which sets to the right: W $J(X,20); to the left: W X,$J(\"\",20-$L(X)).", "here": "\\?", "before": "[ ,!]", "command": "(?:W|WRITE)(?::\\S+)? "},
+  {"name": "WRITE *n", "advice": "Write the character by its code: W $C(65).", "wanted": "operand", "here": "\\*", "before": "[ ,]", "command": "(?:W|WRITE)(?::\\S+)? "},
+  {"name": "no comma after !", "advice": "Write W !,A: a comma stands between two arguments.", "here": "[^ ]", "before": "!", "command": "(?:W|WRITE)(?::\\S+)? (?:\\S*,)?!"},
+  {"name": "SET $EXTRACT", "advice": "Put the text together: S X=$E(X,1,2)_\"new\"_$E(X,4,$L(X)).", "wanted": "target", "here": "\\$(?:E|EXTRACT)\\("},
+  {"name": "SET of a special variable", "advice": "Leave it out: $TEST is set by IF and LOCK alone.", "wanted": "target", "here": "\\$"},
+  {"name": "SET $PIECE of several pieces", "advice": "Set one piece at a time.", "wanted": "close target", "here": ","},
+  {"name": "SET of a value", "advice": "Left of the = stands a variable, or $PIECE of one.", "wanted": "target", "here": "[\\\"0-9.+'-]"},
+  {"name": "an operator of other languages", "advice": "One = sets, and compares.", "wanted": "equals", "here": ":=|=="},
+  {"name": "a space within an argument", "advice": "No space stands beside =.", "wanted": "equals", "here": " +="},
+  {"name": "the index of FOR has subscripts", "advice": "It is a name alone: F I=1:1:3.", "wanted": "equals", "here": "\\(", "command": "(?:F|FOR) "},
+  {"name": "the index of FOR is no name", "advice": "It is a local variable by its name: F I=1:1:3.", "wanted": "name", "here": "\\S", "command": "(?:F|FOR) "},
+  {"name": "no = and no value", "advice": "SET and FOR want a variable, = and a value: S A=1.", "wanted": "equals"},
+  {"name": "LOCK of a naked reference", "advice": "Name the global: L +^X(2).", "wanted": "lockable"},
+  {"name": "subscripts in a list of names", "advice": "KILL (A,B) and NEW (A,B) take names alone.", "wanted": "close", "here": "\\(", "command": "(?:K|KILL|N|NEW)(?::\\S+)? (?:\\S*,)?\\("},
+  {"name": "an extrinsic function", "advice": "DO the label, which leaves its result in a variable: S A=1 D ADD^R W SUM.", "here": "\\$\\$"},
+  {"name": "a structured system variable", "advice": "There is none: mglobal knows what a store file has.", "here": "\\$", "before": "\\^"},
+  {"name": "$HOROLOG", "advice": "The server has no clock: the client sends the time: S NOW=\"67530,43200\".", "wanted": "operand", "here": "\\$(?:(?:H|HOROLOG)(?![A-Z(]))"},
+  {"name": "$TEXT", "advice": "A routine's lines are a global: ^ROUTINE(\"R\",1).", "wanted": "operand", "here": "\\$(?:(?:T|TEXT)\\()"},
+  {"name": "$QUERY and the like", "advice": "Walk level by level by $ORDER; build names by `_` and use them by @.", "wanted": "operand", "here": "\\$(?:(?:Q|QUERY|QL|QLENGTH|QS|QSUBSCRIPT|NA|NAME)\\()"},
+  {"name": "$NEXT", "advice": "Use $ORDER, which begins and ends with \"\".", "wanted": "operand", "here": "\\$(?:(?:N|NEXT)\\()"},
+  {"name": "$FNUMBER", "advice": "Put the text together by $PIECE, $EXTRACT and $JUSTIFY.", "wanted": "operand", "here": "\\$(?:(?:FN|FNUMBER)\\()"},
+  {"name": "$RANDOM", "advice": "The server answers the same lines alike: the client sends random numbers.", "wanted": "operand", "here": "\\$(?:(?:R|RANDOM)\\()"},
+  {"name": "$REVERSE", "advice": "Loop: F I=$L(X):-1:1 S Y=Y_$E(X,I).", "wanted": "operand", "here": "\\$(?:(?:RE|REVERSE)\\()"},
+  {"name": "a $Z function or variable", "advice": "It is another system's own.", "wanted": "operand", "here": "\\$(?:Z[A-Z]*)"},
+  {"name": "a special variable or function that is not there", "advice": "The session has $TEST alone; $INCREMENT(X) is S X=$G(X)+1.", "wanted": "operand", "here": "\\$(?:(?:ST|STACK|V|VIEW|I|INCREMENT|D|DEVICE|IO|J|JOB|K|KEY|P|PRINCIPAL|S|STORAGE|SY|SYSTEM|X|Y|EC|ECODE|ES|ESTACK|ET|ETRAP|TL|TLEVEL|TR|TRESTART|Q|QUIT)(?![A-Z(])|(?:ST|STACK|V|VIEW|I|INCREMENT)\\()"},
+  {"name": "a function that is not there", "advice": "docs/LANGUAGE.md, \"Functions\", has all of them.", "wanted": "operand", "here": "\\$(?:[A-Z]+)"},
+  {"name": "$JUSTIFY with three arguments", "advice": "Round first: $J(X*100+.5\\1/100,8), for X from 0 on.", "wanted": "close $JUSTIFY", "here": ","},
+  {"name": "more arguments than the function takes", "advice": "docs/LANGUAGE.md, \"Functions\", has what each takes.", "wanted": "close $", "here": ","},
+  {"name": "the function wants a further argument", "advice": "docs/LANGUAGE.md, \"Functions\", has what each takes.", "wanted": "comma"},
+  {"name": "$SELECT without a value", "advice": "Each of its arguments is a condition, a colon and a value: $S(A:1,1:2).", "wanted": "colon"},
+  {"name": "the operator **", "advice": "Multiply in a loop: S P=1 F I=1:1:N S P=P*X.", "wanted": "operand", "here": "\\*", "before": "\\*"},
+  {"name": "alternation in a pattern", "advice": "Test each pattern by itself: X?1N!(X?1A).", "wanted": "pattern", "here": "\\("},
+  {"name": "indirection of a pattern", "advice": "Put it into a text and run it: S C=\"I X?\"_P X C.", "wanted": "pattern", "here": "@"},
+  {"name": "no pattern", "advice": "A pattern is a count and what it counts, as 1N, .A or 2\"ab\", in a row; a count has at most four digits.", "wanted": "pattern"},
+  {"name": "&& or ||", "advice": "Write & and !, which evaluate both sides.", "wanted": "operand", "here": "&", "before": "&"},
+  {"name": "&& or ||", "advice": "Write & and !, which evaluate both sides.", "here": "\\|\\|"},
+  {"name": "an operator of other languages", "advice": "Equal is =, not equal '=, not less '<, not greater '>.", "wanted": "operand", "here": "=", "before": "[=!<>]"},
+  {"name": "an operator of other languages", "advice": "Equal is =, not equal '=, not less '<, not greater '>.", "wanted": "operand", "here": ">", "before": "<"},
+  {"name": "a comment that is not ;", "advice": "Comments begin with ;.", "wanted": "operand", "here": "[/*]", "before": "/"},
+  {"name": "a small e as exponent mark", "advice": "Write a large E: 1E3.", "here": "e[+-]?\\d", "before": "[0-9.]"},
+  {"name": "a string without its closing quote", "advice": "Within a string \"\" stands for one quote.", "here": "\""},
+  {"name": "a name of more than 31 characters", "advice": "Names have at most 31 letters and digits.", "here": "[A-Z%][A-Z0-9]{31,}"},
+  {"name": "more than 40 brackets", "advice": "At most 40 brackets and operands of @ may be open at a place.", "wanted": "depth"},
+  {"name": "a name is missing", "advice": "A name begins with a letter or %, and goes on with letters and digits.", "wanted": "name"},
+  {"name": "an environment without its second |", "advice": "It is ^|\"LAB\"|X.", "wanted": "bar"},
+  {"name": "a space within an argument", "advice": "No space stands within an argument: W A,B and S A=1.", "wanted": "operand", "here": " "},
+  {"name": "an operand is missing", "advice": "Here stands a number, a string, a variable, a function or an expression in brackets.", "wanted": "operand", "here": "[,):;]|(?![\\s\\S])"},
+  {"name": "no operand begins here", "advice": "An operand is a number, a string, a variable, a function or an expression in brackets.", "wanted": "operand"},
+  {"name": "a variable is wanted", "advice": "Here stands a variable: A, A(1), ^A(1) or @A.", "wanted": "variable"},
+  {"name": "a ) is missing", "advice": "Each ( has its ).", "wanted": "close", "here": "[ ;:]|(?![\\s\\S])"},
+  {"name": "a ) without its (", "advice": "Each ( has its ).", "here": "\\)"},
+  {"name": "a block in braces", "advice": "Use DO without arguments and lines with one dot more.", "here": "[{}]"},
+  {"name": "a condition where none is taken", "advice": "It stands after the command's word: W:A 1.", "here": ":"},
+  {"name": "a bracket where none is taken", "advice": "Subscripts stand after a name, and arguments after a function's word.", "here": "\\("},
+  {"name": "a point outside of a number", "advice": "A point has digits after it: 1.5, .5; A.B is no name.", "here": "\\."},
+  {"name": "no operator between two operands", "advice": "Write the operator, as _ for joining texts: W \"a\"_\"b\".", "wanted": "operator"},
+  {"name": "not in the language", "advice": ""},
 ];
+
+/** What is said of a character over 127. */
+export const OVER = {
+  name: "a character over 127",
+  advice: "Values and lines are ASCII, comments too: write another character."
+};
 
 /** What is said of a line that begins with no label and no space. */
 export const NO_LABEL = "a label begins with a letter or %, and has at most 31 letters and digits; a line without one begins with a space";

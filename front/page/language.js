@@ -1,10 +1,14 @@
 // SPDX-License-Identifier: Apache-2.0
-/** What is known of the language: codes in words, and what a refused command has that the language has not.
+/** Codes in words; and where a line leaves the language, why, and what to write instead.
  *
- * The server alone decides whether a line is in the language. The rules are those of clients/mserve_client/language.py. */
-import { CODES, MISSING } from "./codes.js";
+ * The server alone decides whether a line is in the language. The grammar and the causes are those of clients/mserve_client, which say how
+ * they are read (grammar.py, causes.py): here are the same few kinds of steps. */
+import { CAUSES, CODES, DEPTH, OVER, RULES } from "./codes.js";
 
 const STRING = /"(?:[^"]|"")*"?/g;
+const OVER_PLACE = /[^\x00-\x7f]/;
+const END = "(?![\\s\\S])";
+const HEAD = /[A-Za-z]+(?::\S+)? /y;
 
 /** A code with what it means: `M6: undefined local variable`. */
 export function inWords(code) {
@@ -23,60 +27,169 @@ export function blanked(text) {
   return comment < 0 ? plain : plain.slice(0, comment);
 }
 
-/** A pattern, or null if this browser cannot read it: then the line is told without the advice. */
-function compiled(pattern) {
-  try {
-    return new RegExp(pattern, "i");
-  } catch {
+/** Reads texts by the table of rules. Each step is a function from a place and a depth to the place after it, or -1. */
+class Reader {
+  #line = "";
+  #place = 0;
+  #wanted = new Set();
+  #begun = new Set();
+  #made = new Map();
+
+  constructor(rules) {
+    for (const [name, step] of Object.entries(rules)) {
+      this.#made.set(name, this.#step(step));
+    }
+  }
+
+  /** What a rule makes of a text from a place on: `{end, place, wanted, command}`; the end is -1 if the text does not go on with it. */
+  read(line, name = "line", at = 0) {
+    this.#line = line;
+    this.#place = at;
+    this.#wanted = new Set();
+    this.#begun = new Set([at]);
+    const end = this.#made.get(name)(at, DEPTH);
+    const command = Math.max(...[...this.#begun].filter((place) => place <= this.#place));
+    return { end, place: this.#place, wanted: [...this.#wanted], command };
+  }
+
+  #step([kind, ...parts]) {
+    const kinds = { text: this.#text, all: this.#all, any: this.#any, many: this.#many, rule: this.#rule, inner: this.#inner, mark: this.#mark };
+    return kinds[kind].apply(this, parts);
+  }
+
+  #text(pattern, wanted) {
+    const match = new RegExp(pattern, "y");
+    return (at) => {
+      match.lastIndex = at;
+      const found = match.exec(this.#line);
+      return found ? at + found[0].length : this.#missed(at, wanted);
+    };
+  }
+
+  /** Notes what was wanted, if no place further on was reached; gives -1. */
+  #missed(at, wanted) {
+    if (at > this.#place) {
+      this.#place = at;
+      this.#wanted = new Set();
+    }
+    if (at === this.#place && wanted) {
+      this.#wanted.add(wanted);
+    }
+    return -1;
+  }
+
+  #all(...steps) {
+    const made = steps.map((step) => this.#step(step));
+    return (start, depth) => {
+      let at = start;
+      for (const step of made) {
+        at = step(at, depth);
+        if (at < 0) {
+          return -1;
+        }
+      }
+      return at;
+    };
+  }
+
+  #any(...steps) {
+    const made = steps.map((step) => this.#step(step));
+    return (at, depth) => {
+      for (const step of made) {
+        const end = step(at, depth);
+        if (end >= 0) {
+          return end;
+        }
+      }
+      return -1;
+    };
+  }
+
+  #many(step) {
+    const made = this.#step(step);
+    return (start, depth) => {
+      let at = start;
+      for (let end = made(at, depth); end >= 0; end = made(at, depth)) {
+        at = end;
+      }
+      return at;
+    };
+  }
+
+  #rule(name) {
+    return (at, depth) => this.#made.get(name)(at, depth);
+  }
+
+  #inner(name) {
+    return (at, depth) => (depth === 0 ? this.#missed(at, "depth") : this.#made.get(name)(at, depth - 1));
+  }
+
+  #mark(name, step) {
+    const made = this.#step(step);
+    return (at, depth) => {
+      const end = made(at, depth);
+      if (end >= 0 && name === "command") {
+        this.#begun.add(at);
+      }
+      return end;
+    };
+  }
+}
+
+const READER = new Reader(RULES);
+
+/** Why a line, without label and dots, is not in the language, `{code, place, command, name, advice}`; null if it is. A line's length is
+ * not looked at. */
+export function fault(text) {
+  const over = OVER_PLACE.exec(text);
+  if (over) {
+    return { code: "ZCHAR", place: over.index, command: over.index, ...OVER };
+  }
+  const outcome = READER.read(text);
+  if (outcome.end >= 0) {
     return null;
   }
-}
-
-/** What a command has that the language has not, `{place, name, advice}`, or null if nothing known is found. */
-export function cause(command) {
-  const blank = blanked(command);
-  for (const missing of MISSING) {
-    const found = compiled(missing.pattern)?.exec(blank);
-    if (found) {
-      return { place: missing.pattern.startsWith("^") ? 0 : found.index, name: missing.name, advice: missing.advice };
-    }
-  }
-  return null;
-}
-
-/** The commands of a line, each from its first place to the one after it: a word, and after one space its arguments. */
-export function commands(text) {
   const blank = blanked(text);
-  const found = [];
-  let at = nextWord(blank, 0);
-  while (at < blank.length) {
-    let end = wordEnd(blank, at);
-    const next = blank[end + 1];
-    if (blank[end] === " " && next !== undefined && next !== " ") {
-      end = wordEnd(blank, end + 1);
-    }
-    found.push([at, end]);
-    at = nextWord(blank, end);
-  }
-  return found;
+  const cause = CAUSES.find((one) => fits(one, blank, outcome));
+  const place = cause.reads === "argument" ? argumentPlace(blank, outcome) - 1 : Math.max(outcome.place - (cause.back ?? 0), 0);
+  const command = cause.wanted === "command" && !cause.back ? place : outcome.command;
+  return { code: "ZSYNTAX", place, command, name: cause.name, advice: cause.advice };
 }
 
-/** The first place from one on that is no space. */
-function nextWord(text, at) {
-  while (text[at] === " ") {
-    at += 1;
+/** Whether a cause is that of a fault. */
+function fits(cause, blank, outcome) {
+  if (cause.wanted && !outcome.wanted.some((wanted) => wanted.startsWith(cause.wanted))) {
+    return false;
   }
-  return at;
+  if (!stands(cause.here, blank, outcome.place) || !stands(cause.command, blank, outcome.command)) {
+    return false;
+  }
+  if (cause.before && !new RegExp(`(?:${cause.before})${END}`, "i").test(blank.slice(0, outcome.place))) {
+    return false;
+  }
+  return !cause.reads || READER.read(blank, "command", cause.reads === "argument" ? argumentPlace(blank, outcome) : outcome.place).end >= 0;
 }
 
-/** The place of the first space outside of brackets from a place on, or the end. */
-function wordEnd(text, at) {
-  let depth = 0;
-  for (let place = at; place < text.length; place += 1) {
-    depth += (text[place] === "(") - (text[place] === ")");
-    if (text[place] === " " && depth <= 0) {
-      return place;
-    }
+/** Whether a pattern, if there is one, is found at a place. */
+function stands(pattern, text, place) {
+  if (!pattern) {
+    return true;
   }
-  return text.length;
+  const match = new RegExp(pattern, "iy");
+  match.lastIndex = place;
+  return place <= text.length && match.test(text);
+}
+
+/** Where the first argument of the command stands that a fault is in; the command's own place if it has none. */
+function argumentPlace(blank, outcome) {
+  HEAD.lastIndex = outcome.command;
+  const head = HEAD.exec(blank);
+  return head ? outcome.command + head[0].length : outcome.command;
+}
+
+/** The lines that show a fault to a person: the text, and below it the place with the cause, and what to write instead. */
+export function pointed(text, found) {
+  const before = " ".repeat(found.place);
+  const lines = [text.replaceAll("\t", " "), `${before}^ ${found.code}: ${found.name}`];
+  return found.advice ? [...lines, `${before}  ${found.advice}`] : lines;
 }

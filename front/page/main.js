@@ -4,6 +4,7 @@ import { COMMANDS, FUNCTIONS } from "./codes.js";
 import { confirmed, shown } from "./dialog.js";
 import { byId, make, setAttribute, tell } from "./dom.js";
 import { Globals } from "./globals.js";
+import { ask, forget } from "./password.js";
 import { Prompt } from "./prompt.js";
 import { RoutineEditor } from "./editor.js";
 import { SignOnRefused, Terminal, session, signOff, signOn } from "./service.js";
@@ -34,6 +35,7 @@ byId("sign-on").addEventListener("submit", (event) => {
   trySignOn();
 });
 byId("sign-off").addEventListener("click", leave);
+byId("change-password").addEventListener("click", () => ask().catch((error) => tell(error.message, "fault")));
 byId("help").addEventListener("click", () => shown("The language", [
   make("p", {}, "Commands and functions, whole or by their short words. docs/LANGUAGE.md has all of it."),
   make("pre", { tabindex: "0" }, [...Object.values(COMMANDS), "", ...Object.values(FUNCTIONS)].join("\n")),
@@ -68,11 +70,11 @@ async function trySignOn() {
   byId("sign-on-fault").textContent = "";
   try {
     const record = await signOn(user.value, password.value);
-    password.value = "";
+    forget(password, byId("show-password"));
     button.disabled = false;
     enter(record);
   } catch (error) {
-    password.value = "";
+    forget(password, byId("show-password"));
     byId("sign-on-fault").textContent = error.message;
     await held(error instanceof SignOnRefused ? error.wait : 0);
     button.disabled = false;

@@ -1,6 +1,6 @@
 // SPDX-License-Identifier: Apache-2.0
 /** The terminal: a line to type, lines that were run with their replies in place, and the lines of before. */
-import { advice, inWords } from "./language.js";
+import { advice, fault, inWords, pointed } from "./language.js";
 import { confirmed } from "./dialog.js";
 import { byId, counted, make, visible } from "./dom.js";
 
@@ -45,7 +45,7 @@ export class Prompt {
     this.#add(make("div", { class: "entry" }, make("p", { class: "sent" }, visible(text)), reply));
     try {
       const answer = await this.#send(text);
-      reply.replaceChildren(...shownReply(answer));
+      reply.replaceChildren(...shownReply(answer, text));
       this.#scroll();
       return answer.code === null;
     } catch (error) {
@@ -140,11 +140,15 @@ export class Prompt {
   }
 }
 
-/** The elements that show a reply. */
-function shownReply(reply) {
+/** The elements that show a reply of a line. */
+function shownReply(reply, text) {
   const output = reply.rest ? [...reply.lines, reply.rest] : reply.lines;
   const shown = output.length ? [make("pre", {}, output.map(visible).join("\n"))] : [];
-  if (reply.code !== null) {
+  // A line that the server has read was ASCII there: what is not stands for escapes in strings.
+  const found = reply.code === "ZSYNTAX" ? fault(text.replace(/[^\x00-\x7f]/g, "x")) : null;
+  if (found) {
+    shown.push(make("pre", { class: "code-of-fault" }, pointed(visible(text), found).join("\n")));
+  } else if (reply.code !== null) {
     const more = reply.why || advice(reply.code);
     shown.push(make("p", { class: "code-of-fault" }, inWords(reply.code), ...(more ? [make("span", { class: "advice" }, ` ${more}`)] : [])));
   }

@@ -9,6 +9,8 @@ import { Trouble } from "./service.js";
 import { ROUTINE, asked, nodes } from "./walk.js";
 
 const HEAD = /^([A-Za-z%][A-Za-z0-9]*)?([ \t][ \t.]*)?([^]*)$/;
+/** A string or a comment, whose tabs are its own; or a tab, which M reads as a space. */
+const TAB = /("(?:[^"]|"")*"?|;[^]*)|\t/g;
 
 /** A routine that was not replaced; the text says at which line, and whether the old one is back. */
 export class LoadFailed extends Trouble {}
@@ -22,10 +24,10 @@ export class BadText extends Trouble {
   }
 }
 
-/** A line of a routine cut into label, level (spaces and dots) and rest. Tabs before the first command become spaces. */
+/** A line of a routine cut into label, level (spaces and dots) and rest. Tabs become spaces, but for those of strings and comments. */
 export function sourceLine(text) {
   const [, label = "", level = "", rest] = HEAD.exec(text);
-  return { label, level: level.replaceAll("\t", " "), rest };
+  return { label, level: level.replaceAll("\t", " "), rest: rest.replace(TAB, (_, kept) => kept ?? " ") };
 }
 
 /** The lines that a text in the editor has, cut into their parts. BadText if it has a character over 127 or a line that is too long. */

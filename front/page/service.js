@@ -82,6 +82,15 @@ export async function signOn(user, password) {
   throw new SignOnRefused(await reason(response, words[response.status] ?? `The service answered with status ${response.status}.`), wait);
 }
 
+/** Gives the user another password; why it is not taken, or nothing. */
+export async function changePassword(old, chosen) {
+  const response = await asked("password", {
+    method: "POST", headers: { "Content-Type": "application/json" }, body: JSON.stringify({ old, new: chosen }),
+  });
+  const words = { 403: "Your password is not right.", 429: "There were too many tries." };
+  return response.ok ? "" : reason(response, words[response.status] ?? `The service answered with status ${response.status}.`);
+}
+
 /** Ends the session at the service. */
 export async function signOff() {
   await asked("signoff", { method: "POST" });

@@ -83,21 +83,29 @@ async def test_programs_that_do_not_sign_on_are_ended(start, first: bytes) -> No
     assert 1 < await closed(reader, began) < 10
 
 
+@pytest.mark.parametrize("limits", [{"connections_of_address": 5}, {"unsigned_of_address": 3}, {"connections": 5}])
 @in_loop()
-async def test_connections_of_an_address_are_counted(start) -> None:
-    front = start(limits={"connections_of_address": 5})
-    peers = [await asyncio.open_connection("localhost", front.port, ssl=front.context) for _ in range(5)]
-    with pytest.raises((ConnectionError, OSError)):
-        await asyncio.open_connection("localhost", front.port, ssl=front.context)
-    for _, writer in peers:
-        writer.close()
-        await writer.wait_closed()
-    ada = front.person("ada")
-    async with ada.http:
-        # The front sees the ends a moment later.
-        await until(ada.signs_on, "a connection that is given back")
-        await ada.connect()
+async def test_connections_that_are_not_signed_on_end_first_and_the_oldest_of_them(start, limits: dict[str, int]) -> None:
+    front = start(limits=limits)
+    async with front.person("ada") as ada:
+        peers = [await asyncio.open_connection("localhost", front.port, ssl=front.context) for _ in range(8)]
+        await closed(peers[0][0], time.monotonic())
+        assert not peers[-1][0].at_eof()
         assert await ada.told("W 1") == "1"
+        for _, writer in peers:
+            writer.close()
+
+
+@in_loop()
+async def test_connections_of_those_who_are_signed_on_are_counted(start) -> None:
+    front = start(limits={"connections_of_address": 2})
+    async with front.person("ada"), front.person("cleo") as cleo:
+        with pytest.raises((ConnectionError, OSError)):
+            reader, writer = await asyncio.open_connection("localhost", front.port, ssl=front.context)
+            writer.write(b"GET /health HTTP/1.1\r\nHost: x\r\n\r\n")
+            assert await reader.read(100) != b""
+            raise AssertionError("a third connection is served")
+        assert await cleo.told("W 1") == "1"
 
 
 @in_loop()
@@ -215,10 +223,10 @@ async def test_line_without_an_end_at_the_line_port(lasting: Front) -> None:
 
 @in_loop(120)
 async def test_flood_of_sign_ons(start) -> None:
-    """Passwords are computed beside the lines, two at once."""
+    """Passwords are computed beside the lines, two at once. Of a name at an address some wait, and not all."""
     front = start()
     async with served(front):
-        people = [front.person(f"user{number % 7}") for number in range(60)]
+        people = [front.person(f"user{number % 3}") for number in range(60)]
         ends = [status for status, _ in await asyncio.gather(*(person.sign_on("wrong") for person in people))]
         assert set(ends) == {401, 429}
         for person in people:

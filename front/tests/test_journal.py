@@ -11,6 +11,7 @@ import subprocess
 import threading
 import time
 from collections.abc import Callable, Iterator
+from dataclasses import dataclass
 from pathlib import Path
 
 import pytest
@@ -22,7 +23,7 @@ from mserve_front.journal import Journal, LogFault, LogTaken, Tail
 from mserve_front.journal_file import MARK, FileLog, FileReader, files_of, tail_of
 from mserve_front.lines import Line
 from mserve_front.metrics import Metrics
-from mserve_front.records import BadJournal, Flush, LineRecord, ReplyRecord, StartRecord, read_flush
+from mserve_front.records import BadJournal, BeginRecord, Flush, Held, LineRecord, ReplyRecord, RowsRecord, StartRecord, read_flush
 from mserve_front.turns import Turns, Unsent
 from test_turns import Peer
 
@@ -62,6 +63,28 @@ def test_records_there_and_back() -> None:
     assert flushes()[3].first == 3 and flushes()[0].first == 1
 
 
+@dataclass(frozen=True)
+class Later:
+    """A record of a later version."""
+
+    data: bytes
+
+    def packed(self) -> bytes:
+        """Its bytes."""
+        return self.data
+
+
+def test_starts_there_and_back_and_records_of_a_later_version() -> None:
+    """What another version wrote is refused by its name."""
+    start = BeginRecord(7, 5, 6, Held.CHANGED, 0, 2, b"[[account]]\n")
+    flush = Flush(7, 3, 7, 6, 5, (RowsRecord(0, b"rows"), RowsRecord(1, b""), start, StartRecord(7, 5, 6, None, False, b"x")))
+    assert read_flush(flush.packed(), 0)[0] == flush
+    for data, told in ((b"Q", "there is no record of the kind b'Q': a later version wrote this journal"),
+                       (b"B\x03" + start.packed()[2:], "a start of version 3, and this program knows 2: a later version wrote this journal")):
+        with pytest.raises(BadJournal, match=told):
+            read_flush(Flush(7, 1, 1, 0, 0, (Later(data),)).packed(), 0)
+
+
 def test_a_journal_that_is_cut_at_each_byte(tmp_path: Path) -> None:
     """What is left is what was written up to the cut, and a part of a flush counts for nothing."""
     parts = flushes()
@@ -74,12 +97,15 @@ def test_a_journal_that_is_cut_at_each_byte(tmp_path: Path) -> None:
         os.truncate(path, cut)
         whole = sum(end <= cut for end in ends[1:])
         assert read(FileReader(tmp_path)) == parts[:whole], cut
-        tail = tail_of(tmp_path)
+        # The head says that it went further, whether or not the cut is at the end of a flush.
+        with pytest.raises(BadJournal, match="its end is missing"):
+            tail_of(tmp_path)
+        tail = tail_of(tmp_path, False)
         assert (tail.sequence, tail.next) == ((whole, parts[whole - 1].next) if whole else (0, 1))
         assert ("torn flush" in tail.told) == (cut not in [0, *ends])
         # The zeros of a block that was never written are no damage either.
         os.truncate(path, cut + 600)
-        assert tail_of(tmp_path).sequence == whole
+        assert tail_of(tmp_path, False).sequence == whole
 
 
 def test_one_bit_that_is_turned(tmp_path: Path) -> None:
@@ -100,8 +126,9 @@ def test_one_bit_that_is_turned(tmp_path: Path) -> None:
 
 def test_a_torn_end_is_left_and_the_next_file_goes_on(tmp_path: Path) -> None:
     parts = flushes(6)
-    path = written(tmp_path, parts[:4])
-    path.write_bytes(path.read_bytes()[:-1])
+    path = written(tmp_path, parts[:3])
+    with path.open("ab") as file:
+        file.write(parts[3].packed()[:-1])
     log = FileLog(tmp_path, 1 << 20)
     tail = log.take()
     assert (tail.sequence, tail.next, tail.answered) == (3, 3, 1) and "torn flush" in tail.told
@@ -184,6 +211,29 @@ def test_only_one_writes(tmp_path: Path) -> None:
     FileLog(tmp_path, 4096).take()
 
 
+def test_two_that_write_are_kept_apart_by_the_epoch(tmp_path: Path) -> None:
+    """One that takes the journal by force, from one that lives on: what that one writes later is acknowledged to nobody, and is in nobody's way."""
+    parts, old, new = flushes(6), FileLog(tmp_path, 1 << 20), FileLog(tmp_path, 1 << 20)
+    old.take()
+    for flush in parts[:3]:
+        old.append(flush)
+    assert new.take(force=True).sequence == 3
+    with pytest.raises(LogTaken, match="another front has taken this journal"):
+        old.append(parts[3])
+    other = Flush(7, 4, 4, 2, 2_000, (LineRecord(3, 2_000, 1, "ben", b"W 2"), ReplyRecord(2, bytes(16), "")), 9)
+    new.append(other)
+    with pytest.raises(LogTaken):
+        old.append(parts[4])
+    old.close()
+    # The lock is the new one's, whatever the old one does.
+    with pytest.raises(LogTaken, match="another front writes"):
+        FileLog(tmp_path, 4096).take()
+    new.close()
+    history = History()
+    list(history.take(read(FileReader(tmp_path))))
+    assert [line.user for line in history.unanswered] == ["ben"] and tail_of(tmp_path).sequence == 4
+
+
 @pytest.mark.parametrize("missing", [1, 2, 3])
 def test_lines_that_are_missing(missing: int) -> None:
     parts = flushes(6)
@@ -204,7 +254,7 @@ class Memory:
         self.begun = 0
         self.mended = 0
 
-    def take(self) -> Tail:
+    def take(self, force: bool = False) -> Tail:
         return Tail(7, 0, 1, 0, 0)
 
     def append(self, flush: Flush) -> None:
@@ -234,7 +284,7 @@ class Kept:
 
     async def begin(self) -> Kept:
         await self.journal.take()
-        await self.journal.begin(None, True, b"")
+        await self.journal.begin(Held.ALL, 0, b"")
         self.turns.keep(self.journal)
         return self
 
@@ -366,7 +416,7 @@ async def test_lines_whose_connection_ends_while_they_wait_for_the_disk_are_not_
     kept.log.goes.set()
     with pytest.raises(Unsent):
         await second
-    await kept.journal.begin(None, False, b"")
+    await kept.journal.begin(Held.UNKNOWN, 0, b"")
     history = History()
     began = list(history.take(kept.log.flushes))[-1]
     assert isinstance(began, Began) and [line.number for line in began.unknown] == [1] and [line.number for line in began.unsent] == [2]
@@ -420,11 +470,11 @@ def told_of(tmp_path_factory: pytest.TempPathFactory) -> Front:
 def test_tail_grep_and_verify(told_of: Front) -> None:
     run = mjournal(told_of.folder / "journal")
     status, output, told = run("verify")
-    assert (status, told) == (0, "") and output == "lines 1 to 86: 86 answered, 1 starts\n"
-    assert run("tail", "-n", "2")[1].splitlines()[-1].split(" ", 2)[0::2] == ["86", run("tail", "-n", "1")[1].strip().split(" ", 2)[2]]
+    assert (status, told) == (0, "") and output == "lines 1 to 82: 82 answered, 1 starts\n"
+    assert run("tail", "-n", "2")[1].splitlines()[-1].split(" ", 2)[0::2] == ["82", run("tail", "-n", "1")[1].strip().split(" ", 2)[2]]
     [line] = run("grep", "--code", "M6")[1].splitlines()
     number, at, terminal, user, code, text = line.split(" ", 5)
-    assert (number, terminal, user, code, text) == ("84", "1", "ada", "M6", 'W ^|"LAB"|RESULT(3),B')
+    assert (number, terminal, user, code, text) == ("80", "1", "ada", "M6", 'W ^|"LAB"|RESULT(3),B')
     assert len(run("grep", "--user", "cleo")[1].splitlines()) == 39 and len(run("grep", r"X\(3\d?\)")[1].splitlines()) == 11
     assert len(run("grep", "--terminal", "1", "--since", at)[1].splitlines()) == 2 and run("grep", "--until", "2001-01-01")[0] == 1
     # A text that is no line was not sent, so it is not there.
@@ -432,18 +482,19 @@ def test_tail_grep_and_verify(told_of: Front) -> None:
 
 
 @pytest.mark.parametrize(("harm", "status", "wanted"), [
-    (lambda data: data[:-7], 0, r"a torn flush of \d+ bytes at its end counts for nothing"),
+    (lambda data: data + data[8:50], 0, r"a torn flush of \d+ bytes at its end counts for nothing"),
+    (lambda data: data[:-7], 1, r"the journal ends with flush \d+ and line \d+, and it went to flush \d+ and line \d+, at 20.*: its end is missing"),
     (lambda data: data[:-7] + bytes([data[-7] ^ 4]) + data[-6:], 1, r"journal: at byte \d+: the records of a flush are damaged"),
     (lambda data: data[:100] + bytes([data[100] ^ 32]) + data[101:], 1, r"journal: at byte \d+: the (head|records) of a flush (is|are) damaged"),
     (lambda data: data[:9] + bytes([data[9] ^ 1]) + data[10:], 1, r"journal: at byte 8: the head of a flush is damaged"),
-], ids=["cut", "turned at the end", "turned at the beginning", "turned in a head"])
+], ids=["torn", "cut", "turned at the end", "turned at the beginning", "turned in a head"])
 def test_what_verify_tells_of_harm(told_of: Front, tmp_path: Path, harm: Callable[[bytes], bytes], status: int, wanted: str) -> None:
     """Its place is told; a part of a flush at the end is no harm, and is told too."""
     shutil.copytree(told_of.folder / "journal", tmp_path / "journal")
     _, path = files_of(tmp_path / "journal")[-1]
     path.write_bytes(harm(path.read_bytes()))
     found, output, told = mjournal(tmp_path / "journal")("verify")
-    assert found == status and re.search(wanted, told) and str(path) in told and len(told.splitlines()) == 1
+    assert found == status and re.search(wanted, told) and str(tmp_path / "journal") in told and len(told.splitlines()) == 1
     assert status or re.match(r"lines 1 to 8\d: 8\d answered", output)
 
 

@@ -148,7 +148,7 @@ async def test_no_text_reaches_another_terminal(lasting: Front, text: str) -> No
 @pytest.mark.parametrize("message", [
     "W 1", "[]", "1", "null", "{}", '{"id": 1}', '{"line": "W 1"}', '{"id": "1", "line": "W 1"}', '{"id": -1, "line": "W 1"}', '{"id": 1.5, "line": "W 1"}',
     '{"id": true, "line": "W 1"}', '{"id": 1, "line": 5}', '{"id": 1, "line": ["W 1"]}', '{"id": 1, "line": "W 1", "session": "x"}', '{"id": 1, "line": "W 1"',
-    '{"id": 123456789012345678901234567890, "line": "W 1"}', "[" * 30_000,
+    '{"id": 123456789012345678901234567890, "line": "W 1"}', "[" * 7_000,
 ])
 @in_loop()
 async def test_messages_that_are_none_end_the_connection(lasting: Front, message: str) -> None:

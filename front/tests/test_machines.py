@@ -5,7 +5,9 @@ from __future__ import annotations
 import argparse
 import asyncio
 import json
+import os
 import re
+import signal
 import ssl
 from collections.abc import Callable, Iterable, Iterator
 from pathlib import Path
@@ -18,6 +20,7 @@ from machines import HOSTS, Gate, Program, certificates, islands, ports
 from mserve_front.gate_command import settings_of
 from mserve_front.placement import BadPlacement, Placement
 from mserve_front.settings import BadSettings
+from processes import started_by
 from running import PROGRAM
 
 # Islands, unless more are asked for (--count), and accounts of each: `--count 25` makes 300 accounts in 100 islands.
@@ -167,6 +170,35 @@ async def test_islands_on_three_machines(host: Callable[..., Gate], cluster: Pai
         assert (status, told) == (0, "")
 
 
+@pytest.mark.parametrize("what", ["front", "server"])
+@in_loop(600)
+async def test_an_island_that_had_trouble_is_taken_over(host: Callable[..., Gate], cluster: Pair, tmp_path: Path, what: str, count: int) -> None:
+    """Its front is stopped in order, or its server killed, while its users work; then its machine is gone, and another one takes it, each time."""
+    made, _ = islands(tmp_path / "islands", 1, ACCOUNTS)
+    gates, placement = {name: host(name) for name in HOSTS}, Placement(cluster.both)
+    placement.put("island0", made["island0"].read_text(), "one")
+    placement.close()
+    workers = Workers(list(gates.values()), 1)
+    await workers.worked()
+    for number in range(2 * count):
+        here, there = ("one", "two") if number % 2 == 0 else ("two", "one")
+        [front] = started_by([gates[here].process.pid])
+        if what == "front":
+            os.kill(front, signal.SIGTERM)
+        else:
+            os.kill(started_by([front])[0], signal.SIGKILL)
+        await workers.worked()
+        await asyncio.to_thread(gates[here].kill)
+        assert (await asyncio.to_thread(gates["three"].does, "move", "island0", there, "--gone"))[0] == 0
+        await settled(cluster, "island0", there)
+        await workers.worked()
+        await asyncio.to_thread(gates[here].again)
+    await workers.end()
+    run = tool("mjournal", "--database", cluster.both, "--name", "island0")
+    status, _, told = await asyncio.to_thread(run, "replay", "--program", PROGRAM, "--store", "memory")
+    assert status == 0, told
+
+
 # Where each journal ends.
 ENDS = "SELECT name, max(sequence) FROM mfront_journal GROUP BY name ORDER BY name"
 
@@ -243,9 +275,11 @@ async def test_what_a_gate_carries(host: Callable[..., Gate], tmp_path: Path) ->
                     break
             await asyncio.sleep(0.2)
     user.close()
-    for data, answer in ((b"GET / HTTP/1.0\r\n\r\n", b"400"), (b"PUT / HTTP/1.1\r\n\r\n", b"400"), (b"GET /" + b"x" * 20_000, b"413"),
-                         (b"POST /line HTTP/1.1\r\nContent-Length: 99999999\r\n\r\n", b"413"),
-                         (b"POST /line HTTP/1.1\r\nTransfer-Encoding: chunked\r\n\r\n", b"400"), (b"GET / HTTP/1.1\r\nA: b\r\n c: d\r\n\r\n", b"400")):
+    for data, answer in ((b"GET / HTTP/1.0\r\n\r\n", b"400"), (b"PUT / HTTP/1.1\r\nHost: x\r\n\r\n", b"405"), (b"GET /" + b"x" * 20_000, b"431"),
+                         (b"GET /metrics HTTP/1.1\r\nHost: x\r\n\r\n", b"404"), (b"GET /control HTTP/1.1\r\nHost: x\r\n\r\n", b"404"),
+                         (b"POST /line HTTP/1.1\r\nHost: x\r\nContent-Length: 99999999\r\n\r\n", b"413"),
+                         (b"POST /line HTTP/1.1\r\nHost: x\r\nTransfer-Encoding: chunked\r\n\r\n", b"400"),
+                         (b"GET / HTTP/1.1\r\nHost: x\r\nA: b\r\n c: d\r\n\r\n", b"400")):
         reader, writer = await asyncio.open_connection(second.host, second.ports["http"], ssl=second.context)
         writer.write(data)
         assert answer in (await reader.readline()), data
@@ -300,7 +334,7 @@ async def test_commands_of_the_page(host: Callable[..., Gate], cluster: Pair, tm
 def commands_of(heading: str) -> list[str]:
     """The commands below a heading of docs/OPERATING.md."""
     text = (FRONT.parent / "docs" / "OPERATING.md").read_text(encoding="utf-8")
-    text = re.search(rf"^### {heading}.*?(?=^## )", text, re.MULTILINE | re.DOTALL)[0]
+    text = re.search(rf"^### {heading}.*?(?=^##)", text, re.MULTILINE | re.DOTALL)[0]
     text = re.sub(r"^```toml\n.*?^```$", "", text, flags=re.MULTILINE | re.DOTALL)
     return [line for block in re.findall(r"^```\n(.*?)^```$", text, re.MULTILINE | re.DOTALL) for line in block.splitlines()]
 

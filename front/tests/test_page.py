@@ -248,7 +248,8 @@ def test_markup_stays_text(browsers: Opened) -> None:  # noqa: F811
     ada.yes()
     ada.until(lambda: "ZSYNTAX" in ada.texts("#log .reply")[-1], "the refusal")
     assert ada.run("return [window.hit ?? null, document.querySelectorAll('b, script:not([src]), #house img:not([src^=\"page/\"])').length]") == [None, 0]
-    assert ada.line(f"{MARKUP[:40]}").startswith("ZSYNTAX")
+    assert "^ ZSYNTAX: " in ada.line(f"{MARKUP[:40]}")
+    assert ada.line("W 1 2").splitlines()[:2] == ["W 1 2", "   ^ ZSYNTAX: two expressions need a comma, or two commands one space"]
 
 
 def test_keyboard_alone(browsers: Opened) -> None:  # noqa: F811

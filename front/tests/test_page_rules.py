@@ -2,6 +2,7 @@
 """The page's modules give what the clients give: on the cases of the clients' own tests, and on drawn ones."""
 from __future__ import annotations
 
+import dataclasses
 import json
 import random
 import subprocess
@@ -13,6 +14,7 @@ import pytest
 import running
 from front import FRONT, PASSWORD, SETTINGS, Front
 from mserve_client import CODES, Connection, in_words, keys, language, mtext, routine_files
+from mserve_client.causes import CAUSES
 from mserve_client.checking import check
 from mserve_client.extracts import Entry
 from mserve_client.terminal_way import TerminalWay
@@ -20,6 +22,8 @@ from mserve_client.walk import Walker
 from page_driver import PAGE, Browser, page_front  # noqa: F401
 
 TOP = FRONT.parent
+sys.path.append(str(TOP / "clients" / "tests"))
+import drawn_texts  # noqa: E402
 
 TERMINAL = 1
 # The lists of cases that the clients' tests have, by the name of the test.
@@ -104,12 +108,22 @@ def test_lines_in_the_language(browser: Browser, cases: dict[str, list]) -> None
 
 def test_what_is_said_of_other_systems_lines(browser: Browser, connection: Connection, cases: dict[str, list]) -> None:
     """Each is refused for the same reason, at the same place, with the same advice."""
-    texts = [f" {missing.example}" for missing in language.MISSING if missing.example] + [f" {text}" for text, _ in cases["test_place_of_what_is_refused"]]
-    texts += ["BAD(A,B) ; sum", "1 Q", "L" * 32 + " Q", " ;" + "x" * 4092, " S A=1 W " + '"x"' * 100 + " W $H", " W 1 \tW 2"]
+    texts = [f" {cause.example}" for cause in CAUSES if "\t" not in cause.example] + [f" {text}" for text, _ in cases["test_place_of_what_is_refused"]]
+    texts += ["BAD(A,B) ; sum", " ; Ärger", " W \"ü\"", "1 Q", "L" * 32 + " Q", " ;" + "x" * 4092, " S A=1 W " + '"x"' * 100 + " W $H", " W 1 \tW $H"]
     given = browser.module(CHECK, texts)
     assert len(texts) > 50
     for text, found in zip(texts, given, strict=True):
         assert found and found == checked(connection, text), text
+
+
+def test_verdicts_and_causes_of_drawn_texts(browser: Browser, request: pytest.FixtureRequest) -> None:
+    """The page reads the grammar and the causes as the clients do: 1,000 texts, and `--count` times as many."""
+    texts = drawn_texts.drawn_texts(random.Random(72), [cause.example for cause in CAUSES], 1000 * request.config.getoption("--count", 1))
+    given = browser.module("""const { fault, pointed } = await import("/page/language.js");
+                              return given[0].map((text) => { const found = fault(text); return found && [found, pointed(text, found)]; });""", texts)
+    for text, found in zip(texts, given, strict=True):
+        wanted = language.fault(text)
+        assert found == (wanted and [dataclasses.asdict(wanted), language.pointed(text, wanted)]), text
 
 
 def test_check_runs_nothing_and_leaves_the_session(browser: Browser) -> None:

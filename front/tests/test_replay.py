@@ -18,8 +18,10 @@ from pathlib import Path
 import pytest
 from front import FRONT, SETTINGS, Front, Person, Ran, in_loop, mjournal, small_disk, tool
 from mserve_front.journal_file import FileLog, files_of
+from mserve_front.places import last_line
 from mserve_front.records import Flush, LineRecord, ReplyRecord, StartRecord
 from mserve_front.replies import new_digest
+from mserve_front.settings import JournalSettings
 from mserve_front.snapshots import accounts_of
 from running import PROGRAM
 
@@ -92,7 +94,8 @@ async def test_replay_to_a_moment(start, tmp_path: Path) -> None:
     front.stop()
     assert replay(front, tmp_path / "then", "--to", moment)[0] == 0
     assert held(tmp_path / "then")["CLINIC"].nodes == 1 and held(front.folder / "store.db") == {}
-    assert json.loads((tmp_path / "then.at").read_text())["number"] == 3
+    number, last = json.loads((tmp_path / "then.at").read_text())["number"], last_line(JournalSettings(front.folder / "journal"))
+    assert f"{number} " in mjournal(front.folder / "journal")("grep", r"S \^X=1")[1] and number < last
     # What is there is not written over, and no time before the snapshot is taken.
     assert "is there already" in replay(front, tmp_path / "then")[2]
     # A front that begins with this store has a number for what is undone, and a replay over it says so.
@@ -101,16 +104,16 @@ async def test_replay_to_a_moment(start, tmp_path: Path) -> None:
     shutil.move(tmp_path / "then", front.folder / "store.db")
     shutil.move(tmp_path / "then.at", front.folder / "store.db.at")
     front.again()
-    assert "the store was put back to where it stood after line 3: lines up to 5 are undone" in front.told()
+    assert f"the store was put back to where it stood after line {number}: lines up to {last} are undone" in front.told()
     async with front.person("ada") as ada:
         assert await ada.told("W ^X") == "1"
         snapshot = await asyncio.to_thread(backup, front, "--end-sessions")
         await ada.line("S ^Y=1")
     front.stop()
-    status, _, told = replay(front, tmp_path / "over")
-    assert status == 1 and "before line 6 the leader's store was put back to where it stood after line 3: lines 4 to 5 were undone" in told
+    # What the store held when it was put back is in the journal: a replay over it goes on with that.
+    assert replay(front, tmp_path / "over")[::2] == (0, "") and held(tmp_path / "over") == held(front.folder / "store.db")
     assert replay(front, tmp_path / "after", "--from", snapshot)[0] == 0
-    status, _, told = replay(front, tmp_path / "before", "--from", snapshot, "--to", 2)
+    status, _, told = replay(front, tmp_path / "before", "--from", snapshot, "--to", number)
     assert status == 3 and "comes before" in told
 
 
@@ -199,7 +202,7 @@ def test_settings_that_change(tmp_path: Path) -> None:
 
 @in_loop(200)
 async def test_a_server_that_is_killed_and_a_front_that_is(start, tmp_path: Path) -> None:
-    """Both go on with the journal; the line that the server was at is told by a replay, and what was answered is there."""
+    """Both go on with the journal; the line that the server was at is told by a replay, which has what it did, and what was answered is there."""
     front = start(store="store.db", journal={"folder": "journal"})
     async with front.person("ada") as ada, front.person("ben") as ben:
         await ada.line("S ^N=0")
@@ -225,7 +228,8 @@ async def test_a_server_that_is_killed_and_a_front_that_is(start, tmp_path: Path
     front.stop()
     assert re.search(" 3 starts, [1-9] without a reply", mjournal(front.folder / "journal")("verify")[1])
     status, _, told = replay(front, tmp_path / "new")
-    assert status == 1 and "had no reply when the leader's server ended" in told
+    assert status == 0 and "had no reply when the leader's server ended: what the leader's store held then is in the journal" in told
+    assert held(tmp_path / "new") == held(front.folder / "store.db")
 
 
 @in_loop(200)
@@ -261,11 +265,55 @@ async def test_a_snapshot_is_put_back_and_the_journal_expires(start, tmp_path: P
     assert len(files_of(front.folder / "journal")) < before
     assert mjournal(front.folder / "journal")("tail", "-n", "1")[0] == 0 and mjournal(front.folder / "journal")("verify")[0] == 0
     assert replay(front, tmp_path / "new", "--from", snapshot)[0] == 0 and held(tmp_path / "new") == held(front.folder / "store.db")
-    assert "lines 1 to" in replay(front, tmp_path / "none")[2]
+    # What is left may begin with a line, or with the reply of one that is gone.
+    assert re.search(r"lines 1 to \d+ are missing|line \d+ is missing, and has a reply", replay(front, tmp_path / "none")[2])
     assert tool("mbackup")("restore", snapshot, tmp_path / "back")[0] == 0
     assert json.loads((tmp_path / "back.at").read_text())["number"] == int(snapshot.name)
     assert "is there already" in tool("mbackup")("restore", snapshot, tmp_path / "back")[2]
     assert str(snapshot) in tool("mbackup")("list", front.folder)[1]
+
+
+@in_loop(200)
+async def test_snapshots_are_verified_by_a_replay(start, tmp_path: Path) -> None:
+    """The latest one is what the journal gives from the one before; the front's figures tell it. One that is not is refused by the account that differs."""
+    backups = tmp_path / "backups"
+    backups.mkdir()
+    front = start(tls=False, store="store.db", journal={"folder": "journal", "backup": str(backups)})
+
+    def takes(*words: object) -> Path:
+        status, output, told = tool("mbackup")("take", backups, "--config", front.folder / "front.toml", *words)
+        assert status == 0, told
+        return Path(output.strip())
+
+    def verifies() -> Ran:
+        return tool("mbackup")("verify", backups, "--config", front.folder / "front.toml")
+    assert "there is no snapshot" in verifies()[2]
+    async with front.person("ada") as ada:
+        await works(ada, 3, 30)
+        first = await asyncio.to_thread(takes, "--end-sessions")
+        status, output, told = await asyncio.to_thread(verifies)
+        assert status == 0 and "from the beginning of the journal holds the same" in output.splitlines()[-1], told
+        await works(ada, 4, 30)
+        latest = await asyncio.to_thread(takes)
+        status, output, told = await asyncio.to_thread(verifies)
+        assert status == 0 and f"{latest}: good: a replay from {first} holds the same" in output.splitlines()[-1], told
+        assert json.loads((backups / "verified.json").read_text())["line"] == int(latest.name)
+        async with ada.http.get("/metrics") as response:
+            figures = await response.text()
+        for wanted in (f"mfront_backup_verified_line {int(latest.name)}\n", 'mfront_account_lines_total{account="CLINIC"} ', "mfront_journal_open_lines 0\n",
+                       "mfront_journal_fault_seconds 0\n", "mfront_journal_room_bytes ", 'mfront_account_longest_wait_seconds{account="CLINIC"} '):
+            assert wanted in figures, wanted
+        shown = tool("mfront")("status", "--metrics", "--config", front.folder / "front.toml")[1]
+        assert "mfront_standby 0\n" in shown and f"mfront_standby_line {int(latest.name)}\n" in shown
+    base = sqlite3.connect(latest / "store")
+    with base:
+        base.execute("UPDATE node SET v = x'39' WHERE k = (SELECT min(k) FROM node)")
+    base.close()
+    manifest = json.loads((latest / "manifest.json").read_text())
+    manifest["accounts"]["CLINIC"]["digest"] = accounts_of(latest / "store")["CLINIC"].digest
+    (latest / "manifest.json").write_text(json.dumps(manifest))
+    status, _, told = await asyncio.to_thread(verifies)
+    assert status == 1 and "other nodes than the manifest says: CLINIC" in told
 
 
 @pytest.fixture(scope="module")
@@ -316,7 +364,7 @@ async def test_snapshots_that_cannot_be_taken(start, tmp_path: Path) -> None:
 
 
 @in_loop(200)
-async def test_a_journal_that_has_lost_lines_is_refused(start) -> None:
+async def test_a_journal_that_has_lost_lines_is_refused(start, tmp_path: Path) -> None:
     """The store says where it stands: a journal that ends before it, or another one, is not gone on with."""
     front = start(store="store.db", journal={"folder": "journal"})
     async with front.person("ada") as ada:
@@ -326,12 +374,25 @@ async def test_a_journal_that_has_lost_lines_is_refused(start) -> None:
     [(_, path)] = files_of(front.folder / "journal")
     data = path.read_bytes()
     path.write_bytes(data[:-200])
+    with pytest.raises(RuntimeError, match="journal: the journal ends with flush .* its end is missing, lines"):
+        front.again()
+    # Without the journal's head, what is noted beside the store tells it.
+    head = (front.folder / "journal" / "head").read_bytes()
+    (front.folder / "journal" / "head").unlink()
+    with pytest.raises(RuntimeError, match="store.db.head: the journal ends with flush .* its end is missing, lines"):
+        front.again()
+    (front.folder / "store.db.head").rename(tmp_path / "kept")
     with pytest.raises(RuntimeError, match="it has lost what comes"):
         front.again()
+    (tmp_path / "kept").rename(front.folder / "store.db.head")
+    (front.folder / "journal" / "head").write_bytes(head)
     path.write_bytes(data[:-30] + bytes([data[-30] ^ 1]) + data[-29:])
     with pytest.raises(RuntimeError, match="the records of a flush are damaged"):
         front.again()
     path.unlink()
+    with pytest.raises(RuntimeError, match="its end is missing, lines"):
+        front.again()
+    (front.folder / "journal" / "head").unlink()
     with pytest.raises(RuntimeError, match="another journal"):
         front.again()
     path.write_bytes(data)
@@ -374,13 +435,14 @@ async def test_a_journal_whose_first_start_failed(start) -> None:
     front.process.wait()
     note = json.loads((front.folder / "store.db.at").read_text())
     assert note["number"] is None and note["writers"][1] == 0
-    for _, path in files_of(front.folder / "journal"):
+    for path in (*(path for _, path in files_of(front.folder / "journal")), front.folder / "journal" / "head"):
         path.unlink()
     front.again()
     async with front.person("ada") as ada:
         assert await ada.told("S ^X=1 W ^X") == "1"
     front.stop()
-    assert replay(front, "memory")[0] == 1
+    # It begins with what the store held.
+    assert replay(front, "memory")[0] == 0
 
 
 # In front of the front's modules: its clock, as many seconds from the machine's as a file says.

@@ -37,7 +37,7 @@ async def test_record_and_cookie(lasting: Front) -> None:
 REFUSED = [
     ({"user": "ada", "password": "wrong"}, 401), ({"user": "ada", "password": ""}, 401), ({"user": "nobody", "password": PASSWORD}, 401),
     ({"user": "", "password": PASSWORD}, 401), ({"user": "ada\n", "password": PASSWORD}, 401), ({"user": "<b>ada</b>", "password": "<script>"}, 401),
-    ({"user": "\ud800", "password": "\ud800\0"}, 401), ({"user": "x" * 30_000, "password": "x"}, 401), ({"user": "x", "password": "x" * 30_000}, 401),
+    ({"user": "\ud800", "password": "\ud800\0"}, 401), ({"user": "x" * 7_000, "password": "x"}, 401), ({"user": "x", "password": "x" * 7_000}, 401),
     ({"user": "ada"}, 400), ({"user": 1, "password": PASSWORD}, 400), ({"user": "ada", "password": [PASSWORD]}, 400), ([], 400), ("ada", 400), (None, 400),
 ]
 
@@ -56,7 +56,7 @@ async def test_refusals(start) -> None:
 
 @pytest.mark.parametrize(("data", "kind", "status"), [
     (b"user=ada&password=x", "application/x-www-form-urlencoded", 415), (b"{}", "text/plain", 415), (b"{", "application/json", 400),
-    (b"\xff", "application/json", 400), (b"[" * 20_000, "application/json", 400), (b'{"user": "' + b"x" * 70_000, "application/json", 413),
+    (b"\xff", "application/json", 400), (b"[" * 7_000, "application/json", 400), (b'{"user": "' + b"x" * 70_000, "application/json", 413),
 ])
 @in_loop()
 async def test_bodies_that_are_none(lasting: Front, data: bytes, kind: str, status: int) -> None:
@@ -263,12 +263,20 @@ async def test_wrong_passwords_slow_down_a_user(start) -> None:
 
 @in_loop(90)
 async def test_wrong_passwords_slow_down_an_address(start) -> None:
-    """Attempts of one address at many names, at once."""
+    """Attempts of one address at many names, at once: after twenty there is one a second, and a user of that address with the right password waits for
+    the turn of their name, and is not refused."""
     front = start()
     people = [front.person(f"user{number}") for number in range(30)]
-    ends = [status for status, _ in await asyncio.gather(*(person.sign_on("wrong") for person in people))]
-    assert ends.count(401) in range(21, 24) and ends.count(401) + ends.count(429) == 30
-    assert (await front.person("ada").sign_on())[0] == 429
+    began = time.monotonic()
+    tries = [asyncio.create_task(person.sign_on("wrong")) for person in people]
+    await asyncio.sleep(0.2)
+    ada = front.person("ada")
+    async with ada.http:
+        assert (await ada.sign_on())[0] == 200
+        ends = [status for status, _ in await asyncio.gather(*tries)]
+        assert ends == [401] * 30 and time.monotonic() - began > 6
+        # By now ada is known at this address.
+        assert (await ada.sign_on())[0] == 200
     for person in people:
         await person.http.close()
 

@@ -17,7 +17,7 @@ from pathlib import Path
 
 import aiohttp
 import pytest
-from front import Front, Person, Ran, in_loop, mjournal, tool, until
+from front import SETTINGS, Front, Person, Ran, in_loop, mjournal, tool, until
 from mserve_front.control import Refused, asked
 from mserve_front.places import end_of, last_line
 from mserve_front.service import Service
@@ -53,10 +53,22 @@ def promoted(front: Front) -> Ran:
     return done
 
 
+def asks_promotion(control: Path) -> dict[str, object]:
+    """Asks a standby for its promotion, again while it has not begun: its socket is there before that."""
+    until = time.monotonic() + 10
+    while True:
+        try:
+            return asked(control, {"ask": "promote"}, 30)
+        except Refused as error:
+            if "it has not begun" not in str(error) or time.monotonic() > until:
+                raise
+            time.sleep(0.05)
+
+
 def takes_over(front: Front) -> str:
     """Has a standby promoted, and gives why it is not; empty if it is, and serves."""
     try:
-        asked(front.folder / "mfront.control", {"ask": "promote"}, 30)
+        asks_promotion(front.folder / "mfront.control")
     except Refused as error:
         return str(error)
     front.hears("serving at")
@@ -86,8 +98,9 @@ async def test_a_standby_follows_and_is_promoted(start, tmp_path: Path) -> None:
         await caught_up(second, tmp_path / "journal")
         shown = tool("mfront")("status", "--config", second.folder / "front.toml")[1]
         assert re.match(r"state standby, line \d+, behind 0, seconds 0.0, reported 0, caught up True\n$", shown)
-    last = await caught_up(second, tmp_path / "journal")
     leader.stop()
+    # its stop may send lines of its own, as a HALT
+    last = await caught_up(second, tmp_path / "journal")
     stored = held(leader.folder / "store.db")
     status, output, told = promoted(second)
     assert status == 0 and output.startswith(f"promoted after line {last}, in ")
@@ -130,8 +143,9 @@ async def test_a_standby_has_its_ports(start, tmp_path: Path) -> None:
 
 
 @in_loop(200)
-async def test_a_node_that_is_changed_on_a_standby_stops_it(start, tmp_path: Path) -> None:
-    """The next line that reads it does, and its number is told; the store is not taken again."""
+async def test_a_standby_whose_store_differs_stands_still(start, tmp_path: Path) -> None:
+    """A node was changed in its store: it is told at the next line that reads it, and nothing that was answered is lost without a word. It goes on once the
+    leader has written all that its store holds."""
     leader = leading(start, tmp_path / "journal")
     second = standby(start, tmp_path / "journal")
     async with leader.person("ada") as ada:
@@ -139,18 +153,132 @@ async def test_a_node_that_is_changed_on_a_standby_stops_it(start, tmp_path: Pat
             await ada.line(f"S ^X({number})=1")
         await caught_up(second, tmp_path / "journal")
         assert second.stop() == 0 and (second.folder / "store.db.at").exists()
-        with sqlite3.connect(second.folder / "store.db") as base:
-            assert base.execute("UPDATE node SET v = x'32' WHERE k = (SELECT max(k) FROM node)").rowcount == 1
-        base.close()
+        changed_by_hand(second.folder / "store.db")
         second.again()
         for line in ("W ^X(3)", "S ^Y=2", "W ^X(4)", "W ^X(1)"):
             await ada.line(line)
         number = int(mjournal(tmp_path / "journal")("grep", r"W \^X\(4\)")[1].split()[0])
-        assert await asyncio.to_thread(second.process.wait, 20) == 3
-        assert f"the standby stops: line {number}, of terminal 1, is answered otherwise" in second.told()
+        second.hears(f"it stands still, and waits: line {number}, of terminal 1, is answered otherwise")
+        status = asked(second.folder / "mfront.control", {"ask": "status"}, 30)
+        assert status["differs"] is True and status["line"] == number - 1 and not status["caught up"]
+        await asyncio.to_thread(backup, leader, "--end-sessions", "--all")
+        await ada.line("S ^Y=3")
+        second.hears("it goes on")
+        await caught_up(second, tmp_path / "journal")
+        assert held(second.folder / "store.db") == held(leader.folder / "store.db")
+        # It is stopped while it differs: its store is not taken again.
+        second.stop()
+        changed_by_hand(second.folder / "store.db")
+        second.again()
+        await ada.line("W ^X(4),^Y")
+        second.hears("it stands still, and waits")
+        assert second.stop() == 3 and "the standby ends, and its store is not to be used: line" in second.told()
         with pytest.raises(RuntimeError, match="nobody knows up to which line it has run the journal"):
             second.again()
-        assert await ada.told("W ^X(4)") == "1"
+
+
+def changed_by_hand(store: Path) -> None:
+    """Changes the last node of a store that nobody has open."""
+    base = sqlite3.connect(store)
+    with base:
+        assert base.execute("UPDATE node SET v = x'39' WHERE k = (SELECT max(k) FROM node WHERE v = x'31')").rowcount == 1
+    base.close()
+
+
+@in_loop(200)
+async def test_a_promotion_that_would_lose_lines(start, tmp_path: Path) -> None:
+    """It is refused, with the lines, and done by force; others that follow go on with what is served then."""
+    leader = leading(start, tmp_path / "journal")
+    second, third = standby(start, tmp_path / "journal"), standby(start, tmp_path / "journal")
+    async with leader.person("ada") as ada:
+        await ada.line("S ^X=1")
+        await caught_up(second, tmp_path / "journal")
+        second.stop()
+        changed_by_hand(second.folder / "store.db")
+        second.again()
+        assert await ada.told("S ^Y=^X W ^Y") == "1"
+        line = last_line(JournalSettings(tmp_path / "journal"))
+        assert await ada.told("S ^Z=5 W ^Z") == "5"
+        second.hears("it stands still, and waits")
+    await asyncio.to_thread(leader.stop)
+    status, _, told = promoted(second)
+    assert status == 3 and f"line {line}, of terminal 1, is answered otherwise" in told
+    assert f"lines that were answered would be lost: {line} (terminal 1, ada), {line + 1} (terminal 1, ada)" in told and "mfront promote --force" in told
+    assert second.process.poll() is None
+    status, output, _ = tool("mfront")("promote", "--force", "--config", second.folder / "front.toml")
+    assert status == 0 and f"{line} (terminal 1, ada), {line + 1} (terminal 1, ada)" in output
+    second.hears("serving at")
+    async with second.person("ada") as ada:
+        assert await ada.told("W ^X") == "9"
+    await caught_up(third, tmp_path / "journal")
+    second.stop()
+    assert takes_over(third) == ""
+    assert held(third.folder / "store.db") == held(second.folder / "store.db")
+
+
+@in_loop(200)
+async def test_a_standby_takes_over_once_the_leader_is_stopped(start, tmp_path: Path) -> None:
+    """The promotion waits for that, so that nobody serves for a moment alone, as at an upgrade of the program: the standby is the new one."""
+    leader, journal = leading(start, tmp_path / "journal"), tmp_path / "journal"
+    second = standby(start, journal)
+    async with leader.person("ada") as ada:
+        await works(ada, 5, 60)
+        assert await ada.told("S ^X=1 W ^X") == "1"
+        await caught_up(second, journal)
+        waits = asyncio.create_task(asyncio.to_thread(tool("mfront"), "promote", "--wait", "60", "--config", second.folder / "front.toml"))
+        await asyncio.sleep(2)
+        assert not waits.done() and await ada.told("S ^X=^X+1 W ^X") == "2"
+        began = time.monotonic()
+        assert await asyncio.to_thread(leader.stop) == 0
+    async def serves() -> bool:
+        try:
+            return await answers(second)
+        except (aiohttp.ClientError, AssertionError):
+            return False
+    await until(serves, "an answer of the standby")
+    print(f"nobody served for {time.monotonic() - began:.2f} s")
+    assert (await waits)[0] == 0
+    second.stop()
+    assert held(leader.folder / "store.db") == held(second.folder / "store.db")
+    status, _, told = promoted(second)
+    assert status == 3 and "no front that keeps a journal is there" in told
+
+
+async def answers(front: Front) -> bool:
+    """Whether a front serves what was stored."""
+    async with front.person("ada") as ada:
+        return await ada.told("W ^X") == "2"
+
+
+@in_loop(200)
+async def test_a_leader_that_lives_is_fenced_off(start, tmp_path: Path) -> None:
+    """It hangs, and the standby takes over by force. Once it goes on it acknowledges nothing, and ends; what the other one serves is not touched."""
+    leader = leading(start, tmp_path / "journal")
+    second = standby(start, tmp_path / "journal")
+    ada = leader.person("ada")
+    await ada.__aenter__()
+    assert await ada.told("S ^X=1 W ^X") == "1"
+    await caught_up(second, tmp_path / "journal")
+    leader.process.send_signal(signal.SIGSTOP)
+    await ada.send("S ^X=7")
+    status, _, told = promoted(second)
+    assert status == 3 and "another front writes this journal" in told
+    assert tool("mfront")("promote", "--force", "--config", second.folder / "front.toml")[0] == 0
+    second.hears("serving at")
+    async with second.person("ben") as ben:
+        assert await ben.told("S ^X=^X+1 W ^X") == "2"
+        leader.process.send_signal(signal.SIGCONT)
+        assert await asyncio.to_thread(leader.process.wait, 30) == 3
+        assert "another front has taken this journal" in leader.told()
+        with contextlib.suppress(ConnectionError):
+            assert "output" not in await ada.next()
+        await ada.http.close()
+        assert await ben.told("S ^X=^X+1 W ^X") == "3"
+        with pytest.raises(RuntimeError, match="another front writes this journal"):
+            leader.again()
+    second.stop()
+    assert mjournal(tmp_path / "journal")("replay", "--program", PROGRAM, "--store", tmp_path / "all")[::2] == (0, "")
+    assert held(tmp_path / "all") == held(second.folder / "store.db")
 
 
 @in_loop(200)
@@ -182,14 +310,16 @@ async def test_a_standby_that_is_killed_begins_with_a_snapshot(start, tmp_path: 
 
 @in_loop(200)
 async def test_a_standby_that_cannot_go_on(start, tmp_path: Path) -> None:
-    """Other settings, or a journal that begins later than its store, are told."""
+    """Other settings are waited for."""
     leader = leading(start, tmp_path / "journal")
     other = tmp_path / "other.toml"
     other.write_text('[[account]]\nname = "CLINIC"\nterminals = [1]\nsteps = 5\n')
     second = standby(start, tmp_path / "journal", settings=other, users={"ada": "CLINIC"})
-    assert await asyncio.to_thread(second.process.wait, 20) == 3
-    assert f"the leader has other settings than {other}" in second.told()
-    assert leader.process.poll() is None
+    second.hears(f"it stands still, and waits: from line 1 on the leader has other settings than {other}: copy them there")
+    other.write_bytes(SETTINGS.read_bytes())
+    second.hears("it goes on")
+    await caught_up(second, tmp_path / "journal")
+    second.stop()
     with pytest.raises(RuntimeError, match="a standby has a server of its own"):
         standby(start, tmp_path / "journal", server={"join": 9, "store": None, "program": None})
     for word in ("status", "promote"):
@@ -206,8 +336,10 @@ async def test_a_journal_that_has_lost_its_end_is_refused(start, tmp_path: Path)
         await ada.line("S ^X=1")
         shutil.copytree(tmp_path / "journal", tmp_path / "shorter")
         await ada.line("S ^X=^X+1")
-    line = await caught_up(second, tmp_path / "journal")
+    await caught_up(second, tmp_path / "journal")
     second.stop()
+    # The line that ends ada's session may have come meanwhile.
+    line = read_standing(second.folder / "store.db").number
     leader.stop()
     shutil.rmtree(tmp_path / "journal")
     shutil.move(tmp_path / "shorter", tmp_path / "journal")
@@ -449,7 +581,7 @@ async def test_a_stop_between_a_promotion_and_the_service(start, tmp_path: Path)
     task = asyncio.create_task(Standby(settings).run())
     while not settings.journal.control.exists():
         await asyncio.sleep(0.02)
-    line = (await asyncio.to_thread(asked, settings.journal.control, {"ask": "promote"}, 30))["line"]
+    line = (await asyncio.to_thread(asks_promotion, settings.journal.control))["line"]
     os.kill(os.getpid(), signal.SIGTERM)
     promoted = await task
     while not promoted.stopping.is_set():

@@ -30,6 +30,8 @@ from test_standby import Load, caught_up, stands_by, takes_over
 
 # Seconds for which a database is away: longer than a reply is kept for it.
 AWAY = 60.0
+# Seconds after which a front serves at the latest, once its database is back: five, and room for a machine that is busy.
+BACK = 15.0
 
 
 @pytest.fixture(scope="module")
@@ -187,8 +189,11 @@ async def test_a_database_that_is_away(start, tmp_path: Path) -> None:
                 assert (await ada.line("S ^X=2"))["refused"] == "journal"
                 await asyncio.sleep(0.3)
             await asyncio.to_thread(cluster.start)
+            began = time.monotonic()
             while "refused" in await ada.line("S ^Y=1"):
                 await asyncio.sleep(0.1)
+            print(f"served again {time.monotonic() - began:.1f} s after the database")
+            assert time.monotonic() - began < BACK
             await work
             assert await ada.told("W ^X,^Y") == "11"
             snapshot = await asyncio.to_thread(backup, front)
@@ -211,6 +216,19 @@ async def test_a_database_that_is_away(start, tmp_path: Path) -> None:
         assert status == 3 and told.startswith("mjournal: database: ")
         with pytest.raises(RuntimeError, match="the journal cannot be used: database: "):
             front.again()
+        await waits_for_its_journal(second, cluster)
+
+
+async def waits_for_its_journal(second: Front, cluster: Cluster) -> None:
+    """A standby that is started while the database is away says what it waits for, and stands by once that is there."""
+    second.words(["--follow"], "the journal cannot be read: database: ")
+    await asyncio.to_thread(second.again)
+    status = asked(second.folder / "mfront.control", {"ask": "status"}, 30)
+    assert status["state"] == "standby" and not status["caught up"] and str(status["fault"]).startswith("database: ")
+    assert "not promoted: it has not begun, and waits for the journal" in await asyncio.to_thread(takes_over, second)
+    await asyncio.to_thread(cluster.start)
+    await asyncio.to_thread(second.hears, "standing by, after line")
+    assert await asyncio.to_thread(takes_over, second) == ""
 
 
 @in_loop(300)
@@ -248,6 +266,102 @@ async def test_a_database_that_is_away_for_a_minute(start, tmp_path: Path) -> No
         assert run("verify")[2] == "" and "without a reply" not in run("verify")[1]
         assert run("replay", "--store", tmp_path / "new")[::2] == (0, "")
         assert held(tmp_path / "new") == held(front.folder / "store.db") == held(second.folder / "store.db")
+
+
+class Wire:
+    """A way over TCP to a database, which can be cut so that the database does not see it."""
+
+    def __init__(self, cluster: Cluster) -> None:
+        self._socket = cluster.folder / ".s.PGSQL.5432"
+        self._server: asyncio.Server | None = None
+        self._near: list[asyncio.StreamWriter] = []
+        # What leads to the database is kept open after a cut.
+        self._far: list[asyncio.StreamWriter] = []
+        self._tasks: set[asyncio.Task[None]] = set()
+
+    async def begin(self) -> str:
+        """Listens, and gives how the database is connected to."""
+        self._server = await asyncio.start_server(self._carries, "127.0.0.1", 0)
+        return f"host=127.0.0.1 port={self._server.sockets[0].getsockname()[1]} user=postgres dbname=postgres sslmode=disable"
+
+    async def _carries(self, reader: asyncio.StreamReader, writer: asyncio.StreamWriter) -> None:
+        there, back = await asyncio.open_unix_connection(str(self._socket))
+        self._near.append(writer)
+        self._far.append(back)
+        for one, other in ((reader, back), (there, writer)):
+            task = asyncio.create_task(self._copies(one, other))
+            self._tasks.add(task)
+
+    async def _copies(self, reader: asyncio.StreamReader, writer: asyncio.StreamWriter) -> None:
+        while data := await reader.read(65_536):
+            writer.write(data)
+
+    def cut(self) -> None:
+        """Ends all connections at their near side."""
+        for writer in self._near:
+            writer.transport.abort()
+        self._near.clear()
+
+    def close(self) -> None:
+        """Ends all of it."""
+        self.cut()
+        for writer in self._far:
+            writer.transport.abort()
+        self._server.close()
+
+
+@in_loop(200)
+async def test_connections_that_are_cut(start, tmp_path: Path) -> None:
+    """The database does not see the end of the one that has the lock: the front has it end that one, and goes on by itself."""
+    async with own_cluster() as cluster:
+        wire = Wire(cluster)
+        front = await asyncio.to_thread(start, store="store.db", journal={"database": await wire.begin()})
+        async with front.person("ada") as ada:
+            for number in range(3):
+                assert await ada.told(f"S ^X({number})=1 W 1") == "1"
+                wire.cut()
+                await ada.line("S ^Y=1")
+                began = time.monotonic()
+                while "refused" in await ada.line("S ^Y=1"):
+                    await asyncio.sleep(0.1)
+                print(f"served again {time.monotonic() - began:.1f} s after the cut")
+                assert time.monotonic() - began < BACK
+            assert await ada.told("W ^X(2),^Y") == "11"
+        assert "another front" not in front.told()
+        front.stop()
+        wire.close()
+        assert tool("mjournal", "--database", cluster.place)("replay", "--program", PROGRAM, "--store", tmp_path / "new")[0] == 0
+        assert held(tmp_path / "new") == held(front.folder / "store.db")
+
+
+def test_a_writer_meets_a_replica_or_is_forced_out(cluster: Cluster, journal: JournalSettings, tmp_path: Path) -> None:
+    """A replica is waited for, since it may be behind. A journal that is taken by force is lost to the one who had it, at once."""
+    log, parts = writer_of(journal), flushes(5)
+    log.take()
+    for flush in parts[:3]:
+        log.append(flush)
+    other = Cluster(cluster)
+    try:
+        log._place = other.place
+        for _ in range(2):
+            with pytest.raises(LogFault, match="it is a replica, and read-only"):
+                log.mend()
+        with pytest.raises(LogFault, match="it is a replica, and read-only"):
+            TableLog(other.place, journal.name).take()
+    finally:
+        other.remove()
+    log._place = str(journal.database)
+    assert log.mend() is False
+    new = writer_of(journal)
+    with pytest.raises(LogTaken):
+        writer_of(journal).take()
+    assert new.take(force=True).sequence == 3
+    with pytest.raises(LogFault):
+        log.append(parts[3])
+    with pytest.raises(LogTaken):
+        log.mend()
+    new.append(parts[3])
+    new.close()
 
 
 FULL = """CREATE FUNCTION full_disk() RETURNS trigger LANGUAGE plpgsql AS $$ BEGIN
@@ -291,6 +405,27 @@ async def test_leaders_that_are_killed(start, journal: JournalSettings, tmp_path
     leader.stop()
     assert mjournal(journal)("replay", "--program", PROGRAM, "--store", tmp_path / "all")[::2] == (0, "")
     assert held(tmp_path / "all") == held(leader.folder / "store.db")
+
+
+@in_loop(200)
+async def test_a_table_that_has_lost_its_last_rows(cluster: Cluster, start, journal: JournalSettings) -> None:
+    """No row tells that others came after it; what is noted beside the store does."""
+    front = start(store="store.db", journal=table(journal))
+    async with front.person("ada") as ada:
+        await ada.line("S ^X=1")
+        await ada.line("S ^X=2")
+    front.process.kill()
+    front.process.wait()
+    await asyncio.to_thread(freed, journal)
+    cluster.does(f"DELETE FROM mfront_journal WHERE name = '{journal.name}' AND sequence = "
+                 f"(SELECT max(sequence) FROM mfront_journal WHERE name = '{journal.name}')")
+    with pytest.raises(RuntimeError, match=r"store.db.head: the journal ends with flush \d+ and line \d+, and it went to flush .*: its end is missing"):
+        front.again()
+
+
+def freed(journal: JournalSettings) -> None:
+    """Waits until nobody has a journal."""
+    taken(journal)[0].close()
 
 
 @in_loop(200)

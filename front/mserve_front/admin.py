@@ -1,0 +1,135 @@
+# SPDX-License-Identifier: Apache-2.0
+"""The operator's page, at a socket of its own that only the front's user and root may open: who is signed on, what each account uses, what waits, the
+journal and the backup, the last hour in pictures, and for each alarm what to do."""
+from __future__ import annotations
+
+import asyncio
+import contextlib
+import os
+import time
+from collections import deque
+from dataclasses import dataclass
+from pathlib import Path
+
+from aiohttp import web
+
+from .metrics import Metrics
+from .sessions import Sessions
+from .settings import Settings
+
+FOLDER = Path(__file__).resolve().parent.parent / "admin"
+FILES = {"/": ("index.html", "text/html"), "/admin.js": ("admin.js", "text/javascript"), "/admin.css": ("admin.css", "text/css")}
+# Seconds between two points of the pictures, and how many there are: an hour.
+STEP, POINTS = 15.0, 240
+HEADERS = {"Content-Security-Policy": "default-src 'self'; base-uri 'none'; form-action 'none'; frame-ancestors 'none'", "X-Content-Type-Options": "nosniff",
+           "Referrer-Policy": "no-referrer", "Cache-Control": "no-store"}
+
+
+@dataclass(frozen=True, slots=True)
+class Alarm:
+    """A figure that is over, or under, what it should be; what that means; and what to do."""
+
+    figure: str
+    over: bool
+    limit: float
+    what: str
+    do: str
+
+    def rings(self, value: float) -> bool:
+        """Whether a value is an alarm."""
+        return value > self.limit if self.over else value < self.limit
+
+
+ALARMS = (
+    Alarm("mfront_up", False, 1, "The server is not up.", "See the lines of mserve: journalctl -u mfront. It is started again by itself."),
+    Alarm("mfront_lines_waiting", True, 256, "Many lines wait.", "See below which account takes most of the server's time, and lower its steps."),
+    Alarm("mfront_longest_wait_seconds", True, 5, "A line waited for more than five seconds.", "As before; or give that account a machine of its own."),
+    Alarm("mfront_audit_waiting", True, 0, "The audit log cannot be written: nobody signs on, and no line runs.", "Free the disk of the audit log."),
+    Alarm("mfront_journal_up", False, 1, "The journal cannot be written: no line runs.", "Free the disk, or bring the database back."),
+    Alarm("mfront_journal_room_bytes", False, 1e9, "Less than 1 GB is left for the journal.", "Run mbackup verify and mjournal expire."),
+    Alarm("mfront_journal_open_lines", True, 64, "Lines stay without a reply.", "The server does not answer: look at its process."),
+    Alarm("mfront_standby_behind_lines", True, 1000, "The standby is behind.", "Its disk or processor is slower: users would wait at a promotion."),
+    Alarm("backup_verified_age_seconds", True, 172_800, "No snapshot was verified for two days.", "Run mbackup verify, and read what it says."),
+)
+
+
+class Admin:
+    """Serves the page, once a socket is named for it."""
+
+    def __init__(self, settings: Settings, sessions: Sessions, metrics: Metrics) -> None:
+        self._settings = settings
+        self._sessions = sessions
+        self._metrics = metrics
+        self._points: deque[list[float]] = deque(maxlen=POINTS)
+        self._before = (time.monotonic(), 0, 0.0)
+        self._runner: web.AppRunner | None = None
+
+    async def begin(self) -> None:
+        """Listens. Raises OSError if that cannot be."""
+        path = self._settings.admin
+        if path is None:
+            return
+        made = web.Application()
+        made.add_routes([web.get("/admin.json", self._told), *(web.get(place, self._file) for place in FILES)])
+        self._runner = web.AppRunner(made, handle_signals=False, access_log=None)
+        await self._runner.setup()
+        with contextlib.suppress(FileNotFoundError):
+            path.unlink()
+        before = os.umask(0o177)
+        try:
+            await web.UnixSite(self._runner, str(path)).start()
+        finally:
+            os.umask(before)
+
+    async def end(self) -> None:
+        """Listens no more."""
+        if self._runner is not None:
+            await self._runner.cleanup()
+            with contextlib.suppress(FileNotFoundError):
+                self._settings.admin.unlink()
+
+    async def run(self) -> None:
+        """Keeps the points of the last hour."""
+        while True:
+            await asyncio.sleep(STEP)
+            self.sample()
+
+    def sample(self) -> None:
+        """Adds a point: when, lines a second, which part of the time the server was busy, lines that wait, and the longest wait."""
+        used = self._sessions.server.shares.used().values()
+        now, lines, taken = time.monotonic(), sum(count for count, _ in used), sum(seconds for _, seconds in used)
+        span = max(now - self._before[0], 1e-6)
+        server = self._sessions.server
+        self._points.append([round(time.time()), round((lines - self._before[1]) / span, 2), round((taken - self._before[2]) / span, 4), server.waiting,
+                             round(max(server.oldest(), self._metrics.longest()), 3)])
+        self._before = (now, lines, taken)
+
+    def told(self) -> dict[str, object]:
+        """All that the page shows."""
+        figures = self._figures()
+        users = [{"user": one.user, "account": one.account, "terminal": one.terminal, "way": one.way, "from": one.address,
+                  "seconds": round(time.monotonic() - one.began), "waits": one.carried > 0} for one in self._sessions]
+        accounts = [{"account": account, "lines": lines, "seconds": round(taken, 3), "signed_on": sum(one["account"] == account for one in users)}
+                    for account, (lines, taken) in sorted(self._sessions.server.shares.used().items())]
+        alarms = [{"what": alarm.what, "do": alarm.do, "value": figures[alarm.figure]} for alarm in ALARMS
+                  if alarm.figure in figures and alarm.rings(figures[alarm.figure])]
+        return {"time": round(time.time()), "users": users, "accounts": accounts, "alarms": alarms, "figures": figures, "points": list(self._points),
+                "step": STEP}
+
+    def _figures(self) -> dict[str, float]:
+        """The figures that have no labels, and how old the last verified backup is."""
+        server = self._sessions.server
+        text = self._metrics.text({}, server.waiting, server.oldest(), server.state == "up", self._sessions.journal_figures())
+        found = dict(line.split(" ", 1) for line in text.splitlines() if line[0] != "#" and "{" not in line)
+        figures = {name: float(value) for name, value in found.items()}
+        figures["mfront_audit_waiting"] = float(self._sessions.audit_waiting)
+        if (verified := figures.get("mfront_backup_verified_timestamp_seconds")) is not None:
+            figures["backup_verified_age_seconds"] = round(time.time() - verified)
+        return figures
+
+    async def _told(self, request: web.Request) -> web.StreamResponse:
+        return web.json_response(self.told(), headers=HEADERS)
+
+    async def _file(self, request: web.Request) -> web.StreamResponse:
+        name, kind = FILES[request.path]
+        return web.FileResponse(FOLDER / name, headers={**HEADERS, "Content-Type": f"{kind}; charset=utf-8"})

@@ -1,0 +1,1 @@
+../../clients/mserve_client/escape.py

@@ -1,0 +1,88 @@
+# SPDX-License-Identifier: Apache-2.0
+"""Figures of the journal and its part of the service, in the text format of Prometheus: by account, of the disk, of the last backup that was verified,
+and of a standby."""
+from __future__ import annotations
+
+import json
+import os
+import time
+from collections import Counter
+from collections.abc import Mapping, Sequence
+from pathlib import Path
+
+from .metrics import SPAN, family
+
+# The note that `mbackup verify` leaves beside the snapshots.
+VERIFIED = "verified.json"
+
+
+class ByAccount:
+    """How long lines of each account waited, from when they came to when their reply was handed out."""
+
+    def __init__(self, terminals: Mapping[str, Sequence[int]]) -> None:
+        self._of = {terminal: account for account, some in terminals.items() for terminal in some}
+        self._count: Counter[str] = Counter()
+        self._waited: Counter[str] = Counter()
+        self._longest: tuple[dict[str, float], dict[str, float]] = ({}, {})
+        self._span = time.monotonic()
+
+    def handed(self, terminal: int, since: float) -> None:
+        """Notes a reply that is handed out."""
+        now, account = time.monotonic(), self._of.get(terminal, "")
+        self._count[account] += 1
+        self._waited[account] += now - since
+        self._turn(now)
+        latest = self._longest[0]
+        latest[account] = max(latest.get(account, 0.0), now - since)
+
+    def text(self) -> list[str]:
+        """The figures."""
+        self._turn(time.monotonic())
+        latest, before = self._longest
+        longest = {account: max(latest.get(account, 0.0), before.get(account, 0.0)) for account in latest.keys() | before.keys()}
+        return [*family("mfront_account_lines_total", "counter", "Lines with a reply that was handed out, by account.", _labelled(self._count)),
+                *family("mfront_account_wait_seconds_total", "counter", "Seconds that these lines waited.", _labelled(self._waited)),
+                *family("mfront_account_longest_wait_seconds", "gauge", "The longest of these waits in the last minute or two.", _labelled(longest))]
+
+    def _turn(self, now: float) -> None:
+        if now - self._span > SPAN:
+            self._longest = ({}, self._longest[0] if now - self._span < 2 * SPAN else {})
+            self._span = now
+
+
+def _labelled(values: Mapping[str, float]) -> dict[str, float]:
+    return {f'account="{account}"': value for account, value in sorted(values.items())}
+
+
+def of_journal(open_lines: int, waiting: int, faulty: float, folder: Path | None) -> list[str]:
+    """Figures of a journal: lines without a reply, what waits for the disk, for how many seconds it cannot be written, and the room of its disk."""
+    lines = family("mfront_journal_open_lines", "gauge", "Lines in the journal that have no reply there yet.", {"": open_lines})
+    lines += family("mfront_journal_waiting", "gauge", "Lines and replies that wait for the journal.", {"": waiting})
+    lines += family("mfront_journal_fault_seconds", "gauge", "For how long the journal cannot be written; 0 if it can.", {"": faulty})
+    if folder is not None:
+        room = os.statvfs(folder)
+        lines += family("mfront_journal_room_bytes", "gauge", "Bytes that are free on the journal's disk.", {"": room.f_bavail * room.f_frsize})
+    return lines
+
+
+def of_backup(folder: Path) -> list[str]:
+    """Figures of the last snapshot that was verified; none if none was."""
+    try:
+        found = json.loads((folder / VERIFIED).read_bytes())
+        values = int(found["line"]), int(found["at"])
+    except (OSError, ValueError, KeyError, TypeError):
+        return []
+    return [*family("mfront_backup_verified_line", "gauge", "The line of the last snapshot that was verified by a replay.", {"": values[0]}),
+            *family("mfront_backup_verified_timestamp_seconds", "gauge", "When that was, in seconds since 1970.", {"": values[1]})]
+
+
+def of_standby(status: Mapping[str, object]) -> str:
+    """Figures of a standby, or of a leader, by its status."""
+    stands_by = status["state"] == "standby"
+    lines = family("mfront_standby", "gauge", "1 if it stands by, 0 if it leads.", {"": int(stands_by)})
+    lines += family("mfront_standby_line", "gauge", "The last line that its store has run.", {"": int(str(status["line"]))})
+    lines += family("mfront_standby_fault", "gauge", "1 if it cannot go on: mfront status says why.", {"": int(status["fault"] != "")})
+    if stands_by:
+        lines += family("mfront_standby_behind_lines", "gauge", "Lines with a reply that it has not run yet.", {"": int(str(status["behind"]))})
+        lines += family("mfront_standby_behind_seconds", "gauge", "How long ago the line that it is at was sent.", {"": float(str(status["seconds"]))})
+    return "\n".join(lines) + "\n"

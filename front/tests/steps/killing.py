@@ -1,0 +1,109 @@
+# SPDX-License-Identifier: Apache-2.0
+"""What happens at a step of the journal's rule, once a file says so: {"step": .., "what": .., "count": ..}. The file is gone when it happens."""
+from __future__ import annotations
+
+import functools
+import json
+import os
+import signal
+import threading
+import time
+from collections.abc import Callable
+from pathlib import Path
+
+# The steps, in the order of the rule.
+STEPS = ("lines wait", "lines are durable", "lines are sent", "a reply has come", "a reply is durable", "a reply is handed out", "the server is started",
+         "rows are durable", "a start is durable")
+# What can happen at one.
+WHATS = ("server", "front", "both", "connection", "disk full", "clock back")
+FULL, BACK = 1.5, 3600
+
+
+class Fault:
+    """The trouble that lasts a while: a disk that is full, or a clock that went back."""
+
+    full_until = 0.0
+    back = 0
+
+
+def children() -> list[int]:
+    """The processes that this one started."""
+    found = Path(f"/proc/{os.getpid()}/task")
+    return [int(pid) for task in found.iterdir() for pid in (task / "children").read_text().split()]
+
+
+def kill_children() -> None:
+    """Ends the server at once."""
+    for pid in children():
+        os.kill(pid, signal.SIGKILL)
+
+
+def happens(what: str) -> None:
+    """Does what is to happen."""
+    if what in ("server", "both"):
+        kill_children()
+    if what in ("front", "both"):
+        os.kill(os.getpid(), signal.SIGKILL)
+    if what == "connection":
+        from mserve_front.turns import Turns
+        for turns in Turns.made:
+            turns.abort()
+    if what == "disk full":
+        Fault.full_until = time.monotonic() + FULL
+    if what == "clock back":
+        Fault.back = BACK
+
+
+def install(place: str) -> None:
+    """Has the steps looked at."""
+    from mserve_front import journal, journal_file, server, turns
+    path, turn = Path(place), threading.Lock()
+
+    def step(name: str) -> None:
+        with turn:
+            try:
+                wanted = json.loads(path.read_text())
+            except (OSError, ValueError):
+                return
+            if wanted["step"] != name:
+                return
+            wanted["count"] -= 1
+            if wanted["count"] > 0:
+                path.write_text(json.dumps(wanted))
+                return
+            path.unlink()
+        happens(wanted["what"])
+
+    def around(owner: type, name: str, before: Callable[..., str], after: Callable[..., str]) -> None:
+        own = getattr(owner, name)
+
+        @functools.wraps(own)
+        def made(self, *given):
+            step(before(*given))
+            found = own(self, *given)
+            step(after(*given))
+            return found
+        setattr(owner, name, made)
+
+    durable = {"_Lines": "lines are durable", "_Reply": "a reply is durable", "_Rows": "rows are durable", "_Start": "a start is durable"}
+    done = {"_Lines": "lines are sent", "_Reply": "a reply is handed out"}
+    around(journal.Journal, "_done", lambda entry: durable[type(entry).__name__], lambda entry: done.get(type(entry).__name__, ""))
+    around(journal.Journal, "lines", lambda *_: "lines wait", lambda *_: "")
+    around(turns.Turns, "_answered", lambda *_: "a reply has come", lambda *_: "")
+    around(server.Server, "_connect", lambda *_: "the server is started", lambda *_: "")
+    turns.Turns.made = []
+    begun = turns.Turns.__init__
+
+    def first(self, *given):
+        begun(self, *given)
+        turns.Turns.made[:] = [self]
+    turns.Turns.__init__ = first
+    write = journal_file.FileLog._write
+
+    def written(self, data):
+        if time.monotonic() < Fault.full_until:
+            raise OSError(28, "No space left on device")
+        write(self, data)
+    journal_file.FileLog._write = written
+    now = time.time_ns
+    time.time_ns = lambda: now() - Fault.back * 10**9

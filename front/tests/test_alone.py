@@ -1,0 +1,168 @@
+# SPDX-License-Identifier: Apache-2.0
+"""One machine with a process for each island, made by `mgate init` from a front's settings and its store: a heavy account holds nobody else up."""
+from __future__ import annotations
+
+import asyncio
+import math
+import statistics
+import time
+from collections.abc import Iterator
+from pathlib import Path
+
+import pytest
+from front import Front, Ran, in_loop, mjournal, toml, tool, until
+from machines import Gate, Program
+from mserve_front.settings import read_toml
+from running import ISLANDS, PROGRAM
+from test_replay import held
+
+SETTINGS = """[[account]]
+name = "HEAVY"
+terminals = [1, 2]
+steps = 1000000
+
+[[account]]
+name = "LIGHT"
+terminals = [3, 4]
+steps = 10000
+
+[[account]]
+name = "LAB"
+terminals = [5]
+steps = 10000
+
+[[account]]
+name = "CLINIC"
+terminals = [6]
+steps = 10000
+
+[[grant]]
+from = "LAB"
+to = "CLINIC"
+global = "RESULT"
+mode = "read"
+"""
+USERS = {"hugo": "HEAVY", "lisa": "LIGHT", "lab": "LAB", "cleo": "CLINIC"}
+# A line that uses up a million steps, lines of the other a second, and for how long.
+LONG, RATE, SECONDS = "F  S N=1", 20, 6
+
+
+class Alone(Gate):
+    """The gate of a machine that is alone, by settings that are there."""
+
+    def __init__(self, folder: Path, config: Path, authority: Path) -> None:
+        listen = read_toml(config)["listen"]
+        self.folder, self.name, self.host = folder, "one", "localhost"
+        self.ports = {"http": listen["port"], "lines": listen["lines_port"]}
+        self.authority, self.config = authority, config
+        self.process = self._started()
+
+
+@pytest.fixture
+def alone(certificate: tuple[Path, Path], tmp_path: Path, monkeypatch: pytest.MonkeyPatch) -> Iterator[Path]:
+    """The settings of a front that has ended, with a store in which each account has something."""
+    monkeypatch.setenv("MISLANDS", ISLANDS)
+    (tmp_path / "settings.toml").write_text(SETTINGS)
+    front = Front(tmp_path, certificate, users=USERS, settings=tmp_path / "settings.toml", store="store.db")
+
+    async def filled() -> None:
+        for name in USERS:
+            async with front.person(name) as person:
+                await person.line("F I=1:1:20 S ^RESULT(I)=I_$J(1,20)")
+    asyncio.run(filled())
+    front.stop()
+    yield tmp_path / "front.toml"
+
+
+def init(front: Path, folder: Path) -> Ran:
+    """Makes the islands."""
+    return tool("mgate")("init", front.parent / "settings.toml", front.parent / "store.db", "--front", front, "--to", folder / "islands", "--config",
+                         folder / "machine.toml")
+
+
+@in_loop(300)
+async def test_a_heavy_account_holds_nobody_up(alone: Path, certificate: tuple[Path, Path], tmp_path: Path) -> None:
+    """Four accounts are three islands with what each had. A line of a million steps, again and again, is not noticed by another island."""
+    status, _, told = tool("mgate")("init", alone.parent / "settings.toml", alone.parent / "store.db", "--config", tmp_path / "none.toml")
+    assert status == 2 and "none.toml" in told
+    (tmp_path / "one.toml").write_text(toml({"machine": {"name": "one", "folder": "islands", "users": "users.json"},
+                                             "listen": {"port": 1, "lines_port": 2, "certificate": "c", "key": "k"}}))
+    status, _, told = tool("mgate")("init", alone.parent / "settings.toml", alone.parent / "none.db", "--config", tmp_path / "one.toml")
+    assert status == 2 and "none.db: unable to open database file: no server may have it" in told
+    before = held(alone.parent / "store.db")
+    status, output, told = init(alone, tmp_path)
+    assert status == 0, told
+    assert [line.split(":")[0] for line in output.splitlines()] == ["island HEAVY", "island LIGHT", "island LAB"] and "LAB CLINIC: 40 nodes" in output
+    gate = Alone(tmp_path, tmp_path / "machine.toml", certificate[0])
+    try:
+        assert "island LAB one here LAB CLINIC" in gate.does("list")[1]
+        hugo, lisa, cleo = Program(gate, "hugo"), Program(gate, "lisa"), Program(gate, "cleo")
+        for program in (hugo, lisa, cleo):
+            await program.signed_on()
+        assert await cleo.told('W ^|"LAB"|RESULT(7)') == "7                   1"
+        stop = asyncio.Event()
+        heavy = asyncio.create_task(hammers(hugo, stop))
+        waits = await worked(lisa)
+        stop.set()
+        count = await heavy
+        print(f"{count} lines of a million steps beside {len(waits)} lines: median {statistics.median(waits) * 1000:.1f} ms, 99th percentile "
+              f"{percentile(waits, 0.99) * 1000:.1f} ms, longest {max(waits) * 1000:.1f} ms")
+        # Behind lines that each take a good part of a second, twenty lines a second would fall back by many seconds. The machine may be busy.
+        assert count >= 2 and statistics.median(waits) < 1.5
+        await changes(gate, lisa, tmp_path)
+        for program in (hugo, lisa, cleo):
+            program.close()
+    finally:
+        gate.stop()
+    for name in ("HEAVY", "LIGHT", "LAB"):
+        folder = tmp_path / "islands" / name
+        assert mjournal(folder / "journal")("replay", "--program", PROGRAM, "--store", tmp_path / name)[::2] == (0, "")
+        assert held(tmp_path / name) == held(folder / "store")
+    assert held(tmp_path / "LAB") == {name: before[name] for name in ("LAB", "CLINIC")}
+    # It is not made a second time over what is there, and an island stays where it is.
+    assert "there are islands already" in init(alone, tmp_path)[2]
+    assert "this machine is alone" in gate.does("move", "LAB", "two")[2]
+
+
+async def changes(gate: Alone, lisa: Program, folder: Path) -> None:
+    """An island gets other settings, and a new one comes: nobody else's session ends."""
+    assert await lisa.told("S A=5") == ""
+    settings = folder / "islands" / "HEAVY" / "settings.toml"
+    (folder / "more.toml").write_text(settings.read_text().replace("terminals = [1, 2]", "terminals = [1, 2, 7]").replace("1000000", "1000"))
+    assert gate.does("change", "HEAVY", folder / "more.toml")[0] == 0
+    await until(lambda: "island HEAVY is started again, with other settings" in gate.told(), "an island that is started again")
+    (folder / "new.toml").write_text('[[account]]\nname = "NEW"\nterminals = [1]\nsteps = 1000\n')
+    assert gate.does("place", "NEW", folder / "new.toml", "one")[0] == 0
+    assert "HEAVY: these settings do not have it" in gate.does("change", "HEAVY", folder / "new.toml")[2]
+    assert "there is no such island" in gate.does("change", "NONE", folder / "new.toml")[2]
+    assert "NEW: the island NEW has it already" in gate.does("place", "OTHER", folder / "new.toml", "one")[2]
+    hugo = Program(gate, "hugo")
+    await hugo.signed_on()
+    assert (await hugo.line("F  S N=1"))["code"] == "ZSTEPS" and await hugo.told("W N") == "1"
+    hugo.close()
+    assert await lisa.told("W A") == "5"
+
+
+async def hammers(program: Program, stop: asyncio.Event) -> int:
+    """Sends long lines until it is stopped, and gives how many."""
+    count = 0
+    while not stop.is_set():
+        assert (await program.line(LONG))["code"] == "ZSTEPS"
+        count += 1
+    return count
+
+
+async def worked(program: Program) -> list[float]:
+    """Sends lines at a rate, each when it is due, and gives how long each took from then."""
+    began, waits = time.monotonic(), []
+    for number in range(RATE * SECONDS):
+        due = began + number / RATE
+        await asyncio.sleep(max(0.0, due - time.monotonic()))
+        assert await program.told(f"S ^N={number} W ^N") == str(number)
+        waits.append(time.monotonic() - due)
+    return waits
+
+
+def percentile(values: list[float], part: float) -> float:
+    """The least value that so large a part of the values is not above."""
+    return sorted(values)[math.ceil(len(values) * part) - 1]

@@ -1,0 +1,225 @@
+# SPDX-License-Identifier: Apache-2.0
+"""Attacks on other accounts' service, by somebody without a sign-on and by a user who is signed on: a neighbour at another address, who sends twenty
+lines a second, is answered each, and none is refused. `--count 30` attacks for half a minute each, with the bound of a quarter of a second."""
+from __future__ import annotations
+
+import asyncio
+import contextlib
+import json
+import os
+import sys
+import time
+from collections.abc import Awaitable, Callable
+from dataclasses import dataclass, field
+from pathlib import Path
+
+import aiohttp
+import pytest
+from front import PASSWORD, Front, Person, in_loop
+from test_programs import Program
+
+# Seconds of an attack for each count, lines a second of the neighbour, and the bound of the 99th percentile: on a machine that has other work, more.
+SECONDS, RATE, STRICT, LOOSE = 4, 20, 0.25, 4.0
+# Millions of bytes that the front has at most meanwhile.
+MEMORY = 300
+
+
+@dataclass
+class Watched:
+    """What a neighbour met."""
+
+    waits: list[float] = field(default_factory=list)
+    refused: int = 0
+
+    def place(self, part: float) -> float:
+        """The wait that this part of all does not exceed."""
+        return sorted(self.waits)[int(part * (len(self.waits) - 1))]
+
+
+async def neighbour(person: Person, seconds: float) -> Watched:
+    """Sends lines when they are due, whether or not replies came, and takes the replies."""
+    watched, began, count = Watched(), time.monotonic(), int(seconds * RATE)
+
+    async def sends() -> None:
+        for number in range(count):
+            await asyncio.sleep(max(0.0, began + number / RATE - time.monotonic()))
+            await person.send(f"W {number}")
+    sending = asyncio.create_task(sends())
+    for number in range(count):
+        record = await person.next()
+        watched.waits.append(time.monotonic() - began - number / RATE)
+        watched.refused += record.get("rest") != str(number)
+    await sending
+    return watched
+
+
+def memory(front: Front) -> float:
+    """Millions of bytes that the front has had at most."""
+    found = Path(f"/proc/{front.process.pid}/status").read_text()
+    return int(found.partition("VmHWM:")[2].split()[0]) / 1000
+
+
+Attack = Callable[[Front, float], Awaitable[None]]
+
+
+async def connections(front: Front, count: int, work: Callable[[asyncio.StreamReader, asyncio.StreamWriter], Awaitable[None]], seconds: float,
+                      port: int | None = None) -> None:
+    """Has so many connections of other addresses do a work for so long; one that ends begins again."""
+    end = time.monotonic() + seconds
+
+    async def one(number: int) -> None:
+        while time.monotonic() < end:
+            writer = None
+            with contextlib.suppress(ConnectionError, OSError, asyncio.IncompleteReadError, TimeoutError):
+                reader, writer = await asyncio.open_connection("127.0.0.1", port or front.port, ssl=front.context, server_hostname="localhost",
+                                                               local_addr=(f"127.0.1.{number % 4 + 1}", 0))
+                async with asyncio.timeout(max(0.1, end - time.monotonic())):
+                    await work(reader, writer)
+            if writer is not None:
+                writer.transport.abort()
+            await asyncio.sleep(0.01)
+    await asyncio.gather(*(one(number) for number in range(count)))
+
+
+async def pipelines(front: Front, seconds: float) -> None:
+    """Requests sent ahead over many connections, and nothing read."""
+    async def work(_: asyncio.StreamReader, writer: asyncio.StreamWriter) -> None:
+        while True:
+            writer.write(b"GET /health HTTP/1.1\r\nHost: localhost\r\n\r\n" * 300)
+            await writer.drain()
+            await asyncio.sleep(0)
+    await connections(front, 60, work, seconds)
+
+
+async def half_open(front: Front, seconds: float) -> None:
+    """Connections of which nothing comes."""
+    async def work(reader: asyncio.StreamReader, _: asyncio.StreamWriter) -> None:
+        await reader.read()
+    await connections(front, 150, work, seconds)
+
+
+async def malformed(front: Front, seconds: float) -> None:
+    """What is no request, again and again."""
+    async def work(reader: asyncio.StreamReader, writer: asyncio.StreamWriter) -> None:
+        writer.write(b"\0\xff" * 2000 + b"\r\n\r\n")
+        await reader.read()
+    await connections(front, 20, work, seconds)
+
+
+async def wrong_sign_ons(front: Front, seconds: float) -> None:
+    """Wrong passwords of many names from many addresses, and of the neighbour's own name."""
+    async def work(reader: asyncio.StreamReader, writer: asyncio.StreamWriter) -> None:
+        for number in range(10_000):
+            body = json.dumps({"user": "cleo" if number % 2 else f"user{number}", "password": "wrong"})
+            writer.write(f"POST /signon HTTP/1.1\r\nHost: localhost\r\nContent-Type: application/json\r\nContent-Length: {len(body)}\r\n\r\n{body}".encode())
+            head = await reader.readuntil(b"\r\n\r\n")
+            await reader.readexactly(int(head.lower().partition(b"content-length:")[2].split()[0]))
+    await connections(front, 40, work, seconds)
+
+
+async def pings(front: Front, seconds: float) -> None:
+    """A user's pings, as fast as they are taken."""
+    async with front.person("ada") as ada:
+        end = time.monotonic() + seconds
+        transport = ada.socket._writer.transport
+        while time.monotonic() < end and not transport.is_closing():
+            transport.write(bytes([0x89, 0x80]) + bytes(4) + (bytes([0x89, 0x80]) + bytes(4)) * 500)
+            await asyncio.sleep(0.002)
+            while transport.get_write_buffer_size() > 1 << 16 and time.monotonic() < end:
+                await asyncio.sleep(0.01)
+        transport.abort()
+
+
+async def refused_lines(front: Front, seconds: float) -> None:
+    """A program's lines that are refused, as fast as they are taken."""
+    async with Program(front, f"ada {PASSWORD}") as program:
+        end = time.monotonic() + seconds
+        with contextlib.suppress(TimeoutError, ConnectionError):
+            async with asyncio.timeout(seconds):
+                while time.monotonic() < end:
+                    program.writer.write(b"\0\n" * 1000)
+                    await program.writer.drain()
+                    await asyncio.sleep(0)
+        program.writer.transport.abort()
+
+
+async def quick_lines(front: Front, seconds: float) -> None:
+    """All terminals of an account send lines as fast as their replies come."""
+    async def one() -> None:
+        async with Program(front, f"ada {PASSWORD}") as program:
+            end = time.monotonic() + seconds
+            while time.monotonic() < end:
+                for _ in range(20):
+                    program.writer.write(b"S A=1\n")
+                for _ in range(20):
+                    await program.next()
+    await asyncio.gather(*(one() for _ in range(3)))
+
+
+async def attacked(front: Front, attack: Attack, seconds: float) -> asyncio.subprocess.Process:
+    """Has a process of its own attack a front for so long: what it computes takes none of the neighbour's time."""
+    words = [attack.__name__, str(seconds), str(front.port), str(front.lines_port), *map(str, front.certificate)]
+    return await asyncio.create_subprocess_exec("nice", "-n", "10", sys.executable, __file__, *words)
+
+
+def target(port: str, lines_port: str, certificate: str, key: str) -> Front:
+    """A front that another process has started."""
+    front = Front.__new__(Front)
+    front.port, front.lines_port, front.certificate = int(port), int(lines_port), (Path(certificate), Path(key))
+    return front
+
+
+ATTACKS = [pipelines, half_open, malformed, wrong_sign_ons, pings, refused_lines, quick_lines]
+
+
+@pytest.mark.parametrize("attack", ATTACKS, ids=[attack.__name__ for attack in ATTACKS])
+@in_loop(300)
+async def test_a_neighbour_is_served_during_an_attack(start, attack: Attack, count: int) -> None:
+    front: Front = start()
+    seconds = SECONDS * (count if count == 1 else count / 4)
+    async with front.person("cleo") as cleo:
+        before = (front.folder / "audit.log").stat().st_size
+        attacker = await attacked(front, attack, seconds)
+        watched = await neighbour(cleo, seconds)
+        assert await attacker.wait() == 0
+        noted = (front.folder / "audit.log").stat().st_size - before
+        told = f"99 % within {watched.place(0.99) * 1000:.0f} ms, longest {max(watched.waits) * 1000:.0f} ms, {memory(front):.0f} MB, {noted} bytes of audit"
+        print(f"{attack.__name__}: {told}")
+        assert watched.refused == 0 and watched.place(0.99) < (STRICT if os.environ.get("STRICT") else LOOSE), told
+        assert memory(front) < MEMORY, told
+        # Lines that were served are noted; nothing else grows by what is sent.
+        assert noted < 300_000 * seconds, told
+        assert not cleo.events and len(front.told()) < 5000
+
+
+@in_loop(120)
+async def test_wrong_tries_keep_nobody_out(start) -> None:
+    """Of one's own name from elsewhere, of other names at one's own address, and of a good token's user."""
+    front: Front = start()
+    async with front.person("cleo") as cleo:
+        attack = await attacked(front, wrong_sign_ons, 6)
+        await asyncio.sleep(1)
+        began = time.monotonic()
+        for _ in range(3):
+            async with front.person("cleo") as again:
+                assert await again.told("W 1") == "1"
+        assert time.monotonic() - began < 60 and await cleo.told("W 2") == "2"
+        assert await attack.wait() == 0
+
+
+@in_loop(120)
+async def test_a_flood_of_right_passwords_takes_no_more_than_its_turns(start) -> None:
+    front: Front = start()
+    people = [front.person("ada") for _ in range(60)]
+    tries = [asyncio.create_task(person.sign_on()) for person in people]
+    await asyncio.sleep(0.05)
+    async with front.person("cleo") as cleo:
+        assert await cleo.told("W 1") == "1"
+    ends = [end for end in await asyncio.gather(*tries, return_exceptions=True) if not isinstance(end, aiohttp.ClientError)]
+    assert {status for status, _ in ends} <= {200, 429, 503}
+    for person in people:
+        await person.http.close()
+
+
+if __name__ == "__main__":
+    asyncio.run(globals()[sys.argv[1]](target(*sys.argv[3:]), float(sys.argv[2])))

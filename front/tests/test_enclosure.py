@@ -1,0 +1,90 @@
+# SPDX-License-Identifier: Apache-2.0
+"""Other users of the machine: they cannot reach the server's port, whenever they try, nor take it."""
+from __future__ import annotations
+
+import asyncio
+import os
+import subprocess
+import sys
+import time
+
+import pytest
+from front import Front, in_loop, missed, until
+from mserve_front.enclosure import HELPER, PORT, can_enclose
+from mserve_front.connection import joined
+from mserve_front.server import launched, tied
+from pathlib import Path
+from running import PROGRAM
+from front import SETTINGS
+
+# What a local user without rights does: finds ports that are listened at, says a line at each terminal there, and looks for the word.
+INTRUDER = """
+import socket, sys, time
+def ports():
+    for name in ("/proc/net/tcp", "/proc/net/tcp6"):
+        for line in open(name).readlines()[1:]:
+            fields = line.split()
+            if fields[3] == "0A":
+                yield int(fields[1].rpartition(":")[2], 16)
+end, found = time.time() + float(sys.argv[1]), set()
+while time.time() < end:
+    for port in {*ports(), 9000}:
+        try:
+            with socket.create_connection(("127.0.0.1", port), 0.2) as there:
+                there.settimeout(0.3)
+                there.sendall(b"1 W ^SECRET\\n")
+                if b"hidden" in there.recv(1000):
+                    found.add(port)
+        except OSError:
+            pass
+print(len(found))
+"""
+
+
+@pytest.fixture(autouse=True)
+def needed() -> None:
+    if not can_enclose():
+        missed("user namespaces are refused here")
+    if os.geteuid():
+        missed("only root can try it as another user")
+
+
+def as_nobody(*words: str) -> subprocess.Popen[str]:
+    return subprocess.Popen(["setpriv", "--reuid", "65534", "--regid", "65534", "--clear-groups", *words], stdout=subprocess.PIPE, stderr=subprocess.PIPE,
+                            text=True)
+
+
+@in_loop(120)
+async def test_nobody_reaches_the_server_also_while_it_is_started_again(start, tmp_path) -> None:
+    front: Front = start(tls=False, store=str(tmp_path / "store"))
+    async with front.person("ada") as ada:
+        assert await ada.told('S ^SECRET="hidden"') == ""
+        intruder = as_nobody(sys.executable, "-c", INTRUDER, "6")
+        for _ in range(3):
+            await asyncio.sleep(1)
+            front.kill_child()
+
+            async def again() -> bool:
+                return (await ada.line("W ^SECRET")).get("rest") == "hidden"
+            await until(again, "the server")
+        found, told = await asyncio.to_thread(intruder.communicate)
+        assert (found, told) == ("0\n", "")
+
+
+@in_loop(120)
+async def test_nobody_enters_the_network_of_the_server(start) -> None:
+    front: Front = start(tls=False)
+    own, other = (os.readlink(f"/proc/{process}/ns/net") for process in (front.process.pid, front.child))
+    assert own != other
+    for words in (["nsenter", "--user", "--net", "--target", str(front.child), "true"], [*HELPER, "connect", str(front.child), str(PORT)]):
+        tried = as_nobody(*words)
+        _, told = await asyncio.to_thread(tried.communicate)
+        assert tried.returncode != 0 and "ermi" in told, told
+
+
+@in_loop(120)
+async def test_the_server_ends_with_who_started_it(start) -> None:
+    front: Front = start(tls=False)
+    child = front.child
+    front.process.kill()
+    await until(lambda: not Path(f"/proc/{child}").exists(), "the end of the server")

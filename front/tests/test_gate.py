@@ -1,0 +1,159 @@
+# SPDX-License-Identifier: Apache-2.0
+"""What a gate carries, and what a front takes of one: known paths alone, raw bytes only after a true handshake, and the user's own address."""
+from __future__ import annotations
+
+import asyncio
+import json
+import ssl
+from types import SimpleNamespace
+
+import pytest
+from front import PASSWORD, Front, in_loop
+from mserve_front.doors import Doors
+from mserve_front.gate import Gate
+from mserve_front.preamble import new_secret, preamble, told_by
+from mserve_front.settings import Limits
+from running import free_port
+
+SECRET = "s" * 43
+HANDSHAKE = (b"GET /ws HTTP/1.1\r\nHost: x\r\nConnection: keep-alive, Upgrade\r\nUpgrade: websocket\r\nSec-WebSocket-Version: 13\r\n"
+             b"Sec-WebSocket-Key: dGhlIHNhbXBsZSBub25jZQ==\r\nX-Mgate-From: 9.9.9.9\r\nX-MGATE-Secret: x\r\nX-Forwarded-For: 9.9.9.9\r\n\r\n")
+
+
+class Inner:
+    """An island's front that keeps what it is sent, and answers each connection the same."""
+
+    def __init__(self, answer: bytes) -> None:
+        self.answer, self.connections = answer, []
+
+    async def serve(self, reader: asyncio.StreamReader, writer: asyncio.StreamWriter) -> None:
+        """Answers once a head has come, and keeps all that comes."""
+        got = bytearray()
+        self.connections.append(got)
+        while data := await reader.read(1000):
+            before = b"\r\n\r\n" in got
+            got += data
+            if not before and b"\r\n\r\n" in got:
+                writer.write(self.answer)
+                if b" 101 " not in self.answer:
+                    await asyncio.sleep(0.3)
+                    break
+        writer.close()
+
+
+class Running:
+    """A gate before an island's front."""
+
+    def __init__(self, answer: bytes, limits: Limits = Limits()) -> None:
+        self.inner, self._limits = Inner(answer), limits
+
+    async def __aenter__(self) -> Running:
+        self._server = await asyncio.start_server(self.inner.serve, "127.0.0.1", 0)
+        port = self._server.sockets[0].getsockname()[1]
+        island = SimpleNamespace(name="island0", machine="one")
+        islands = SimpleNamespace(users={}, of_account={}, of_token={}, placed={"island0": island}, machines={}, secret=SECRET, port=lambda name, kind: port)
+        gate, self._doors, self.port = Gate("one", islands, ssl.create_default_context()), Doors(self._limits, None, {}), free_port()
+        self._doors.listen("127.0.0.1", self.port, gate.door(gate.serve_http, False))
+        return self
+
+    async def __aexit__(self, *error: object) -> None:
+        self._doors.close()
+        self._server.close()
+
+    async def asks(self, *parts: bytes, address: str = "127.0.0.1") -> bytes:
+        """What comes back for bytes that are sent with a moment between them."""
+        reader, writer = await asyncio.open_connection("127.0.0.1", self.port, local_addr=(address, 0))
+        try:
+            for part in parts:
+                writer.write(part)
+                await asyncio.sleep(0.2)
+            async with asyncio.timeout(5):
+                return await reader.read(2000)
+        finally:
+            writer.close()
+
+
+OK = b"HTTP/1.1 200 OK\r\nContent-Length: 2\r\nConnection: close\r\n\r\nok"
+
+
+@in_loop()
+async def test_an_upgrade_that_is_none_carries_one_request_and_nothing_after_it() -> None:
+    async with Running(OK) as gate:
+        answer = await gate.asks(b"GET /health HTTP/1.1\r\nHost: x\r\nUpgrade: x\r\nConnection: Upgrade\r\nX-Mgate-From: 9.9.9.9\r\n\r\n",
+                                 b"POST /signon HTTP/1.1\r\nHost: x\r\nX-Mgate-From: 8.8.8.8\r\n\r\n")
+        assert answer.startswith(b"HTTP/1.1 200") and len(gate.inner.connections) == 1
+        [got] = gate.inner.connections
+        assert got.startswith(preamble(SECRET, "127.0.0.1")) and got.count(b"HTTP/1.1") == 1 and b"signon" not in got
+        assert b"connection: close" in got.lower() and b"upgrade:" not in got.lower() and b"9.9.9.9" not in got
+
+
+@pytest.mark.parametrize(("answer", "carried"), [
+    (b"HTTP/1.1 101 Switching Protocols\r\nUpgrade: websocket\r\nConnection: Upgrade\r\n\r\n", True), (b"HTTP/1.1 403 No\r\nContent-Length: 0\r\n\r\n", False)])
+@in_loop()
+async def test_bytes_are_carried_on_after_a_true_handshake_alone(answer: bytes, carried: bool) -> None:
+    async with Running(answer) as gate:
+        await gate.asks(HANDSHAKE, b"raw bytes")
+        [got] = gate.inner.connections
+        assert (b"raw bytes" in got) == carried
+        assert b"x-mgate" not in got.lower() and b"x-forwarded" not in got.lower() and b"Upgrade: websocket" in got
+
+
+@pytest.mark.parametrize(("target", "status"), [("/metrics", 404), ("/control", 404), ("/admin.json", 404), ("//metrics", 404), ("/page/../metrics", 200)])
+@in_loop()
+async def test_known_paths_alone_are_carried(target: str, status: int) -> None:
+    async with Running(OK) as gate:
+        answer = await gate.asks(f"GET {target} HTTP/1.1\r\nHost: x\r\nCookie: __Host-mfront=island0.x\r\n\r\n".encode())
+        assert answer.startswith(f"HTTP/1.1 {status}".encode()) and b"island0" not in answer
+        # A path of the page stays one: the front has files of one folder alone.
+        assert all(b"GET /metrics" not in got for got in gate.inner.connections)
+
+
+@in_loop()
+async def test_figures_of_an_island_go_to_its_front_with_the_token() -> None:
+    async with Running(OK) as gate:
+        await gate.asks(b"GET /metrics/island0 HTTP/1.1\r\nHost: x\r\nAuthorization: Bearer abc\r\n\r\n")
+        [got] = gate.inner.connections
+        assert b"GET /metrics HTTP/1.1" in got and b"Authorization: Bearer abc" in got
+
+
+@in_loop()
+async def test_idle_connections_of_an_address_keep_nobody_else_out() -> None:
+    async with Running(OK, Limits(connections=40, unsigned_of_address=20)) as gate:
+        idle = [await asyncio.open_connection("127.0.0.1", gate.port) for _ in range(60)]
+        assert (await gate.asks(b"GET / HTTP/1.1\r\nHost: x\r\n\r\n", address="127.0.0.2")).startswith(b"HTTP/1.1 200")
+        for _, writer in idle:
+            writer.close()
+
+
+@pytest.mark.parametrize("line", [b"", b"mgate", b"mgate  127.0.0.1", b"GET / HTTP/1.1", b"mgate %b 127.0.0.1" % (b"t" * 43), b"mgate %b x" % SECRET.encode()])
+def test_a_preamble_without_the_secret_or_an_address_is_none(line: bytes) -> None:
+    assert told_by(line, SECRET) is None
+    assert told_by(preamble(SECRET, "2001:db8::1").rstrip(), SECRET) == "2001:db8::1"
+
+
+@in_loop()
+async def test_a_front_takes_connections_of_its_gate_alone(start, tmp_path) -> None:
+    """And the address that the gate says; figures need the token there, also from the loopback."""
+    secret, token = new_secret(), new_secret()
+    for name, text in (("gate.secret", secret), ("metrics.token", token)):
+        (tmp_path / name).write_text(text)
+        (tmp_path / name).chmod(0o600)
+    front: Front = start(tls=False, listen={"gate": str(tmp_path / "gate.secret")}, metrics={"token": str(tmp_path / "metrics.token")})
+
+    async def asks(port: int, data: bytes) -> bytes:
+        reader, writer = await asyncio.open_connection("127.0.0.1", port)
+        try:
+            writer.write(data)
+            return await reader.read(3000)
+        except ConnectionError:
+            return b""
+        finally:
+            writer.close()
+    health = b"GET /health HTTP/1.1\r\nHost: x\r\nConnection: close\r\n\r\n"
+    assert await asks(front.port, health) == b"" == await asks(front.port, preamble("t" * 43, "192.0.2.7") + health)
+    assert (await asks(front.port, preamble(secret, "192.0.2.7") + health)).startswith(b"HTTP/1.1 200")
+    figures = b"GET /metrics HTTP/1.1\r\nHost: x\r\nConnection: close\r\n"
+    assert (await asks(front.port, preamble(secret, "127.0.0.1") + figures + b"\r\n")).startswith(b"HTTP/1.1 403")
+    assert (await asks(front.port, preamble(secret, "192.0.2.7") + figures + f"Authorization: Bearer {token}\r\n\r\n".encode())).startswith(b"HTTP/1.1 200")
+    assert json.loads(await asks(front.lines_port, preamble(secret, "192.0.2.8") + f"cleo {PASSWORD}\n".encode()))["user"] == "cleo"
+    assert [record["from"] for record in front.audit() if record["event"] == "sign-on"] == ["192.0.2.8"]

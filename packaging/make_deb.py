@@ -27,10 +27,13 @@ PARTS = TOP / "packaging" / "deb"
 MAINTAINER = "Relumavosh maintainers <maintainers@users.noreply.relumavosh.example>"
 SHARE = "usr/share/mserve"
 DOC = "usr/share/doc/mserve"
-PROGRAMS = ("mserve", "mislands")
+# The programs, and where each is: mserve has a script before it.
+PROGRAMS = {"mserve": "usr/lib/mserve/mserve", "mislands": "usr/bin/mislands"}
 # The commands that are scripts, and the folder of each.
-COMMANDS = {"mshell": "clients", "mroutine": "clients", "mglobal": "clients", "misland": "clients", "mfront": "front", "mjournal": "front",
-            "mbackup": "front", "mgate": "front"}
+COMMANDS = {"mshell": "clients", "mroutine": "clients", "mglobal": "clients", "misland": "clients", "msettings": "clients", "mfront": "front",
+            "mjournal": "front", "mbackup": "front", "mgate": "front"}
+# Commands that have another name here: one without the program's would say too little.
+NAMES = {"msettings": "mserve-settings"}
 # Documents for whoever uses and runs it; the others are for those who change it.
 DOCUMENTS = ("FORMATS", "GLOSSARY", "GUIDE", "ISOLATION", "LANGUAGE", "OPERATING", "PERFORMANCE")
 CONTROL = """Package: mserve
@@ -44,9 +47,10 @@ Suggests: python3-psycopg, postgresql
 Section: database
 Priority: optional
 Description: shared M (MUMPS) server with isolated accounts
- One server for the M routines and globals of several customers. That no account
- learns from its replies what one without a tie to it does is proved over a store
- in memory, for every interleaving of lines; over a file tests show it.
+ One server for the M routines and globals of several customers. That no
+ account learns from its replies what one without a tie to it does is proved
+ over a store in memory, for every interleaving of lines; over a file tests
+ show it.
  .
  With it come a front that signs users on and has a page for browsers, a shell,
  and commands for routines as files, for globals in and out, for the front's
@@ -71,9 +75,14 @@ def made_at() -> int:
     return int(datetime.fromisoformat(found[1]).replace(tzinfo=UTC).timestamp())
 
 
+def release_record() -> dict[str, str]:
+    """What release/record says."""
+    return dict(line.split(" ", 1) for line in (TOP / "release" / "record").read_text(encoding="utf-8").splitlines())
+
+
 def programs() -> dict[str, bytes]:
     """The released programs, which are those that release/record names."""
-    record = dict(line.split(" ", 1) for line in (TOP / "release" / "record").read_text(encoding="utf-8").splitlines())
+    record = release_record()
     if record["version"] != version():
         raise Refused(f"the release is of version {record['version']}, and VERSION says {version()}: tools/release.py make")
     found = {}
@@ -107,22 +116,29 @@ def copied(root: Path, source: Path, place: str) -> None:
 def put_commands(root: Path) -> None:
     """The programs, and the scripts with their modules: each is a link to where its modules are."""
     for name, data in programs().items():
-        put(root, f"usr/bin/{name}", data, 0o755)
+        put(root, PROGRAMS[name], data, 0o755)
+    record = release_record()
+    told = f"mserve {version()}\nsources {record['sources']}\nprogram the released program, proved and built by {record['kit']}\n"
+    put(root, f"{SHARE}/version", told.encode())
+    put(root, f"{SHARE}/help.sh", (TOP / "tools" / "help.sh").read_bytes())
+    put(root, "usr/bin/mserve", (PARTS / "mserve").read_bytes(), 0o755)
     copied(root, TOP / "clients" / "mserve_client", f"{SHARE}/clients/mserve_client")
     copied(root, TOP / "front" / "mserve_front", f"{SHARE}/front/mserve_front")
     copied(root, TOP / "front" / "page", f"{SHARE}/front/page")
+    copied(root, TOP / "front" / "admin", f"{SHARE}/front/admin")
+    copied(root, TOP / "packaging" / "monitoring", f"{SHARE}/monitoring")
     for name, folder in COMMANDS.items():
         text = (TOP / folder / name).read_bytes()
         # The interpreter of Debian's packages, whatever comes first on the path.
         put(root, f"{SHARE}/{folder}/{name}", text.replace(b"#!/usr/bin/env python3\n", b"#!/usr/bin/python3\n", 1), 0o755)
-        (root / "usr/bin" / name).symlink_to(f"../share/mserve/{folder}/{name}")
+        (root / "usr/bin" / NAMES.get(name, name)).symlink_to(f"../share/mserve/{folder}/{name}")
 
 
 def put_documents(root: Path) -> None:
     """Man pages, completion, documents and examples."""
     pages = [*sorted((TOP / "docs").glob("*.1")), *sorted((TOP / "clients" / "man").glob("*.1")), *sorted((TOP / "front" / "man").glob("*.1"))]
     for page in pages:
-        put_zipped(root, f"usr/share/man/man1/{page.name}", page.read_bytes())
+        put_zipped(root, f"usr/share/man/man1/{NAMES.get(page.stem, page.stem)}.1", page.read_bytes())
     put(root, "usr/share/bash-completion/completions/mserve", (TOP / "packaging" / "mserve.bash").read_bytes())
     for name in ("README.md", "SECURITY.md", "CHANGELOG.md"):
         put(root, f"{DOC}/{name}", (TOP / name).read_bytes())

@@ -17,10 +17,7 @@ _mserve() {
         ;;
     esac
     if [ "$COMP_CWORD" -eq 1 ]; then
-        # Of a clone's script alone: the program does not take it.
-        local version=""
-        [ "${COMP_WORDS[0]}" != ./mserve ] || version=--version
-        mapfile -t COMPREPLY < <(compgen -W "run serve help --help $version" -- "$word")
+        mapfile -t COMPREPLY < <(compgen -W "run serve help --help --version" -- "$word")
     elif [ "$command" = run ]; then
         mapfile -t COMPREPLY < <(compgen -W "--settings --store --only --help" -- "$word")
     elif [ "$command" = serve ]; then

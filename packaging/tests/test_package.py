@@ -137,6 +137,8 @@ def started(root: Root, unit: str) -> subprocess.Popen[bytes]:
     root.run(f"cp packaging/{unit} /opt/confined/unit && chmod -R a+rX /opt/confined")
     words = f"cd {keys['WorkingDirectory']} && umask {keys['UMask']} && exec setpriv --reuid {keys['User']} --regid {keys['Group']} --clear-groups " \
             f"--no-new-privs --bounding-set=-all --inh-caps=-all {PYTHON} -B /opt/confined/confined.py /opt/confined/unit {keys['ExecStart']}"
+    before = keys["ExecStartPre"].removeprefix("-")
+    assert keys["ExecStartPre"].startswith("-") and ": good: " in root.run(words.removesuffix(keys["ExecStart"]) + before)
     return subprocess.Popen(root.words(words), stdin=subprocess.DEVNULL)
 
 
@@ -153,11 +155,12 @@ def test_lintian_finds_no_error(package: Path) -> None:
 
 def test_package_has_each_command_its_page_and_the_units(package: Path) -> None:
     listed = subprocess.run(["dpkg-deb", "--contents", package], capture_output=True, text=True, check=True).stdout
-    for name in ("mserve", "mislands", "mfront", "mjournal", "mbackup", "mgate", "mshell", "mroutine", "mglobal", "misland"):
+    for name in ("mserve", "mislands", "mfront", "mjournal", "mbackup", "mgate", "mshell", "mroutine", "mglobal", "misland", "mserve-settings"):
         assert f" ./usr/bin/{name}" in listed
     pages = [page for folder in ("docs", "clients/man", "front/man") for page in (TOP / folder).glob("*.1")]
-    assert len(pages) >= 8 and all(f" ./usr/share/man/man1/{page.name}.gz\n" in listed for page in pages)
-    for path in (*(f"lib/systemd/system/{unit}" for unit in UNITS), "usr/share/bash-completion/completions/mserve", "etc/mserve/front.toml",
+    names = [page.name.replace("msettings", "mserve-settings") for page in pages]
+    assert len(names) >= 9 and all(f" ./usr/share/man/man1/{name}.gz\n" in listed for name in names)
+    for path in (*(f"lib/systemd/system/{unit}" for unit in UNITS), "usr/lib/mserve/mserve", "usr/share/bash-completion/completions/mserve", "etc/mserve/front.toml",
                  "usr/share/mserve/front/page/index.html", "usr/share/doc/mserve/docs/LANGUAGE.md"):
         assert f" ./{path}\n" in listed
     assert "__pycache__" not in listed and "/tests/" not in listed
@@ -242,6 +245,12 @@ def used(root: Root) -> None:
     assert (record["user"], record["account"], record["volatile"]) == ("ada", "OFFICE", False)
     assert root.run(f"{curl} https://localhost:8443/page/main.js") == (TOP / "front" / "page" / "main.js").read_text(encoding="utf-8")
     assert root.run("mserve run --settings /etc/mserve/settings.toml --store memory", "1 WRITE 1+2*3\n") == "1-9\n1.\n"
+    assert root.run("mserve --version").startswith(f"mserve {(TOP / 'VERSION').read_text().strip()}\nsources ")
+    for words in ("--help", "help", "run --help"):
+        told = "/usr/lib/mserve/mserve " + words
+        assert root.run(f"mserve {words} 2>/dev/null | cat") == root.run(f"{told} 2>&1 || true")
+        assert root.run(f"mserve {words} >/dev/null 2>&1 || echo $?") == "2\n"
+    assert root.run("mserve-settings /etc/mserve/settings.toml --store /var/lib/mserve/none").startswith("/etc/mserve/settings.toml: good: 1 account")
     for name in ("mshell", "mroutine", "mglobal", "misland", "mfront", "mjournal", "mbackup", "mgate"):
         assert f"usage: {name}" in root.run(f"{name} --help")
     assert root.run("mislands </etc/mserve/settings.toml") == "OFFICE\n"

@@ -6,6 +6,7 @@ import contextlib
 import functools
 import os
 import resource
+import select
 import shutil
 import signal
 import socket
@@ -14,6 +15,7 @@ import threading
 import tomllib
 from collections.abc import Callable, Iterator, Sequence
 from dataclasses import dataclass
+from typing import IO
 
 from running import ONE_ACCOUNT, PROGRAM, connected, free_port, run_words, serve_words
 
@@ -123,6 +125,32 @@ def replies_of_lines(lines: list[str], store: str = "memory") -> list[list[str]]
             reply = []
     assert (len(found), reply) == (len(lines), [])
     return found
+
+
+def read_in_time(pipe: IO[bytes], size: int) -> bytes:
+    """So many bytes of a pipe, or what came before twenty seconds of silence or the end."""
+    got = b""
+    while len(got) < size and select.select([pipe], [], [], 20)[0]:
+        piece = os.read(pipe.fileno(), size - len(got))
+        if not piece:
+            break
+        got += piece
+    return got
+
+
+def answered_in_turn(pairs: Sequence[tuple[bytes, bytes]], settings: str = ONE_ACCOUNT) -> None:
+    """Sends each line when the ones before it are answered, each with the reply beside it; a line that no line feed ends is answered at the end."""
+    with subprocess.Popen(run_words(settings), stdin=subprocess.PIPE, stdout=subprocess.PIPE, stderr=subprocess.PIPE, bufsize=0) as program:
+        try:
+            for line, reply in pairs:
+                program.stdin.write(line)
+                wanted = reply if line.endswith(b"\n") else b""
+                assert (line, read_in_time(program.stdout, len(wanted))) == (line, wanted)
+            output, told = program.communicate(timeout=60)
+        finally:
+            program.kill()
+    rest = b"".join(reply for line, reply in pairs if not line.endswith(b"\n"))
+    assert (program.returncode, told, output) == (0, b"", rest)
 
 
 def give(pieces: Sequence[bytes], descriptor: int) -> None:

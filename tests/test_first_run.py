@@ -91,6 +91,17 @@ def test_times(top: Path) -> None:
     assert processor <= OVERHEAD
 
 
+@pytest.mark.parametrize("words", [("--help",), ("help",), ("run", "--help"), ("serve", "-h")], ids=" ".join)
+def test_help_is_on_the_standard_output(top: Path, words: tuple[str, ...]) -> None:
+    """The same bytes as the program's, at the first start and at a later one, and its status; the standard error names what says more of a refusal."""
+    for _ in range(2):
+        status, output, errors = start(top, words)
+        alone = subprocess.run([top / "release" / "unpacked" / "mserve", *words], capture_output=True, timeout=60)
+        assert (status, output) == (2, alone.stderr) and output and alone.stdout == b""
+        assert errors.count(b"\n") == 1 and b"clients/msettings FILE --store STORE says where and why" in errors
+    assert start(top, ("nothing",))[1] == b""
+
+
 def test_a_changed_document(top: Path) -> None:
     assert start(top) == (0, REPLY, b"")
     append(top / "README.md", "\n")

@@ -29,6 +29,8 @@ MARK = "@@ the end of a command @@"
 PAUSE = "sleep 1"
 LISTENS = "until grep -q ':{:04X} 00000000:0000 0A' /proc/net/tcp; do sleep 0.05; done"
 SECONDS = 300
+# The folder that the page works in.
+OWN = "guide"
 
 
 @dataclass
@@ -65,9 +67,10 @@ def prepare(folder: Path, port: str) -> None:
         if os.path.isdir(os.path.join(TOP, name)):
             shutil.copytree(os.path.join(TOP, name), folder / name)
     os.symlink(os.path.realpath(PROGRAM), folder / "mserve")
+    (folder / OWN).mkdir()
     for _, name, text in blocks(PAGE):
         if name:
-            (folder / name).write_text(text.replace("9000", port), encoding="utf-8")
+            (folder / OWN / name).write_text(text.replace("9000", port), encoding="utf-8")
 
 
 def script_of(port: int) -> str:
@@ -96,6 +99,13 @@ def printed(tmp_path_factory: pytest.TempPathFactory) -> list[str]:
 
 def test_the_page_has_commands() -> None:
     assert len(COMMANDS) >= 10
+    assert (COMMANDS[0].text, COMMANDS[-1].text) == (f"mkdir -p {OWN} && cd {OWN}", f"cd .. && rm -r {OWN}")
+
+
+def test_nothing_is_left(printed: list[str], tmp_path_factory: pytest.TempPathFactory) -> None:
+    """The page removes its folder, and has made nothing beside it."""
+    [folder] = [path for path in tmp_path_factory.getbasetemp().glob("guide*") if not path.is_symlink()]
+    assert sorted(path.name for path in folder.iterdir()) == [".commands", "clients", "examples", "mserve", "tools"]
 
 
 @pytest.mark.parametrize("place", range(len(COMMANDS)), ids=[f"{place}: {command.text[:40]}" for place, command in enumerate(COMMANDS)])

@@ -22,7 +22,6 @@ from __future__ import annotations
 
 import itertools
 import os
-import select
 import subprocess
 from collections.abc import Iterator
 from dataclasses import dataclass
@@ -31,7 +30,7 @@ from pathlib import Path
 import pytest
 from blocks import blocks, given_bytes, line_bytes
 from running import ONE_ACCOUNT, PROGRAM, free_port, run, run_words, serve_words
-from support import COUNTED, asked
+from support import COUNTED, answered_in_turn, asked
 
 READ = (5, b"mserve: wire: Read\n")
 WRITE = (5, b"mserve: wire: Write\n")
@@ -181,31 +180,9 @@ def test_little_at_a_time(trials: Trials, pairs: Pairs) -> None:
         assert (reads, writes, got) == (reads, writes, (*ENDED, replies_of(pairs), len(stream_of(pairs))))
 
 
-def read_in_time(pipe: object, size: int) -> bytes:
-    """So many bytes of a pipe, or what came before twenty seconds of silence or the end."""
-    got = b""
-    while len(got) < size and select.select([pipe], [], [], 20)[0]:
-        piece = os.read(pipe.fileno(), size - len(got))
-        if not piece:
-            break
-        got += piece
-    return got
-
-
 @EACH_STREAM
 def test_answered_in_turn(pairs: Pairs) -> None:
-    """Each line is sent when the one before is answered; a line that no line feed ends is answered at the end."""
-    with subprocess.Popen(run_words(), stdin=subprocess.PIPE, stdout=subprocess.PIPE, stderr=subprocess.PIPE, bufsize=0) as process:
-        try:
-            for line, reply in pairs:
-                process.stdin.write(line)
-                wanted = reply if line.endswith(b"\n") else b""
-                assert (line, read_in_time(process.stdout, len(wanted))) == (line, wanted)
-            output, told = process.communicate(timeout=60)
-        finally:
-            process.kill()
-    rest = b"".join(reply for line, reply in pairs if not line.endswith(b"\n"))
-    assert (process.returncode, told, output) == (*ENDED, rest)
+    answered_in_turn(pairs)
 
 
 @pytest.mark.parametrize("kind", ["WRITE", "STALL"])

@@ -3,6 +3,7 @@
 process has, one that may not be written, and a disk that gets full."""
 from __future__ import annotations
 
+import contextlib
 import os
 import sqlite3
 import subprocess
@@ -29,8 +30,32 @@ DATABASES = {
     "a key that goes on": ([*EMPTY, ROW.format("4200430002420000", "x'41'")], "BadKey"),
     "a value of another byte": ([*EMPTY, ROW.format("42004300024200", "x'80'")], "BadKey"),
     "a value that is a text": ([*EMPTY, ROW.format("42004300024200", "'text'")], "BadKey"),
-    "a third table": ([*EMPTY, "CREATE TABLE other (x)"], "Store"),
-    "another table": (["CREATE TABLE other (x)"], "Store"),
+    "nodes without a key": (["CREATE TABLE node (k BLOB NOT NULL, v BLOB NOT NULL)", META, VERSION.format(2)], "BadVersion"),
+    "nodes without a rowid": ([f"{NODE} WITHOUT ROWID", META, VERSION.format(2)], "BadVersion"),
+    "nodes of strict types": ([f"{NODE} STRICT", META, VERSION.format(2)], "Store"),
+    "nodes with a third column": ([NODE.replace(")", ", more)"), META, VERSION.format(2)], "Store"),
+    "a trigger on nodes": ([*WHOLE, "CREATE TRIGGER t AFTER INSERT ON node BEGIN DELETE FROM meta; END"], "BadVersion"),
+    "an index on some nodes": ([*WHOLE, "CREATE INDEX i ON node (v) WHERE v > x'41'"], "BadVersion"),
+    "an index that allows a text once": ([*WHOLE, "CREATE UNIQUE INDEX i ON node (v)"], "Store"),
+    "a table that refers to nodes": ([*WHOLE, "CREATE TABLE other (k BLOB REFERENCES node (k) ON DELETE CASCADE)"], "Store"),
+    "a table that refers to nodes to come": (["CREATE TABLE other (k BLOB REFERENCES node (k))"], "Store"),
+    "a table that refers to the version": ([*WHOLE, "CREATE TABLE other (name TEXT REFERENCES meta (name))"], "Store"),
+    "a view with the name": (["CREATE TABLE other (x)", "CREATE VIEW node AS SELECT x FROM other"], "Store"),
+    "an index with the name": (["CREATE TABLE other (x)", "CREATE INDEX node ON other (x)"], "Store"),
+}
+OTHERS = ["CREATE TABLE other (id INTEGER PRIMARY KEY AUTOINCREMENT, x)", "INSERT INTO other (x) VALUES ('theirs'), (2)", "CREATE INDEX o ON other (x)"]
+# Statements that make a database that others use too, or that was made in another order.
+SHARED = {
+    "a third table": [*WHOLE, *OTHERS],
+    "other tables first": [*OTHERS, *WHOLE],
+    "other tables alone": OTHERS,
+    "the tables in the other order": [META, VERSION.format(2), NODE],
+    "version 1 beside other tables": [*OTHERS, META, VERSION.format(1), NODE],
+    "an index on texts": [*WHOLE, "CREATE INDEX i ON node (v)"],
+    "a view of nodes": [*WHOLE, "CREATE VIEW w AS SELECT v FROM node"],
+    "a trigger on another table": [*WHOLE, *OTHERS, "CREATE TRIGGER t AFTER INSERT ON other BEGIN DELETE FROM other; END"],
+    "a table that others refer to": [*WHOLE, *OTHERS, "CREATE TABLE more (x INTEGER REFERENCES other (id))"],
+    "what ANALYZE counts": [*WHOLE, *OTHERS, "ANALYZE"],
 }
 SETS = range(1, 501)
 FULL = 1_000_000
@@ -76,6 +101,27 @@ def test_a_damaged_database(store: str) -> None:
 
 def test_a_whole_database(store: str) -> None:
     assert run(LINE, ONE_ACCOUNT, made(store, WHOLE)) == (0, REPLY, b"")
+
+
+def others(path: str) -> list[tuple[object, ...]]:
+    """What a database has beside the two tables: the schema, and the rows of each other table."""
+    with contextlib.closing(sqlite3.connect(path)) as database:
+        found = database.execute("SELECT type, name, sql FROM sqlite_master WHERE tbl_name NOT IN ('node', 'meta') OR name IN ('i', 'w') ORDER BY name").fetchall()
+        names = [name for kind, name, _ in found if kind == "table"]
+        return found + [(name, *row) for name in names for row in database.execute(f"SELECT * FROM {name}")]
+
+
+@pytest.mark.parametrize("statements", SHARED.values(), ids=SHARED.keys())
+def test_a_database_that_others_use(statements: list[str], store: str) -> None:
+    """It is taken, twice, its globals are there, and what is others' stays."""
+    theirs = others(made(store, statements))
+    assert run(b"1 S ^A(1)=1,^A(2)=2 K ^A(1)\n1 S ^A(2)=5,^A(3)=5\n", ONE_ACCOUNT, store) == (0, b"1.\n1.\n", b"")
+    assert run(b'1 W $D(^A(1)),$O(^A("")),$O(^A(""),-1),^A(2)\n', ONE_ACCOUNT, store) == (0, b"1-0235\n1.\n", b"")
+    assert others(store) == theirs
+    with contextlib.closing(sqlite3.connect(store)) as database:
+        assert database.execute("PRAGMA integrity_check").fetchall() == [("ok",)]
+        assert database.execute("SELECT n FROM meta WHERE name = 'version'").fetchall() == [(2,)]
+        assert database.execute("SELECT count(*) FROM node WHERE v = x'35'").fetchall() == [(2,)]
 
 
 @pytest.mark.parametrize("path", [".", "missing/store", "/dev/full"])

@@ -1,23 +1,31 @@
 # SPDX-License-Identifier: Apache-2.0
 """The blocks of transcripts/ that are lines of the wire, on the built program, and those that count steps.
 
-The lines of a block are one stream: over a store in memory, read whole and in pieces of 1, 2 and 7 bytes, and over a store in a file; that of
-lines of each fate ("wire stream") is cut after each of its bytes too.
+The lines of a block are one stream: over a store in memory, read whole, in pieces of 1, 2 and 7 bytes, and line by line, each sent once all
+lines before it are answered; and over a store in a file. That of lines of each fate ("wire stream") is cut after each of its bytes too.
 Of a block of the kind `only` one account is shown its replies, and of those of several accounts each account in turn. Each line of a block of
-the kind `reopened` is a run of its own over the same file."""
+the kind `reopened` is a run of its own over the same file, and each case of the kind `files` what is done to one file."""
 from __future__ import annotations
 
+import contextlib
+import re
+import sqlite3
+import subprocess
 from collections.abc import Callable
+from pathlib import Path
 
 import pytest
 from blocks import ONLY, SERVED, Block, blocks, given_bytes, line_bytes, text_bytes
-from running import ONE_ACCOUNT, run
-from support import accounts_of, run_in_pieces, shown_to, steps_played
+from running import ONE_ACCOUNT, TOP, run, run_words
+from support import accounts_of, answered_in_turn, content, read_in_time, run_in_pieces, shown_to, steps_played
 
 PIECES = (1, 2, 7)
-KINDS = (*SERVED, "only", "reopened", "steps")
+KINDS = (*SERVED, "only", "reopened", "files", "steps")
 PLAYED = [block for block in blocks() if block.kind in KINDS]
 NOTHING = (0, b"", b"")
+EMPTY = (b"\n", b"\r\n")
+# The last line of a reply.
+ENDING = re.compile(r"\d+\.|(\d+|\?)!\w+")
 # Each block of several accounts, with each account of its settings.
 ONE_SHOWN = [(block, name) for block in PLAYED if block.kind in ("terminals", "accounts") for name in accounts_of(SERVED[block.kind])]
 
@@ -59,6 +67,15 @@ def test_in_pieces(block: Block, size: int) -> None:
     assert run_in_pieces(block.stream(), size, *by(block)) == (0, block.replies(), b"")
 
 
+@each_block(*SERVED)
+def test_line_by_line(block: Block) -> None:
+    """Each case is answered with what stands below it, one reply for a line that is not empty, before the next one is sent."""
+    for case, given in block.cases:
+        ends = [place for place, line in enumerate(given) if ENDING.fullmatch(line)]
+        assert (case, ends) == (case, [] if line_bytes(case) in EMPTY else [len(given) - 1])
+    answered_in_turn([(line_bytes(case), given_bytes(given)) for case, given in block.cases], SERVED[block.kind])
+
+
 @each_block(*SERVED, where="wire stream")
 def test_cut_after_each_byte(block: Block) -> None:
     """What is written is the replies of the whole lines, and of what came of the next: those that it has if its end comes too."""
@@ -81,12 +98,18 @@ def test_only(block: Block, name: str) -> None:
 
 
 def test_only_as_told() -> None:
-    """The blocks of which BOB is shown his replies over the plain store, in the players, are answered alike."""
-    told = [block for block in blocks() if block.kind == "told"]
+    """Where no call of the store fails, BOB is shown the same replies as in the players, which say too whether they are whole."""
+    told = [block for block in blocks() if block.kind == "told" and not any(case.startswith("cache ") for case, _ in block.cases)]
     assert told
     for block in told:
-        shown = b"".join(line for line in block.replies().splitlines(True) if line != b"whole\n")
+        shown = block.replies().removesuffix(b"whole\n")
         assert (block.name, run(block.stream(), SERVED["terminals"], only="BOB")) == (block.name, (0, shown, b""))
+
+
+def test_as_the_gate_runs_it() -> None:
+    """The stream of many blocks that the gate runs the program on, as two compilers build it."""
+    crate = Path(TOP, "crates", "mserve")
+    assert run(content(str(crate / "stdin")), SERVED["terminals"]) == (0, content(str(crate / "stdout")), b"")
 
 
 @each_block("reopened")
@@ -94,6 +117,62 @@ def test_reopened(block: Block, store: str) -> None:
     """Each line is a run of its own over the same file."""
     for case, given in block.cases:
         assert (case, run(line_bytes(case), ONE_ACCOUNT, store)) == (case, (0, given_bytes(given), b""))
+
+
+def put_unclosed(store: str, subscript: str, text: str) -> None:
+    """Puts a text at a node, and kills the program once that is answered."""
+    with subprocess.Popen(run_words(store=store), stdin=subprocess.PIPE, stdout=subprocess.PIPE, bufsize=0) as program:
+        program.stdin.write(f'1 S ^D({subscript})="{text}"\n'.encode())
+        reply = read_in_time(program.stdout, len(b"1.\n"))
+        program.kill()
+    assert reply == b"1.\n"
+
+
+def add_row(store: str, key: str, value: str) -> None:
+    """Writes a row of any bytes into the table of a store, which is made if it is not there."""
+    assert run(b"", ONE_ACCOUNT, store) == NOTHING
+    with contextlib.closing(sqlite3.connect(store)) as database, database:
+        database.execute("INSERT INTO node (k, v) VALUES (?, ?)", (bytes.fromhex(key), bytes.fromhex(value)))
+
+
+def open_again(store: str) -> list[str]:
+    """Whether the store is taken, or by which fault it is refused, and then whether its bytes are as they were."""
+    before = content(store)
+    status, output, told = run(b"", ONE_ACCOUNT, store)
+    if (status, output, told) == NOTHING:
+        return ["taken"]
+    assert (status, output) == (4, b"")
+    return [told.decode("ascii").removeprefix("mserve: store: ").rstrip("\n"), "unchanged" if content(store) == before else "CHANGED"]
+
+
+def done_to(store: str, words: list[str]) -> list[str]:
+    """Carries out a case of the kind `files`, and gives what it shows."""
+    match words:
+        case ["bytes", text]:
+            Path(store).write_text(text, encoding="ascii")
+        case ["sql", *text]:
+            with contextlib.closing(sqlite3.connect(store)) as database, database:
+                database.execute(" ".join(text))
+        case ["row", key, value]:
+            add_row(store, key, value)
+        case ["put", subscript, text]:
+            put_unclosed(store, subscript, text)
+        case ["get", subscript]:
+            status, output, told = run(f'1 W $G(^D({subscript}),"none")\n'.encode(), ONE_ACCOUNT, store)
+            assert (status, told) == (0, b"")
+            return [output.decode("ascii").removeprefix("1-").removesuffix("\n1.\n")]
+        case ["open"]:
+            return open_again(store)
+        case _:
+            pytest.fail(f"no case of files: {words}")
+    return []
+
+
+@each_block("files")
+def test_files(block: Block, store: str) -> None:
+    """What is done to one file, which is not there at first, and what the program makes of it."""
+    for case, given in block.cases:
+        assert (case, done_to(store, case.split(" "))) == (case, given)
 
 
 @each_block("steps")

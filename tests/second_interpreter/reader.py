@@ -1,0 +1,411 @@
+# SPDX-License-Identifier: Apache-2.0
+"""The grammar: texts to trees, which are tuples with their kind in front. A reader has a language; a form of a later one is no syntax."""
+from __future__ import annotations
+
+import re
+from collections.abc import Callable
+from functools import cache
+
+from .decimals import Stop
+from .texts import FUNCTIONS, Atom
+
+Tree = tuple
+NAME = re.compile(r"[A-Za-z%][A-Za-z0-9]*", re.ASCII)
+NUMBER = re.compile(r"(?:[0-9]+(?:\.[0-9]+)?|\.[0-9]+)(?:E[+-]?[0-9]+)?", re.ASCII)
+STRING = re.compile(r'"((?:[^"]|"")*)"(?!")', re.ASCII)
+OPERATOR = re.compile(r"\*\*|'?(?:\]\]|[=<>\[\]&!])|[-+*/\\#_]", re.ASCII)
+COUNT = re.compile(r"([0-9]*)(\.?)([0-9]*)", re.ASCII)
+DEPTH = 40
+COMMANDS = {"S": "SET", "K": "KILL", "N": "NEW", "D": "DO", "G": "GOTO", "I": "IF", "E": "ELSE", "F": "FOR", "Q": "QUIT", "X": "XECUTE", "W": "WRITE", "L": "LOCK",
+            "H": "HALT"}
+# Which need arguments, which may have some, and which take a condition.
+NEEDS = ("SET", "XECUTE", "WRITE", "GOTO")
+NONE = ("ELSE", "HALT", "QUIT")
+NO_CONDITION = ("IF", "ELSE", "FOR")
+INDIRECT = ("SET", "KILL", "NEW", "DO", "GOTO", "IF", "XECUTE", "WRITE", "LOCK")
+OF_VARIABLE = {"D": ("DATA", 0), "G": ("GET", 1), "O": ("ORDER", 1)}
+SPECIALS = {"X": "X", "Y": "Y", "QUIT": "Q", "Q": "Q"}
+
+
+def label_of(text: str, language: int) -> str:
+    """The label of a routine's line; empty if it has none."""
+    found = NAME.match(text)
+    ends = " ;(" if language else " ;"
+    return found[0] if found and len(found[0]) <= 31 and (found.end() == len(text) or text[found.end()] in ends) else ""
+
+
+def formals_of(text: str, language: int) -> tuple[list[str] | None, str]:
+    """The names of a line's formal list, or None, and what stands after it and the label. Two equal names make it none."""
+    rest = text[len(label_of(text, language)):]
+    if not language or not rest.startswith("("):
+        return None, rest
+    inside, _, after = rest[1:].partition(")")
+    names = inside.split(",") if inside else []
+    if len(set(names)) < len(names) or not all(NAME.fullmatch(name) and len(name) <= 31 for name in names):
+        return None, after
+    return names, after
+
+
+def dots_of(text: str, language: int) -> int:
+    """How many dots stand before a line's commands."""
+    rest = formals_of(text, language)[1]
+    return re.match(r"[ .]*", rest)[0].count(".") if rest.startswith(" ") else 0
+
+
+@cache
+def routine_line(text: str, language: int) -> Tree:
+    """The commands of a routine's line."""
+    rest = formals_of(text, language)[1]
+    if not rest or rest.startswith(";"):
+        return ()
+    if not rest.startswith(" "):
+        raise Stop("ZSYNTAX")
+    return line(re.sub(r"^[ .]*", "", rest), language)
+
+
+@cache
+def line(text: str, language: int) -> Tree:
+    """The commands of a line."""
+    return Reader(text, language).line()
+
+
+@cache
+def reference(text: str, language: int) -> Tree:
+    """A variable, whole and alone."""
+    reader = Reader(text, language)
+    return reader.whole(reader.reference())
+
+
+@cache
+def arguments(text: str, command: str, language: int) -> list[Tree]:
+    """A list of a command's arguments."""
+    reader = Reader(text, language)
+    return reader.whole(reader.arguments(command))
+
+
+class Reader:
+    """Reads a text from its front."""
+
+    def __init__(self, text: str, language: int) -> None:
+        self.text, self.language = text, language
+        self.at, self.depth = 0, 0
+
+    def refuse(self) -> None:
+        raise Stop("ZSYNTAX")
+
+    def next(self) -> str:
+        return self.text[self.at:self.at + 1]
+
+    def takes(self, text: str) -> bool:
+        """Goes past a text, if it stands here."""
+        if self.text.startswith(text, self.at):
+            self.at += len(text)
+            return True
+        return False
+
+    def wants(self, text: str) -> None:
+        if not self.takes(text):
+            self.refuse()
+
+    def found(self, pattern: re.Pattern[str]) -> str:
+        """What a pattern finds here; it has to find something."""
+        found = pattern.match(self.text, self.at)
+        if not found or not found[0]:
+            self.refuse()
+        self.at = found.end()
+        return found[0]
+
+    def whole(self, tree: Tree) -> Tree:
+        return tree if self.at == len(self.text) else self.refuse()
+
+    def inside(self, read: Callable[[], Tree]) -> Tree:
+        """What is read one bracket deeper."""
+        self.depth += 1
+        if self.depth > DEPTH:
+            self.refuse()
+        tree = read()
+        self.depth -= 1
+        return tree
+
+    def listed(self, read: Callable[[], Tree]) -> list[Tree]:
+        found = [read()]
+        while self.takes(","):
+            found.append(read())
+        return found
+
+    def bracketed(self, read: Callable[[], Tree]) -> list[Tree]:
+        """A list in brackets, of which the first is read already."""
+        found = self.inside(lambda: self.listed(read))
+        self.wants(")")
+        return found
+
+    def name(self) -> str:
+        name = self.found(NAME)
+        return name if len(name) <= 31 else self.refuse()
+
+    # lines and commands
+
+    def spaces(self) -> int:
+        count = len(self.text[self.at:]) - len(self.text[self.at:].lstrip(" "))
+        self.at += count
+        return count
+
+    def at_end(self) -> bool:
+        return self.next() in ("", ";")
+
+    def line(self) -> Tree:
+        self.spaces()
+        commands, gap = [], 1
+        while not self.at_end():
+            if not gap:
+                self.refuse()
+            commands.append(self.command())
+            gap = self.spaces() - (commands[-1][2] is None)
+            if gap < 1 and not self.at_end():
+                self.refuse()
+        return tuple(commands)
+
+    def command(self) -> Tree:
+        """A command: its name, its condition or None, its arguments or None."""
+        word = self.found(re.compile("[A-Za-z]+")).upper()
+        name = COMMANDS.get(word, word if word in COMMANDS.values() else "")
+        if not name:
+            self.refuse()
+        condition = None
+        if name not in NO_CONDITION and self.takes(":"):
+            condition = self.expression()
+        follows = self.text[self.at + 1:self.at + 2]
+        has_arguments = self.next() == " " and follows not in ("", " ", ";")
+        if (name in NONE and has_arguments and not (name == "QUIT" and self.language)) or (name in NEEDS and not has_arguments):
+            self.refuse()
+        if not has_arguments:
+            return name, condition, None
+        self.at += 1
+        return name, condition, self.arguments(name)
+
+    def arguments(self, command: str) -> list[Tree]:
+        if command in ("FOR", "QUIT"):
+            return [self.argument(command)]
+        return self.listed(lambda: self.argument(command))
+
+    def argument(self, command: str) -> Tree:
+        """An argument; `@` with its operand and nothing more is an indirection of arguments."""
+        if command in INDIRECT and self.next() == "@":
+            begun = self.at
+            self.at += 1
+            operand = self.inside(self.primary)
+            if self.next() in ("", ",", " ", ";") and not self.text.startswith("@(", self.at):
+                return "indirect arguments", operand
+            self.at = begun
+        return getattr(self, "argument_of_" + command.lower())()
+
+    def argument_of_set(self) -> Tree:
+        targets = self.bracketed(self.target) if self.takes("(") else [self.target()]
+        self.wants("=")
+        return "set", targets, self.expression()
+
+    def target(self) -> Tree:
+        word = re.compile(r"\$([A-Za-z]+)\(").match(self.text, self.at)
+        if not word:
+            return "variable", self.reference()
+        kind = {"P": "piece", "PIECE": "piece", "E": "extract", "EXTRACT": "extract"}.get(word[1].upper())
+        if not kind or (kind == "extract" and not self.language):
+            self.refuse()
+        self.at = word.end()
+
+        def parts() -> Tree:
+            found = [self.reference()]
+            most = 4 if kind == "piece" and self.language else 3
+            while len(found) < most and self.takes(","):
+                found.append(self.expression())
+            return found
+        found = self.inside(parts)
+        self.wants(")")
+        if kind == "piece" and len(found) < 2:
+            self.refuse()
+        return kind, found[0], found[1:]
+
+    def argument_of_kill(self) -> Tree:
+        return ("names", self.bracketed(self.name)) if self.takes("(") else ("variable", self.reference())
+
+    def argument_of_new(self) -> Tree:
+        return ("names", self.bracketed(self.name)) if self.takes("(") else ("name", self.name())
+
+    def argument_of_do(self) -> Tree:
+        entry = self.entry()
+        return "entry", entry, self.expression() if self.takes(":") else None
+
+    argument_of_goto = argument_of_do
+
+    def entry(self) -> Tree:
+        """An entry: label or empty, routine or None, actuals or None."""
+        label = "" if self.next() == "^" else self.name()
+        routine = self.name() if self.takes("^") else None
+        actuals = self.actuals() if self.language and self.takes("(") else None
+        return label, routine, actuals
+
+    def actuals(self) -> list[Tree]:
+        """What is handed over: values, names, nothing."""
+        if self.takes(")"):
+            return []
+        return self.bracketed(self.actual)
+
+    def actual(self) -> Tree:
+        if self.next() in (",", ")"):
+            return ("missing",)
+        if self.next() == "." and not self.text[self.at + 1:self.at + 2].isdigit():
+            self.at += 1
+            return ("named by", self.inside(self.primary)) if self.takes("@") else ("name", self.name())
+        return "value", self.expression()
+
+    def argument_of_xecute(self) -> Tree:
+        text = self.expression()
+        return "text", text, self.expression() if self.takes(":") else None
+
+    def argument_of_if(self) -> Tree:
+        return "condition", self.expression()
+
+    def argument_of_quit(self) -> Tree:
+        return "value", self.expression()
+
+    def argument_of_for(self) -> Tree:
+        name = self.name()
+        self.wants("=")
+        return "for", name, self.listed(self.parameter)
+
+    def parameter(self) -> Tree:
+        parts = [self.expression()]
+        while len(parts) < 3 and self.takes(":"):
+            parts.append(self.expression())
+        return tuple(parts)
+
+    def argument_of_write(self) -> Tree:
+        if self.language and self.takes("*"):
+            return "character", self.expression()
+        forms = self.text[self.at:len(self.text)]
+        forms = re.match("[!#]*" if self.language else "!*", forms)[0]
+        self.at += len(forms)
+        column = self.expression() if self.language and self.takes("?") else None
+        if forms or column:
+            return "format", forms, column
+        return "value", self.expression()
+
+    def argument_of_lock(self) -> Tree:
+        sign = "+" if self.takes("+") else "-" if self.takes("-") else ""
+        names = self.bracketed(self.lockable) if self.takes("(") else [self.lockable()]
+        return "lock", sign, names, self.expression() if self.takes(":") else None
+
+    def lockable(self) -> Tree:
+        tree = self.reference()
+        return tree if tree[0] != "naked" else self.refuse()
+
+    # expressions
+
+    def expression(self) -> Tree:
+        tree = self.operand()
+        while True:
+            begun = self.at
+            if self.takes("?") or self.takes("'?"):
+                tree = "match", self.text[begun] == "'", tree, self.pattern()
+                continue
+            found = OPERATOR.match(self.text, self.at)
+            if not found:
+                return tree
+            operator = found[0] if found[0] != "**" or self.language else "*"
+            self.at += len(operator)
+            tree = "binary", operator, tree, self.operand()
+
+    def operand(self) -> Tree:
+        signs = re.compile("[-+']*").match(self.text, self.at)[0]
+        self.at += len(signs)
+        primary = self.primary()
+        return ("unary", signs, primary) if signs else primary
+
+    def primary(self) -> Tree:
+        letter = self.next()
+        if letter == "(":
+            self.at += 1
+            tree = self.inside(self.expression)
+            self.wants(")")
+            return "bracket", tree
+        if letter == '"':
+            return "text", self.found(STRING)[1:-1].replace('""', '"')
+        if letter.isdigit() or letter == ".":
+            return "number", self.found(NUMBER)
+        return self.dollar() if letter == "$" else ("variable", self.reference())
+
+    def dollar(self) -> Tree:
+        self.at += 1
+        if self.language and self.takes("$"):
+            label, routine, actuals = self.entry()
+            return "function", (label, routine, actuals)
+        word = self.found(re.compile("[A-Za-z]+")).upper()
+        if not self.takes("("):
+            if word in ("T", "TEST"):
+                return ("test",)
+            return ("special", SPECIALS[word]) if self.language and word in SPECIALS else self.refuse()
+        tree = self.inside(lambda: self.call(word))
+        self.wants(")")
+        return tree
+
+    def call(self, word: str) -> Tree:
+        """A function's arguments."""
+        if word in ("S", "SELECT"):
+            return "select", self.listed(self.choice)
+        for short, (long, most) in OF_VARIABLE.items():
+            if word in (short, long):
+                variable = self.reference()
+                return long.lower(), variable, self.expression() if most and self.takes(",") else None
+        found = self.listed(self.expression)
+        for short, long, least, most, since, function in FUNCTIONS:
+            if word in (short, long) and least <= len(found) <= most and since <= self.language:
+                return "call", function, found
+        return self.refuse()
+
+    def choice(self) -> Tree:
+        condition = self.expression()
+        self.wants(":")
+        return condition, self.expression()
+
+    def pattern(self) -> Tree:
+        if self.language and self.takes("@"):
+            return "pattern by", self.inside(self.primary)
+        return "pattern", self.atoms()
+
+    def atoms(self) -> tuple[Atom, ...]:
+        found = [self.atom()]
+        while self.next().isdigit() or self.next() == ".":
+            found.append(self.atom())
+        return tuple(found)
+
+    def atom(self) -> Atom:
+        least, point, most = COUNT.match(self.text, self.at).groups()
+        self.at += len(least + point + most)
+        if not least + point or len(least) > 4 or len(most) > 4:
+            self.refuse()
+        bounds = (int(least or "0"), int(most) if most else None) if point else (int(least), int(least))
+        if self.next() == '"':
+            return Atom(*bounds, text=self.found(STRING)[1:-1].replace('""', '"'))
+        if self.language and self.takes("("):
+            return Atom(*bounds, choices=tuple(self.bracketed(self.atoms)))
+        return Atom(*bounds, classes=self.found(re.compile("[ACELNPUacelnpu]+")))
+
+    # variables
+
+    def reference(self) -> Tree:
+        """A variable: its kind, and its name, its environment or its operand, with its subscripts or None."""
+        if self.takes("@"):
+            operand = self.inside(self.primary)
+            return "indirect", operand, self.subscripts() if self.text.startswith("@(", self.at) and self.takes("@") else None
+        if not self.takes("^"):
+            return "local", self.name(), self.subscripts()
+        if self.next() == "(":
+            return "naked", self.subscripts()
+        if self.takes("|"):
+            environment = self.inside(self.expression)
+            self.wants("|")
+            return "extended", environment, self.name(), self.subscripts()
+        return "global", self.name(), self.subscripts()
+
+    def subscripts(self) -> list[Tree] | None:
+        return self.bracketed(self.expression) if self.takes("(") else None

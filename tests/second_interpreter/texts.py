@@ -1,0 +1,208 @@
+# SPDX-License-Identifier: Apache-2.0
+"""Functions of values, and patterns."""
+from __future__ import annotations
+
+import re
+from dataclasses import dataclass
+from fractions import Fraction
+from functools import cache
+
+from .decimals import Stop, collation, rounded, value, whole, written
+
+LONGEST = 4095
+CLASSES = {"A": "A-Za-z", "U": "A-Z", "L": "a-z", "N": "0-9", "C": r"\x00-\x1f\x7f", "P": r" -/:-@\[-`{-~", "E": r"\x00-\x7f"}
+
+
+def checked(text: str) -> str:
+    """The text. ZLONG if it is too long."""
+    if len(text) > LONGEST:
+        raise Stop("ZLONG")
+    return text
+
+
+@dataclass(frozen=True)
+class Atom:
+    """An atom of a pattern: how many copies at least and at most, and of what: classes, a text, or one of some patterns."""
+
+    least: int
+    most: int | None
+    classes: str = ""
+    text: str = ""
+    choices: tuple[tuple[Atom, ...], ...] = ()
+
+    def check(self) -> None:
+        """M10 if the least count is above the greatest, here or in a choice."""
+        if self.most is not None and self.least > self.most:
+            raise Stop("M10")
+        for atom in (atom for atoms in self.choices for atom in atoms):
+            atom.check()
+
+    def ends(self, text: str, place: int) -> set[int]:
+        """Where a copy ends that begins at a place."""
+        if self.choices:
+            return {end for atoms in self.choices for end in ends_of(atoms, text, {place})}
+        if self.classes:
+            return {place + 1} if place < len(text) and text[place] in letters_of(self.classes.upper()) else set()
+        return {place + len(self.text)} if text.startswith(self.text, place) else set()
+
+    def all_ends(self, text: str, places: set[int]) -> set[int]:
+        """Where all copies end that begin at some places."""
+        found = set(places) if self.least == 0 else set()
+        count = 0
+        while places and (self.most is None or count < self.most):
+            places, count = {end for place in places for end in self.ends(text, place)}, count + 1
+            if count >= self.least:
+                places -= found
+                found |= places
+        return found
+
+
+@cache
+def letters_of(classes: str) -> frozenset[str]:
+    """The characters of some classes."""
+    return frozenset(re.findall("[" + "".join(CLASSES[letter] for letter in classes) + "]", "".join(map(chr, range(128)))))
+
+
+def ends_of(atoms: tuple[Atom, ...], text: str, places: set[int]) -> set[int]:
+    """Where a pattern ends that begins at some places."""
+    for atom in atoms:
+        places = atom.all_ends(text, places)
+    return places
+
+
+def matches(text: str, atoms: tuple[Atom, ...]) -> bool:
+    """Whether a text matches a pattern."""
+    for atom in atoms:
+        atom.check()
+    return len(text) in ends_of(atoms, text, {0})
+
+
+def bounds(first: list[str]) -> tuple[int, int]:
+    """From where to where: from the first, if nothing is said, and to the same."""
+    numbers = [whole(text) for text in first]
+    begin = numbers[0] if numbers else 1
+    return max(begin, 1), numbers[1] if len(numbers) > 1 else begin
+
+
+def ascii_code(text: str, *place: str) -> str:
+    at = whole(place[0]) if place else 1
+    return str(ord(text[at - 1])) if 1 <= at <= len(text) else "-1"
+
+
+def characters(*codes: str) -> str:
+    numbers = [whole(code) for code in codes]
+    if any(number > 127 for number in numbers):
+        raise Stop("ZCHAR")
+    return checked("".join(chr(number) for number in numbers if number >= 0))
+
+
+def extract(text: str, *places: str) -> str:
+    begin, end = bounds(list(places))
+    return text[begin - 1:end] if end >= begin else ""
+
+
+def find(text: str, part: str, *begin: str) -> str:
+    at = max(whole(begin[0]) if begin else 1, 1)
+    if not part:
+        return written(at)
+    found = text.find(part, at - 1)
+    return "0" if found < 0 else str(found + len(part) + 1)
+
+
+def justify(text: str, *sizes: str) -> str:
+    numbers = [whole(size) for size in sizes]
+    if len(numbers) == 2:
+        text = fixed(text, numbers[1])
+    if numbers[0] > LONGEST:
+        raise Stop("ZLONG")
+    return checked(text.rjust(max(numbers[0], 0)))
+
+
+def fixed(text: str, places: int) -> str:
+    """A number with so many digits after its point, and one before it."""
+    if places < 0:
+        raise Stop("ZARG")
+    number = value(text)
+    scaled = abs(Fraction(number)) * 10**places
+    count = (2 * scaled.numerator + scaled.denominator) // (2 * scaled.denominator)
+    digits = str(count).rjust(places + 1, "0")
+    shown = digits[:len(digits) - places] + ("." + digits[-places:] if places else "")
+    return ("-" if number < 0 and count else "") + shown
+
+
+def length(text: str, *delimiter: str) -> str:
+    if not delimiter:
+        return str(len(text))
+    return str(len(text.split(delimiter[0]))) if delimiter[0] else "0"
+
+
+def piece(text: str, delimiter: str, *places: str) -> str:
+    begin, end = bounds(list(places))
+    return delimiter.join(text.split(delimiter)[begin - 1:end]) if delimiter and end >= begin else ""
+
+
+def translate(text: str, old: str, new: str = "") -> str:
+    table = {letter: new[place] if place < len(new) else "" for place, letter in reversed(list(enumerate(old)))}
+    return "".join(table.get(letter, letter) for letter in text)
+
+
+def reverse(text: str) -> str:
+    return text[::-1]
+
+
+def form_number(text: str, codes: str, *places: str) -> str:
+    """$FNUMBER: `,` parts thousands, `+` shows a plus, `-` no minus, `T` puts the sign after, `P` a negative number in brackets. M2 if they conflict."""
+    codes = codes.upper()
+    digits = [whole(place) for place in places]
+    number = value(text)
+    if "P" in codes and set(codes) & set("+-T"):
+        raise Stop("M2")
+    shown = (fixed(text, digits[0]) if digits else written(rounded(number))).lstrip("-")
+    before, point, after = shown.partition(".")
+    if "," in codes:
+        before = re.sub(r"(?<=\d)(?=(?:\d{3})+$)", ",", before)
+    shown = before + point + after
+    if "P" in codes:
+        return f"({shown})" if number < 0 else f" {shown} "
+    sign = "-" if number < 0 and "-" not in codes else "+" if number > 0 and "+" in codes else ""
+    if "T" in codes:
+        return shown + (sign or " ")
+    return sign + shown
+
+
+def set_piece(text: str, delimiter: str, first: int, last: int, new: str) -> str:
+    """A text with other pieces. ZARG for a place out of 1 to 500, or no delimiter."""
+    if not 1 <= first <= 500 or not delimiter or last > 500:
+        raise Stop("ZARG")
+    if last < first:
+        return text
+    pieces = text.split(delimiter)
+    pieces += [""] * (first - len(pieces))
+    return checked(delimiter.join([*pieces[:first - 1], new, *pieces[last:]]))
+
+
+def set_extract(text: str, first: int, last: int, new: str) -> str:
+    """A text with other characters at some places; spaces fill up."""
+    if last < first or last < 1:
+        return text
+    begin = max(first, 1) - 1
+    if begin > LONGEST:
+        raise Stop("ZLONG")
+    return checked(text[:begin].ljust(begin) + new + text[last:])
+
+
+def compared(left: str, operator: str, right: str) -> bool:
+    """An operator on texts."""
+    if operator == "=":
+        return left == right
+    if operator == "[":
+        return right in left
+    if operator == "]":
+        return left > right
+    return collation(left) > collation(right)
+
+
+# The functions of values: short word, whole word, how many arguments at least and at most, since which language, and what they give.
+FUNCTIONS = [("A", "ASCII", 1, 2, 0, ascii_code), ("C", "CHAR", 1, 255, 0, characters), ("E", "EXTRACT", 1, 3, 0, extract), ("F", "FIND", 2, 3, 0, find),
+             ("J", "JUSTIFY", 2, 2, 0, justify), ("J", "JUSTIFY", 3, 3, 1, justify), ("L", "LENGTH", 1, 2, 0, length), ("P", "PIECE", 2, 4, 0, piece),
+             ("TR", "TRANSLATE", 2, 3, 0, translate), ("RE", "REVERSE", 1, 1, 1, reverse), ("FN", "FNUMBER", 2, 3, 1, form_number)]

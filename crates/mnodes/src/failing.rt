@@ -1,6 +1,12 @@
 // SPDX-License-Identifier: Apache-2.0
 // A store of which one call fails.
-ghost use Rattle.std.specs.Prelude.{◌≡◌, ◌≢◌, ◌↔◌, ◌-◌, ◌<◌, ◌==◌, IsTrue, if◌then◌else◌};
+ghost use Rattle.std.specs.Prelude.{◌≡◌, ◌≢◌, ◌↔◌, ◌-◌, ◌<◌, ◌≤◌, ◌==◌, length, option_map};
+ghost use Rattle.std.specs.Prelude.{IsTrue, IfOk, OnOk, OnErr, Err, if◌then◌else◌};
+ghost use Rattle.std.specs.FinMap.{get, insert};
+ghost use Rattle.mspec.specs.Globals.{without_subtree, next_key, previous_key};
+ghost use Rattle.mspec.specs.TextFunctions.{max_text};
+ghost use Rattle.mnodes.specs.Failures.{IsDue, Counts};
+ghost use Rattle.mnodes.specs.Held.{AreHeld};
 
 use crate::store::{NodeStore, StoreFault};
 use mkey::NodeKey;
@@ -82,7 +88,16 @@ impl<S: NodeStore> NodeStore for Failing<S> {
 
     ghost steady = { ⊥ };
 
-    fn get(&mut self, key: &NodeKey) -> Result<Option<Bytes7>, StoreFault> {
+    fn get(&mut self, key: &NodeKey) -> Result<Option<Bytes7>, StoreFault>
+        ensures found { S.sound → IfOk result (λ text. text ≡ get (S.content self.old.store) key.now) }
+        ensures held { S.sound → AreHeld (S.content self.old.store) }
+        ensures same { S.sound → S.content self.new.store ≡ S.content self.old.store }
+        ensures store { ⊥ → result ≢ Err StoreFault.Store }
+        ensures due { IsDue self.old.call self.old.left StoreCall.Get → result ≡ Err StoreFault.Store }
+        ensures alone { S.steady → result ≡ Err StoreFault.Store → IsDue self.old.call self.old.left StoreCall.Get }
+        ensures counts { Counts self.old.call self.old.left self.new.left StoreCall.Get }
+        ensures kind { self.new.call ≡ self.old.call }
+    {
         let answer = self.store.get(key);
         if self.fails(StoreCall::Get) {
             return Err(StoreFault::Store);
@@ -90,21 +105,48 @@ impl<S: NodeStore> NodeStore for Failing<S> {
         answer
     }
 
-    fn put(&mut self, key: &NodeKey, text: &Bytes7) -> Result<(), StoreFault> {
+    fn put(&mut self, key: &NodeKey, text: &Bytes7) -> Result<(), StoreFault>
+        requires { length text.now ≤ max_text }
+        ensures put { S.sound → OnOk result (S.content self.new.store ≡ insert (S.content self.old.store) key.now text.now) }
+        ensures held { S.sound → OnOk result (AreHeld (S.content self.old.store)) }
+        ensures fault { S.sound → OnErr result (S.content self.new.store ≡ S.content self.old.store) }
+        ensures store { ⊥ → result ≢ Err StoreFault.Store }
+        ensures due { IsDue self.old.call self.old.left StoreCall.Put → result ≡ Err StoreFault.Store }
+        ensures alone { S.steady → result ≡ Err StoreFault.Store → IsDue self.old.call self.old.left StoreCall.Put }
+        ensures counts { Counts self.old.call self.old.left self.new.left StoreCall.Put }
+        ensures kind { self.new.call ≡ self.old.call }
+    {
         if self.fails(StoreCall::Put) {
             return Err(StoreFault::Store);
         }
         self.store.put(key, text)
     }
 
-    fn kill(&mut self, key: &NodeKey) -> Result<(), StoreFault> {
+    fn kill(&mut self, key: &NodeKey) -> Result<(), StoreFault>
+        ensures killed { S.sound → OnOk result (S.content self.new.store ≡ without_subtree (S.content self.old.store) key.now) }
+        ensures fault { S.sound → OnErr result (S.content self.new.store ≡ S.content self.old.store) }
+        ensures store { ⊥ → result ≢ Err StoreFault.Store }
+        ensures due { IsDue self.old.call self.old.left StoreCall.Kill → result ≡ Err StoreFault.Store }
+        ensures alone { S.steady → result ≡ Err StoreFault.Store → IsDue self.old.call self.old.left StoreCall.Kill }
+        ensures counts { Counts self.old.call self.old.left self.new.left StoreCall.Kill }
+        ensures kind { self.new.call ≡ self.old.call }
+    {
         if self.fails(StoreCall::Kill) {
             return Err(StoreFault::Store);
         }
         self.store.kill(key)
     }
 
-    fn next(&mut self, low: &[u8], high: &[u8]) -> Result<Option<Vec<u8>>, StoreFault> {
+    fn next(&mut self, low: &[u8], high: &[u8]) -> Result<Option<Vec<u8>>, StoreFault>
+        ensures found { S.sound → IfOk result (λ key. option_map (λ bytes. bytes.items) key ≡ next_key (S.content self.old.store) low.now high.now) }
+        ensures held { S.sound → AreHeld (S.content self.old.store) }
+        ensures same { S.sound → S.content self.new.store ≡ S.content self.old.store }
+        ensures store { ⊥ → result ≢ Err StoreFault.Store }
+        ensures due { IsDue self.old.call self.old.left StoreCall.Next → result ≡ Err StoreFault.Store }
+        ensures alone { S.steady → result ≡ Err StoreFault.Store → IsDue self.old.call self.old.left StoreCall.Next }
+        ensures counts { Counts self.old.call self.old.left self.new.left StoreCall.Next }
+        ensures kind { self.new.call ≡ self.old.call }
+    {
         let answer = self.store.next(low, high);
         if self.fails(StoreCall::Next) {
             return Err(StoreFault::Store);
@@ -112,7 +154,16 @@ impl<S: NodeStore> NodeStore for Failing<S> {
         answer
     }
 
-    fn prev(&mut self, low: &[u8], high: &[u8]) -> Result<Option<Vec<u8>>, StoreFault> {
+    fn prev(&mut self, low: &[u8], high: &[u8]) -> Result<Option<Vec<u8>>, StoreFault>
+        ensures found { S.sound → IfOk result (λ key. option_map (λ bytes. bytes.items) key ≡ previous_key (S.content self.old.store) low.now high.now) }
+        ensures held { S.sound → AreHeld (S.content self.old.store) }
+        ensures same { S.sound → S.content self.new.store ≡ S.content self.old.store }
+        ensures store { ⊥ → result ≢ Err StoreFault.Store }
+        ensures due { IsDue self.old.call self.old.left StoreCall.Prev → result ≡ Err StoreFault.Store }
+        ensures alone { S.steady → result ≡ Err StoreFault.Store → IsDue self.old.call self.old.left StoreCall.Prev }
+        ensures counts { Counts self.old.call self.old.left self.new.left StoreCall.Prev }
+        ensures kind { self.new.call ≡ self.old.call }
+    {
         let answer = self.store.prev(low, high);
         if self.fails(StoreCall::Prev) {
             return Err(StoreFault::Store);

@@ -1,6 +1,6 @@
 -- SPDX-License-Identifier: Apache-2.0
 -- Settings of the same entries allow the same, also between the members of a set, and the same accounts reach each.
-use Rattle.misolation.proofs.IsolationWords.{◌≡◌, ℕ, Bool, true, false, cond, ◌&&◌, ◌||◌, List, [], ◌∷◌, Option, None, refl, sym, ap, ◌∙◌, subst, ⊎_elim, or_cases, and_parts, and_from, or_left, or_right, nat_cmp_total, any-filter_same, bytes_decides, get, retain_keys, nat_cmp-IsAntisymmetric, filter, list_any, Text, text_eq, carries, Reaches, itself, through, get_cut, Session, session_or_new, World, Event, Accounts, reach, is_member, is_inside, is_between, cut_settings, cut_world, cut_events, one_truth, Mode, Read, Write, Account, Grant, Settings, allows, lets, may, AlikeSettings, AlikeWorlds, AllowsAll, SameEntries, SameEntriesAgree}
+use Rattle.misolation.proofs.IsolationWords.{◌≡◌, ℕ, Bool, true, false, cond, ◌&&◌, ◌||◌, List, [], ◌∷◌, Option, None, refl, sym, ap, ◌∙◌, subst, ⊎_elim, or_cases, and_parts, and_from, or_left, or_right, nat_cmp_total, any-filter_same, bytes_decides, get, retain_keys, nat_cmp-IsAntisymmetric, filter, list_any, Text, text_eq, carries, Reaches, itself, through, get_cut, Session, session_or_new, World, Event, Accounts, reachers, is_member, is_inside, is_between, cut_settings, cut_world, cut_events, one_truth, Mode, Read, Write, Account, Grant, Settings, allows, lets, may, AlikeSettings, AlikeWorlds, AllowsAll, SameEntries, SameEntriesAgree}
 use Rattle.misolation.proofs.Access.{any_more, let_by}
 use Rattle.misolation.proofs.Reaching.{reach_is_chains}
 
@@ -80,8 +80,8 @@ module _ (one two : Settings) (same : SameEntries one two) where
   chain_back x y (itself z) = itself z
   chain_back x y (through {y = z} f rest) = through (flow_same x z ∙ f) (chain_back z y rest)
 
-  reach_same : (a x : Text) → reach one a x ≡ reach two a x
-  reach_same a x = one_truth (reach one a x) (reach two a x)
+  reach_same : (a x : Text) → reachers one a x ≡ reachers two a x
+  reach_same a x = one_truth (reachers one a x) (reachers two a x)
       (λ e. (reach_is_chains two a x).1 (chain_there x a ((reach_is_chains one a x).0 e)))
       (λ e. (reach_is_chains one a x).1 (chain_back x a ((reach_is_chains two a x).0 e)))
 
@@ -136,10 +136,10 @@ module _ (one two : Settings) (same : SameEntries one two) where
 pub same_entries_agree : SameEntriesAgree
 same_entries_agree a one two first second events same alike = record {
   reaching = reach_same one two same a;
-  settings = subst (λ (s : Accounts). AlikeSettings (cut_settings (reach one a) one) (cut_settings s two)) reaches (settings_alike one two same (reach one a));
-  world = subst (λ (s : Accounts). AlikeWorlds (cut_world (reach one a) one first) (cut_world s two second)) reaches (worlds_alike one two same (reach one a) first second alike);
-  events = events_same one two same (reach one a) events ∙ ap (λ (s : Accounts). cut_events s two events) reaches;
+  settings = subst (λ (s : Accounts). AlikeSettings (cut_settings (reachers one a) one) (cut_settings s two)) reaches (settings_alike one two same (reachers one a));
+  world = subst (λ (s : Accounts). AlikeWorlds (cut_world (reachers one a) one first) (cut_world s two second)) reaches (worlds_alike one two same (reachers one a) first second alike);
+  events = events_same one two same (reachers one a) events ∙ ap (λ (s : Accounts). cut_events s two events) reaches;
 }
   where
-    reaches : reach one a ≡ reach two a
+    reaches : reachers one a ≡ reachers two a
     reaches = λ i x. reach_same one two same a x i

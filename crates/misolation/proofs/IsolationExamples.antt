@@ -2,7 +2,7 @@
 -- The laws on a host of three customers, as proved equations: they are not empty, and they claim no more than is so.
 --
 -- The laboratory lets the clinic read its results. The bank has no tie to either, or else the clinic lets it write its bills.
-use Rattle.misolation.proofs.IsolationWords.{◌≡◌, ℕ, Bool, true, false, cond, List, [], ◌∷◌, Option, Some, None, refl, sym, ap, ◌∙◌, subst, subst₂, nat_cmp, eq_by_cmp, nat_cmp_total, Text, Node, significant_digits, LockName, held, held_cmp, released, Read, Write, Account, Grant, Settings, cut_drops, held_cmp_total, held_cmp_exact, node_cmp_total, node_cmp_exact, Put, Take, Value, Shared, act, History, NoneFailed, Accounts, IsClosed, reach, IsLeastClosed, is_member, is_inside, cut_settings, cut_shared, cut_world, cut_events, part, holds_by, IsFit, only, codes, FinMap, get, insert, remove, retain_keys, empty, entries, from_sorted, same_map, get-empty, get-insert, get-from_sorted, entries-from_sorted, entries-insert, gets, nat_cmp-IsAntisymmetric, put, Session, new_session, session_or_new, World, Event, Reply, Faulted, is_too_long, is_ascii, normal, FailedTransition, lost, TransitionBy, Transition, normal_never_fails, Actor, ops_of, cut_ops, InsideOperation, AlikeWorlds, SameEntries, Run, Agree, Answered, SameReplies, rules}
+use Rattle.misolation.proofs.IsolationWords.{◌≡◌, ℕ, Bool, true, false, cond, List, [], ◌∷◌, Option, Some, None, refl, sym, ap, ◌∙◌, subst, subst₂, nat_cmp, eq_by_cmp, nat_cmp_total, Text, Node, significant_digits, LockName, held, held_cmp, released, Read, Write, Account, Grant, Settings, cut_drops, held_cmp_total, held_cmp_exact, node_cmp_total, node_cmp_exact, Put, Take, Value, Shared, act, History, NoneFailed, Accounts, IsClosed, reachers, IsLeastClosed, is_member, is_inside, cut_settings, cut_shared, cut_world, cut_events, part, holds_by, IsFit, only, codes, FinMap, get, insert, remove, retain_keys, empty, entries, from_sorted, same_map, get-empty, get-insert, get-from_sorted, entries-from_sorted, entries-insert, gets, nat_cmp-IsAntisymmetric, put, Session, new_session, session_or_new, World, Event, Reply, Faulted, is_too_long, is_ascii, normal, FailedTransition, lost, TransitionBy, Transition, normal_never_fails, Actor, ops_of, cut_ops, InsideOperation, AlikeWorlds, SameEntries, Run, Agree, Answered, SameReplies, rules}
 use Rattle.mspec.specs.Code.{Lost, Memory, Store}
 use Rattle.misolation.proofs.CutMaps.{get_kept}
 use Rattle.misolation.proofs.FittingLocks.{fit_insert}
@@ -46,13 +46,13 @@ let_in = host (results_read ∷ bills_written ∷ [])
 -- ---- who reaches whom
 
 record WhoReaches : Type 0 where
-  laboratory_reaches_clinic : reach apart clinic laboratory ≡ true
-  clinic_reaches_not_laboratory : reach apart laboratory clinic ≡ false
-  bank_reaches_not_clinic : reach apart clinic bank ≡ false
+  laboratory_reaches_clinic : reachers apart clinic laboratory ≡ true
+  clinic_reaches_not_laboratory : reachers apart laboratory clinic ≡ false
+  bank_reaches_not_clinic : reachers apart clinic bank ≡ false
   -- what the bank writes at the clinic shows there, and what the clinic lets it use shows at the bank: a grant to write ties both ways
-  let_in_bank_reaches_clinic : reach let_in clinic bank ≡ true
+  let_in_bank_reaches_clinic : reachers let_in clinic bank ≡ true
   -- so do the laboratory's results, by a chain of two
-  let_in_laboratory_reaches_bank : reach let_in bank laboratory ≡ true
+  let_in_laboratory_reaches_bank : reachers let_in bank laboratory ≡ true
 
 reaching : WhoReaches
 reaching = search rules
@@ -85,7 +85,7 @@ busy = record {
 
 -- those that reach the clinic: it and the laboratory
 abbrev tied : Accounts
-tied = reach apart clinic
+tied = reachers apart clinic
 
 of_clinic : get terminals 1 ≡ Some (account clinic)
 of_clinic = simp gets refl
@@ -354,8 +354,8 @@ write_is_seen x e =
     absurd (cc)
 
 -- the bank's lines are among those that the clinic's replies depend on
-all_tied : (text other : Text) → cut_events (reach let_in clinic) let_in (line 3 other ∷ line 1 text ∷ []) ≡ line 3 other ∷ line 1 text ∷ []
+all_tied : (text other : Text) → cut_events (reachers let_in clinic) let_in (line 3 other ∷ line 1 text ∷ []) ≡ line 3 other ∷ line 1 text ∷ []
 all_tied text other = simp (inside_let_in 1 clinic of_clinic refl, inside_let_in 3 bank of_bank refl) refl
   where
-    inside_let_in : (t : ℕ) (name : Text) → get terminals t ≡ Some (account name) → reach let_in clinic name ≡ true → is_inside (reach let_in clinic) let_in t ≡ true
-    inside_let_in t name known reaches = ap (is_member (reach let_in clinic)) known ∙ reaches
+    inside_let_in : (t : ℕ) (name : Text) → get terminals t ≡ Some (account name) → reachers let_in clinic name ≡ true → is_inside (reachers let_in clinic) let_in t ≡ true
+    inside_let_in t name known reaches = ap (is_member (reachers let_in clinic)) known ∙ reaches

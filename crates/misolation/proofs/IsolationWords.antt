@@ -42,7 +42,7 @@ pub use Rattle.misolation.specs.Cut.{AreFit, IsFit, cut_events, cut_locks, cut_s
 pub use Rattle.misolation.specs.HistoryLaws.{AgreeingReplies, Answered, HistoriesKeepFit, HistoryHasTrace, InterpreterIsolates, IsAlone, Isolation, OpeningIsCut, OpeningIsFit, PartIsAlone, PartIsHistory, PartIsTrace, PartOfTrace, PromiseIsKept, SameReplies, events_of, sent_to}
 pub use Rattle.misolation.specs.Islands.{KeepsTies, LaidTogether, Placement, StrangersRefused, on, refusal}
 pub use Rattle.misolation.specs.PlanLaws.{Actor, CutIsFit, Exchange, InsideOperation, InsideOperations, InsidePlan, InsidePlans, OutsideOperations, OutsidePlan, OutsidePlans, PlansKeepFit, cut_ops, exchanges, ops_of}
-pub use Rattle.misolation.specs.Reach.{Accounts, IsClosed, Link, leads, link, links, links_by, reach}
+pub use Rattle.misolation.specs.Reach.{Accounts, IsClosed, Link, leads, link, links, links_by, reachers}
 pub use Rattle.misolation.specs.ReachLaws.{IsLeastClosed, ReachIsChains, ReachIsKept, ReachIsLeastClosed}
 pub use Rattle.misolation.specs.TransitionLaws.{InsideTransition, InsideTransitions, OutsideTransition, OutsideTransitions, TransitionWrites, TransitionsAreIsolated, TransitionsKeepFit, TransitionsWrite, exchanges_by, line_exchanges, line_writes, writes_by}
 pub use Rattle.misolation.specs.Writes.{GlobalWrite, Kills, Puts, write_of, writes, written, written_by}

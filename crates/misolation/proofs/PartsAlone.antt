@@ -1,6 +1,6 @@
 -- SPDX-License-Identifier: Apache-2.0
 -- The two laws for histories of different length, and the isolation theorem.
-use Rattle.misolation.proofs.IsolationWords.{◌≡◌, Bool, true, false, cond, List, [], ◌∷◌, Option, Some, None, map, refl, sym, ap, ◌∙◌, subst, subst₂, nat_cmp_total, Text, Settings, held_cmp, held_cmp_total, held_cmp_exact, get_cut, by_test, World, Event, Reply, normal, Accounts, reach, is_member, is_inside, cut_settings, cut_world, cut_events, part, IsFit, AlikeWorlds, IsLeastClosed, filter_agree, IsTotalOrder, Ordering, empty, retain_keys, get-empty, same_map, IsAntisymmetric, nat_cmp-IsAntisymmetric, History, opening, replies, world_after, answered, NoneFailed, normal_never_fails, normal_transitions_are_history, history_is_normal, alone, only, Run, Agree, InsideTransition, OutsideTransition, events_of, PartIsHistory, HistoryHasTrace, PartOfTrace, PartIsTrace, OpeningIsFit, HistoriesKeepFit, IsAlone, PartIsAlone, InterpreterIsolates, Isolation, OpeningIsCut, Answered, SameReplies, AgreeingReplies, sent_to, PromiseIsKept}
+use Rattle.misolation.proofs.IsolationWords.{◌≡◌, Bool, true, false, cond, List, [], ◌∷◌, Option, Some, None, map, refl, sym, ap, ◌∙◌, subst, subst₂, nat_cmp_total, Text, Settings, held_cmp, held_cmp_total, held_cmp_exact, get_cut, by_test, World, Event, Reply, normal, Accounts, reachers, is_member, is_inside, cut_settings, cut_world, cut_events, part, IsFit, AlikeWorlds, IsLeastClosed, filter_agree, IsTotalOrder, Ordering, empty, retain_keys, get-empty, same_map, IsAntisymmetric, nat_cmp-IsAntisymmetric, History, opening, replies, world_after, answered, NoneFailed, normal_never_fails, normal_transitions_are_history, history_is_normal, alone, only, Run, Agree, InsideTransition, OutsideTransition, events_of, PartIsHistory, HistoryHasTrace, PartOfTrace, PartIsTrace, OpeningIsFit, HistoriesKeepFit, IsAlone, PartIsAlone, InterpreterIsolates, Isolation, OpeningIsCut, Answered, SameReplies, AgreeingReplies, sent_to, PromiseIsKept}
 use Rattle.misolation.specs.Trace.{Moment, Trace, lines_of, left_by, cut_trace}
 use Rattle.misolation.proofs.CutMaps.{map_filter}
 use Rattle.misolation.proofs.Reaching.{reach_is_least_closed}
@@ -134,9 +134,9 @@ opening_is_fit settings globals h n e = let none : None ≡ Some n = sym (get-em
 
 pub isolation : Isolation
 isolation settings a globals es after h none =
-    let least : IsLeastClosed settings a (reach settings a) = reach_is_least_closed settings a in
-    let law : IsAlone (reach settings a) settings (opening globals) after es = part_is_alone (reach settings a) settings (opening globals) after es least.closed (opening_is_fit settings globals) h none in
-    sym (own_part (reach settings a) settings a least.has es) ∙ ap (part (only a) settings) law.lines
+    let least : IsLeastClosed settings a (reachers settings a) = reach_is_least_closed settings a in
+    let law : IsAlone (reachers settings a) settings (opening globals) after es = part_is_alone (reachers settings a) settings (opening globals) after es least.closed (opening_is_fit settings globals) h none in
+    sym (own_part (reachers settings a) settings a least.has es) ∙ ap (part (only a) settings) law.lines
 
 cut_none : {K X : Type 0} {R : K → K → Ordering} → IsTotalOrder R → IsAntisymmetric R → (p : K → Bool) → retain_keys {X = X} (empty {R = R}) p ≡ empty
 cut_none {X = X} {R = R} total exact p = same_map total exact _ _ (λ q. get_cut total exact empty p q ∙ nothing (p q) (get-empty {X = X} R q) ∙ sym (get-empty R q))
@@ -158,7 +158,7 @@ opening_is_cut s settings globals = λ i. record {
 
 module _ (a : Text) where
   abbrev tied : Run → Accounts
-  tied r = reach r.settings a
+  tied r = reachers r.settings a
 
   -- what is left of a run's lines, and of its world after them
   abbrev lines_alone : Run → List (Event × Reply)
@@ -212,8 +212,8 @@ agreeing_replies a one two agree fit fit' es fs first second h k =
     record {
       reaching = same;
       own =
-          own_of_part a one es ∙ ap (part (only a) (cut_settings (reach one.settings a) one.settings)) same
-          ∙ own_same a one two agree (part (reach two.settings a) two.settings fs) ∙ sym (own_of_part a two fs);
+          own_of_part a one es ∙ ap (part (only a) (cut_settings (reachers one.settings a) one.settings)) same
+          ∙ own_same a one two agree (part (reachers two.settings a) two.settings fs) ∙ sym (own_of_part a two fs);
       left = subst₂ AlikeWorlds (sym low.1) (sym high.1) (same_left a one two agree);
       equal = λ e. low.1 ∙ equal_left a one two agree e ∙ sym high.1;
     }

@@ -1,6 +1,6 @@
 -- SPDX-License-Identifier: Apache-2.0
 -- Over the cut to a closed set, the same accounts reach its members.
-use Rattle.misolation.proofs.IsolationWords.{◌≡◌, Bool, true, ◌&&◌, List, [], ◌∷◌, sym, ap, ◌∙◌, ⊎_elim, or_cases, and_parts, and_from, or_left, or_right, any-filter_same, bytes_decides, list_any, filter, Text, text_eq, Grant, Settings, Write, allows, carries, Reaches, itself, through, Accounts, IsClosed, reach, is_between, cut_settings, by_test, one_truth, ReachIsKept}
+use Rattle.misolation.proofs.IsolationWords.{◌≡◌, Bool, true, ◌&&◌, List, [], ◌∷◌, sym, ap, ◌∙◌, ⊎_elim, or_cases, and_parts, and_from, or_left, or_right, any-filter_same, bytes_decides, list_any, filter, Text, text_eq, Grant, Settings, Write, allows, carries, Reaches, itself, through, Accounts, IsClosed, reachers, is_between, cut_settings, by_test, one_truth, ReachIsKept}
 use Rattle.misolation.proofs.Reaching.{reach_is_chains}
 
 any_of_filter : {X : Type 0} (p q : X → Bool) (xs : List X) → list_any p (filter q xs) ≡ true → list_any p xs ≡ true
@@ -39,6 +39,6 @@ module _ (s : Accounts) (settings : Settings) where
       (through (flow_kept x z member further.1 ∙ f) further.0, member)
 
 pub reach_is_kept : ReachIsKept
-reach_is_kept s settings a closed m x = one_truth (reach (cut_settings s settings) a x) (reach settings a x)
+reach_is_kept s settings a closed m x = one_truth (reachers (cut_settings s settings) a x) (reachers settings a x)
     (λ e. (reach_is_chains settings a x).1 (chain_of_cut s settings x a ((reach_is_chains (cut_settings s settings) a x).0 e)))
     (λ e. (reach_is_chains (cut_settings s settings) a x).1 (chain_kept s settings closed x a m ((reach_is_chains settings a x).0 e)).0)

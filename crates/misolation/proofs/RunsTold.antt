@@ -1,6 +1,6 @@
 -- SPDX-License-Identifier: Apache-2.0
 -- What a run of lines tells an account, transition by transition, apart, and alone.
-use Rattle.misolation.proofs.IsolationWords.{◌≡◌, List, [], ◌∷◌, ◌++◌, map, refl, sym, ap, ◌∙◌, subst, Settings, World, Event, Reply, History, NoneFailed, reach, is_inside, cut_settings, cut_events, part, IsLeastClosed, IsAlone, SameReplies, map-append, filter-append, IsTrue, ◌↔◌, alone, only}
+use Rattle.misolation.proofs.IsolationWords.{◌≡◌, List, [], ◌∷◌, ◌++◌, map, refl, sym, ap, ◌∙◌, subst, Settings, World, Event, Reply, History, NoneFailed, reachers, is_inside, cut_settings, cut_events, part, IsLeastClosed, IsAlone, SameReplies, map-append, filter-append, IsTrue, ◌↔◌, alone, only}
 use Rattle.misolation.specs.Telling.{told_by, told_to}
 use Rattle.misolation.specs.RunLaws.{NothingIsTold, TellsOn, ToldApart, EquallyTold, ToldTheSame}
 use Rattle.misolation.proofs.PartsOfParts.{part_of_part, part_kept, only_among, same_part}
@@ -35,16 +35,16 @@ tells_on a settings world between after events told whole h e reply transition m
       ∙ map-append told_by (part (only a) settings h.lines) (part (only a) settings last)
       ∙ ap (λ ts. ts ++ told_to a settings last) h.replies;
   failures = subst (λ es. IsTrue more ↔ NoneFailed es) (sym reaching) (
-    λ m. let both = is.0 m in none_on (part (reach settings a) settings h.lines) (part (reach settings a) settings last) (h.failures.0 both.0) both.1,
-    λ n. let both = none_parts (part (reach settings a) settings h.lines) (part (reach settings a) settings last) n in is.1 (h.failures.1 both.0, both.1),
+    λ m. let both = is.0 m in none_on (part (reachers settings a) settings h.lines) (part (reachers settings a) settings last) (h.failures.0 both.0) both.1,
+    λ n. let both = none_parts (part (reachers settings a) settings h.lines) (part (reachers settings a) settings last) n in is.1 (h.failures.1 both.0, both.1),
   );
 }
   where
     last : List (Event × Reply)
     last = (e, reply) ∷ []
 
-    reaching : part (reach settings a) settings (h.lines ++ last) ≡ part (reach settings a) settings h.lines ++ part (reach settings a) settings last
-    reaching = filter-append (λ (x : Event × Reply). is_inside (reach settings a) settings x.0.terminal) h.lines last
+    reaching : part (reachers settings a) settings (h.lines ++ last) ≡ part (reachers settings a) settings h.lines ++ part (reachers settings a) settings last
+    reaching = filter-append (λ (x : Event × Reply). is_inside (reachers settings a) settings x.0.terminal) h.lines last
 
 -- ---- apart
 
@@ -60,23 +60,23 @@ told_apart s a settings world after events told whole closed m fit h = record {
   part_of = refl;
 }
   where
-    least : IsLeastClosed settings a (reach settings a)
+    least : IsLeastClosed settings a (reachers settings a)
     least = reach_is_least_closed settings a
 
-    reaching : part (reach (cut_settings s settings) a) (cut_settings s settings) (part s settings h.lines) ≡ part (reach settings a) settings h.lines
+    reaching : part (reachers (cut_settings s settings) a) (cut_settings s settings) (part s settings h.lines) ≡ part (reachers settings a) settings h.lines
     reaching =
-        same_part (reach (cut_settings s settings) a) (reach settings a) (cut_settings s settings) (reach_is_kept s settings a closed m) (part s settings h.lines)
-        ∙ part_kept (reach settings a) s settings (least.least s closed m) h.lines
+        same_part (reachers (cut_settings s settings) a) (reachers settings a) (cut_settings s settings) (reach_is_kept s settings a closed m) (part s settings h.lines)
+        ∙ part_kept (reachers settings a) s settings (least.least s closed m) h.lines
 
 -- ---- alone
 
 pub equally_told : EquallyTold
 equally_told a settings world after events told fit h =
-    let least : IsLeastClosed settings a (reach settings a) = reach_is_least_closed settings a in
-    let law : IsAlone (reach settings a) settings world after h.lines = part_is_alone (reach settings a) settings world after h.lines least.closed fit h.history (h.failures.0 refl) in
+    let least : IsLeastClosed settings a (reachers settings a) = reach_is_least_closed settings a in
+    let law : IsAlone (reachers settings a) settings world after h.lines = part_is_alone (reachers settings a) settings world after h.lines least.closed fit h.history (h.failures.0 refl) in
     sym h.replies
-    ∙ ap (map told_by) (sym (part_of_part (only a) (reach settings a) settings (only_among (reach settings a) a least.has) h.lines))
-    ∙ ap (told_to a settings) (law.lines ∙ ap (alone (reach settings a) settings world) h.sent)
+    ∙ ap (map told_by) (sym (part_of_part (only a) (reachers settings a) settings (only_among (reachers settings a) a least.has) h.lines))
+    ∙ ap (told_to a settings) (law.lines ∙ ap (alone (reachers settings a) settings world) h.sent)
 
 pub told_the_same : ToldTheSame
 told_the_same a one two agree fit fit' first second told told' h k =

@@ -4,7 +4,7 @@ use Rattle.std.specs.Prelude.{◌≡◌, List}
 use Rattle.mspec.specs.Node.{Text}
 use Rattle.mspec.specs.Access.{Settings}
 use Rattle.mmeaning.specs.Transition.{World, Event}
-use Rattle.misolation.specs.Reach.{reach}
+use Rattle.misolation.specs.Reach.{reachers}
 use Rattle.misolation.specs.Cut.{cut_settings, cut_world, cut_events}
 use Rattle.misolation.specs.Alike.{AlikeSettings, AlikeWorlds}
 
@@ -17,7 +17,7 @@ pub record Run : Type 0 where
 -- The same accounts reach `a`. For these both have the same terminals and steps, and allow the same between them; the same globals and
 -- locks; the same sessions, where one that is as new counts as none; and the same lines. All else may differ.
 pub record Agree (a : Text) (one two : Run) : Type 0 where
-  pub reaching : (x : Text) → reach one.settings a x ≡ reach two.settings a x
-  pub settings : AlikeSettings (cut_settings (reach one.settings a) one.settings) (cut_settings (reach two.settings a) two.settings)
-  pub world : AlikeWorlds (cut_world (reach one.settings a) one.settings one.world) (cut_world (reach two.settings a) two.settings two.world)
-  pub events : cut_events (reach one.settings a) one.settings one.events ≡ cut_events (reach two.settings a) two.settings two.events
+  pub reaching : (x : Text) → reachers one.settings a x ≡ reachers two.settings a x
+  pub settings : AlikeSettings (cut_settings (reachers one.settings a) one.settings) (cut_settings (reachers two.settings a) two.settings)
+  pub world : AlikeWorlds (cut_world (reachers one.settings a) one.settings one.world) (cut_world (reachers two.settings a) two.settings two.world)
+  pub events : cut_events (reachers one.settings a) one.settings one.events ≡ cut_events (reachers two.settings a) two.settings two.events

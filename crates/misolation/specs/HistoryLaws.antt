@@ -7,7 +7,7 @@ use Rattle.mspec.specs.Globals.{Globals}
 use Rattle.mspec.specs.Access.{Settings}
 use Rattle.mmeaning.specs.Transition.{World, Event, Reply}
 use Rattle.mmeaning.specs.History.{History, opening, world_after, answered, NoneFailed}
-use Rattle.misolation.specs.Reach.{Accounts, IsClosed, reach}
+use Rattle.misolation.specs.Reach.{Accounts, IsClosed, reachers}
 use Rattle.misolation.specs.Cut.{cut_settings, cut_world, cut_events, part, IsFit}
 use Rattle.misolation.specs.Alone.{alone, only}
 use Rattle.misolation.specs.Trace.{Moment, Trace, lines_of, left_by, cut_trace}
@@ -63,8 +63,8 @@ InterpreterIsolates =
 abbrev pub Isolation : Type 0
 Isolation =
     (settings : Settings) (a : Text) (globals : Globals) (es : List (Event × Reply)) (after : World) → History settings (opening globals) es after →
-    NoneFailed (part (reach settings a) settings es) →
-    part (only a) settings es ≡ part (only a) settings (alone (reach settings a) settings (opening globals) (events_of es))
+    NoneFailed (part (reachers settings a) settings es) →
+    part (only a) settings es ≡ part (only a) settings (alone (reachers settings a) settings (opening globals) (events_of es))
 
 -- the premises of these laws are met: no lock is held when the first line comes
 abbrev pub OpeningIsFit : Type 0
@@ -86,17 +86,17 @@ OpeningIsCut =
 pub record Answered (a : Text) (run : Run) (es : List (Event × Reply)) (after : World) : Type 0 where
   pub events : events_of es ≡ run.events
   pub history : History run.settings run.world es after
-  pub none_failed : NoneFailed (part (reach run.settings a) run.settings es)
+  pub none_failed : NoneFailed (part (reachers run.settings a) run.settings es)
 
 -- the same lines with the same replies, at the terminals of the accounts that reach `a` and at its own; and what these are left with
 -- is alike, and equal if it was equal before
 pub record SameReplies (a : Text) (one two : Run) (es fs : List (Event × Reply)) (first second : World) : Type 0 where
-  pub reaching : part (reach one.settings a) one.settings es ≡ part (reach two.settings a) two.settings fs
+  pub reaching : part (reachers one.settings a) one.settings es ≡ part (reachers two.settings a) two.settings fs
   pub own : part (only a) one.settings es ≡ part (only a) two.settings fs
-  pub left : AlikeWorlds (cut_world (reach one.settings a) one.settings first) (cut_world (reach two.settings a) two.settings second)
+  pub left : AlikeWorlds (cut_world (reachers one.settings a) one.settings first) (cut_world (reachers two.settings a) two.settings second)
   pub equal :
-      cut_world (reach one.settings a) one.settings one.world ≡ cut_world (reach two.settings a) two.settings two.world →
-      cut_world (reach one.settings a) one.settings first ≡ cut_world (reach two.settings a) two.settings second
+      cut_world (reachers one.settings a) one.settings one.world ≡ cut_world (reachers two.settings a) two.settings two.world →
+      cut_world (reachers one.settings a) one.settings first ≡ cut_world (reachers two.settings a) two.settings second
 
 -- two runs that agree for an account give it the same replies, however long each is and whatever else is in it
 abbrev pub AgreeingReplies : Type 0
@@ -115,10 +115,10 @@ sent_to settings globals es = record { settings = settings; world = opening glob
 -- their globals and the grants between them alone. And any other world of which the same is said, and which agrees with this one on these,
 -- gives it the same replies, whatever other accounts store, lock, run or exhaust in either.
 pub record Promise (a : Text) (settings : Settings) (globals : Globals) (es : List (Event × Reply)) : Type 0 where
-  pub alone : part (only a) settings es ≡ part (only a) settings (alone (reach settings a) settings (opening globals) (events_of es))
+  pub alone : part (only a) settings es ≡ part (only a) settings (alone (reachers settings a) settings (opening globals) (events_of es))
   pub elsewhere :
       (settings' : Settings) (globals' : Globals) (es' : List (Event × Reply)) (after' : World) → Agree a (sent_to settings globals es) (sent_to settings' globals' es') →
-      History settings' (opening globals') es' after' → NoneFailed (part (reach settings' a) settings' es') →
+      History settings' (opening globals') es' after' → NoneFailed (part (reachers settings' a) settings' es') →
       part (only a) settings es ≡ part (only a) settings' es'
 
 -- The promise is kept: for all settings, all globals and all lines of all terminals in any order, if no line of an account that reaches
@@ -126,4 +126,4 @@ pub record Promise (a : Text) (settings : Settings) (globals : Globals) (es : Li
 abbrev pub PromiseIsKept : Type 0
 PromiseIsKept =
     (settings : Settings) (a : Text) (globals : Globals) (es : List (Event × Reply)) (after : World) → History settings (opening globals) es after →
-    NoneFailed (part (reach settings a) settings es) → Promise a settings globals es
+    NoneFailed (part (reachers settings a) settings es) → Promise a settings globals es

@@ -38,7 +38,7 @@ abbrev pub leads : List Link → Text → Text → Bool
 leads [] x y = text_eq x y
 leads (l ∷ ls) x y = leads ls x y || (leads ls x l.from && leads ls l.to y)
 
--- The accounts that reach `a`, as a set: `reach settings a x` says that x reaches a. `Reaches settings x a` has the two in the order in
+-- The accounts that reach `a`, as a set: `reachers settings a x` says that x reaches a. `Reaches settings x a` has the two in the order in
 -- which the chain leads.
-abbrev pub reach : Settings → Text → Accounts
-reach settings a x = leads (links settings.grants) x a
+abbrev pub reachers : Settings → Text → Accounts
+reachers settings a x = leads (links settings.grants) x a

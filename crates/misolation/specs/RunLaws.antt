@@ -5,7 +5,7 @@ use Rattle.mspec.specs.Node.{Text}
 use Rattle.mspec.specs.Access.{Settings}
 use Rattle.mmeaning.specs.Transition.{World, Event, Reply, Transition}
 use Rattle.mmeaning.specs.History.{NoneFailed}
-use Rattle.misolation.specs.Reach.{Accounts, IsClosed, reach}
+use Rattle.misolation.specs.Reach.{Accounts, IsClosed, reachers}
 use Rattle.misolation.specs.Cut.{part, IsFit}
 use Rattle.misolation.specs.Alone.{alone}
 use Rattle.misolation.specs.Agreement.{Run, Agree}
@@ -23,7 +23,7 @@ abbrev pub TellsOn : Type 0
 TellsOn =
     (a : Text) (settings : Settings) (world between after : World) (events : List Event) (told : List Told) (whole : Bool) →
     Tells a settings world events told whole between → (e : Event) (reply : Reply) → Transition settings e reply between after →
-    (more : Bool) → (IsTrue more ↔ (IsTrue whole × NoneFailed (part (reach settings a) settings ((e, reply) ∷ [])))) →
+    (more : Bool) → (IsTrue more ↔ (IsTrue whole × NoneFailed (part (reachers settings a) settings ((e, reply) ∷ [])))) →
     Tells a settings world (events ++ e ∷ []) (told ++ told_to a settings ((e, reply) ∷ [])) more after
 
 -- ---- what it tells
@@ -42,7 +42,7 @@ abbrev pub EquallyTold : Type 0
 EquallyTold =
     (a : Text) (settings : Settings) (world after : World) (events : List Event) (told : List Told) →
     IsFit settings world.shared → Tells a settings world events told true after →
-    told ≡ told_to a settings (alone (reach settings a) settings world events)
+    told ≡ told_to a settings (alone (reachers settings a) settings world events)
 
 -- Told the same: two runs that agree for an account, and are whole, tell it the same, however long each is and whatever else is in it.
 abbrev pub ToldTheSame : Type 0

@@ -5,7 +5,7 @@ use Rattle.mspec.specs.Node.{Text}
 use Rattle.mspec.specs.Access.{Settings}
 use Rattle.mmeaning.specs.Transition.{World, Event, Reply}
 use Rattle.mmeaning.specs.History.{History, NoneFailed}
-use Rattle.misolation.specs.Reach.{Accounts, reach}
+use Rattle.misolation.specs.Reach.{Accounts, reachers}
 use Rattle.misolation.specs.Cut.{cut_settings, cut_world, cut_events, part}
 use Rattle.misolation.specs.Alone.{only}
 use Rattle.misolation.specs.HistoryLaws.{events_of}
@@ -29,7 +29,7 @@ pub record Tells (a : Text) (settings : Settings) (world : World) (events : List
   pub sent : events_of lines ≡ events
   pub history : History settings world lines after
   pub replies : told_to a settings lines ≡ told
-  pub failures : IsTrue whole ↔ NoneFailed (part (reach settings a) settings lines)
+  pub failures : IsTrue whole ↔ NoneFailed (part (reachers settings a) settings lines)
 
 -- the members' lines of a run, alone, tell the account this: over the cuts, and by the part of the run's own history that is theirs
 pub record TellsPart (s : Accounts) (a : Text) (settings : Settings) (world : World) (events : List Event) (told : List Told) (whole : Bool) (after : World) (lines : List (Event × Reply)) : Type 0 where

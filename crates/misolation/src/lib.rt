@@ -20,7 +20,7 @@
 //! does not reach the laboratory. If the clinic lets the bank write its bills, each of the two reaches the other. Whoever has
 //! no grant, given or taken, is reached by itself alone.
 //!
-//! `reach` computes the accounts that reach one. It is the least *closed* set that has that account (`reach_is_least_closed`): a
+//! `reachers` computes the accounts that reach one. It is the least *closed* set that has that account (`reach_is_least_closed`): a
 //! set of accounts is closed if each account that flows to a member is a member. And a chain leads to the account exactly from
 //! its members (`reach_is_chains`).
 //!

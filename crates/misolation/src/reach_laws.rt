@@ -2,7 +2,7 @@
 // The laws of reach. Each function's contract is the law, and its body is empty: the code never calls them.
 ghost use Rattle.misolation.specs.ReachLaws.{ReachIsLeastClosed, ReachIsChains, ReachIsKept};
 
-/// The set that `reach` computes is the least closed set that has the account.
+/// The set that `reachers` computes is the least closed set that has the account.
 pub fn reach_is_least_closed()
     ensures { ReachIsLeastClosed }
 {}

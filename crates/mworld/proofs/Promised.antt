@@ -4,7 +4,7 @@ use Rattle.mworld.proofs.WorldWords.{◌≡◌, Bool, List, ap, ◌∙◌, subst
 use Rattle.mspec.specs.Node.{Text}
 use Rattle.mmeaning.specs.Transition.{Reply}
 use Rattle.mmeaning.specs.History.{History}
-use Rattle.misolation.specs.Reach.{reach}
+use Rattle.misolation.specs.Reach.{reachers}
 use Rattle.misolation.specs.ReachLaws.{IsLeastClosed}
 use Rattle.misolation.specs.Cut.{IsFit}
 use Rattle.misolation.specs.Alone.{alone}
@@ -19,8 +19,8 @@ promised settings world after lines h globals opens a none =
 
 -- if a run is whole, the accounts that reach this one have their replies by the definitional interpreter
 pub reaching_alone : (a : Text) (settings : Settings) (world after : World) (events : List Event) (told : List Told) (whole : Bool) → IsFit settings world.shared
-    → (run : Tells a settings world events told whole after) → IsTrue whole → part (reach settings a) settings run.lines ≡ alone (reach settings a) settings world events
+    → (run : Tells a settings world events told whole after) → IsTrue whole → part (reachers settings a) settings run.lines ≡ alone (reachers settings a) settings world events
 reaching_alone a settings world after events told whole fit run is =
-    let least : IsLeastClosed settings a (reach settings a) = reach_is_least_closed settings a in
-    let law : IsAlone (reach settings a) settings world after run.lines = part_is_alone (reach settings a) settings world after run.lines least.closed fit run.history (run.failures.0 is) in
-    law.lines ∙ ap (alone (reach settings a) settings world) run.sent
+    let least : IsLeastClosed settings a (reachers settings a) = reach_is_least_closed settings a in
+    let law : IsAlone (reachers settings a) settings world after run.lines = part_is_alone (reachers settings a) settings world after run.lines least.closed fit run.history (run.failures.0 is) in
+    law.lines ∙ ap (alone (reachers settings a) settings world) run.sent

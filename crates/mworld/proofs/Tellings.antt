@@ -9,7 +9,7 @@ use Rattle.mspec.specs.Access.{Account}
 use Rattle.mspec.specs.Flow.{Reaches}
 use Rattle.mmeaning.specs.Transition.{Reply}
 use Rattle.mmeaning.specs.History.{History, NoneFailed}
-use Rattle.misolation.specs.Reach.{Accounts, reach}
+use Rattle.misolation.specs.Reach.{Accounts, reachers}
 use Rattle.misolation.specs.Alone.{only}
 use Rattle.misolation.proofs.Reaching.{reach_is_chains}
 use Rattle.mworld.proofs.Checks.{found}
@@ -20,7 +20,7 @@ part_of_one s settings e reply true is = rw is refl
 part_of_one s settings e reply false is = rw is refl
 
 -- whether a line failed in it
-none_by : (settings : Settings) (a sender : Text) (e : Event) (reply : Reply) (b : Bool) → reach settings a sender ≡ b → IsUnseen settings sender a reply ↔ NoneFailed (cond b ((e, reply) ∷ []) [])
+none_by : (settings : Settings) (a sender : Text) (e : Event) (reply : Reply) (b : Bool) → reachers settings a sender ≡ b → IsUnseen settings sender a reply ↔ NoneFailed (cond b ((e, reply) ∷ []) [])
 none_by settings a sender e reply true is = (
   λ unseen. (false_from_ne_true (is_failure reply.ending) (λ failed. unseen failed ((reach_is_chains settings a sender).0 is)), tt),
   λ none failed chain. let no : true ≡ false = sym failed ∙ none.0 in absurd (cc),
@@ -43,7 +43,7 @@ module _ (settings : Settings) (e : Event) (place : ℕ) (same : account_at sett
 
 module _ (a : Text) (settings : Settings) (world between after : World) (events : List Event) (told : List Told) (whole : Bool) (h : Tells a settings world events told whole between) (e : Event) (reply : Reply)
     (transition : Transition settings e reply between after) where
-  told_more : (b : Bool) → is_inside (only a) settings e.terminal ≡ b → (more : Bool) → (IsTrue more ↔ (IsTrue whole × NoneFailed (part (reach settings a) settings ((e, reply) ∷ []))))
+  told_more : (b : Bool) → is_inside (only a) settings e.terminal ≡ b → (more : Bool) → (IsTrue more ↔ (IsTrue whole × NoneFailed (part (reachers settings a) settings ((e, reply) ∷ []))))
       → Tells a settings world (events ++ e ∷ []) (told ++ map told_by (cond b ((e, reply) ∷ []) [])) more after
   told_more b is more iff =
       subst (λ es. Tells a settings world (events ++ e ∷ []) (told ++ map told_by es) more after) (part_of_one (only a) settings e reply b is)
@@ -52,7 +52,7 @@ module _ (a : Text) (settings : Settings) (world between after : World) (events 
   -- at a terminal of no account
   pub nobody_told : get settings.terminals e.terminal ≡ None → Tells a settings world (events ++ e ∷ []) told whole after
   nobody_told none =
-      let outside = part_of_one (reach settings a) settings e reply false (ap (is_member (reach settings a)) none) in
+      let outside = part_of_one (reachers settings a) settings e reply false (ap (is_member (reachers settings a)) none) in
       subst (λ ts. Tells a settings world (events ++ e ∷ []) ts whole after) (append-nil told)
       (told_more false (ap (is_member (only a)) none) whole (λ w. (w, subst NoneFailed (sym outside) tt), λ both. both.0))
 
@@ -60,12 +60,12 @@ module _ (a : Text) (settings : Settings) (world between after : World) (events 
     abbrev sender : Text
     sender = name_at settings place
 
-    unseen : IsUnseen settings sender a reply ↔ NoneFailed (part (reach settings a) settings ((e, reply) ∷ []))
+    unseen : IsUnseen settings sender a reply ↔ NoneFailed (part (reachers settings a) settings ((e, reply) ∷ []))
     unseen =
-        let one = part_of_one (reach settings a) settings e reply (reach settings a sender) (inside settings e place same within (reach settings a)) in
-        subst (λ es. IsUnseen settings sender a reply ↔ NoneFailed es) (sym one) (none_by settings a sender e reply (reach settings a sender) refl)
+        let one = part_of_one (reachers settings a) settings e reply (reachers settings a sender) (inside settings e place same within (reachers settings a)) in
+        subst (λ es. IsUnseen settings sender a reply ↔ NoneFailed es) (sym one) (none_by settings a sender e reply (reachers settings a sender) refl)
 
-    still : IsTrue more ↔ (IsTrue whole × NoneFailed (part (reach settings a) settings ((e, reply) ∷ [])))
+    still : IsTrue more ↔ (IsTrue whole × NoneFailed (part (reachers settings a) settings ((e, reply) ∷ [])))
     still = (λ m. let both = iff.0 m in (both.0, unseen.0 both.1), λ both. iff.1 (both.0, unseen.1 both.1))
 
     -- at another account's terminal

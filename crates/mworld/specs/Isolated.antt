@@ -6,7 +6,7 @@ use Rattle.mspec.specs.Access.{Settings, name_at}
 use Rattle.mspec.specs.Flow.{Reaches}
 use Rattle.mmeaning.specs.Transition as transition
 use Rattle.mmeaning.specs.History.{History}
-use Rattle.misolation.specs.Reach.{Accounts, IsClosed, reach}
+use Rattle.misolation.specs.Reach.{Accounts, IsClosed, reachers}
 use Rattle.misolation.specs.Cut.{part}
 use Rattle.misolation.specs.Alone.{alone}
 use Rattle.misolation.specs.HistoryLaws.{events_of}
@@ -38,8 +38,8 @@ pub record IsTold {S : Type 0} (g : Ghosts S) (old : World S g) (account : ℕ) 
       TellsPart s (name_at (settings_of old) account) (settings_of old) (world_of g old) events told whole (world_of g new) run.lines
   pub reaching :
       IsTrue whole →
-      part (reach (settings_of old) (name_at (settings_of old) account)) (settings_of old) run.lines ≡
-      alone (reach (settings_of old) (name_at (settings_of old) account)) (settings_of old) (world_of g old) events
+      part (reachers (settings_of old) (name_at (settings_of old) account)) (settings_of old) run.lines ≡
+      alone (reachers (settings_of old) (name_at (settings_of old) account)) (settings_of old) (world_of g old) events
   pub promise : KeepsPromise (settings_of old) (world_of g old) run.lines
 
 -- If it is whole, they are those of the definitional interpreter, run on the lines of the accounts that reach this one, over their
@@ -49,7 +49,7 @@ IsEquallyTold g old account events told whole =
     IsTrue whole →
     told ≡
     told_to (name_at (settings_of old) account) (settings_of old)
-    (alone (reach (settings_of old) (name_at (settings_of old) account)) (settings_of old) (world_of g old) events)
+    (alone (reachers (settings_of old) (name_at (settings_of old) account)) (settings_of old) (world_of g old) events)
 
 -- Whatever the store does, they are replies to the account's events, one each and in their order.
 pub record IsToldEach (a : Text) (settings : Settings) (events : List transition.Event) (told : List telling.Told) : Type 0 where

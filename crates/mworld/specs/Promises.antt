@@ -6,7 +6,7 @@ use Rattle.mspec.specs.Globals.{Globals}
 use Rattle.mspec.specs.Access.{Settings}
 use Rattle.mmeaning.specs.Transition.{World, Event, Reply}
 use Rattle.mmeaning.specs.History.{opening, NoneFailed}
-use Rattle.misolation.specs.Reach.{reach}
+use Rattle.misolation.specs.Reach.{reachers}
 use Rattle.misolation.specs.Cut.{part}
 use Rattle.misolation.specs.HistoryLaws.{Promise}
 use Rattle.mnodes.specs.declared.store.NodeStore.{Ghosts}
@@ -21,4 +21,4 @@ IsSound g = g.sound
 -- replies in any other world that agrees on that.
 abbrev pub KeepsPromise : Settings → World → List (Event × Reply) → Type 0
 KeepsPromise settings world lines =
-    (globals : Globals) → world ≡ opening globals → (a : Text) → NoneFailed (part (reach settings a) settings lines) → Promise a settings globals lines
+    (globals : Globals) → world ≡ opening globals → (a : Text) → NoneFailed (part (reachers settings a) settings lines) → Promise a settings globals lines

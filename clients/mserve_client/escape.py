@@ -5,7 +5,7 @@ Each text of ASCII has one shown form, and each text of Unicode one stored form:
 escape that stands in a text by itself gets a `~7e;` for its `~` (`~7e;e9;`), and one that has some gets one more. Whatever is no whole escape is
 itself: `~`, `~e`, `~E9;`, `~09;`.
 
-The front has the same module (front/mserve_front/escape.py is a link to it)."""
+The front takes it from here."""
 from __future__ import annotations
 
 import re

@@ -8,7 +8,7 @@ from __future__ import annotations
 import re
 from dataclasses import dataclass
 
-from .escape import NotText, stored_line
+from mserve_client.escape import NotText, stored_line
 
 LONGEST = 255
 _PLAIN = re.compile(rb"[\x01-\x09\x0b\x0c\x0e-\x7f]*")

@@ -11,8 +11,9 @@ from collections.abc import Coroutine, Iterator
 from dataclasses import dataclass, field
 from typing import TYPE_CHECKING, Protocol
 
+from mserve_client.escape import shown
+
 from .audit import Audit, NoAudit
-from .escape import shown
 from .fair import Pace
 from .faults import HeldBack, NoJournal
 from .lines import Line, Refused

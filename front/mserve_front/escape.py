@@ -1,1 +1,0 @@
-../../clients/mserve_client/escape.py

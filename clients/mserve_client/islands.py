@@ -29,6 +29,8 @@ SETTINGS, STORE, STRANGERS = "settings.toml", "store.db", "strangers.db"
 PROGRAM, VARIABLE = "mislands", "MISLANDS"
 # No account has such a name.
 REST = "the-rest"
+# How many of the things that others made a message names.
+NAMED = 5
 
 
 class NoIslands(ClientError):
@@ -110,7 +112,7 @@ def split(source: Pair, folder: Path, apart: Iterable[str] = ()) -> tuple[list[P
     settings, found = read(source.settings)
     parts = parts_of(settings, found, apart)
     # A part is compared while the next one is written.
-    with Store(str(source.store)) as store, made(folder) as place, ThreadPoolExecutor(os.cpu_count()) as beside:
+    with alone(source.store) as store, made(folder) as place, ThreadPoolExecutor(os.cpu_count()) as beside:
         strangers = looked_at(settings, parts, store)
         compared = []
         for part in parts:
@@ -155,7 +157,7 @@ def join(pairs: list[Pair], strangers: list[Path], folder: Path) -> Part:
         settings_file.write(place / SETTINGS, whole)
         Store(str(place / STORE), make=True).close()
         for path in [*(pair.store for pair in pairs), *strangers]:
-            with Store(str(path)) as store:
+            with alone(path) as store:
                 names = store.accounts()
                 if twice := sorted(part.digests.keys() & set(names)):
                     raise NotSplit(f"{path}: {twice[0]} has globals in another part too")
@@ -163,6 +165,17 @@ def join(pairs: list[Pair], strangers: list[Path], folder: Path) -> Part:
                 store.give(names, str(place / STORE))
         compare(place / STORE, part.digests)
     return part
+
+
+@contextmanager
+def alone(path: Path) -> Iterator[Store]:
+    """A store whose nodes go to other files. NotSplit if its database has what others made: no part would have that, so it would be lost unseen."""
+    with Store(str(path)) as store:
+        if others := store.others():
+            named = ", ".join(others[:NAMED]) + (f" and {len(others) - NAMED} more" if len(others) > NAMED else "")
+            raise NotSplit(f"{path}: others have made {named} in it, which no part would have: copy the file, drop that from the copy by sqlite3, and name "
+                           "the copy; nothing was made")
+        yield store
 
 
 @contextmanager

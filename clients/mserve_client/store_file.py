@@ -25,6 +25,9 @@ RULES = """SELECT name FROM sqlite_master WHERE type = 'trigger' AND lower(tbl_n
         WHERE lower(t.name) IN ('node', 'meta') AND (i."unique" OR i.partial) AND i.origin = 'c'
     UNION ALL SELECT t.name FROM sqlite_master AS t JOIN pragma_foreign_key_list(t.name) AS f
         WHERE t.type = 'table' AND lower(f."table") IN ('node', 'meta')"""
+# What others made in the database. What SQLite makes by itself has no text, or a name of its own.
+OTHERS = r"""SELECT type || ' ' || name FROM sqlite_master
+    WHERE sql IS NOT NULL AND lower(name) NOT IN ('node', 'meta') AND name NOT LIKE 'sqlite\_%' ESCAPE '\' ORDER BY type DESC, name"""
 PUT = "INSERT INTO node (k, v) VALUES (?, ?) ON CONFLICT (k) DO UPDATE SET v = excluded.v"
 # Memory for pages of the file.
 CACHE_KB = 16_384
@@ -150,6 +153,10 @@ class Store:
                 raise BadStore(f"{self.path}: this store has a row that mserve did not write: {error}") from error
             after = keys.bounds(found[-1])[1]
         return found
+
+    def others(self) -> list[str]:
+        """What others have made in the database, as `table notes`."""
+        return [row[0] for row in self._base.execute(OTHERS)]
 
     def digest(self, account: str) -> Digest:
         """What tells an account's nodes. It is the same in every store that has these nodes."""

@@ -5,6 +5,7 @@ The islands are those that the program mislands prints. They are compared with a
 what the proved call answers in transcripts/settings.txt."""
 from __future__ import annotations
 
+import contextlib
 import os
 import re
 import sqlite3
@@ -270,6 +271,33 @@ def test_what_cannot_be_split(source: islands.Pair, command: Command, tmp_path: 
     ran = command("misland", "split", source.settings, source.store, "--to", "parts")
     assert (ran.status, ran.output) == (1, "") and told in ran.told, ran
     assert {path.name: path.is_file() and path.read_bytes() for path in tmp_path.iterdir()} == before
+
+
+def copied_without(path: Path, others: list[str]) -> Path:
+    """A copy of a store from which things are dropped, as a message names them."""
+    copy = path.with_name("copy.db")
+    copy.write_bytes(path.read_bytes())
+    with contextlib.closing(sqlite3.connect(copy, isolation_level=None)) as base:
+        for other in others:
+            base.execute(f"DROP {other}")
+    return copy
+
+
+def test_what_others_made_in_a_store_is_not_lost_unseen(source: islands.Pair, command: Command, tmp_path: Path) -> None:
+    """Neither a split nor a join takes such a store, and the message is the way on; what SQLite makes by itself is no hindrance."""
+    with contextlib.closing(sqlite3.connect(source.store, isolation_level=None)) as base:
+        for text in ("CREATE TABLE notes (id INTEGER PRIMARY KEY AUTOINCREMENT, text TEXT UNIQUE)", "INSERT INTO notes (text) VALUES ('ours')",
+                     "CREATE VIEW shown AS SELECT v FROM node", "CREATE INDEX by_text ON node (v)", "ANALYZE"):
+            base.execute(text)
+    before = rows(source.store)
+    others = ["view shown", "table notes", "index by_text"]
+    for words in (["split", source.settings, source.store], ["join", tmp_path]):
+        ran = command("misland", *words, "--to", "parts")
+        assert ran.status == 1 and f"store.db: others have made {', '.join(others)} in it, which no part would have" in ran.told, ran
+        assert not (tmp_path / "parts").exists()
+    ran = command("misland", "split", source.settings, copied_without(source.store, others), "--to", "parts")
+    assert (ran.status, ran.told) == (0, "")
+    assert sorted(row for place in (tmp_path / "parts").rglob("*.db") for row in rows(place)) == before == rows(source.store)
 
 
 def test_account_that_is_not_there(source: islands.Pair, command: Command) -> None:

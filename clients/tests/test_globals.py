@@ -8,9 +8,11 @@ import os
 import pty
 import re
 import signal
+import socket
 import sqlite3
 import subprocess
 import sys
+import threading
 from pathlib import Path
 
 import pytest
@@ -22,6 +24,7 @@ from mserve_client.global_command import reading
 from mserve_client.store_file import TABLES
 from mserve_client.terminal_way import ImportStopped, TerminalWay
 from mserve_client.walk import Walker
+from mserve_client.wire import LONGEST_LINE
 
 HEAD = "GT.M MUPIP EXTRACT\n26-NOV-2026  01:45:37 ZWR\n"
 DEEP = tuple("s" * 250 + str(number) for number in range(15))
@@ -303,6 +306,34 @@ def test_several_nodes_go_by_one_line(server: Server, command: Command, tmp_path
     assert command("mglobal", server.port, ALICE, "import", "in.zwr").output == "300 nodes imported\n"
     with server.connection() as connection:
         assert {place[0]: text for place, text in TerminalWay(connection).nodes("X")} == nodes
+
+
+def peer_that_answers_at_the_end(listener: socket.socket, nodes: int, seen: list[bytes]) -> None:
+    """Says at once that a local variable is not there, and answers lines that set nodes once all the nodes have come."""
+    peer, _ = listener.accept()
+    with peer, peer.makefile("rb") as lines:
+        while sum(line.count(b"^X(") for line in seen) < nodes:
+            line = lines.readline()
+            if line.startswith(b"1 S "):
+                seen.append(line.rstrip(b"\n"))
+            else:
+                peer.sendall(b"1-0\n1.\n")
+        peer.sendall(b"1.\n" * len(seen))
+
+
+def test_import_is_sent_ahead_in_full_lines(command: Command, tmp_path: Path) -> None:
+    """So it is as fast as the store commits, whatever a reply takes: who waits for a reply of this peer, waits for ever."""
+    count, seen = 2000, []
+    (tmp_path / "in.zwr").write_text(HEAD + "".join(f'^X({number})="the text of {number}"\n' for number in range(count)))
+    with socket.create_server(("127.0.0.1", 0)) as listener:
+        peer = threading.Thread(target=peer_that_answers_at_the_end, args=(listener, count, seen), daemon=True)
+        peer.start()
+        ran = command("mglobal", "--timeout", 20, listener.getsockname()[1], ALICE, "import", "in.zwr")
+        peer.join(30)
+    assert (ran.status, ran.output, ran.told) == (0, "2,000 nodes imported\n", "")
+    longest = len(',^X(1999)="the text of 1999"')
+    # The terminal and a space come before a line.
+    assert all(LONGEST_LINE - longest < len(line) - 2 <= LONGEST_LINE for line in seen[:-1])
 
 
 def test_nodes_of_an_account_with_few_steps(server: Server) -> None:

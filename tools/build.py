@@ -14,6 +14,9 @@ import tempfile
 import chain
 from sources import PROGRAMS, TOP, copy_crates, program_crates, sources_digest
 
+# How long a build from nothing takes on four processors. README.md and docs/INSTALL.md say the same, which tools/documents.py sees to.
+FIRST_TIME = "an hour or more"
+
 
 def path_of(program: str, top: str = TOP) -> str:
     """Where a program is built."""

@@ -8,6 +8,7 @@ import sys
 from collections.abc import Callable, Iterator
 from dataclasses import dataclass, field
 
+from build import FIRST_TIME
 from sources import TOP, program_crates
 
 CODE = (".rt", ".antt", ".edit", ".py", ".c", ".h", ".toml")
@@ -356,6 +357,13 @@ def check_versions(found: list[Page]) -> None:
                 faults.append(f"{path}: without version {version}")
 
 
+def check_build_time() -> None:
+    """The pages say of a build what `./mserve` says before it."""
+    for path in ("README.md", "docs/INSTALL.md"):
+        if FIRST_TIME not in re.sub(r"\s+", " ", read(path)):
+            faults.append(f"{path}: without '{FIRST_TIME}', the time of a build that tools/build.py has")
+
+
 def main() -> int:
     """Checks all pages, and prints the faults."""
     files = tree()
@@ -377,6 +385,7 @@ def main() -> int:
     check_completion()
     check_limits()
     check_versions(found)
+    check_build_time()
     for text in faults:
         print(f"documents: {text}")
     print(f"documents: {len(found)} pages, {len(faults)} faults")

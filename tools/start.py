@@ -60,7 +60,7 @@ def built_program(program: str, digest: str) -> str:
         reason = "there is no release" if release.read_record() is None else "the sources are not those of the release"
         if shutil.which("rt") is None:
             fail(f"{reason}, and the Rattle kit (`rt`) that builds {program} is not on the path: see docs/INSTALL.md")
-        print(f"mserve: {reason}, so the programs are proved and built from them: an hour or more the first time", file=sys.stderr, flush=True)
+        print(f"mserve: {reason}, so the programs are proved and built from them: {build.FIRST_TIME} the first time", file=sys.stderr, flush=True)
         build.build(digest)
     return build.path_of(program)
 

@@ -37,10 +37,13 @@ def group_of(item: pytest.Item) -> str:
     return item.nodeid.partition("::")[0] if item.get_closest_marker("together") else item.nodeid
 
 
+@pytest.hookimpl(trylast=True)
 def pytest_collection_modifyitems(config: pytest.Config, items: list[pytest.Item]) -> None:
-    """Leaves the cases of a part, which runs beside the other parts (tools/behaviour.py)."""
+    """Leaves the cases of a part, which runs beside the other parts (tools/behaviour.py). Of those that marks and words leave, long ones are dealt out
+    first, so that each part has as many of them."""
     place, parts = map(int, config.getoption("--part").split("/"))
-    groups = {group: number for number, group in enumerate(dict.fromkeys(map(group_of, items)))}
+    long_first = sorted(items, key=lambda item: item.get_closest_marker("long") is None)
+    groups = {group: number for number, group in enumerate(dict.fromkeys(map(group_of, long_first)))}
     chosen = [item for item in items if groups[group_of(item)] % parts == place - 1]
     config.hook.pytest_deselected(items=[item for item in items if groups[group_of(item)] % parts != place - 1])
     items[:] = chosen

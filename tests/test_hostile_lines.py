@@ -170,6 +170,7 @@ def test_a_line_that_nests_or_counts(text: str) -> None:
     judge(f"1 {text}\n1 W 1\n".encode("ascii"))
 
 
+@pytest.mark.long
 def test_drawn_lines(count: int) -> None:
     """They end in many ways, none of them for want of memory or room."""
     codes: Counter[bytes] = Counter()

@@ -9,6 +9,7 @@ from __future__ import annotations
 from collections import Counter
 from random import Random
 
+import pytest
 from drawn_lines import Draw, quoted
 from hypothesis import given, settings
 from hypothesis import strategies as st
@@ -55,6 +56,7 @@ def runs(lines: list[tuple[list[str], str, str]]) -> tuple[list[str], list[str],
     return plain_run, other_run, places
 
 
+@pytest.mark.long
 def test_lines_with_indirection_and_without(count: int) -> None:
     """Most lines have indirection and end without a code, so that the test shows something."""
     ends: Counter[str] = Counter()

@@ -12,6 +12,7 @@ import tempfile
 from collections import Counter
 from pathlib import Path
 
+import pytest
 from drawn_settings import REPLY, Case, Line, Setting, for_cases, runs_over, sent_by
 from running import TOP, run
 from support import IN_MEMORY
@@ -42,6 +43,7 @@ def at(setting: Setting, members: set[str], answer: list[bytes]) -> list[bytes]:
     return [line for line in answer if (found := REPLY.match(line)) and int(found[1]) in own]
 
 
+@pytest.mark.long
 def test_an_island_is_answered_as_alone(count: int) -> None:
     seen: Counter[str] = Counter()
 
@@ -75,6 +77,7 @@ def answered(place: Path, lines: list[Line]) -> list[bytes]:
     return output.splitlines(True)
 
 
+@pytest.mark.long
 def test_islands_move_to_machines_of_their_own(count: int) -> None:
     seen: Counter[str] = Counter()
 

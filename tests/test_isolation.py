@@ -38,7 +38,7 @@ def judge(runs: Runs, setting: Setting, lines: list[Line]) -> Iterator[str]:
             yield "open to all"
 
 
-@pytest.mark.parametrize("kind", ["memory", "file"])
+@pytest.mark.parametrize("kind", ["memory", pytest.param("file", marks=pytest.mark.long)])
 def test_each_account_is_shown_the_same(kind: str, count: int) -> None:
     seen: Counter[str] = Counter()
 

@@ -190,6 +190,7 @@ def is_new(store: str, nodes: dict[Node, str]) -> bool:
     return seen == after(nodes)
 
 
+@pytest.mark.long
 def test_each_request_for_memory_refused(memory_library: str, folder_in_memory: Path) -> None:
     """An open that is refused for want of memory leaves the old store, and the next one makes the new one of it. Refused in turn are the requests from
     the first one after the settings are read to the first one that is reported once the store is the new one; some requests only save time."""

@@ -117,6 +117,7 @@ def test_peers_that_go_away() -> None:
     assert running.ended() == (0, b"mserve: connection 1: Read\nmserve: connection 3: Write\nmserve: connection 4: Write\n")
 
 
+@pytest.mark.long
 def test_a_peer_that_stays() -> None:
     """A peer that never reads, and stays, keeps the others waiting; then its connection ends with a report, and the next one is served. A write
     ends after a minute, with the bytes for which the system found room or else with the fault, so this takes two or three minutes."""

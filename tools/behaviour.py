@@ -1,11 +1,15 @@
 #!/usr/bin/env python3
 # SPDX-License-Identifier: Apache-2.0
-"""Runs the tests of behaviour, those of tests/, clients/, front/ and packaging/, over the built program: several pytest processes side by side,
-one that waits more than it computes, one each for the clients and the package, and one for each processor. Tests that measure a time run before
-them. The front's run after them, and then those of its journal, each alone: they wait for timers, and fail on a machine that is too busy.
+"""Runs the tests of behaviour, those of tests/, clients/, front/ and packaging/, over the built program, in stages: first tests that measure a time,
+one after another. Then those of tests/, clients/ and packaging/, several pytest processes side by side: one that waits more than it computes, one
+each for the clients and the package, and one for each processor. Then the front's, a process for each file, as many at once as there are
+processors: they wait for timers, and fail on a machine that is too busy.
 
-    tools/behaviour.py [--count N] [WORD ..]    draws N times as many cases; hands words on to pytest, as `-k isolation`
-    tools/behaviour.py --packages               runs nothing: says whether a package is missing
+    tools/behaviour.py [--quick] [--count N] [WORD ..]    draws N times as many cases; hands words on to pytest, as `-k isolation`
+    tools/behaviour.py --packages                         runs nothing: says whether a package is missing
+
+`--quick` leaves out cases that are marked `long`. Each case that pytest finds has to be run once, so a mark that hides one from all stages, or puts
+it into two, is a failure.
 
 It needs Debian's own python3 with python3-pytest and python3-hypothesis; the clients' tests need more packages, and the command that installs
 them is printed if one is missing. At the end stands how many cases each file has and how long they took; the last line is 'N passed, M failed'."""
@@ -19,7 +23,9 @@ import tempfile
 import time
 import xml.etree.ElementTree as ElementTree
 from collections import Counter, defaultdict
+from concurrent.futures import ThreadPoolExecutor
 from dataclasses import dataclass, field
+from pathlib import Path
 
 from running import TOP
 
@@ -31,40 +37,54 @@ INSTALL = ("apt-get install python3-pytest python3-hypothesis python3-prompt-too
            "python3-crc32c python3-psycopg postgresql "
            "python3-selenium chromium chromium-driver python3-seccomp lintian systemd openssl curl iproute2")
 SLOWEST = 10
-# Parts of the repository that have tests of their own, in a folder `tests`, with a `pytest.ini` beside it.
-OTHERS = ("clients", "front", "packaging")
-# Those of them that draw their cases.
-COUNTED = ("clients", "front")
-# Tests of the front on its journal and what stands on that: a process of their own, since they wait for disks and databases.
-JOURNAL = [f"front/tests/test_{name}.py" for name in ("journal", "machines", "matrix", "operating", "replay", "restarts", "standby", "table")]
+# The folders of tests; each but the first has a `pytest.ini` of its own, beside it.
+TESTS, CLIENTS, FRONT, PACKAGING = SUITES = ("tests", "clients/tests", "front/tests", "packaging/tests")
+# Those that draw their cases.
+COUNTED = (TESTS, CLIENTS, FRONT)
+# Files of the front that take long begin first, so that none of them is left alone at the end. Nothing rests on that but the time.
+FIRST = [f"test_{name}.py" for name in ("table", "matrix", "standby", "hostile", "page", "machines", "replay")]
 # pytest ends with this status if no case is left by its words.
 NO_CASE = 5
 
 
+def pytest_words(suite: str) -> list[str]:
+    """The words that run pytest with the settings of a folder of tests."""
+    config = os.path.join(os.path.dirname(suite), "pytest.ini")
+    return [PYTHON, "-m", "pytest", "-q", "-c", config, "--rootdir", TOP, "-p", "no:cacheprovider"]
+
+
 @dataclass
 class Part:
-    """A pytest process: its name, where it writes, and what it is given."""
+    """A pytest process: its name, the folder of its tests, what it is given, where it writes, and its status once it has ended."""
     name: str
-    folder: str
+    suite: str
     words: list[str]
-    config: str = "pytest.ini"
-    process: subprocess.Popen[bytes] | None = field(default=None, init=False)
+    folder: str
+    status: int = field(default=0, init=False)
 
     def path(self, kind: str) -> str:
         """The path of one of its files."""
         return os.path.join(self.folder, f"{self.name}.{kind}")
 
-    def start(self, more: list[str]) -> None:
-        """Starts it; what it prints goes to a file."""
-        words = [PYTHON, "-m", "pytest", "-q", "-c", self.config, "--rootdir", TOP, "-p", "no:cacheprovider", f"--junitxml={self.path('xml')}", *self.words, *more]
+    def run(self) -> None:
+        """Runs it to its end; what it prints goes to a file."""
         with open(self.path("log"), "wb") as log:
-            self.process = subprocess.Popen(words, cwd=TOP, stdin=subprocess.DEVNULL, stdout=log, stderr=subprocess.STDOUT)
+            words = [*pytest_words(self.suite), f"--junitxml={self.path('xml')}", *self.words]
+            self.status = subprocess.run(words, cwd=TOP, stdin=subprocess.DEVNULL, stdout=log, stderr=subprocess.STDOUT).returncode
+
+
+@dataclass
+class Stage:
+    """Parts, of which so many run at once."""
+    parts: list[Part]
+    at_once: int
 
 
 @dataclass
 class Totals:
-    """What all parts found: how many cases ended in which way, and the seconds of each case by its name."""
+    """What all parts found: how many cases ended in which way, how many each file has, and the seconds of each case by its name."""
     ended: Counter[str] = field(default_factory=Counter)
+    files: Counter[str] = field(default_factory=Counter)
     seconds: dict[str, float] = field(default_factory=dict)
 
     def read(self, path: str) -> None:
@@ -72,7 +92,9 @@ class Totals:
         for case in ElementTree.parse(path).iter("testcase"):
             kinds = {child.tag for child in case}
             self.ended["failed" if kinds & {"failure", "error"} else "skipped" if "skipped" in kinds else "passed"] += 1
-            name = f"{case.get('classname', '').replace('.', '/')}.py::{case.get('name')}"
+            file = f"{case.get('classname', '').replace('.', '/')}.py"
+            self.files[file] += 1
+            name = f"{file}::{case.get('name')}"
             self.seconds[name] = self.seconds.get(name, 0) + float(case.get("time") or 0)
 
 
@@ -82,32 +104,85 @@ def missing() -> list[str]:
     return [package for package, ran in tried if ran.returncode] + ([] if shutil.which("cc") else ["gcc"])
 
 
-def stages(folder: str, times: int) -> list[list[Part]]:
-    """The processes that run side by side, stage by stage."""
-    count = len(os.sched_getaffinity(0))
-    drawn = ["tests", f"--count={times}"]
-    rest = "not waits and not alone"
-    computing = [Part(f"part {number}", folder, [*drawn, "-m", rest, f"--part={number}/{count}"]) for number in range(1, count + 1)]
-    given = {name: [f"--count={times}"] if name in COUNTED else [] for name in OTHERS}
-    given["front"] += [f"--ignore={file}" for file in JOURNAL]
-    others = {name: Part(name, folder, [f"{name}/tests", *given[name]], f"{name}/pytest.ini") for name in OTHERS}
-    front, journal = others.pop("front"), Part("front journal", folder, [*JOURNAL, f"--count={times}"], "front/pytest.ini")
-    side_by_side = [Part("waiting", folder, [*drawn, "-m", "waits"]), *others.values(), *computing]
-    return [[Part("alone", folder, ["tests", "-m", "alone"])], side_by_side, [front], [journal]]
+def chosen(marks: str, is_quick: bool) -> list[str]:
+    """The words that choose cases by their marks."""
+    return ["-m", " and ".join(filter(None, (marks, "not long" if is_quick else "")))]
+
+
+def front_files() -> list[str]:
+    """The files of the front's tests, in the order in which they begin."""
+    names = sorted(path.name for path in Path(TOP, FRONT).glob("test_*.py"))
+    return [f"{FRONT}/{name}" for name in sorted(names, key=lambda name: FIRST.index(name) if name in FIRST else len(FIRST))]
+
+
+def stages(folder: str, is_quick: bool, more: list[str]) -> list[Stage]:
+    """What runs, stage by stage; further words go to each pytest."""
+    processors = len(os.sched_getaffinity(0))
+
+    def part(name: str, suite: str, marks: str, *words: str) -> Part:
+        return Part(name, suite, [*(words or (suite,)), *chosen(marks, is_quick), *more_of(suite, more)], folder)
+    measuring = [part(f"alone {suite.partition('/')[0]}", suite, "alone") for suite in (TESTS, FRONT)]
+    computing = [part(f"part {number}", TESTS, "not waits and not alone", TESTS, f"--part={number}/{processors}") for number in range(1, processors + 1)]
+    side_by_side = [part("waiting", TESTS, "waits"), part("clients", CLIENTS, ""), part("packaging", PACKAGING, ""), *computing]
+    front = [part(f"front {Path(file).stem.removeprefix('test_')}", FRONT, "not alone", file) for file in front_files()]
+    return [Stage(measuring, 1), Stage(side_by_side, len(side_by_side)), Stage(front, processors)]
+
+
+def more_of(suite: str, more: list[str]) -> list[str]:
+    """Further words as the tests of a folder know them: `--count` is none of those that draw nothing."""
+    return [word for word in more if suite in COUNTED or not word.startswith("--count=")]
+
+
+@dataclass
+class Collected:
+    """What pytest finds: how many cases each file has, and how many are left out by their marks and by words."""
+    files: Counter[str] = field(default_factory=Counter)
+    left_out: int = 0
+
+
+def collected(is_quick: bool, more: list[str]) -> Collected:
+    """What pytest finds in all folders of tests, whatever stage it is for."""
+    def texts(suite: str) -> str:
+        words = [*pytest_words(suite), "--collect-only", suite, *chosen("", is_quick), *more_of(suite, more)]
+        return subprocess.run(words, cwd=TOP, stdin=subprocess.DEVNULL, stdout=subprocess.PIPE, encoding="utf-8", errors="replace").stdout
+    found = Collected()
+    with ThreadPoolExecutor() as pool:
+        for text in pool.map(texts, SUITES):
+            found.files.update(line.partition("::")[0] for line in text.partition("\n\n")[0].splitlines() if "::" in line)
+            found.left_out += sum(map(int, re.findall(r"\((\d+) deselected\)", text)))
+    return found
 
 
 def conclude(part: Part, totals: Totals) -> None:
-    """Waits for a part, prints what it printed, and adds up its cases. A part that ended badly without a failed case counts as one."""
-    status = part.process.wait()
+    """Prints what a part that has ended printed, and adds up its cases. One that ended badly without a failed case counts as a failure."""
     before = totals.ended["failed"]
     with open(part.path("log"), encoding="utf-8", errors="replace") as log:
         text = re.sub(r"^[.sFE]+ +\[ *\d+%\]\n", "", log.read(), flags=re.MULTILINE)
     print(f"---- {part.name}\n{text}", end="", flush=True)
     if os.path.exists(part.path("xml")):
         totals.read(part.path("xml"))
-    if status not in (0, NO_CASE) and totals.ended["failed"] == before:
-        print(f"behaviour: {part.name} ended with status {status}")
+    if part.status not in (0, NO_CASE) and totals.ended["failed"] == before:
+        print(f"behaviour: {part.name} ended with status {part.status}")
         totals.ended["failed"] += 1
+
+
+def run_stage(stage: Stage, totals: Totals) -> None:
+    """Runs the parts of a stage, and tells of them in their order as they end."""
+    pool = ThreadPoolExecutor(stage.at_once)
+    try:
+        for part, _ in zip(stage.parts, pool.map(Part.run, stage.parts)):
+            conclude(part, totals)
+    finally:
+        # After an interrupt no further part begins.
+        pool.shutdown(cancel_futures=True)
+
+
+def compare(found: Collected, totals: Totals) -> None:
+    """Each file whose cases were not run once each counts as a failure."""
+    for file in sorted(found.files | totals.files):
+        if found.files[file] != totals.files[file]:
+            print(f"behaviour: {file}: pytest finds {found.files[file]} cases, the stages ran {totals.files[file]}: a mark hides some, or puts some into two")
+            totals.ended["failed"] += 1
 
 
 def print_times(totals: Totals) -> None:
@@ -121,26 +196,37 @@ def print_times(totals: Totals) -> None:
         print(f"behaviour: {seconds:6.1f} s {name}")
 
 
+def reader() -> argparse.ArgumentParser:
+    """The reader of the words."""
+    words = argparse.ArgumentParser(description="Runs the tests of behaviour over the built program; words that it does not know go to pytest.")
+    words.add_argument("--quick", action="store_true", help="leave out cases that are marked `long`")
+    words.add_argument("--count", type=int, default=1, metavar="N", help="draw N times as many cases")
+    words.add_argument("--packages", action="store_true", help="run nothing: say whether a package is missing")
+    return words
+
+
+def run(is_quick: bool, more: list[str]) -> Totals:
+    """Runs all stages, and prints what they found."""
+    start, totals, found = time.monotonic(), Totals(), collected(is_quick, more)
+    with tempfile.TemporaryDirectory(prefix="mserve-tests-") as folder:
+        for stage in stages(folder, is_quick, more):
+            run_stage(stage, totals)
+    print_times(totals)
+    compare(found, totals)
+    left_out = f", {found.left_out} left out" if found.left_out else ""
+    print(f"behaviour: {time.monotonic() - start:.0f} s by the clock, {totals.ended['skipped']} skipped{left_out}")
+    return totals
+
+
 def main() -> int:
     """Runs all parts."""
-    parser = argparse.ArgumentParser(description="Runs the tests of behaviour over the built program; words that it does not know go to pytest.")
-    parser.add_argument("--count", type=int, default=1, metavar="N", help="draw N times as many cases")
-    parser.add_argument("--packages", action="store_true", help="run nothing: say whether a package is missing")
-    given, more = parser.parse_known_args()
+    given, more = reader().parse_known_args()
     if lacking := missing():
         print(f"behaviour: {', '.join(lacking)} missing: {INSTALL}" + ("" if given.packages else "\n0 passed, 1 failed"))
         return 1
     if given.packages:
         return 0
-    start, totals = time.monotonic(), Totals()
-    with tempfile.TemporaryDirectory(prefix="mserve-tests-") as folder:
-        for together in stages(folder, given.count):
-            for part in together:
-                part.start(more)
-            for part in together:
-                conclude(part, totals)
-    print_times(totals)
-    print(f"behaviour: {time.monotonic() - start:.0f} s by the clock, {totals.ended['skipped']} skipped")
+    totals = run(given.quick, [f"--count={given.count}", *more])
     if totals.ended["passed"] == 0:
         totals.ended["failed"] += 1
     print(f"{totals.ended['passed']} passed, {totals.ended['failed']} failed")

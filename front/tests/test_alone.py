@@ -80,6 +80,7 @@ def init(front: Path, folder: Path) -> Ran:
                          folder / "machine.toml")
 
 
+@pytest.mark.long
 @in_loop(300)
 async def test_a_heavy_account_holds_nobody_up(alone: Path, certificate: tuple[Path, Path], tmp_path: Path) -> None:
     """Four accounts are three islands with what each had. A line of a million steps, again and again, is not noticed by another island."""

@@ -169,10 +169,10 @@ def target(port: str, lines_port: str, certificate: str, key: str) -> Front:
     return front
 
 
-ATTACKS = [pipelines, half_open, malformed, wrong_sign_ons, pings, refused_lines, quick_lines]
+ATTACKS = [pipelines, half_open, malformed, wrong_sign_ons, pings, *(pytest.param(attack, marks=pytest.mark.long) for attack in (refused_lines, quick_lines))]
 
 
-@pytest.mark.parametrize("attack", ATTACKS, ids=[attack.__name__ for attack in ATTACKS])
+@pytest.mark.parametrize("attack", ATTACKS, ids=lambda attack: attack.__name__)
 @in_loop(300)
 async def test_a_neighbour_is_served_during_an_attack(start, attack: Attack, count: int) -> None:
     front: Front = start()
@@ -192,6 +192,7 @@ async def test_a_neighbour_is_served_during_an_attack(start, attack: Attack, cou
         assert not cleo.events and len(front.told()) < 5000
 
 
+@pytest.mark.long
 @in_loop(120)
 async def test_wrong_tries_keep_nobody_out(start) -> None:
     """Of one's own name from elsewhere, of other names at one's own address, and of a good token's user."""

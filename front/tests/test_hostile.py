@@ -47,7 +47,8 @@ async def closed(reader: asyncio.StreamReader, began: float) -> float:
 
 
 @pytest.mark.parametrize("data", [b"", b"GET / HTTP/1.1\r\n", b"GET / HTTP/1.1\r\nHost: localhost\r\nX: " + b"x" * 100,
-                                  b"POST /signon HTTP/1.1\r\nHost: localhost\r\nContent-Type: application/json\r\nContent-Length: 100\r\n\r\n{"],
+                                  pytest.param(b"POST /signon HTTP/1.1\r\nHost: localhost\r\nContent-Type: application/json\r\nContent-Length: 100\r\n\r\n{",
+                                               marks=pytest.mark.long)],
                          ids=["nothing", "half a head", "half a field", "half a body"])
 @in_loop()
 async def test_connections_of_which_nothing_comes_are_ended(start, data: bytes) -> None:
@@ -190,7 +191,8 @@ async def test_fragments_without_an_end(lasting: Front) -> None:
 @pytest.mark.parametrize("data", [
     b"x" * 100_000, b"GET / HTTP/1.1\r\nHost: x\r\nX: " + b"x" * 20_000 + b"\r\n\r\n", b"GET /" + b"x" * 20_000 + b" HTTP/1.1\r\n\r\n",
     b"POST /signon HTTP/1.1\r\nHost: localhost\r\nContent-Type: application/json\r\nContent-Length: 100000000\r\n\r\n" + b"x" * 200_000,
-    b"POST /signon HTTP/1.1\r\nHost: localhost\r\nContent-Length: 1\r\nTransfer-Encoding: chunked\r\n\r\n0\r\n\r\n", b"\0\xff" * 1000,
+    b"POST /signon HTTP/1.1\r\nHost: localhost\r\nContent-Length: 1\r\nTransfer-Encoding: chunked\r\n\r\n0\r\n\r\n",
+    pytest.param(b"\0\xff" * 1000, marks=pytest.mark.long),
     b"GET /health HTTP/1.1\r\nHost: localhost\r\n\r\n" * 200_000,
 ], ids=["no head", "long field", "long path", "long body", "two lengths", "bytes", "many at once"])
 @in_loop()

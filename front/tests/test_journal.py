@@ -467,6 +467,7 @@ def told_of(tmp_path_factory: pytest.TempPathFactory) -> Front:
     return front
 
 
+@pytest.mark.long
 def test_tail_grep_and_verify(told_of: Front) -> None:
     run = mjournal(told_of.folder / "journal")
     status, output, told = run("verify")
@@ -507,6 +508,7 @@ def test_words_of_mjournal(told_of: Front, tmp_path: Path) -> None:
     assert status == 2 and "keeps no journal" in told
 
 
+@pytest.mark.long
 @in_loop(200)
 async def test_a_disk_that_is_full(certificate: tuple[Path, Path], tmp_path: Path) -> None:
     """No line goes on, users and the operator are told, and once there is room all goes on. What was answered is in the journal."""

@@ -131,6 +131,7 @@ class Workers:
         await asyncio.gather(*self._tasks)
 
 
+@pytest.mark.long
 @in_loop(900)
 async def test_islands_on_three_machines(host: Callable[..., Gate], cluster: Pair, tmp_path: Path, count: int) -> None:
     """Users of all accounts work at once. An island moves meanwhile, and one machine's processes are killed and started again, then stopped in order and
@@ -170,6 +171,7 @@ async def test_islands_on_three_machines(host: Callable[..., Gate], cluster: Pai
         assert (status, told) == (0, "")
 
 
+@pytest.mark.long
 @pytest.mark.parametrize("what", ["front", "server"])
 @in_loop(600)
 async def test_an_island_that_had_trouble_is_taken_over(host: Callable[..., Gate], cluster: Pair, tmp_path: Path, what: str, count: int) -> None:
@@ -298,6 +300,7 @@ def token_config(folder: Path) -> Path:
     return path
 
 
+@pytest.mark.long
 @in_loop(200)
 async def test_commands_of_the_page(host: Callable[..., Gate], cluster: Pair, tmp_path: Path) -> None:
     """Those of docs/OPERATING.md that move a customer, and that take one whose machine is gone; and that machine comes back."""

@@ -176,11 +176,13 @@ def folder() -> Iterator[Path]:
         yield Path(made)
 
 
+@pytest.mark.long
 @in_loop(36_000)
 async def test_the_matrix_of_troubles(folder: Path, count: int) -> None:
     await tried(Pair(folder), COMBINATIONS, count)
 
 
+@pytest.mark.long
 @in_loop(36_000)
 async def test_the_matrix_of_troubles_over_a_database(folder: Path, count: int) -> None:
     """The database is one of the troubles; a full disk is its own."""

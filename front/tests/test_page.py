@@ -221,6 +221,7 @@ def test_load_that_stops_puts_the_old_routine_back(browsers: Opened) -> None:  #
                      [[["R", "1"], "R"], [["R", "1.5"], " W 1"], [["R", "note"], "x"]]]
 
 
+@pytest.mark.long
 def test_markup_stays_text(browsers: Opened) -> None:  # noqa: F811
     """In values, subscripts, output, lines, routines, questions and messages, nothing of a text becomes an element."""
     ada = browsers("ada")
@@ -252,6 +253,7 @@ def test_markup_stays_text(browsers: Opened) -> None:  # noqa: F811
     assert ada.line("W 1 2").splitlines()[:2] == ["W 1 2", "   ^ ZSYNTAX: two expressions need a comma, or two commands one space"]
 
 
+@pytest.mark.long
 def test_keyboard_alone(browsers: Opened) -> None:  # noqa: F811
     """Signs on, runs a line, opens the tree, changes a node, kills one, and signs off, with keys alone and the focus in sight."""
     ada = browsers()
@@ -416,6 +418,7 @@ def test_server_that_ends_is_told(browsers: Opened, page_front: Front) -> None: 
     assert ben.line("W ^STAYS").startswith("there") and ben.line("W A").startswith("M6")
 
 
+@pytest.mark.long
 def test_what_was_not_saved_is_kept_for_its_user_alone(browsers: Opened, page_front: Front) -> None:  # noqa: F811
     """A session that the service ends leaves nothing on the screen; the same user finds the routine again, and nobody else does."""
     ben = browsers("ben")

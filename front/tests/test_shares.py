@@ -130,6 +130,7 @@ async def busy(front: Front, seconds: float) -> AsyncIterator[None]:
 LIMITS = {"sign_on": 2, "token_idle": 2, "idle": 2, "absent": 2, "heartbeat": 1}
 
 
+@pytest.mark.long
 @in_loop(120)
 async def test_variables_last_while_a_line_waits_for_the_server_for_longer_than_any_clock(start) -> None:
     """By a token, by the page and at the line port: each of these was signed off as idle, and `W A` gave M6."""

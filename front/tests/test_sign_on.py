@@ -261,6 +261,7 @@ async def test_wrong_passwords_slow_down_a_user(start) -> None:
         assert (await ada.sign_on("wrong"))[0] == 401
 
 
+@pytest.mark.long
 @in_loop(90)
 async def test_wrong_passwords_slow_down_an_address(start) -> None:
     """Attempts of one address at many names, at once: after twenty there is one a second, and a user of that address with the right password waits for
@@ -298,6 +299,7 @@ def test_networks_of_addresses() -> None:
     assert network_of("2001:db8:1:2:3::4") == network_of("2001:db8:1:2:9::1") != network_of("2001:db8:1:3::1")
 
 
+@pytest.mark.alone
 def test_unknown_users_take_as_long(tmp_path) -> None:
     """The same hash is computed for a name that nobody has. The middle of several times is compared, since others use the machine."""
     write_users(tmp_path / "users.json", {})

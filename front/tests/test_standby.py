@@ -395,7 +395,7 @@ async def goes_on(leader: Front, second: Front, left: int, journal: Path) -> Non
         assert await ada.told("W ^X") == "3"
 
 
-@pytest.mark.parametrize("alone", [True, False])
+@pytest.mark.parametrize("alone", [pytest.param(True, marks=pytest.mark.long), False])
 @in_loop(200)
 async def test_a_leader_that_was_killed_stands_by(start, tmp_path: Path, alone: bool) -> None:
     """If all its lines were answered, its store stands after the last of them: whether nobody has served since (`alone`) or another one has."""
@@ -504,6 +504,7 @@ class Load:
         assert not again, f"kill {number}: not run once: {again}"
 
 
+@pytest.mark.long
 @in_loop(3000)
 async def test_leaders_that_are_killed(start, tmp_path: Path, count: int) -> None:
     """Each time the standby is promoted: what was answered is there, nothing runs twice, and the next standby runs the journal from its beginning."""
@@ -536,6 +537,7 @@ def has_taken(front: Front, journal: Path) -> bool:
     return str(journal / "lock") in found
 
 
+@pytest.mark.long
 @in_loop(200)
 async def test_a_stop_during_a_promotion(start, tmp_path: Path) -> None:
     """The promotion is given up, and the standby ends as at any stop: another one takes over, and then this one in its turn."""

@@ -65,6 +65,7 @@ async def test_a_line_on_its_way_has_its_reply_before_the_user_hears_of_a_stop(s
     assert standing["number"] is not None and standing["number"] >= 5
 
 
+@pytest.mark.long
 @in_loop(90)
 async def test_a_line_that_the_server_does_not_answer_is_unknown_before_the_user_hears_of_a_stop(start) -> None:
     front: Front = start()

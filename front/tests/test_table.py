@@ -176,6 +176,7 @@ def log_key(journal: JournalSettings) -> int:
     return key_of(journal.name) % (1 << 32)
 
 
+@pytest.mark.long
 @in_loop(200)
 async def test_a_database_that_is_away(start, tmp_path: Path) -> None:
     """Lines are refused meanwhile and users told; then all goes on, and what was answered is in the journal."""
@@ -231,6 +232,7 @@ async def waits_for_its_journal(second: Front, cluster: Cluster) -> None:
     assert await asyncio.to_thread(takes_over, second) == ""
 
 
+@pytest.mark.long
 @in_loop(300)
 async def test_a_database_that_is_away_for_a_minute(start, tmp_path: Path) -> None:
     """A reply that cannot be noted is held back after half a minute, and noted once the database is there; nothing that was answered is lost."""
@@ -310,6 +312,7 @@ class Wire:
         self._server.close()
 
 
+@pytest.mark.long
 @in_loop(200)
 async def test_connections_that_are_cut(start, tmp_path: Path) -> None:
     """The database does not see the end of the one that has the lock: the front has it end that one, and goes on by itself."""
@@ -388,6 +391,7 @@ async def test_a_database_whose_disk_is_full(start, tmp_path: Path) -> None:
         assert run("replay", "--store", tmp_path / "new")[::2] == (0, "") and held(tmp_path / "new") == held(front.folder / "store.db")
 
 
+@pytest.mark.long
 @in_loop(1500)
 async def test_leaders_that_are_killed(start, journal: JournalSettings, tmp_path: Path, count: int) -> None:
     """The lock goes with the leader's connection; what was answered is there, and nothing runs twice."""
@@ -428,6 +432,7 @@ def freed(journal: JournalSettings) -> None:
     taken(journal)[0].close()
 
 
+@pytest.mark.long
 @in_loop(200)
 async def test_a_leader_that_was_killed_stands_by(start, journal: JournalSettings) -> None:
     """Its store stands after its last line, by the table, in which another one has written since."""
@@ -450,6 +455,7 @@ async def test_a_leader_that_was_killed_stands_by(start, journal: JournalSetting
         assert await ada.told("W ^X") == "2"
 
 
+@pytest.mark.long
 @in_loop(200)
 async def test_synchronous_replication(start, tmp_path: Path) -> None:
     """The primary ends at once, its replica takes over, and the front goes on there with all that was answered."""

@@ -176,6 +176,7 @@ def test_sandbox_of_a_unit(unit: str) -> None:
     assert found and float(found[1]) <= MOST_EXPOSURE, done.stdout + done.stderr
 
 
+@pytest.mark.long
 def test_from_nothing_to_a_user_and_back(root: Root) -> None:
     """Each command of the page is run; then a user signs on over TLS with the page's own calls, the clients run, and all but the data goes."""
     before = root.changed()

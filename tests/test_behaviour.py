@@ -1,0 +1,82 @@
+# SPDX-License-Identifier: Apache-2.0
+"""How tools/behaviour.py runs tests in stages, over a small tree of tests with all marks: each case once, and without the long ones by `--quick`."""
+from __future__ import annotations
+
+import shutil
+from collections import Counter
+from pathlib import Path
+
+import behaviour
+import pytest
+
+CASES = """import pytest
+def test_plain(): pass
+@pytest.mark.parametrize("number", [1, pytest.param(2, marks=pytest.mark.long)])
+def test_numbers(number): pass
+@pytest.mark.long
+def test_long(): pass
+"""
+MARKED = "@pytest.mark.{0}\ndef test_{0}(): pass\n"
+# Of each file how many cases there are, and how many of them are long.
+FILES = {"tests/test_all.py": (6, 2), "clients/tests/test_some.py": (4, 2), "front/tests/test_table.py": (4, 2), "front/tests/test_some.py": (5, 2),
+         "packaging/tests/test_some.py": (4, 2)}
+
+
+@pytest.fixture
+def top(tmp_path: Path, monkeypatch: pytest.MonkeyPatch) -> Path:
+    """A tree with tests, the settings of pytest, and what the tests' own conftest.py stands on."""
+    real = Path(behaviour.TOP)
+    for file in FILES:
+        folder = (tmp_path / file).parent
+        folder.mkdir(parents=True, exist_ok=True)
+        (tmp_path / file).write_text(CASES)
+        (folder / "conftest.py").write_text("def pytest_addoption(parser):\n    parser.addoption('--count', type=int, default=1)\n")
+        shutil.copy(real / folder.relative_to(tmp_path).parent / "pytest.ini", folder.parent)
+    # A package declares no such option.
+    (tmp_path / "packaging" / "tests" / "conftest.py").unlink()
+    for name in ("conftest.py", "support.py"):
+        shutil.copy(real / "tests" / name, tmp_path / "tests")
+    (tmp_path / "tools").symlink_to(real / "tools")
+    append(tmp_path / "tests" / "test_all.py", MARKED.format("waits") + MARKED.format("alone"))
+    append(tmp_path / "front" / "tests" / "test_some.py", MARKED.format("alone"))
+    monkeypatch.setattr(behaviour, "TOP", str(tmp_path))
+    return tmp_path
+
+
+def append(path: Path, text: str) -> None:
+    """Adds cases to a file."""
+    with path.open("a", encoding="utf-8") as file:
+        file.write(text)
+
+
+def test_each_case_is_run_once(top: Path, capfd: pytest.CaptureFixture[str]) -> None:
+    totals = behaviour.run(False, ["--count=1"])
+    assert totals.files == {file: count for file, (count, _) in FILES.items()}, capfd.readouterr()
+    assert totals.ended == {"passed": sum(count for count, _ in FILES.values())}
+    assert "left out" not in capfd.readouterr().out
+
+
+def test_quick_leaves_out_long_cases_and_a_case_of_two_stages_is_told(top: Path, capfd: pytest.CaptureFixture[str]) -> None:
+    append(top / "tests" / "test_all.py", "@pytest.mark.waits\n@pytest.mark.alone\ndef test_both(): pass\n")
+    totals = behaviour.run(True, ["--count=1"])
+    quick = Counter({file: count - long for file, (count, long) in FILES.items()})
+    assert totals.files == quick + Counter({"tests/test_all.py": 2}), capfd.readouterr()
+    assert totals.ended == {"passed": quick.total() + 2, "failed": 1}
+    told = capfd.readouterr().out
+    assert "behaviour: tests/test_all.py: pytest finds 5 cases, the stages ran 6: a mark hides some, or puts some into two\n" in told
+    assert f"skipped, {sum(long for _, long in FILES.values())} left out\n" in told
+
+
+@pytest.mark.parametrize(("found", "ran", "failed"), [
+    ({"a.py": 2}, {"a.py": 2}, 0), ({"a.py": 2, "b.py": 1}, {"a.py": 2}, 1), ({"a.py": 2}, {"a.py": 1, "b.py": 1}, 2), ({}, {}, 0),
+])
+def test_cases_that_no_stage_runs(found: dict[str, int], ran: dict[str, int], failed: int) -> None:
+    totals = behaviour.Totals(files=Counter(ran))
+    behaviour.compare(behaviour.Collected(Counter(found)), totals)
+    assert totals.ended["failed"] == failed
+
+
+def test_files_of_the_front_that_take_long_begin_first() -> None:
+    files = behaviour.front_files()
+    assert [Path(file).name for file in files[:len(behaviour.FIRST)]] == behaviour.FIRST
+    assert sorted(files) == sorted(f"{behaviour.FRONT}/{path.name}" for path in Path(behaviour.TOP, behaviour.FRONT).glob("test_*.py"))

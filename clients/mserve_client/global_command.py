@@ -151,7 +151,7 @@ def place(text: str) -> tuple[str, keys.Subscripts]:
 def export(found: Way, chosen: argparse.Namespace) -> int:
     """Writes nodes to a file, which is there whole or not at all."""
     wanted = places(found, chosen.globals)
-    left, far = 0, Far(found, wanted)
+    left, missing, far = 0, 0, Far(found, wanted)
     with output(chosen.to) as file, Progress("export", far.part) as progress:
         how = form(chosen, chosen.format)
         file.write(extracts.header(how))
@@ -165,9 +165,10 @@ def export(found: Way, chosen: argparse.Namespace) -> int:
                     left += 1
                     options.tell(NAME, f"left out: {error.reason}")
             if progress.count + left == before:
+                missing += 1
                 options.tell(NAME, f"{shown_node(name, start)}: there is no such node")
     options.tell(NAME, f"{counted(progress.count, 'node')} exported" + (f", {left:,} left out" if left else "") + progress.shown_rate)
-    return FOUND if left else 0
+    return FOUND if left or missing else 0
 
 
 class Far:

@@ -299,6 +299,18 @@ def test_null_subscripts(server: Server, command: Command, tmp_path: Path) -> No
     assert ran.status == 1 and "--null-subscript: its subscript 1 has 256 characters" in ran.told
 
 
+@pytest.mark.parametrize("way", ["straight", "terminal"])
+def test_export_of_what_is_not_there(server: Server, command: Command, tmp_path: Path, way: str) -> None:
+    """What is there is written; a name that has no node may be a slip, so it is told, and the status says so."""
+    (tmp_path / "in.zwr").write_text(ZWR)
+    place = (server.port, ALICE) if way == "terminal" else ("store.db", "LAB")
+    assert command("mglobal", *place, "import", "in.zwr", *(["--new-account"] if way == "straight" else [])).status == 0
+    ran = command("mglobal", *place, "export", "^Y", "^NONE", '^X("none")')
+    assert ran.status == 1 and without_head(ran.output) == without_head(ZWR).splitlines(True)[-1]
+    assert ran.told == 'mglobal: ^NONE: there is no such node\nmglobal: ^X("none"): there is no such node\nmglobal: 1 node exported\n'
+    assert command("mglobal", *place, "export", "^Y").status == 0
+
+
 def test_several_nodes_go_by_one_line(server: Server, command: Command, tmp_path: Path) -> None:
     """Short and long texts in turns; a name twice keeps the last text; what a code stops is said node by node."""
     nodes = {f"{number}": "x" * (number % 9 * 40 if number % 50 else 3000) for number in range(1, 300)}

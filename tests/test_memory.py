@@ -49,6 +49,10 @@ APART = [(block, name) for block in SEVERAL for name, terminals in accounts_of(S
          if terminals and reaching(name, grants_of(SERVED[block.kind])) == {name}]
 # Those that are played otherwise than as one stream over memory.
 STEPS, REOPENED, CONNECTIONS = ([block for block in blocks() if block.kind == kind] for kind in ("steps", "reopened", "connections"))
+# Blocks with so many requests that it takes long to refuse each.
+LONG = {"six hundred subscripts and three hundred names of locals, read and walked both ways", "texts of 4,095 characters", "levels and indirections together",
+        "the code of a level comes before those of its text, and behind that of the operand", "256 levels and no more", "a routine of many lines",
+        "locals and the naked indicator go with the world, and globals stay"}
 # The lines of a connection, and the replies to its first lines: none, one, and so on.
 STREAM = b"".join(line for line, _ in COUNTED)
 # What the next connection asks: which line was the last to set A.
@@ -80,6 +84,11 @@ def row_of(block: Block) -> Row:
     """A block whose lines are one stream."""
     words = run_words(ONLY[0], only=ONLY[1]) if block.kind == "only" else run_words(SERVED[block.kind])
     return Row(words, block.stream(), block.replies())
+
+
+def case_of(block: Block, name: str) -> object:
+    """A case of a test, by its block."""
+    return pytest.param(block, id=name, marks=[pytest.mark.long] if block.name in LONG else [])
 
 
 def refusing(library: str, words: list[str], stream: bytes, nth: int) -> tuple[Ran, int]:
@@ -234,7 +243,7 @@ def in_the_lines(library: str, block: Block, folder: Path, most: int) -> list[Ra
     return ran
 
 
-@pytest.mark.parametrize("block", BLOCKS, ids=[f"{block.kind}: {block.name}" for block in BLOCKS])
+@pytest.mark.parametrize("block", [case_of(block, f"{block.kind}: {block.name}") for block in BLOCKS])
 def test_in_the_lines(block: Block, memory_library: str, folder_in_memory: Path, count: int) -> None:
     """If the settings have several accounts, those that the account of the refused request does not reach are shown what the block has."""
     ran = in_the_lines(memory_library, block, folder_in_memory, count * MOST if block in SEVERAL else sys.maxsize)
@@ -290,7 +299,7 @@ def fault_over_a_file(wanted: bytes, ran: Ran) -> str | None:
     return fault_at_start(wanted, ran) if ran.output == b"" and ran.status in (2, 3, 4) else fault(wanted, ran)
 
 
-@pytest.mark.parametrize("block", REOPENED, ids=[block.name for block in REOPENED])
+@pytest.mark.parametrize("block", [case_of(block, block.name) for block in REOPENED])
 def test_over_a_file(block: Block, memory_library: str, folder_in_memory: Path, count: int) -> None:
     """Each line is a run of its own over the same file, of which requests are refused in a copy of it. The next line finds what was answered, and a
     line that was not answered leaves a store that is opened."""

@@ -133,6 +133,7 @@ def cost_of(store: str) -> tuple[float, int]:
     return time.monotonic() - begun, used.ru_maxrss
 
 
+@pytest.mark.long
 @pytest.mark.alone
 def test_what_it_costs(tmp_path: Path, count: int) -> None:
     """Of a store of which one node in a thousand moves the first open takes at most three times the time that it takes of the same store in this

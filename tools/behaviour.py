@@ -1,9 +1,9 @@
 #!/usr/bin/env python3
 # SPDX-License-Identifier: Apache-2.0
-"""Runs the tests of behaviour, those of tests/, clients/, front/ and packaging/, over the built program, in stages: first tests that measure a time,
-one after another. Then those of tests/, clients/ and packaging/, several pytest processes side by side: one that waits more than it computes, one
-each for the clients and the package, and one for each processor. Then the front's, a process for each file, as many at once as there are
-processors: they wait for timers, and fail on a machine that is too busy.
+"""Runs the tests of behaviour, those of tests/, clients/, front/ and packaging/, over the built program, in stages: first tests that measure a time
+or that others would notice, one after another. Then those of tests/, clients/ and packaging/, several pytest processes side by side: one that waits
+more than it computes, one each for the clients and the package, and one for each processor. Then the front's, a process for each file, as many at
+once as there are processors: they wait for timers, and fail on a machine that is too busy.
 
     tools/behaviour.py [--quick] [--count N] [WORD ..]    draws N times as many cases; hands words on to pytest, as `-k isolation`
     tools/behaviour.py --packages                         runs nothing: says whether a package is missing

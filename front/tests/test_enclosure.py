@@ -54,8 +54,11 @@ def as_nobody(*words: str) -> subprocess.Popen[str]:
                             text=True)
 
 
+@pytest.mark.alone
+@pytest.mark.long
 @in_loop(120)
 async def test_nobody_reaches_the_server_also_while_it_is_started_again(start, tmp_path) -> None:
+    """The intruder tries each port of the machine, those of other tests too."""
     front: Front = start(tls=False, store=str(tmp_path / "store"))
     async with front.person("ada") as ada:
         assert await ada.told('S ^SECRET="hidden"') == ""

@@ -76,7 +76,8 @@ def test_cases_that_no_stage_runs(found: dict[str, int], ran: dict[str, int], fa
     assert totals.ended["failed"] == failed
 
 
-def test_files_of_the_front_that_take_long_begin_first() -> None:
-    files = behaviour.front_files()
-    assert [Path(file).name for file in files[:len(behaviour.FIRST)]] == behaviour.FIRST
-    assert sorted(files) == sorted(f"{behaviour.FRONT}/{path.name}" for path in Path(behaviour.TOP, behaviour.FRONT).glob("test_*.py"))
+@pytest.mark.parametrize("suite", behaviour.FIRST)
+def test_files_that_take_long_begin_first(suite: str) -> None:
+    names, first = behaviour.names_of(suite), behaviour.FIRST[suite]
+    assert tuple(names[:len(first)]) == first
+    assert sorted(f"test_{name}.py" for name in names) == sorted(path.name for path in Path(behaviour.TOP, suite).glob("test_*.py"))

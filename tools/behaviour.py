@@ -1,9 +1,9 @@
 #!/usr/bin/env python3
 # SPDX-License-Identifier: Apache-2.0
 """Runs the tests of behaviour, those of tests/, clients/, front/ and packaging/, over the built program, in stages: first tests that measure a time
-or that others would notice, one after another. Then those of tests/, clients/ and packaging/, several pytest processes side by side: one that waits
-more than it computes, one each for the clients and the package, and one for each processor. Then the front's, a process for each file, as many at
-once as there are processors: they wait for timers, and fail on a machine that is too busy.
+or that others would notice, one after another. Then those of tests/, clients/ and packaging/: one pytest process for those that wait more than they
+compute, one for the package, one for each file of the clients, and two for each processor, of which two more run at once than there are processors.
+Then the front's, a process for each file, as many at once as there are processors: they wait for timers, and fail on a machine that is too busy.
 
     tools/behaviour.py [--quick] [--count N] [WORD ..]    draws N times as many cases; hands words on to pytest, as `-k isolation`
     tools/behaviour.py --packages                         runs nothing: says whether a package is missing
@@ -41,8 +41,12 @@ SLOWEST = 10
 TESTS, CLIENTS, FRONT, PACKAGING = SUITES = ("tests", "clients/tests", "front/tests", "packaging/tests")
 # Those that draw their cases.
 COUNTED = (TESTS, CLIENTS, FRONT)
-# Files of the front that take long begin first, so that none of them is left alone at the end. Nothing rests on that but the time.
-FIRST = [f"test_{name}.py" for name in ("table", "matrix", "standby", "hostile", "page", "machines", "replay")]
+# Files that take long begin first, so that none of them is left alone at the end. Nothing rests on that but the time.
+FIRST = {CLIENTS: ("shell", "globals", "routines", "gtm"), FRONT: ("table", "matrix", "standby", "hostile", "page", "machines", "replay")}
+# So many parts the cases of tests/ that compute have for each processor, so that no part is much longer than another.
+PARTS = 2
+# So many more processes than processors run at once where some of them wait.
+MORE = 2
 # pytest ends with this status if no case is left by its words.
 NO_CASE = 5
 
@@ -109,10 +113,10 @@ def chosen(marks: str, is_quick: bool) -> list[str]:
     return ["-m", " and ".join(filter(None, (marks, "not long" if is_quick else "")))]
 
 
-def front_files() -> list[str]:
-    """The files of the front's tests, in the order in which they begin."""
-    names = sorted(path.name for path in Path(TOP, FRONT).glob("test_*.py"))
-    return [f"{FRONT}/{name}" for name in sorted(names, key=lambda name: FIRST.index(name) if name in FIRST else len(FIRST))]
+def names_of(suite: str) -> list[str]:
+    """The names of a folder's files of tests, without `test_` and the ending, in the order in which they begin."""
+    names, first = sorted(path.stem.removeprefix("test_") for path in Path(TOP, suite).glob("test_*.py")), FIRST[suite]
+    return sorted(names, key=lambda name: first.index(name) if name in first else len(first))
 
 
 def stages(folder: str, is_quick: bool, more: list[str]) -> list[Stage]:
@@ -121,11 +125,14 @@ def stages(folder: str, is_quick: bool, more: list[str]) -> list[Stage]:
 
     def part(name: str, suite: str, marks: str, *words: str) -> Part:
         return Part(name, suite, [*(words or (suite,)), *chosen(marks, is_quick), *more_of(suite, more)], folder)
+
+    def files(suite: str, marks: str) -> list[Part]:
+        return [part(f"{suite.partition('/')[0]} {name}", suite, marks, f"{suite}/test_{name}.py") for name in names_of(suite)]
     measuring = [part(f"alone {suite.partition('/')[0]}", suite, "alone") for suite in (TESTS, FRONT)]
-    computing = [part(f"part {number}", TESTS, "not waits and not alone", TESTS, f"--part={number}/{processors}") for number in range(1, processors + 1)]
-    side_by_side = [part("waiting", TESTS, "waits"), part("clients", CLIENTS, ""), part("packaging", PACKAGING, ""), *computing]
-    front = [part(f"front {Path(file).stem.removeprefix('test_')}", FRONT, "not alone", file) for file in front_files()]
-    return [Stage(measuring, 1), Stage(side_by_side, len(side_by_side)), Stage(front, processors)]
+    count = PARTS * processors
+    computing = [part(f"part {number}", TESTS, "not waits and not alone", TESTS, f"--part={number}/{count}") for number in range(1, count + 1)]
+    side_by_side = [part("waiting", TESTS, "waits"), part("packaging", PACKAGING, ""), *files(CLIENTS, ""), *computing]
+    return [Stage(measuring, 1), Stage(side_by_side, processors + MORE), Stage(files(FRONT, "not alone"), processors)]
 
 
 def more_of(suite: str, more: list[str]) -> list[str]:

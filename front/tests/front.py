@@ -13,7 +13,7 @@ import ssl
 import subprocess
 import sys
 import time
-from collections.abc import Awaitable, Callable, Sequence
+from collections.abc import AsyncIterator, Awaitable, Callable, Sequence
 from pathlib import Path
 from typing import Any
 
@@ -278,6 +278,25 @@ class Person:
         """The rest of a line's output, or its code."""
         record = await self.line(line)
         return record["code"] or record["rest"]
+
+
+@contextlib.asynccontextmanager
+async def busy(front: Front, seconds: float = 0) -> AsyncIterator[None]:
+    """While the block runs, the server is at a line of somebody else, and for so long at least."""
+    os.kill(front.child, signal.SIGSTOP)
+    try:
+        yield
+        await asyncio.sleep(seconds)
+    finally:
+        os.kill(front.child, signal.SIGCONT)
+
+
+async def lines_wait(person: Person, count: int) -> None:
+    """Waits until the front has so many lines without a reply."""
+    async def wait() -> bool:
+        async with person.http.get("/metrics") as response:
+            return f"\nmfront_lines_waiting {count}\n" in await response.text()
+    await until(wait, f"{count} lines that wait for the server")
 
 
 async def given_back(person: Person) -> None:

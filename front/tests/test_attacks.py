@@ -1,6 +1,7 @@
 # SPDX-License-Identifier: Apache-2.0
 """Attacks on other accounts' service, by somebody without a sign-on and by a user who is signed on: a neighbour at another address, who sends twenty
-lines a second, is answered each, and none is refused. `--count 30` attacks for half a minute each, with the bound of a quarter of a second."""
+lines a second, is answered each, and none is refused. `STRICT=1` with `--count 30` attacks for half a minute each, and bounds the waits by a quarter of
+a second: it needs a machine that has no other work."""
 from __future__ import annotations
 
 import asyncio
@@ -9,19 +10,25 @@ import json
 import os
 import sys
 import time
+from collections import Counter
 from collections.abc import Awaitable, Callable
 from dataclasses import dataclass, field
 from pathlib import Path
 
 import aiohttp
 import pytest
-from front import PASSWORD, Front, Person, in_loop
+from front import PASSWORD, Front, Person, in_loop, until
 from test_programs import Program
 
-# Seconds of an attack for each count, lines a second of the neighbour, and the bound of the 99th percentile: on a machine that has other work, more.
-SECONDS, RATE, STRICT, LOOSE = 4, 20, 0.25, 4.0
+# Seconds of an attack for each count, and lines a second of the neighbour.
+SECONDS, RATE = 4, 20
+# The bound in seconds of the 99th percentile of the waits, where the variable STRICT is set; on a machine that has other work, of the middle one: who is
+# not served as long as the attack lasts waits for half of that.
+STRICT, LOOSE = 0.25, 1.5
 # Millions of bytes that the front has at most meanwhile.
 MEMORY = 300
+# Of the audit log: bytes that a record has at most, and records that are of no line that was served, whatever is sent.
+RECORD, OTHERS = 300, 200
 
 
 @dataclass
@@ -59,7 +66,14 @@ def memory(front: Front) -> float:
     return int(found.partition("VmHWM:")[2].split()[0]) / 1000
 
 
-Attack = Callable[[Front, float], Awaitable[None]]
+def noted(front: Front, since: int) -> tuple[Counter[str], int]:
+    """How many records of each event the audit log has from a place on, and the bytes of the longest."""
+    lines = (front.folder / "audit.log").read_bytes()[since:].splitlines()
+    return Counter(json.loads(line)["event"] for line in lines), max(map(len, lines), default=0)
+
+
+# It says how many of its lines were served.
+Attack = Callable[[Front, float], Awaitable[int]]
 
 
 async def connections(front: Front, count: int, work: Callable[[asyncio.StreamReader, asyncio.StreamWriter], Awaitable[None]], seconds: float,
@@ -81,7 +95,7 @@ async def connections(front: Front, count: int, work: Callable[[asyncio.StreamRe
     await asyncio.gather(*(one(number) for number in range(count)))
 
 
-async def pipelines(front: Front, seconds: float) -> None:
+async def pipelines(front: Front, seconds: float) -> int:
     """Requests sent ahead over many connections, and nothing read."""
     async def work(_: asyncio.StreamReader, writer: asyncio.StreamWriter) -> None:
         while True:
@@ -89,24 +103,27 @@ async def pipelines(front: Front, seconds: float) -> None:
             await writer.drain()
             await asyncio.sleep(0)
     await connections(front, 60, work, seconds)
+    return 0
 
 
-async def half_open(front: Front, seconds: float) -> None:
+async def half_open(front: Front, seconds: float) -> int:
     """Connections of which nothing comes."""
     async def work(reader: asyncio.StreamReader, _: asyncio.StreamWriter) -> None:
         await reader.read()
     await connections(front, 150, work, seconds)
+    return 0
 
 
-async def malformed(front: Front, seconds: float) -> None:
+async def malformed(front: Front, seconds: float) -> int:
     """What is no request, again and again."""
     async def work(reader: asyncio.StreamReader, writer: asyncio.StreamWriter) -> None:
         writer.write(b"\0\xff" * 2000 + b"\r\n\r\n")
         await reader.read()
     await connections(front, 20, work, seconds)
+    return 0
 
 
-async def wrong_sign_ons(front: Front, seconds: float) -> None:
+async def wrong_sign_ons(front: Front, seconds: float) -> int:
     """Wrong passwords of many names from many addresses, and of the neighbour's own name."""
     async def work(reader: asyncio.StreamReader, writer: asyncio.StreamWriter) -> None:
         for number in range(10_000):
@@ -115,9 +132,10 @@ async def wrong_sign_ons(front: Front, seconds: float) -> None:
             head = await reader.readuntil(b"\r\n\r\n")
             await reader.readexactly(int(head.lower().partition(b"content-length:")[2].split()[0]))
     await connections(front, 40, work, seconds)
+    return 0
 
 
-async def pings(front: Front, seconds: float) -> None:
+async def pings(front: Front, seconds: float) -> int:
     """A user's pings, as fast as they are taken."""
     async with front.person("ada") as ada:
         end = time.monotonic() + seconds
@@ -128,9 +146,10 @@ async def pings(front: Front, seconds: float) -> None:
             while transport.get_write_buffer_size() > 1 << 16 and time.monotonic() < end:
                 await asyncio.sleep(0.01)
         transport.abort()
+    return 0
 
 
-async def refused_lines(front: Front, seconds: float) -> None:
+async def refused_lines(front: Front, seconds: float) -> int:
     """A program's lines that are refused, as fast as they are taken."""
     async with Program(front, f"ada {PASSWORD}") as program:
         end = time.monotonic() + seconds
@@ -141,25 +160,27 @@ async def refused_lines(front: Front, seconds: float) -> None:
                     await program.writer.drain()
                     await asyncio.sleep(0)
         program.writer.transport.abort()
+    return 0
 
 
-async def quick_lines(front: Front, seconds: float) -> None:
+async def quick_lines(front: Front, seconds: float) -> int:
     """All terminals of an account send lines as fast as their replies come."""
-    async def one() -> None:
+    async def one() -> int:
+        served = 0
         async with Program(front, f"ada {PASSWORD}") as program:
             end = time.monotonic() + seconds
             while time.monotonic() < end:
+                program.writer.write(b"S A=1\n" * 20)
                 for _ in range(20):
-                    program.writer.write(b"S A=1\n")
-                for _ in range(20):
-                    await program.next()
-    await asyncio.gather(*(one() for _ in range(3)))
+                    served += (await program.next())["code"] is None
+        return served
+    return sum(await asyncio.gather(*(one() for _ in range(3))))
 
 
 async def attacked(front: Front, attack: Attack, seconds: float) -> asyncio.subprocess.Process:
     """Has a process of its own attack a front for so long: what it computes takes none of the neighbour's time."""
     words = [attack.__name__, str(seconds), str(front.port), str(front.lines_port), *map(str, front.certificate)]
-    return await asyncio.create_subprocess_exec("nice", "-n", "10", sys.executable, __file__, *words)
+    return await asyncio.create_subprocess_exec("nice", "-n", "10", sys.executable, __file__, *words, stdout=asyncio.subprocess.PIPE)
 
 
 def target(port: str, lines_port: str, certificate: str, key: str) -> Front:
@@ -181,25 +202,25 @@ async def test_a_neighbour_is_served_during_an_attack(start, attack: Attack, cou
         before = (front.folder / "audit.log").stat().st_size
         attacker = await attacked(front, attack, seconds)
         watched = await neighbour(cleo, seconds)
-        assert await attacker.wait() == 0
-        noted = (front.folder / "audit.log").stat().st_size - before
-        told = f"99 % within {watched.place(0.99) * 1000:.0f} ms, longest {max(watched.waits) * 1000:.0f} ms, {memory(front):.0f} MB, {noted} bytes of audit"
+        served = int((await attacker.communicate())[0])
+        events, longest = noted(front, before)
+        told = f"99 % within {watched.place(0.99) * 1000:.0f} ms, longest {max(watched.waits) * 1000:.0f} ms, {memory(front):.0f} MB, {dict(events)}"
         print(f"{attack.__name__}: {told}")
-        assert watched.refused == 0 and watched.place(0.99) < (STRICT if os.environ.get("STRICT") else LOOSE), told
+        assert watched.refused == 0 and (watched.place(0.99) < STRICT if os.environ.get("STRICT") else watched.place(0.5) < LOOSE), told
         assert memory(front) < MEMORY, told
-        # Lines that were served are noted; nothing else grows by what is sent.
-        assert noted < 300_000 * seconds, told
+        # Lines that were served are noted, each by a short record; nothing else grows by what is sent, however fast the machine is.
+        assert events.pop("line") == served + len(watched.waits) and events.total() < OTHERS and longest < RECORD, (told, served)
         assert not cleo.events and len(front.told()) < 5000
 
 
 @pytest.mark.long
 @in_loop(120)
 async def test_wrong_tries_keep_nobody_out(start) -> None:
-    """Of one's own name from elsewhere, of other names at one's own address, and of a good token's user."""
+    """Of one's own name from elsewhere, and of other names."""
     front: Front = start()
     async with front.person("cleo") as cleo:
         attack = await attacked(front, wrong_sign_ons, 6)
-        await asyncio.sleep(1)
+        await until(lambda: any(record["event"] == "refused" for record in front.audit()), "a wrong try")
         began = time.monotonic()
         for _ in range(3):
             async with front.person("cleo") as again:
@@ -223,4 +244,4 @@ async def test_a_flood_of_right_passwords_takes_no_more_than_its_turns(start) ->
 
 
 if __name__ == "__main__":
-    asyncio.run(globals()[sys.argv[1]](target(*sys.argv[3:]), float(sys.argv[2])))
+    print(asyncio.run(globals()[sys.argv[1]](target(*sys.argv[3:]), float(sys.argv[2]))))

@@ -34,9 +34,19 @@ def token_of(front: Front, user: str = "ada") -> str:
     """A new token of a user, which the front knows then."""
     words = [sys.executable, FRONT / "mfront", "token", "add", user, "--config", front.folder / "front.toml"]
     made = subprocess.run(words, check=True, capture_output=True, text=True, timeout=60).stdout.strip()
-    # The front reads the users' file again each second.
-    time.sleep(3)
+    end = time.monotonic() + 30
+    while not knows(front, user, made):
+        assert time.monotonic() < end, "the front does not read the users' file"
+        time.sleep(0.5)
     return made
+
+
+def knows(front: Front, user: str, secret: str) -> bool:
+    """Whether a user can sign on at the line port."""
+    with socket.create_connection(("127.0.0.1", front.lines_port), timeout=60) as plain, \
+            front.context.wrap_socket(plain, server_hostname="localhost") as connection:
+        connection.sendall(f"{user} {secret}\n".encode())
+        return "terminal" in json.loads(connection.makefile("rb").readline())
 
 
 def authority(front: Front) -> str:
@@ -250,11 +260,11 @@ def test_shell_of_a_person_over_tls(start: Starter, tmp_path: Path) -> None:
 
 
 def test_an_idle_shell_answers_pings(start: Starter) -> None:
-    """The front pings each second here, and cuts off who does not answer within two and a half."""
-    front = start(limits={"heartbeat": 1})
+    """The front pings each three seconds here, and cuts off who does not answer within seven and a half."""
+    front = start(limits={"heartbeat": 3})
     with FrontConnection(front.origin, "ada", PASSWORD, authority=authority(front)) as connection:
         connection.send("S A=1")
-        time.sleep(6)
+        time.sleep(9)
         assert connection.send("W A").rest == "1"
 
 

@@ -8,7 +8,7 @@ import ssl
 from types import SimpleNamespace
 
 import pytest
-from front import PASSWORD, Front, in_loop
+from front import PASSWORD, Front, in_loop, until
 from mserve_front.doors import Doors
 from mserve_front.gate import Gate
 from mserve_front.preamble import new_secret, preamble, told_by
@@ -94,6 +94,8 @@ async def test_bytes_are_carried_on_after_a_true_handshake_alone(answer: bytes, 
     async with Running(answer) as gate:
         await gate.asks(HANDSHAKE, b"raw bytes")
         [got] = gate.inner.connections
+        if carried:
+            await until(lambda: b"raw bytes" in got, "the bytes after the handshake")
         assert (b"raw bytes" in got) == carried
         assert b"x-mgate" not in got.lower() and b"x-forwarded" not in got.lower() and b"Upgrade: websocket" in got
 

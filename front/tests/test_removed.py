@@ -87,7 +87,7 @@ async def test_a_user_who_signs_on_all_the_time_is_gone_once_removed(start) -> N
     async def refused() -> bool:
         return (await front.person("ada").sign_on())[0] in (401, 429)
     await until(refused, "the change of the users")
-    await asyncio.sleep(2.5)
+    await asyncio.sleep(1.5)
 
     async def gone() -> bool:
         ends = []
@@ -95,6 +95,9 @@ async def test_a_user_who_signs_on_all_the_time_is_gone_once_removed(start) -> N
             async with person.http.get("/session") as response:
                 ends.append(response.status)
         return ends == [401] * 4
+    # Who has one is signed off at the next look at the users, and nobody has one afterwards.
+    await until(gone, "the end of their sessions")
+    await asyncio.sleep(1)
     assert await gone()
     over.set()
     await asyncio.gather(*tasks)

@@ -3,18 +3,16 @@
 from __future__ import annotations
 
 import asyncio
-import contextlib
 import json
 import os
 import random
 import signal
 from collections import Counter, deque
-from collections.abc import AsyncIterator
 from dataclasses import dataclass
 from types import SimpleNamespace
 
 import pytest
-from front import PASSWORD, Front, in_loop
+from front import PASSWORD, Front, busy, in_loop, until
 from mserve_front import shares as shares_module
 from mserve_front.shares import ACCOUNT_WINDOW, LONG_WINDOW, WINDOW, Shares, may_take_long
 from test_programs import Program, new_token
@@ -116,17 +114,6 @@ def test_lines_that_may_take_long(line: bytes, wanted: bool) -> None:
     assert may_take_long(line) == wanted
 
 
-@contextlib.asynccontextmanager
-async def busy(front: Front, seconds: float) -> AsyncIterator[None]:
-    """While the block runs, the server is at a line of somebody else, and for so long at least."""
-    os.kill(front.child, signal.SIGSTOP)
-    try:
-        yield
-        await asyncio.sleep(seconds)
-    finally:
-        os.kill(front.child, signal.SIGCONT)
-
-
 LIMITS = {"sign_on": 2, "token_idle": 2, "idle": 2, "absent": 2, "heartbeat": 1}
 
 
@@ -195,6 +182,8 @@ async def test_a_sign_on_whose_client_has_gone_holds_no_terminal(start) -> None:
     writer.write((head + body).encode())
     await writer.drain()
     writer.transport.abort()
-    await asyncio.sleep(1)
-    async with front.person("dan") as dan:
+    dan = front.person("dan")
+    async with dan.http:
+        await until(dan.signs_on, "the terminal of who has gone")
+        await dan.connect()
         assert await dan.told("W 1") == "1"

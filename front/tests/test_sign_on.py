@@ -9,7 +9,7 @@ import time
 
 import aiohttp
 import pytest
-from front import PASSWORD, Front, given_back, in_loop, until, write_users
+from front import PASSWORD, Front, busy, given_back, in_loop, lines_wait, until, write_users
 from mserve_front.slowdown import Slowdown, network_of
 from mserve_front.users import HASHER, Register
 from test_programs import Program
@@ -197,12 +197,14 @@ async def test_second_web_socket_replaces_the_first(lasting: Front) -> None:
     async with lasting.person() as ada:
         await ada.line("S A=1")
         first = ada.socket
-        for _ in range(50):
-            await ada.send("S A=$G(A)+1 F  S Z=1")
-        await ada.connect()
+        async with busy(lasting):
+            for _ in range(50):
+                await ada.send("S A=$G(A)+1 F  S Z=1")
+            await lines_wait(ada, 1)
+            await ada.connect()
         assert await ada.told("W $D(A)") == "0"
         ends = [message.data if message.type is aiohttp.WSMsgType.TEXT else None async for message in first]
-        assert json.loads(ends[-1]) == {"event": "signed-off", "why": "replaced"} and len(ends) < 40
+        assert json.loads(ends[-1]) == {"event": "signed-off", "why": "replaced"} and len(ends) < 4
         # Lines that the first one sent are not run after it is replaced.
         assert await ada.told("W $D(A)") == "0"
 
@@ -301,7 +303,7 @@ def test_networks_of_addresses() -> None:
 
 @pytest.mark.alone
 def test_unknown_users_take_as_long(tmp_path) -> None:
-    """The same hash is computed for a name that nobody has. The middle of several times is compared, since others use the machine."""
+    """The same hash is computed for a name that nobody has. The processor's time is compared, since others use the machine."""
     write_users(tmp_path / "users.json", {})
     users = json.loads((tmp_path / "users.json").read_text())
     users["users"]["ada"] = {"account": "CLINIC", "hash": HASHER.hash(PASSWORD)}
@@ -311,9 +313,9 @@ def test_unknown_users_take_as_long(tmp_path) -> None:
     times: dict[str, list[float]] = {"ada": [], "nobody": []}
     for _ in range(7):
         for name, taken in times.items():
-            began = time.perf_counter()
+            began = time.process_time()
             assert register.by_password(name, "wrong") is None
-            taken.append(time.perf_counter() - began)
+            taken.append(time.process_time() - began)
     known, unknown = (statistics.median(taken) for taken in times.values())
     assert known > 0.01 and 0.5 < known / unknown < 2
 

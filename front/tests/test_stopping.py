@@ -3,14 +3,14 @@
 from __future__ import annotations
 
 import asyncio
+import contextlib
 import json
-import os
 import signal
 import time
 from types import SimpleNamespace
 
 import pytest
-from front import Front, in_loop, mjournal
+from front import Front, busy, in_loop, lines_wait, mjournal, until
 from mserve_front.keeper import Keeper
 from mserve_front.server import Server
 from mserve_front.sessions import STOPPING
@@ -36,6 +36,16 @@ async def test_a_task_that_is_cancelled_leaves_what_others_wait_for() -> None:
     assert not taken.done()
 
 
+async def is_closed(front: Front) -> bool:
+    """Whether a front takes no connection any more."""
+    try:
+        _, writer = await asyncio.open_connection("127.0.0.1", front.port)
+    except OSError:
+        return True
+    writer.close()
+    return False
+
+
 @pytest.mark.parametrize(("number", "why"), [(signal.SIGTERM, "stopping"), (signal.SIGUSR1, "moved")])
 @in_loop(90)
 async def test_a_line_on_its_way_has_its_reply_before_the_user_hears_of_a_stop(start, number: signal.Signals, why: str) -> None:
@@ -43,16 +53,14 @@ async def test_a_line_on_its_way_has_its_reply_before_the_user_hears_of_a_stop(s
     front: Front = start(store="store", journal={"folder": "journal"})
     async with front.person() as ada, Program(front, "cleo correct horse battery") as cleo:
         assert await ada.told("S ^X=1") == ""
-        os.kill(front.child, signal.SIGSTOP)
-        await ada.send('W "reply"')
-        cleo.writer.write(b'W "other"\n')
-        await asyncio.sleep(0.3)
-        front.process.send_signal(number)
-        await asyncio.sleep(0.3)
-        await ada.send("S ^X=2")
-        await asyncio.sleep(0.3)
-        assert front.process.poll() is None
-        os.kill(front.child, signal.SIGCONT)
+        async with busy(front):
+            await ada.send('W "reply"')
+            cleo.writer.write(b'W "other"\n')
+            await lines_wait(ada, 2)
+            front.process.send_signal(number)
+            await until(lambda: is_closed(front), "a front that is being stopped")
+            await ada.send("S ^X=2")
+            assert front.process.poll() is None
         assert (await ada.next())["rest"] == "reply" and not ada.events
         assert (await cleo.next())["rest"] == "other"
         assert (await ada.next())["refused"] == "stopping" and not ada.events
@@ -70,12 +78,14 @@ async def test_a_line_on_its_way_has_its_reply_before_the_user_hears_of_a_stop(s
 async def test_a_line_that_the_server_does_not_answer_is_unknown_before_the_user_hears_of_a_stop(start) -> None:
     front: Front = start()
     async with front.person() as ada:
-        os.kill(front.child, signal.SIGSTOP)
-        await ada.send("S ^X=1")
-        await asyncio.sleep(0.3)
-        began = time.monotonic()
-        front.process.terminate()
-        assert (await ada.next()).get("unknown") and not ada.events
-        assert await ada.event() == {"event": "signed-off", "why": "stopping"}
-        assert STOPPING - 0.5 < time.monotonic() - began < STOPPING + 20
+        # A server that is gone by the end cannot go on.
+        with contextlib.suppress(ProcessLookupError, IndexError):
+            async with busy(front):
+                await ada.send("S ^X=1")
+                await lines_wait(ada, 1)
+                began = time.monotonic()
+                front.process.terminate()
+                assert (await ada.next()).get("unknown") and not ada.events
+                assert await ada.event() == {"event": "signed-off", "why": "stopping"}
+                assert STOPPING - 0.5 < time.monotonic() - began < STOPPING + 20
         assert await asyncio.to_thread(front.process.wait, 60) == 0

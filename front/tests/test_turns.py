@@ -12,7 +12,7 @@ import time
 from itertools import pairwise
 
 import pytest
-from front import SETTINGS, Front, in_loop, until
+from front import SETTINGS, Front, busy, in_loop, until
 from mserve_client import BadReply, Reply
 from mserve_front.lines import Line
 from mserve_front.replies import Answer, ReplyReader
@@ -154,21 +154,14 @@ async def test_a_flood_of_one_user_delays_another_by_a_line_at_most(start) -> No
     since a busy machine may keep anybody waiting."""
     front = start()
     async with front.person("cleo") as cleo, front.person("ada") as ada:
-        began = time.monotonic()
         assert await cleo.told(f"S ^RESULT=0 {LONG}") == "ZSTEPS"
-        one = time.monotonic() - began
         # All that both send is on its way before the first line is run.
-        os.kill(front.child, signal.SIGSTOP)
-        try:
+        async with busy(front):
             for _ in range(1000):
                 await cleo.send(f"S ^RESULT=^RESULT+1 {LONG}")
             for _ in range(10):
                 await ada.send('W ^|"LAB"|RESULT')
-        finally:
-            os.kill(front.child, signal.SIGCONT)
-        began = time.monotonic()
         counts = [int((await ada.next())["rest"]) for _ in range(10)]
-        assert time.monotonic() - began < 500 * one
         assert max(later - earlier for earlier, later in pairwise([0, *counts])) <= 2 and counts[-1] > 0, counts
         front.kill_child()
 
@@ -322,7 +315,7 @@ async def test_stop_tells_all_users(start, tmp_path) -> None:
         front.process.terminate()
         for person in (ada, cleo):
             assert await person.event() == {"event": "signed-off", "why": "stopping"}
-        assert front.stop() == 0 and time.monotonic() - began < 10
+        assert front.stop() == 0 and time.monotonic() - began < 30
     again = start(store=str(tmp_path / "store.db"))
     async with again.person("ben") as ben:
         assert await ben.told("W ^X") == "1"

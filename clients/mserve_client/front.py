@@ -400,5 +400,6 @@ def reply_of(found: Record) -> Reply:
     lines, rest, code = found.get("output"), found.get("rest"), found.get("code")
     if not isinstance(lines, list) or not isinstance(rest, str):
         raise BadReply(f"this is no reply of a front: {str(found)[:80]}")
-    cut = f"the front left out {found['cut']} bytes of this reply (limits.reply)" if found.get("cut") else ""
-    return Reply(tuple(map(str, lines)), rest, None if code is None else str(code), cut)
+    notes = [f"the front left out {found['cut']} bytes of this reply (limits.reply)"] if found.get("cut") else []
+    notes += [str(found["quota"])] if "quota" in found else []
+    return Reply(tuple(map(str, lines)), rest, None if code is None else str(code), "; ".join(notes))

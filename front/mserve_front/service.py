@@ -130,7 +130,7 @@ class Service:
             tell("the store is volatile: all data are gone once the server ends")
 
     async def _serve(self) -> None:
-        tasks = [asyncio.create_task(self._sessions.server.run()), asyncio.create_task(self._sweep()),
+        tasks = [asyncio.create_task(self._sessions.server.run()), asyncio.create_task(self._sweep()), asyncio.create_task(self._sessions.watch()),
                  asyncio.create_task(self._admin.run()), asyncio.create_task(self._stopping.wait())]
         if self._keeper is not None:
             tasks.append(asyncio.create_task(self._keeper.lost()))

@@ -9,6 +9,7 @@ import secrets
 import time
 from collections.abc import Coroutine, Iterator
 from dataclasses import dataclass, field
+from pathlib import Path
 from typing import TYPE_CHECKING, Protocol
 
 from mserve_client.escape import shown
@@ -18,6 +19,7 @@ from .fair import Pace
 from .faults import HeldBack, NoJournal
 from .lines import Line, Refused
 from .metrics import Metrics, family
+from .quotas import STEP, Memory, Over as OverQuota, Quotas, in_words, size_of
 from .replies import Answer
 from .server import Server
 from .settings import Settings
@@ -119,6 +121,10 @@ class Sessions:
         self.server = Server(settings, metrics, self.restarted, journal)
         self._terminals = Terminals(settings.terminals, self.server, journal)
         metrics.more.append(self._by_account)
+        used = self.server.shares.used
+        self.quotas = Quotas(settings.limits.rows, settings.limits.memory, Memory(used, lambda: size_of(self.server.pid)), used, self._over_quota)
+        self.server.shares.slow = self.quotas.memory.look
+        metrics.more.append(self.quotas.text)
 
     def __iter__(self) -> Iterator[Session]:
         """The sessions as they stand: they may be ended meanwhile."""
@@ -216,6 +222,9 @@ class Sessions:
 
     async def run(self, session: Session, data: bytes, number: int | None = None) -> Record:
         """The record of a line's reply, or of why there is none. `number` is the server's session that the line was written for. Raises `Over`."""
+        over = self.quotas.over.get(session.account)
+        if over is not None:
+            await self.quotas.turn(session.account)
         try:
             record = await self._run(session, data, number)
         except Refused as error:
@@ -235,7 +244,7 @@ class Sessions:
         self._count(session, data, record)
         if "refused" in record:
             await self.spared(session)
-        return record
+        return record if over is None else record | {"quota": in_words(over)}
 
     async def spared(self, session: Session) -> None:
         """Waits for the turn of what costs the server nothing: a line that is refused, a ping. Others have their turns meanwhile."""
@@ -299,9 +308,28 @@ class Sessions:
             elif not session.carried and (now - session.used > allowed or now - session.began > limits.longest):
                 self.sign_off(session, "idle")
 
+    async def watch(self) -> None:
+        """Keeps looking at what accounts take."""
+        while True:
+            await asyncio.sleep(STEP)
+            if self._settings.join is None and not self._settings.volatile:
+                await self.quotas.count(Path(self._settings.store))
+            self.quotas.memory.look()
+            self.quotas.memory.keep(session.account for session in self if not session.clean)
+            self.quotas.look()
+
+    def _over_quota(self, account: str, over: OverQuota) -> None:
+        """Tells an account that it is over its quotas, or no more."""
+        figures = {what: {"used": used, "most": most} for what, (used, most) in over.items()}
+        self._audit.note_later("quota", account=account, over=figures)
+        for session in self:
+            if session.account == account and session.listener is not None:
+                self._spawn(session.listener.tell({"event": "quota", "over": figures, **({"why": in_words(over)} if over else {})}))
+
     async def stop(self, why: str) -> None:
         """Signs all off: no line is sent any more, those on their way have their replies, or are unknown after a while, and then users hear why."""
         self._stopping = True
+        self.quotas.end()
         for session in self:
             self.server.forget(session.terminal)
         if not await self._settled(STOPPING):

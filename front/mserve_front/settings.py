@@ -31,6 +31,8 @@ class Limits:
     connections_of_address: int = 500
     unsigned_of_address: int = 200
     sessions_of_user: int = 4
+    rows: int = 10_000_000
+    memory: int = 1_000_000_000
 
 
 @dataclass(frozen=True, slots=True)
@@ -161,7 +163,7 @@ _LIMITS = {
     "idle": (1, 86_400), "absent": (1, 86_400), "longest": (10, 604_800), "token_idle": (1, 86_400), "sign_on": (1, 600), "slow": (1, 600),
     "heartbeat": (1, 600), "body": (4096, 1 << 24), "reply": (4096, 1 << 28), "connections": (1, 100_000), "connections_of_address": (1, 100_000),
     "unsigned_of_address": (1, 100_000),
-    "sessions_of_user": (1, 9999),
+    "sessions_of_user": (1, 9999), "rows": (1, 1 << 48), "memory": (1_000_000, 1 << 48),
 }
 
 

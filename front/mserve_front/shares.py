@@ -9,7 +9,7 @@ import heapq
 import re
 import time
 from collections import deque
-from collections.abc import Mapping
+from collections.abc import Callable, Mapping
 from dataclasses import dataclass, field
 from typing import Protocol
 
@@ -66,6 +66,8 @@ class Shares:
         self._least: list[tuple[float, int, Share]] = []
         self._count = 0
         self._now = 0.0
+        # Called after each line that took long.
+        self.slow: Callable[[], None] = lambda: None
         self._flying = 0
         self._ahead = 0.0
         self._windows = (ACCOUNT_WINDOW, LONG_WINDOW) if len(set(accounts.values())) > 1 else (WINDOW, WINDOW)
@@ -114,6 +116,7 @@ class Shares:
         share.lines += 1
         if taken > SLOW:
             share.slow_until = time.monotonic() + MEMORY * taken
+            self.slow()
         self._list(share)
 
     def clear(self) -> None:

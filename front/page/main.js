@@ -133,6 +133,8 @@ function heard(kind, what) {
     byId("volatile").hidden = !what.volatile;
     prompt.note(`The server was started again: local variables and locks are gone${what.volatile ? ", and so is what was stored" : ""}.`);
     tell("The server was started again.");
+  } else if (what.event === "quota") {
+    prompt.note(what.why ? `${what.why[0].toUpperCase()}${what.why.slice(1)}.` : "The account is within its quota again.");
   } else if (what.event === "signed-off") {
     ended(WHYS[what.why] ?? "You were signed off.");
   }

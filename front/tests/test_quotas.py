@@ -1,16 +1,124 @@
 # SPDX-License-Identifier: Apache-2.0
-"""What one account's lines can take of the machine, where the units bound it; and an audit log that is full."""
+"""What one account can take: its quotas of rows and memory, and what the units bound; and an audit log that is full."""
 from __future__ import annotations
 
 import asyncio
 import json
+import time
 from pathlib import Path
 
 import pytest
-from front import PASSWORD, Front, in_loop, small_disk, until
+from front import PASSWORD, Front, Person, in_loop, small_disk, until
+from mserve_front.quotas import PAUSE, Memory, Quotas
+from test_programs import Program, new_token, posted
 
+# A line that fills some 20 MB of variables, and one that stores 300 rows.
+VARIABLES, ROWS = 'F I=1:1:5000 S N=$G(N)+1,A(N)=$J("",4000)', "F I=1:1:300 S N=$G(N)+1,^H(N)=I"
 # As LimitAS and LimitFSIZE of the units, and less.
 MEMORY, FILE = 1_500_000_000, 20_000_000
+
+
+async def fills(person: Person, line: str) -> dict[str, object]:
+    """Sends a line again and again, until its account is over a quota, and gives the reply that says so."""
+    found: list[dict[str, object]] = []
+
+    async def is_over() -> bool:
+        found.append(await person.line(line))
+        return "quota" in found[-1]
+    await until(is_over, "an account that is over its quota", 0.1)
+    return found[-1]
+
+
+async def others_go_on(slow: Person, other: Person) -> None:
+    """One line a second of an account that is over its quota, and any number of another one's."""
+    async def lines() -> float:
+        began = time.monotonic()
+        for _ in range(4):
+            assert "quota" in await slow.line("W 1")
+        return time.monotonic() - began
+    slowed, count = asyncio.create_task(lines()), 0
+    while not slowed.done():
+        assert await other.line(f"W {count}") == {"output": [], "rest": str(count), "code": None}
+        count += 1
+    assert await slowed > 2.5 * PAUSE and count > 8 and not other.events
+
+
+@in_loop(120)
+async def test_an_account_over_its_quota_of_rows_is_slowed_and_told(start) -> None:
+    """By each way in; another account is not met by it. With fewer rows it goes on as before."""
+    front: Front = start(store="store", limits={"rows": 1000})
+    token = await new_token(front, "ben")
+    async with front.person("ada") as ada, front.person("cleo") as cleo, Program(front, f"ben {PASSWORD}") as ben:
+        assert " rows of 1,000): it has one line a second" in (await fills(ada, ROWS))["quota"]
+        await until(lambda: ada.events, "the event")
+        [event] = ada.events
+        assert event["event"] == "quota" and event["over"]["rows"]["used"] > event["over"]["rows"]["most"] == 1000 and "rows" in event["why"]
+        assert (await ben.next())["event"] == "quota" and "quota" in await ben.line("W 1")
+        async with front.person().http as http:
+            assert "quota" in (await posted(http, token, "W 1"))[1]
+        await others_go_on(ada, cleo)
+        async with cleo.http.get("/metrics") as response:
+            assert 'mfront_account_over_quota{account="CLINIC",what="rows"} 1\n' in await response.text()
+        await ada.line("K ^H")
+
+        async def is_free() -> bool:
+            # Rows are counted in the store's file, into which the log is copied after some hundred writes, whoever's they are.
+            await cleo.line("F I=1:1:500 S ^J=I")
+            return "quota" not in await ada.line("W 1")
+        await until(is_free, "an account within its quota")
+        assert ada.events[1:] == [{"event": "quota", "over": {}}]
+    assert [(one["account"], list(one["over"])) for one in front.audit() if one["event"] == "quota"] == [("CLINIC", ["rows"]), ("CLINIC", [])]
+
+
+@in_loop(120)
+async def test_an_account_over_its_quota_of_memory_is_slowed_until_its_sessions_end(start) -> None:
+    front: Front = start(limits={"memory": 100_000_000})
+    async with front.person("cleo") as cleo:
+        async with front.person("ada") as ada:
+            assert " bytes of memory of 100,000,000)" in (await fills(ada, VARIABLES))["quota"]
+            await others_go_on(ada, cleo)
+        async with front.person("ada") as ada:
+            async def is_free() -> bool:
+                return "quota" not in await ada.line("W 1")
+            await until(is_free, "an account whose variables are gone")
+
+
+def test_memory_is_charged_to_who_had_the_server() -> None:
+    """What came while several accounts had it is charged to nobody, and neither is what was there before."""
+    used, size = {"A": (0, 0.0), "B": (0, 0.0)}, [500]
+    memory = Memory(lambda: dict(used), lambda: size[0])
+
+    def ran(seconds: dict[str, float], now: int) -> dict[str, int]:
+        for account, more in seconds.items():
+            used[account] = (used[account][0] + 1, used[account][1] + more)
+        size[0] = now
+        memory.look()
+        return dict(memory.grown)
+    assert ran({"A": 1.0}, 700) == {}, "the first look"
+    assert ran({"A": 1.0, "B": 0.05}, 800) == {"A": 100}
+    assert ran({"A": 1.0, "B": 0.5}, 900) == {"A": 100}
+    assert ran({"B": 1.0}, 850) == {"A": 100}
+    assert ran({"B": 0.01}, 860) == {"A": 100, "B": 10}
+    assert ran({}, 900) == {"A": 100, "B": 10}
+    memory.keep(["B"])
+    assert memory.grown == {"B": 10}
+
+
+@in_loop()
+async def test_who_waits_for_a_turn_goes_on_once_the_account_is_within_its_quota() -> None:
+    """Also at a stop: thousands of lines may wait, which would take hours."""
+    for ends in (lambda quotas: quotas.memory.keep([]) or quotas.look(), Quotas.end):
+        told: list[tuple[str, bool]] = []
+        memory = Memory(dict, lambda: 0)
+        quotas = Quotas(10, 100, memory, dict, lambda account, over: told.append((account, bool(over))))
+        memory.grown["A"] = 101
+        quotas.look()
+        quotas.look()
+        assert told == [("A", True)]
+        waiting = [asyncio.create_task(quotas.turn("A")) for _ in range(3000)]
+        await asyncio.sleep(0)
+        ends(quotas)
+        await asyncio.gather(*waiting)
 
 
 @in_loop(120)

@@ -1,0 +1,154 @@
+# SPDX-License-Identifier: Apache-2.0
+"""What each account takes of the store and of the server's memory. One that is over a quota is told, and has one line a second; others are not met by it.
+
+The server counts neither, so both are seen from beside it. Rows are counted in the store's file, which lags behind by what the store's log has. Memory
+is what the server grew by while an account had nearly all of its time; what grew while several did is charged to nobody."""
+from __future__ import annotations
+
+import asyncio
+import contextlib
+import sqlite3
+import time
+from collections import Counter
+from collections.abc import Callable, Iterable, Mapping
+from pathlib import Path
+from urllib.parse import quote
+
+from mserve_client import keys
+
+from .metrics import family
+
+# What the quotas are of, as limits.rows and limits.memory name them.
+ROWS, MEMORY = "rows", "memory"
+# Seconds between two lines of an account that is over a quota, and between two looks at what accounts take.
+PAUSE, STEP = 1.0, 1.0
+# Seconds between two counts of rows; and how many times as long as a count took there is none.
+COUNTED, REST = 5.0, 50
+# The part of the server's time that an account has to have had for the memory that came meanwhile to be its own.
+MOSTLY = 0.9
+# An account's quotas that it is over: what it has of each, and what it may have.
+Over = dict[str, tuple[int, int]]
+Used = Callable[[], Mapping[str, tuple[int, float]]]
+_PAGE = 4096
+
+
+def size_of(process: int | None) -> int:
+    """The bytes of memory that a process has; 0 if there is none."""
+    try:
+        return 0 if process is None else int(Path(f"/proc/{process}/statm").read_text().split()[1]) * _PAGE
+    except OSError:
+        return 0
+
+
+def rows_of(store: Path, account: str) -> int | None:
+    """How many rows an account has in a store's file. None if it cannot be told now: the server writes the file meanwhile."""
+    try:
+        with contextlib.closing(sqlite3.connect(f"file:{quote(str(store))}?mode=ro&immutable=1", uri=True)) as base:
+            return base.execute("SELECT count(*) FROM node WHERE k >= ? AND k < ?", keys.bounds(account)).fetchone()[0]
+    except sqlite3.Error:
+        return None
+
+
+class Memory:
+    """The memory by which the server grew for each account, since its sessions began."""
+
+    def __init__(self, used: Used, size: Callable[[], int]) -> None:
+        """`used` gives the seconds that the server has taken for each account, `size` its memory."""
+        self._used, self._size = used, size
+        self._before: Mapping[str, tuple[int, float]] = {}
+        self._last = 0
+        self.grown: Counter[str] = Counter()
+
+    def look(self) -> None:
+        """Charges what came since the last look to the account that had the server meanwhile."""
+        size, used, before = self._size(), self._used(), self._before
+        more, self._last, self._before = size - self._last if self._last else 0, size, used
+        if more <= 0:
+            return
+        spent = {account: taken - before.get(account, (0, 0.0))[1] for account, (_, taken) in used.items()}
+        account = max(spent, key=spent.__getitem__, default="")
+        if spent and spent[account] >= MOSTLY * sum(spent.values()) > 0:
+            self.grown[account] += more
+
+    def keep(self, accounts: Iterable[str]) -> None:
+        """Those of no other accounts count: no variable of theirs is there any more."""
+        kept = set(accounts)
+        for account in [one for one in self.grown if one not in kept]:
+            del self.grown[account]
+
+
+class Quotas:
+    """The quotas of all accounts, which are the same."""
+
+    def __init__(self, most_rows: int, most_memory: int, memory: Memory, used: Used, told: Callable[[str, Over], None]) -> None:
+        """`told` is called with an account, and what it is over, each time that this is another."""
+        self._most = {ROWS: most_rows, MEMORY: most_memory}
+        self._used, self._told = used, told
+        self._next: dict[str, float] = {}
+        self._lines: dict[str, int] = {}
+        self._due = 0.0
+        self._freed: dict[str, asyncio.Event] = {}
+        self.memory = memory
+        self.rows: dict[str, int] = {}
+        self.over: dict[str, Over] = {}
+
+    async def count(self, store: Path) -> None:
+        """Counts rows, if it is time, of the accounts that had lines since they were counted."""
+        if time.monotonic() < self._due:
+            return
+        began = time.monotonic()
+        for account, (lines, _) in list(self._used().items()):
+            if self._lines.get(account) != lines and (found := await asyncio.to_thread(rows_of, store, account)) is not None:
+                self._lines[account], self.rows[account] = lines, found
+        now = time.monotonic()
+        self._due = now + max(COUNTED, REST * (now - began))
+
+    def look(self) -> None:
+        """Finds who is over a quota, and tells those for whom that is new, or no more."""
+        found = {ROWS: self.rows, MEMORY: self.memory.grown}
+        for account in {*self.rows, *self.memory.grown, *self.over}:
+            over = {what: (have[account], self._most[what]) for what, have in found.items() if have.get(account, 0) > self._most[what]}
+            before = self.over.pop(account, {})
+            if over:
+                self.over[account] = over
+            if over.keys() != before.keys():
+                self._told(account, over)
+            if not over:
+                self._free(account)
+
+    def _free(self, account: str) -> None:
+        """Lets go on who waits."""
+        self._next.pop(account, None)
+        if (freed := self._freed.pop(account, None)) is not None:
+            freed.set()
+
+    async def turn(self, account: str) -> None:
+        """Waits for the turn of an account that is over a quota, as long as it is."""
+        now = time.monotonic()
+        at = self._next[account] = max(now, self._next.get(account, 0.0) + PAUSE)
+        freed = self._freed.setdefault(account, asyncio.Event())
+        with contextlib.suppress(TimeoutError):
+            await asyncio.wait_for(freed.wait(), at - now)
+
+    def end(self) -> None:
+        """Nobody waits any more."""
+        for account in list(self._freed):
+            self._free(account)
+
+    def text(self) -> list[str]:
+        """The figures."""
+        over = {f'account="{account}",what="{what}"': 1 for account, some in sorted(self.over.items()) for what in some}
+        return [*family("mfront_account_rows", "gauge", "Rows of each account, as they were counted last.", _labelled(self.rows)),
+                *family("mfront_account_memory_bytes", "gauge", "By how much lines of the account made the server grow since its sessions began.",
+                        _labelled(self.memory.grown)),
+                *family("mfront_account_over_quota", "gauge", "1 for each quota that an account is over.", over)]
+
+
+def in_words(over: Over) -> str:
+    """What an account is told with each reply."""
+    parts = [f"{used:,} {'rows' if what == ROWS else 'bytes of memory'} of {most:,}" for what, (used, most) in over.items()]
+    return f"the account is over its quota ({', '.join(parts)}): it has one line a second"
+
+
+def _labelled(values: Mapping[str, int]) -> dict[str, float]:
+    return {f'account="{account}"': value for account, value in sorted(values.items())}

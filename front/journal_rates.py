@@ -25,7 +25,7 @@ sys.path.insert(0, str(Path(__file__).resolve().parent / "tests"))
 from database import Cluster, required  # noqa: E402
 from front import PASSWORD, Front, tool  # noqa: E402
 from load import PARTS, settings  # noqa: E402
-from processes import memory, processor_time, started_by  # noqa: E402
+from measured import memory, processor_time, started_by  # noqa: E402
 from running import PROGRAM, require_program  # noqa: E402
 
 KINDS = ("none", "file", "database", "replicated")

@@ -26,7 +26,7 @@ from machines import HOSTS, Gate, Program, certificates, islands, ports  # noqa:
 from mserve_front.islands import LOOK  # noqa: E402
 from mserve_front.journal_table import connected  # noqa: E402
 from mserve_front.placement import Machine, Placement  # noqa: E402
-from processes import memory, processor_time, started_by  # noqa: E402
+from measured import memory, processor_time, started_by  # noqa: E402
 from running import require_program  # noqa: E402
 
 # Seconds that a user rests between two lines while their island moves.

@@ -20,7 +20,7 @@ from machines import HOSTS, Gate, Program, certificates, islands, ports
 from mserve_front.gate_command import settings_of
 from mserve_front.placement import BadPlacement, Placement
 from mserve_front.settings import BadSettings
-from processes import started_by
+from measured import started_by
 from running import PROGRAM
 
 # Islands, unless more are asked for (--count), and accounts of each: `--count 25` makes 300 accounts in 100 islands.

@@ -12,7 +12,7 @@ from pathlib import Path
 
 import aiohttp
 import pytest
-from front import Front, Person, in_loop, mjournal, until
+from front import Front, Person, Record, in_loop, mjournal, until
 from running import PROGRAM
 from test_replay import held
 from test_standby import leading, standby, takes_over
@@ -62,12 +62,16 @@ class Counting:
         line = f"S ^N({name!r})=$G(^N({name!r}))+1 W ^N({name!r})".replace("'", '"') + self._beside.format(user=f'"{name}"')
         while not self._ends:
             self.most[name] += 1
-            record = await person.line(line)
+            record = await self.sends(person, line)
             if "output" in record:
                 self.holds(name, int(record["rest"]), self.least[name] + 1)
             elif "refused" in record:
                 self.most[name] -= 1
                 await asyncio.sleep(0.05)
+
+    async def sends(self, person: Person, line: str) -> Record:
+        """The record of a line."""
+        return await person.line(line)
 
     def holds(self, name: str, found: int, least: int) -> None:
         """Holds a counter against what it can be."""

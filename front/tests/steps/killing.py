@@ -2,6 +2,7 @@
 """What happens at a step of the journal's rule, once a file says so: {"step": .., "what": .., "count": ..}. The file is gone when it happens."""
 from __future__ import annotations
 
+import contextlib
 import functools
 import json
 import os
@@ -15,8 +16,10 @@ from pathlib import Path
 STEPS = ("lines wait", "lines are durable", "lines are sent", "a reply has come", "a reply is durable", "a reply is handed out", "the server is started",
          "rows are durable", "a start is durable")
 # What can happen at one.
-WHATS = ("server", "front", "both", "connection", "disk full", "clock back")
+WHATS = ("server", "front", "both", "machine", "connection", "disk full", "clock back")
 FULL, BACK = 1.5, 3600
+# The variable that names a machine: its processes are those that have it with the same text.
+MACHINE = "MFRONT_MACHINE"
 
 
 class Fault:
@@ -38,11 +41,29 @@ def kill_children() -> None:
         os.kill(pid, signal.SIGKILL)
 
 
+def of_machine() -> list[int]:
+    """The other processes of this one's machine."""
+    wanted, found = f"{MACHINE}={os.environ[MACHINE]}".encode(), []
+    for pid in (int(name) for name in os.listdir("/proc") if name.isdigit() and int(name) != os.getpid()):
+        with contextlib.suppress(OSError):
+            if wanted in Path(f"/proc/{pid}/environ").read_bytes().split(b"\0"):
+                found.append(pid)
+    return found
+
+
+def kill_machine() -> None:
+    """Ends all other processes of this one's machine. They are stopped first: none sees another one end."""
+    for number in (signal.SIGSTOP, signal.SIGKILL):
+        for pid in of_machine():
+            with contextlib.suppress(ProcessLookupError):
+                os.kill(pid, number)
+
+
 def happens(what: str) -> None:
     """Does what is to happen."""
     if what in ("server", "both"):
         kill_children()
-    if what in ("front", "both"):
+    if what in ("front", "both", "machine"):
         os.kill(os.getpid(), signal.SIGKILL)
     if what == "connection":
         from mserve_front.turns import Turns
@@ -71,6 +92,8 @@ def install(place: str) -> None:
             if wanted["count"] > 0:
                 path.write_text(json.dumps(wanted))
                 return
+            if wanted["what"] == "machine":
+                kill_machine()
             path.unlink()
         happens(wanted["what"])
 

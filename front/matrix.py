@@ -1,0 +1,116 @@
+#!/usr/bin/python3
+# SPDX-License-Identifier: Apache-2.0
+"""The whole matrix of troubles, in parts. A record has what was tried: a run that was cut off goes on where it was, and a part that failed is tried again.
+
+Status 1 if a part failed, or if some are left."""
+from __future__ import annotations
+
+import argparse
+import asyncio
+import json
+import os
+import random
+import sys
+import tempfile
+import time
+import traceback
+from collections.abc import Iterator
+from dataclasses import dataclass
+from datetime import UTC, datetime
+from pathlib import Path
+
+sys.path.insert(0, str(Path(__file__).resolve().parent / "tests"))
+
+from database import IN_MEMORY, Cluster  # noqa: E402
+from running import require_program  # noqa: E402
+from troubles import COMBINATIONS, Pair, drawn, tried  # noqa: E402
+
+# Seconds that one trouble takes at most, with what is done then, on a machine that is busy.
+LONGEST = 60
+
+
+@dataclass(frozen=True, slots=True)
+class Part:
+    """Combinations that one pair meets, one after another."""
+
+    name: str
+    kind: str
+    chosen: list[tuple[str, str, str]]
+
+
+def parts(wanted: int, size: int) -> Iterator[Part]:
+    """All parts, of each kind by turns; they are the same ones at each run."""
+    each = {kind: drawn(kind, -(-wanted // len(COMBINATIONS)), random.Random(kind)) for kind in COMBINATIONS}
+    for start in range(0, max(map(len, each.values())), size):
+        for kind, chosen in each.items():
+            yield Part(f"{kind} {start}", kind, chosen[start:start + size])
+
+
+async def ran(part: Part) -> dict[str, object]:
+    """Runs a part, and gives what it came to."""
+    cluster = await asyncio.to_thread(Cluster) if part.kind == "database" else None
+    try:
+        with tempfile.TemporaryDirectory(dir=IN_MEMORY, prefix="matrix-") as folder:
+            async with asyncio.timeout(LONGEST * len(part.chosen)):
+                pair = await asyncio.to_thread(Pair, Path(folder), cluster)
+                counting = await tried(pair, part.chosen, random.Random(part.name))
+        return {"tried": len(part.chosen), "fired": sum(pair.fired.values()), "answered": counting.answered}
+    finally:
+        if cluster is not None:
+            cluster.remove()
+
+
+def noted(part: Part) -> dict[str, object]:
+    """What a part came to, or how it failed."""
+    began = time.monotonic()
+    try:
+        found = asyncio.run(ran(part))
+    except Exception as error:
+        traceback.print_exc()
+        found = {"failed": f"{type(error).__name__}: {error}"[:2000]}
+    return {"part": part.name, "time": f"{datetime.now(UTC):%Y-%m-%d %H:%M}", **found, "seconds": round(time.monotonic() - began),
+            "load": round(os.getloadavg()[0], 1)}
+
+
+def read(record: Path) -> list[dict[str, object]]:
+    """What a record has. A line that was cut off is left out."""
+    lines = record.read_text().splitlines(keepends=True) if record.exists() else []
+    return [json.loads(line) for line in lines if line.endswith("\n")]
+
+
+def told(found: list[dict[str, object]]) -> str:
+    """What all parts came to."""
+    good = [one for one in found if "failed" not in one]
+    tried_, fired, answered = (sum(int(str(one[key])) for one in good) for key in ("tried", "fired", "answered"))
+    return (f"{tried_} combinations in {len(good)} parts, {tried_ - fired} of which never came to their step; {answered} lines answered, none lost or twice; "
+            f"{len(found) - len(good)} times a part failed")
+
+
+def main() -> int:
+    """The status of the command."""
+    words = argparse.ArgumentParser(description="Tries troubles of a leader with a standby, part by part, and goes on where it was cut off.")
+    words.add_argument("record", type=Path, metavar="RECORD", help="the file that has what was tried")
+    words.add_argument("--wanted", type=int, default=1000, metavar="N", help="combinations in all (default 1000)")
+    words.add_argument("--part", type=int, default=20, metavar="N", help="combinations of a part (default 20)")
+    words.add_argument("--seconds", type=float, default=float("inf"), metavar="S", help="begin no part after so long")
+    words.add_argument("--only", choices=COMBINATIONS, metavar="KIND", help=f"one kind: {', '.join(COMBINATIONS)}")
+    options = words.parse_args()
+    require_program()
+    end, status = time.monotonic() + options.seconds, 0
+    done = {str(one["part"]) for one in read(options.record) if "failed" not in one}
+    for part in parts(options.wanted, options.part):
+        if part.name in done or options.only not in (None, part.kind):
+            continue
+        if time.monotonic() > end:
+            status = 1
+            break
+        found = noted(part)
+        status |= "failed" in found
+        with options.record.open("a") as record:
+            record.write(json.dumps(found) + "\n")
+    print(told(read(options.record)))
+    return status
+
+
+if __name__ == "__main__":
+    sys.exit(main())

@@ -27,7 +27,8 @@ from measured import memory, processor_time, started_by  # noqa: E402
 from running import require_program  # noqa: E402
 from test_replay import backup  # noqa: E402
 from test_restarts import BESIDE, Counting  # noqa: E402
-from troubles import COMBINATIONS, STEPS, Pair, as_replayed, befalls  # noqa: E402
+from troubled_pair import Pair  # noqa: E402
+from troubles import COMBINATIONS, STEPS, as_replayed, befalls  # noqa: E402
 
 # Seconds of one stretch of work; how many of them there are between two troubles, and between two snapshots.
 STRETCH, TROUBLE, SNAPSHOT = 60, 3, 10
@@ -75,7 +76,7 @@ class Day:
                     await self._is_backed_up()
             await as_replayed(self.pair)
         except BaseException:
-            print(f"leader: {self.pair.leader.told()}; standby: {self.pair.second.told()}", flush=True)
+            print(self.pair.told(), flush=True)
             raise
         finally:
             self.pair.stop()
@@ -90,7 +91,7 @@ class Day:
         pids = [os.getpid(), *self._processes()]
         before, began = {pid: processor_time([pid]) for pid in living(pids)}, time.monotonic()
         self.users.waits.clear()
-        self.users.begin(self.pair.leader)
+        self.users.begin(self.pair)
         try:
             await asyncio.wait_for(self.stopping.wait(), STRETCH)
         except TimeoutError:
@@ -114,7 +115,7 @@ class Day:
         """A snapshot while users work; it is verified by a replay from the one before, which goes then."""
         folder, leader = self.pair.folder / "backup", self.pair.leader
         folder.mkdir(exist_ok=True)
-        self.users.begin(leader)
+        self.users.begin(self.pair)
         answered = self.users.answered
         await until(lambda: self.users.answered > answered, "users who work")
         made = await asyncio.to_thread(backup, leader, "--end-sessions")

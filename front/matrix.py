@@ -23,7 +23,9 @@ sys.path.insert(0, str(Path(__file__).resolve().parent / "tests"))
 
 from database import IN_MEMORY, Cluster  # noqa: E402
 from running import require_program  # noqa: E402
-from troubles import COMBINATIONS, Pair, drawn, tried  # noqa: E402
+from troubled_gates import Gates  # noqa: E402
+from troubled_pair import Pair  # noqa: E402
+from troubles import COMBINATIONS, drawn, tried  # noqa: E402
 
 # Seconds that one trouble takes at most, with what is done then, on a machine that is busy.
 LONGEST = 60
@@ -48,13 +50,13 @@ def parts(wanted: int, size: int) -> Iterator[Part]:
 
 async def ran(part: Part) -> dict[str, object]:
     """Runs a part, and gives what it came to."""
-    cluster = await asyncio.to_thread(Cluster) if part.kind == "database" else None
+    cluster = None if part.kind == "files" else await asyncio.to_thread(Cluster)
     try:
         with tempfile.TemporaryDirectory(dir=IN_MEMORY, prefix="matrix-") as folder:
             async with asyncio.timeout(LONGEST * len(part.chosen)):
-                pair = await asyncio.to_thread(Pair, Path(folder), cluster)
-                counting = await tried(pair, part.chosen, random.Random(part.name))
-        return {"tried": len(part.chosen), "fired": sum(pair.fired.values()), "answered": counting.answered}
+                troubled = await asyncio.to_thread(Gates if part.kind == "gates" else Pair, Path(folder), cluster)
+                counting = await tried(troubled, part.chosen, random.Random(part.name))
+        return {"tried": len(part.chosen), "fired": sum(troubled.fired.values()), "answered": counting.answered}
     finally:
         if cluster is not None:
             cluster.remove()

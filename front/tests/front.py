@@ -15,7 +15,7 @@ import sys
 import time
 from collections.abc import AsyncIterator, Awaitable, Callable, Sequence
 from pathlib import Path
-from typing import Any
+from typing import Any, Protocol
 
 import aiohttp
 import argon2
@@ -198,12 +198,27 @@ class Front:
         return Person(self, name)
 
 
+class Reached(Protocol):
+    """What users sign on at: a front, or a gate."""
+
+    @property
+    def context(self) -> ssl.SSLContext | None:
+        """What a client trusts."""
+
+    @property
+    def origin(self) -> str:
+        """Its own origin."""
+
+
 class Person:
     """A user: signs on, and sends lines over a WebSocket. As a context manager it signs on, and signs off after the block."""
 
-    def __init__(self, front: Front, name: str) -> None:
+    def __init__(self, front: Reached, name: str) -> None:
         self.front, self.name = front, name
-        self.http = aiohttp.ClientSession(front.origin, connector=aiohttp.TCPConnector(ssl=front.context) if front.certificate else None)
+        context = front.context
+        # Some are reached by an address.
+        self.http = aiohttp.ClientSession(front.origin, connector=aiohttp.TCPConnector(ssl=context) if context else None,
+                                          cookie_jar=aiohttp.CookieJar(unsafe=True))
         self.record: Record = {}
         self.events: list[Record] = []
         self.socket: aiohttp.ClientWebSocketResponse | None = None

@@ -10,8 +10,9 @@ import subprocess
 import sys
 import time
 from collections import deque
-from collections.abc import Sequence
+from collections.abc import Mapping, Sequence
 from pathlib import Path
+from types import MappingProxyType
 
 from front import FRONT, PASSWORD, Ran, Record, toml, tool, write_users
 from running import PROGRAM, free_port
@@ -36,7 +37,12 @@ def certificates(folder: Path) -> None:
 class Gate:
     """A machine's gate that runs."""
 
-    def __init__(self, folder: Path, name: str, database: str, ports: dict[str, int], certificates: Path, **more: dict[str, object]) -> None:
+    # What its processes have in their environment besides.
+    environment: Mapping[str, str] = MappingProxyType({})
+
+    def __init__(self, folder: Path, name: str, database: str, ports: dict[str, int], certificates: Path, environment: Mapping[str, str] | None = None,
+                 **more: dict[str, object]) -> None:
+        self.environment = environment or self.environment
         self.folder, self.name, self.host, self.ports = folder / name, name, HOSTS[name], ports
         self.folder.mkdir(exist_ok=True)
         self.authority = certificates / "authority.pem"
@@ -57,7 +63,7 @@ class Gate:
         with (self.folder / "told").open("a") as told:
             before = self.told().count("serving at https")
             process = subprocess.Popen([sys.executable, FRONT / "mgate", "--config", self.config], stdin=subprocess.DEVNULL, stderr=told,
-                                       start_new_session=True)
+                                       start_new_session=True, env=os.environ | self.environment)
         end = time.monotonic() + 30
         while True:
             # This comes first: what it told before it ended counts.
@@ -95,6 +101,11 @@ class Gate:
     def context(self) -> ssl.SSLContext:
         """What its users trust."""
         return ssl.create_default_context(cafile=str(self.authority))
+
+    @property
+    def origin(self) -> str:
+        """Where its users' browsers find it."""
+        return f"https://{self.host}:{self.ports['http']}"
 
 
 class Program:

@@ -5,16 +5,18 @@ from __future__ import annotations
 import asyncio
 import random
 import tempfile
-from collections.abc import Iterator
+from collections.abc import Callable, Iterator
 from pathlib import Path
 
 import pytest
 from database import IN_MEMORY, Cluster
 from front import in_loop
-from troubles import Pair, drawn, tried
+from troubled_gates import Gates
+from troubled_pair import Pair
+from troubles import Troubled, drawn, tried
 
 # Combinations that are tried, unless more are asked for (--count).
-TRIED = {"files": 40, "database": 10}
+TRIED = {"files": 40, "database": 10, "gates": 6}
 
 
 @pytest.fixture
@@ -32,10 +34,11 @@ async def test_the_matrix_of_troubles(folder: Path, count: int) -> None:
 
 
 @pytest.mark.long
+@pytest.mark.parametrize(("kind", "made"), [("database", Pair), ("gates", Gates)])
 @in_loop(36_000)
-async def test_the_matrix_of_troubles_over_a_database(folder: Path, count: int) -> None:
+async def test_the_matrix_of_troubles_over_a_database(folder: Path, kind: str, made: Callable[[Path, Cluster], Troubled], count: int) -> None:
     cluster, rng = await asyncio.to_thread(Cluster), random.Random(6 + count)
     try:
-        await tried(Pair(folder, cluster), drawn("database", TRIED["database"] * count, rng), rng)
+        await tried(await asyncio.to_thread(made, folder, cluster), drawn(kind, TRIED[kind] * count, rng), rng)
     finally:
         cluster.remove()

@@ -9,6 +9,7 @@ import random
 import signal
 from collections.abc import Awaitable, Callable
 from pathlib import Path
+from typing import Protocol
 
 import aiohttp
 import pytest
@@ -23,6 +24,13 @@ WORK = 0.4
 BESIDE = ("", " F I=1:1:30 S ^W({user},I)=$G(^W({user},I))+1", " S (^P({user}),^Q({user}))=^N({user}) K ^P({user}),^Q({user})")
 
 
+class Served(Protocol):
+    """Where users are served."""
+
+    def person(self, name: str) -> Person:
+        """A user there."""
+
+
 class Counting:
     """Users who each count at a node of their own, and hold each reply against what it can be: a line without a reply may have been run, once."""
 
@@ -35,7 +43,7 @@ class Counting:
         self.most = dict.fromkeys(names, 0)
         self.answered = 0
 
-    def begin(self, front: Front) -> None:
+    def begin(self, front: Served) -> None:
         """Has the users work at a front, and come back to it, until they are ended."""
         self._ends = False
         self._work = [asyncio.create_task(self._user(front, name)) for name in self._names]
@@ -45,7 +53,7 @@ class Counting:
         self._ends = True
         await asyncio.wait_for(asyncio.gather(*self._work), 60)
 
-    async def _user(self, front: Front, name: str) -> None:
+    async def _user(self, front: Served, name: str) -> None:
         while not self._ends:
             person = front.person(name)
             try:
@@ -80,7 +88,7 @@ class Counting:
         self.least[name] = self.most[name] = found
         self.answered += 1
 
-    async def seen_by(self, front: Front) -> None:
+    async def seen_by(self, front: Served) -> None:
         """Holds what a front says of the counters against what they can be."""
         for name in self._names:
             person = front.person(name)

@@ -22,11 +22,12 @@ from pathlib import Path
 
 sys.path.insert(0, str(Path(__file__).resolve().parent / "tests"))
 
-from front import Person, Record, tool, until  # noqa: E402
+from database import IN_MEMORY  # noqa: E402
+from front import Patience, Person, Record, tool, until  # noqa: E402
 from measured import memory, processor_time, started_by  # noqa: E402
 from running import require_program  # noqa: E402
 from test_replay import backup  # noqa: E402
-from test_restarts import BESIDE, Counting  # noqa: E402
+from test_restarts import Counting  # noqa: E402
 from troubled_pair import Pair  # noqa: E402
 from troubles import COMBINATIONS, STEPS, as_replayed, befalls  # noqa: E402
 
@@ -34,13 +35,15 @@ from troubles import COMBINATIONS, STEPS, as_replayed, befalls  # noqa: E402
 STRETCH, TROUBLE, SNAPSHOT = 60, 3, 10
 # Seconds between two lines of a user: the first, the least and the most.
 RESTS, LEAST, MOST = 0.1, 0.001, 2.0
+# Seconds after which something is missed: the machine may have other work.
+PATIENT = 240
 
 
 class Paced(Counting):
     """Users who rest between two lines. `waits` has how long each reply took, since it was emptied."""
 
     def __init__(self) -> None:
-        super().__init__(beside=BESIDE[1])
+        super().__init__()
         self.rest = RESTS
         self.waits: list[float] = []
 
@@ -58,6 +61,7 @@ class Day:
     def __init__(self, folder: Path, record: Path, share: float) -> None:
         """`share` is the part of the machine that all of it takes."""
         self.pair, self.users = Pair(folder), Paced()
+        self.pair.long = True
         self.stopping = asyncio.Event()
         self.troubles = self.snapshots = 0
         self._record, self._share, self._rng = record, share, random.Random(7)
@@ -106,6 +110,7 @@ class Day:
     async def _meets_trouble(self) -> None:
         """One trouble of the matrix."""
         step, what, then = self._rng.choice(COMBINATIONS["files"])
+        print(f"{what}, when {step}; then {then}", flush=True)
         began = time.monotonic()
         await befalls(self.pair, self.users, (step, what, then), self._rng.randrange(1, 12) if step not in STEPS[-3:] else 1)
         self.troubles += 1
@@ -178,9 +183,10 @@ def main() -> int:
     words.add_argument("record", type=Path, metavar="RECORD", help="the file that gets what is measured, a line for each minute")
     words.add_argument("--seconds", type=float, default=86_400, metavar="S", help="for so long (default a day)")
     words.add_argument("--share", type=float, default=5, metavar="N", help="percent of the machine that all of it takes (default 5)")
-    words.add_argument("--folder", type=Path, default=Path("/var/tmp"), metavar="FOLDER", help="where stores and journal are (default /var/tmp)")
+    words.add_argument("--folder", type=Path, default=Path(IN_MEMORY), metavar="FOLDER", help=f"where stores and journal are (default {IN_MEMORY})")
     options = words.parse_args()
     require_program()
+    Patience.seconds = PATIENT
     if options.record.exists():
         sys.exit(f"day: {options.record}: it is there already: name another record")
     try:

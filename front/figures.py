@@ -1,6 +1,6 @@
 #!/usr/bin/python3
 # SPDX-License-Identifier: Apache-2.0
-"""All figures of the journal and of many machines, one measurement after another, unattended and within twelve minutes. Each has a limit of its own;
+"""All figures of the journal and of many machines, one measurement after another, unattended and within fourteen minutes. Each has a limit of its own;
 what it printed up to there is kept. On a quiet machine these are the figures of docs/PERFORMANCE.md.
 
 Status 1 if a measurement failed or was cut off; the last line says how many did."""
@@ -27,7 +27,7 @@ PYTHON = "/usr/bin/python3"
 APART = Path(f"/dev/shm/mfront-figures-{os.getpid()}")
 TEST = [PYTHON, "-m", "pytest", "-q", "-s", "-c", str(HERE / "pytest.ini"), "--rootdir", str(HERE.parent), "-p", "no:cacheprovider"]
 # Seconds for all.
-ALL = 720
+ALL = 810
 
 
 @dataclass(frozen=True, slots=True)
@@ -55,6 +55,7 @@ def measurements(short: bool) -> list[Measurement]:
                     (PYTHON, machines, "--islands", "3", "--accounts", grouped, "--seconds", seconds, "--moved", "1"), 120),
         Measurement("time without service", (PYTHON, rates, "--kinds", "--killed", killed), 120),
         Measurement("leaders killed", (*TEST, *apart, str(HERE / "tests" / "test_standby.py"), "-k", "leaders_that_are_killed", "--count", count), 300),
+        Measurement("a heavy account beside another", (*TEST, str(HERE / "tests" / "test_alone.py"), "-k", "heavy"), 90),
         Measurement("journals, one user", (PYTHON, rates, "--users", "1", "--seconds", one, "--replayed", "0", "--killed", "0", "--stores", "memory"), 60),
         Measurement("journals over a store in a file, 64 users",
                     (PYTHON, rates, "--users", "64", "--seconds", many, "--replayed", "1000", "--killed", "0", "--stores", "file"), 100),
@@ -95,7 +96,7 @@ def machine() -> str:
 
 def main() -> int:
     """The status of the command."""
-    words = argparse.ArgumentParser(description="Makes all measurements of the journal and of many machines, within twelve minutes.")
+    words = argparse.ArgumentParser(description="Makes all measurements of the journal and of many machines, within fourteen minutes.")
     words.add_argument("--short", action="store_true", help="small ones, which try that each works: no figures")
     words.add_argument("--only", metavar="WORD", help="only those whose name has this word")
     options = words.parse_args()

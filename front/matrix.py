@@ -10,6 +10,7 @@ import asyncio
 import json
 import os
 import random
+import signal
 import sys
 import tempfile
 import time
@@ -22,13 +23,14 @@ from pathlib import Path
 sys.path.insert(0, str(Path(__file__).resolve().parent / "tests"))
 
 from database import IN_MEMORY, Cluster  # noqa: E402
+from front import Patience  # noqa: E402
 from running import require_program  # noqa: E402
 from troubled_gates import Gates  # noqa: E402
 from troubled_pair import Pair  # noqa: E402
 from troubles import COMBINATIONS, drawn, tried  # noqa: E402
 
-# Seconds that one trouble takes at most, with what is done then, on a machine that is busy.
-LONGEST = 60
+# Seconds that a part takes at most, and after which something is missed in it: the machine may have other work.
+LONGEST, PATIENT = 3600, 240
 
 
 @dataclass(frozen=True, slots=True)
@@ -53,7 +55,7 @@ async def ran(part: Part) -> dict[str, object]:
     cluster = None if part.kind == "files" else await asyncio.to_thread(Cluster)
     try:
         with tempfile.TemporaryDirectory(dir=IN_MEMORY, prefix="matrix-") as folder:
-            async with asyncio.timeout(LONGEST * len(part.chosen)):
+            async with asyncio.timeout(LONGEST):
                 troubled = await asyncio.to_thread(Gates if part.kind == "gates" else Pair, Path(folder), cluster)
                 counting = await tried(troubled, part.chosen, random.Random(part.name))
         return {"tried": len(part.chosen), "fired": sum(troubled.fired.values()), "answered": counting.answered}
@@ -98,6 +100,10 @@ def main() -> int:
     words.add_argument("--only", choices=COMBINATIONS, metavar="KIND", help=f"one kind: {', '.join(COMBINATIONS)}")
     options = words.parse_args()
     require_program()
+    Patience.seconds = PATIENT
+    # A run in the background ends in order too: what it has started ends with it.
+    for number in (signal.SIGTERM, signal.SIGINT):
+        signal.signal(number, signal.default_int_handler)
     end, status = time.monotonic() + options.seconds, 0
     done = {str(one["part"]) for one in read(options.record) if "failed" not in one}
     for part in parts(options.wanted, options.part):

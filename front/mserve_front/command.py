@@ -18,6 +18,7 @@ from .figures import of_standby
 from .passwords import LEAST
 from .server import NoStart, tell
 from .settings import BadSettings, Settings, Table, journal_settings, read_settings, read_terminals, read_toml
+from .slices import SHORT, take_slices
 from .users import NAME, BadUsers, User, changed, load, new_token, password_hash
 
 DEFAULT = "/etc/mserve/front.toml"
@@ -140,6 +141,7 @@ def serve(options: argparse.Namespace) -> None:
         await Service(settings, promoted).run()
     # What is made is for this user alone, however the front was started.
     os.umask(0o077)
+    take_slices(SHORT)
     ending.run(run())
 
 

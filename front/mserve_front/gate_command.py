@@ -24,6 +24,7 @@ from .journal import LogFault
 from .placement import NAME, BadPlacement, LocalPlacement, Machine, Placed, Placement
 from .server import tell
 from .settings import PROGRAM, BadSettings, Limits, Table, read_toml
+from .slices import SHORT, take_slices
 from .users import BadUsers
 
 DEFAULT = "/etc/mserve/machine.toml"
@@ -148,6 +149,7 @@ def context_of(purpose: int, certificate: Path, key: Path, authority: Path | Non
 
 def serve(options: argparse.Namespace) -> None:
     """Serves until it is stopped."""
+    take_slices(SHORT)
     ending.run(_serve(*settings_of(options)))
 
 

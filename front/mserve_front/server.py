@@ -22,6 +22,7 @@ from .metrics import Metrics
 from .replies import Answer
 from .settings import Settings
 from .shares import Shares
+from .slices import OWN, take_slices
 from .turns import Lost, Turns, Unsent
 
 if TYPE_CHECKING:
@@ -292,6 +293,8 @@ async def launched(program: Path, settings: Path, store: str, connections: int =
                                                        stdin=asyncio.subprocess.DEVNULL, stdout=asyncio.subprocess.DEVNULL, start_new_session=True)
     except OSError as error:
         raise NoStart(f"{program}: {error.strerror}") from error
+    # A line may compute for long.
+    take_slices(OWN, process.pid)
     return Child(process, port, fresh, enclosed)
 
 

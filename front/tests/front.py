@@ -36,6 +36,12 @@ CHEAP = argon2.PasswordHasher(time_cost=1, memory_cost=64, parallelism=1)
 Record = dict[str, Any]
 
 
+class Patience:
+    """Seconds after which something that is waited for is missed. Long runs on a machine that has other work have more."""
+
+    seconds = 30.0
+
+
 def in_loop(seconds: float = 60) -> Callable[[Callable[..., Awaitable[None]]], Callable[..., None]]:
     """Runs a test that awaits, for so long at most."""
     def made(test: Callable[..., Awaitable[None]]) -> Callable[..., None]:
@@ -50,8 +56,8 @@ def in_loop(seconds: float = 60) -> Callable[[Callable[..., Awaitable[None]]], C
 
 
 async def until(holds: Callable[[], object], what: str, pause: float = 0.02) -> None:
-    """Waits until something holds, however busy the machine is: what a call gives, or what that gives once it is awaited. It is missed after half a minute."""
-    end = time.monotonic() + 30
+    """Waits until something holds, however busy the machine is: what a call gives, or what that gives once it is awaited."""
+    end = time.monotonic() + Patience.seconds
     while True:
         found = holds()
         if inspect.isawaitable(found):
@@ -80,7 +86,7 @@ Ran = tuple[int, str, str]
 def tool(name: str, *before: str) -> Callable[..., Ran]:
     """Runs a command of front/: its status, what it writes, and what it tells."""
     def run(*words: object) -> Ran:
-        done = subprocess.run([sys.executable, FRONT / name, *before, *map(str, words)], capture_output=True, text=True, timeout=60)
+        done = subprocess.run([sys.executable, FRONT / name, *before, *map(str, words)], capture_output=True, text=True, timeout=2 * Patience.seconds)
         return done.returncode, done.stdout, done.stderr
     return run
 
@@ -141,7 +147,7 @@ class Front:
 
     def hears(self, text: str) -> None:
         """Waits until it tells a text."""
-        end = time.monotonic() + 30
+        end = time.monotonic() + Patience.seconds
         while True:
             # This comes first: what it told before it ended counts.
             over = self.process.poll() is not None or time.monotonic() > end
@@ -157,7 +163,7 @@ class Front:
 
     def again(self) -> None:
         """Starts it once more, after it has ended."""
-        self.process.wait(60)
+        self.process.wait(2 * Patience.seconds)
         self._started()
 
     def told(self) -> str:
@@ -181,7 +187,7 @@ class Front:
         """Ends the front as an operator does, and gives its status."""
         if self.process.poll() is None:
             self.process.terminate()
-        return self.process.wait(60)
+        return self.process.wait(2 * Patience.seconds)
 
     @property
     def context(self) -> ssl.SSLContext | None:

@@ -14,7 +14,7 @@ from collections.abc import Mapping, Sequence
 from pathlib import Path
 from types import MappingProxyType
 
-from front import FRONT, PASSWORD, Ran, Record, toml, tool, write_users
+from front import FRONT, PASSWORD, Patience, Ran, Record, toml, tool, write_users
 from running import PROGRAM, free_port
 
 HOSTS = {"one": "127.0.0.2", "two": "127.0.0.3", "three": "127.0.0.4"}
@@ -64,7 +64,7 @@ class Gate:
             before = self.told().count("serving at https")
             process = subprocess.Popen([sys.executable, FRONT / "mgate", "--config", self.config], stdin=subprocess.DEVNULL, stderr=told,
                                        start_new_session=True, env=os.environ | self.environment)
-        end = time.monotonic() + 30
+        end = time.monotonic() + Patience.seconds
         while True:
             # This comes first: what it told before it ended counts.
             over = process.poll() is not None or time.monotonic() > end
@@ -86,7 +86,7 @@ class Gate:
         """Ends it in order."""
         if self.process.poll() is None:
             self.process.terminate()
-        return self.process.wait(60)
+        return self.process.wait(2 * Patience.seconds)
 
     def kill(self) -> None:
         """Ends it at once, and all that it has started with it."""

@@ -2,11 +2,16 @@
 """Processes that are measured: who started whom, the processor time that they took, and the memory that they have."""
 from __future__ import annotations
 
+import ctypes
 import os
 from collections.abc import Iterable
 from pathlib import Path
 
+from mserve_front.slices import ATTRIBUTES
+
 TICKS = os.sysconf("SC_CLK_TCK")
+# sched_getattr.
+SLICE_OF = {"x86_64": 315, "aarch64": 275}
 
 
 def _fields(pid: int) -> list[str]:
@@ -39,3 +44,13 @@ def memory(pids: Iterable[int]) -> float:
         found = next(line for line in Path(f"/proc/{pid}/smaps_rollup").read_text().splitlines() if line.startswith("Pss:"))
         total += int(found.split()[1])
     return total * 1024 / 1e6
+
+
+def slices(pid: int) -> set[int]:
+    """The lengths of the slices of a processor that the threads of a process have, in nanoseconds; 0 from a system that has no such thing."""
+    found = ctypes.create_string_buffer(ATTRIBUTES.size)
+    lengths = set()
+    for thread in os.listdir(f"/proc/{pid}/task"):
+        assert ctypes.CDLL(None).syscall(SLICE_OF[os.uname().machine], int(thread), found, ATTRIBUTES.size, 0) == 0
+        lengths.add(ATTRIBUTES.unpack(found.raw)[5])
+    return lengths

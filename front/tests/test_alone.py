@@ -4,6 +4,7 @@ from __future__ import annotations
 
 import asyncio
 import math
+import os
 import statistics
 import time
 from collections.abc import Iterator
@@ -12,7 +13,9 @@ from pathlib import Path
 import pytest
 from front import Front, Ran, in_loop, mjournal, toml, tool, until
 from machines import Gate, Program
+from measured import slices, started_by
 from mserve_front.settings import read_toml
+from mserve_front.slices import SHORT
 from running import ISLANDS, PROGRAM
 from test_replay import held
 
@@ -101,6 +104,7 @@ async def test_a_heavy_account_holds_nobody_up(alone: Path, certificate: tuple[P
         for program in (hugo, lisa, cleo):
             await program.signed_on()
         assert await cleo.told('W ^|"LAB"|RESULT(7)') == "7                   1"
+        let_on_soon(gate)
         stop = asyncio.Event()
         heavy = asyncio.create_task(hammers(hugo, stop))
         waits = await worked(lisa)
@@ -123,6 +127,15 @@ async def test_a_heavy_account_holds_nobody_up(alone: Path, certificate: tuple[P
     # It is not made a second time over what is there, and an island stays where it is.
     assert "there are islands already" in init(alone, tmp_path)[2]
     assert "this machine is alone" in gate.does("move", "LAB", "two")[2]
+
+
+def let_on_soon(gate: Alone) -> None:
+    """The gate and the fronts have short slices of a processor in all their threads, where the system has such a thing, and servers have the system's."""
+    fronts = started_by([gate.process.pid])
+    servers, own = started_by(fronts), slices(os.getpid())
+    assert len(fronts) == len(servers) == 3
+    assert [slices(pid) for pid in (gate.process.pid, *fronts)] == [own & {0} or {SHORT}] * 4
+    assert [slices(pid) for pid in servers] == [own] * 3
 
 
 async def changes(gate: Alone, lisa: Program, folder: Path) -> None:

@@ -13,7 +13,7 @@ from typing import Protocol
 
 import aiohttp
 import pytest
-from front import Front, Person, Record, in_loop, mjournal, until
+from front import Front, Patience, Person, Record, in_loop, mjournal, until
 from running import PROGRAM
 from test_replay import held
 from test_standby import leading, standby, takes_over
@@ -51,7 +51,7 @@ class Counting:
     async def end(self) -> None:
         """Ends the work."""
         self._ends = True
-        await asyncio.wait_for(asyncio.gather(*self._work), 60)
+        await asyncio.wait_for(asyncio.gather(*self._work), 2 * Patience.seconds)
 
     async def _user(self, front: Served, name: str) -> None:
         while not self._ends:

@@ -48,6 +48,10 @@ class Gates(Troubled):
     def told(self) -> str:
         return "; ".join(f"{name}: {gate.told()}" for name, gate in self.gates.items())
 
+    def runs(self, what: str) -> bool:
+        # A front that ends alone is started again at once.
+        return what == "machine" and self.gates[self.here].process.poll() is None
+
     def kill_server(self) -> None:
         with contextlib.suppress(OSError):
             for pid in started_by(started_by([self.gates[self.here].process.pid])):

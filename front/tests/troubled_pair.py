@@ -10,7 +10,7 @@ import time
 from pathlib import Path
 
 from database import Cluster
-from front import Front, Person, tool
+from front import Front, Patience, Person, tool
 from mserve_front.control import Refused, asked
 from mserve_front.islands import NEAR, put_aside
 from test_replay import backup
@@ -23,6 +23,8 @@ class Pair(Troubled):
 
     def __init__(self, folder: Path, cluster: Cluster | None = None) -> None:
         super().__init__(folder, cluster)
+        # Where a journal is long, a new standby begins with a snapshot.
+        self.long = False
         self.leader, self.second = self._front("one"), self._front("two", "--follow")
         self.acts = {"go on": self.goes_on, "promote": self.promotes, "gone": self.is_gone, "in order": self.in_order, "move": self.moves}
 
@@ -55,6 +57,9 @@ class Pair(Troubled):
     def stop(self) -> None:
         self.leader.stop()
         self.second.stop()
+
+    def runs(self, what: str) -> bool:
+        return self.leader.process.poll() is None
 
     def kill_server(self) -> None:
         with contextlib.suppress(IndexError, OSError):
@@ -90,7 +95,7 @@ class Pair(Troubled):
         await self.goes_on()
         await self.caught_up(NEAR)
         self.leader.process.send_signal(signal.SIGUSR1)
-        assert await asyncio.to_thread(self.leader.process.wait, 60) == 0
+        assert await asyncio.to_thread(self.leader.process.wait, 2 * Patience.seconds) == 0
         await self._taken_over()
         self._change_places()
         put_aside(self.second.folder / "store.db")
@@ -105,21 +110,23 @@ class Pair(Troubled):
     def begins_with_a_snapshot(self) -> None:
         """The standby's store is put back."""
         snapshot = backup(self.leader, "--end-sessions")
-        for end in ("", "-wal", ".at", ".head"):
-            (self.second.folder / f"store.db{end}").unlink(missing_ok=True)
+        self._lose_store()
         assert tool("mbackup")("restore", snapshot, self.second.folder / "store.db")[0] == 0
         shutil.rmtree(snapshot)
         self.second.again()
 
     async def is_gone(self) -> None:
-        """The leader's machine is gone; the standby serves, and another machine stands by from the journal's beginning."""
+        """The leader's machine is gone; the standby serves, and another machine stands by from the journal's beginning, or from a snapshot."""
         self.leader.process.kill()
         await asyncio.to_thread(self.leader.process.wait)
         await self._taken_over()
         self._change_places()
+        self._lose_store()
+        await asyncio.to_thread(self.begins_with_a_snapshot if self.long else self.second.again)
+
+    def _lose_store(self) -> None:
         for end in ("", "-wal", ".at", ".head"):
             (self.second.folder / f"store.db{end}").unlink(missing_ok=True)
-        await asyncio.to_thread(self.second.again)
 
     async def in_order(self) -> None:
         """The leader is stopped in order, if it runs, and started again."""

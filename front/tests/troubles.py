@@ -16,7 +16,7 @@ from collections.abc import Awaitable, Callable, Sequence
 from pathlib import Path
 
 from database import Cluster
-from front import FRONT, Person, until
+from front import FRONT, Patience, Person, until
 from running import PROGRAM
 from test_replay import held
 from test_restarts import BESIDE, Counting
@@ -33,6 +33,8 @@ THENS = ("go on", "promote", "gone", "in order", "move")
 OF_DATABASE = ("database", *(what for what in WHATS if what != "disk full"))
 COMBINATIONS = {"files": tuple(itertools.product(STEPS, WHATS, THENS)), "database": tuple(itertools.product(STEPS, OF_DATABASE, THENS)),
                 "gates": tuple(itertools.product(STEPS, OF_DATABASE, [then for then in THENS if then != "promote"]))}
+# Troubles by which the process ends in which they come.
+ENDING = ("front", "both", "machine")
 # Seconds for a standby to catch up, which may begin with the journal, and for users to be served again.
 CATCHING_UP = 240
 
@@ -58,11 +60,14 @@ class Troubled(ABC):
         made.replace(place)
         if step in STEPS[-3:]:
             self.kill_server()
-        end = time.monotonic() + 15
+        end = time.monotonic() + Patience.seconds / 2
         while place.exists() and time.monotonic() < end:
             await asyncio.sleep(0.02)
-        self.fired[step] += not place.exists()
+        fired = not place.exists()
+        self.fired[step] += fired
         place.unlink(missing_ok=True)
+        if fired and what in ENDING:
+            await until(lambda: not self.runs(what), f"the end of {what}")
         if what == "database":
             await asyncio.to_thread(self.cluster.stop)
             await asyncio.sleep(0.5)
@@ -71,6 +76,10 @@ class Troubled(ABC):
     @abstractmethod
     def person(self, name: str) -> Person:
         """A user, who comes to where lines are served."""
+
+    @abstractmethod
+    def runs(self, what: str) -> bool:
+        """Whether what was to end by a trouble runs yet."""
 
     @abstractmethod
     def kill_server(self) -> None:

@@ -9,7 +9,7 @@ import os
 import signal
 import threading
 import time
-from collections.abc import Callable
+from collections.abc import Callable, Iterable
 from pathlib import Path
 
 # The steps, in the order of the rule.
@@ -53,10 +53,16 @@ def of_machine() -> list[int]:
 
 def kill_machine() -> None:
     """Ends all other processes of this one's machine. They are stopped first: none sees another one end."""
-    for number in (signal.SIGSTOP, signal.SIGKILL):
-        for pid in of_machine():
-            with contextlib.suppress(ProcessLookupError):
-                os.kill(pid, number)
+    found = of_machine()
+    signalled(found, signal.SIGSTOP)
+    signalled({*found, *of_machine()}, signal.SIGKILL)
+
+
+def signalled(pids: Iterable[int], number: signal.Signals) -> None:
+    """Sends a signal to processes, of which some may have ended."""
+    for pid in pids:
+        with contextlib.suppress(ProcessLookupError):
+            os.kill(pid, number)
 
 
 def happens(what: str) -> None:

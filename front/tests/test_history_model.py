@@ -241,6 +241,7 @@ def drawn(count: int) -> settings:
     return settings(max_examples=60 * count, stateful_step_count=40, deadline=None, suppress_health_check=list(HealthCheck))
 
 
+@pytest.mark.long
 def test_kills_at_every_step(count: int) -> None:
     run_state_machine_as_test(Leading, settings=drawn(count))
 

@@ -33,6 +33,7 @@ def choose_routine(browser: Browser, name: str) -> None:
     Select(browser.one("#routine-choice")).select_by_value(name)
 
 
+@pytest.mark.long
 def test_two_users_at_once(browsers: Opened) -> None:  # noqa: F811
     """One signs on, sets, walks the tree, edits and runs a routine, and signs off; one of another account sees nothing of it meanwhile."""
     ada, cleo = browsers("ada"), browsers("cleo", scheme="dark")

@@ -127,7 +127,7 @@ async def front_killed(leader: Front) -> None:
     await asyncio.to_thread(leader.again)
 
 
-@pytest.mark.parametrize("beside", BESIDE, ids=["one node", "many nodes", "two in one"])
+@pytest.mark.parametrize("beside", [BESIDE[0], pytest.param(BESIDE[1], marks=pytest.mark.long), BESIDE[2]], ids=["one node", "many nodes", "two in one"])
 @pytest.mark.parametrize("trouble", [server_killed, restarted, front_killed])
 @in_loop(580)
 async def test_a_standby_goes_on_after_trouble_at_its_leader(start, tmp_path: Path, trouble: Trouble, beside: str, count: int) -> None:

@@ -308,6 +308,7 @@ async def test_a_standby_that_is_killed_begins_with_a_snapshot(start, tmp_path: 
         assert await ada.told("W ^X") == "2"
 
 
+@pytest.mark.long
 @in_loop(200)
 async def test_a_standby_that_cannot_go_on(start, tmp_path: Path) -> None:
     """Other settings are waited for."""

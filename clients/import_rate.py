@@ -1,11 +1,12 @@
 #!/usr/bin/python3
 # SPDX-License-Identifier: Apache-2.0
 """How many nodes a second `mglobal import` sets through a terminal over a store in a file, beside what that store commits by itself: the program runs
-a file of the same lines, each with as many SETs, and waits for nobody. Both take turns, each over a new store.
+a file of the same lines, each with as many SETs, and waits for nobody. Both take turns, each over a new store; or they run at once by `--together`, so
+that whatever else the disk has to do delays both alike: then the ratio holds on a busy machine too, and the rates do not.
 
-    clients/import_rate.py [--nodes N] [--passes N] [--folder FOLDER]
+    clients/import_rate.py [--nodes N] [--passes N] [--together] [--folder FOLDER]
 
-Only figures of a quiet machine are worth keeping. Status 1 if a node was not set."""
+Status 1 if a node was not set."""
 from __future__ import annotations
 
 import argparse
@@ -15,6 +16,7 @@ import subprocess
 import sys
 import tempfile
 import time
+from concurrent.futures import ThreadPoolExecutor
 from pathlib import Path
 
 CLIENTS = Path(__file__).resolve().parent
@@ -70,7 +72,7 @@ def by_import(store: Path, extract: Path, count: int) -> float:
     return seconds
 
 
-def measured(folder: Path, count: int, passes: int) -> list[tuple[float, float]]:
+def measured(folder: Path, count: int, passes: int, at_once: int) -> list[tuple[float, float]]:
     """The nodes a second of both ways, pass by pass."""
     entries = nodes(count)
     texts = lines(entries)
@@ -78,8 +80,9 @@ def measured(folder: Path, count: int, passes: int) -> list[tuple[float, float]]
     job.write_text("".join(f"{TERMINAL} {text}\n" for text in texts), encoding="ascii")
     print(f"{count:,} nodes in {len(texts):,} lines, {count / len(texts):.1f} SETs a line")
     for number in range(1, passes + 1):
-        alone = count / by_itself(folder / f"alone{number}", job, len(texts))
-        taken = count / by_import(folder / f"taken{number}", extract, count)
+        with ThreadPoolExecutor(at_once) as ways:
+            begun = ways.submit(by_itself, folder / f"alone{number}", job, len(texts)), ways.submit(by_import, folder / f"taken{number}", extract, count)
+        alone, taken = (count / way.result() for way in begun)
         print(f"pass {number}: the store by itself {alone:,.0f} nodes a second, the import {taken:,.0f}: {taken / alone:.2f}", flush=True)
         rates.append((alone, taken))
     return rates
@@ -90,11 +93,12 @@ def main() -> int:
     words = argparse.ArgumentParser(description="Measures an import through a terminal over a store in a file, beside what the store commits by itself.")
     words.add_argument("--nodes", type=int, default=20_000, metavar="N", help="how many nodes (default 20000)")
     words.add_argument("--passes", type=int, default=5, metavar="N", help="how often (default 5)")
+    words.add_argument("--together", action="store_true", help="run both ways at once, and not in turns")
     words.add_argument("--folder", type=Path, help="where the stores are, on the disk that is measured (default: a temporary one)")
     options = words.parse_args()
     running.require_program()
     with tempfile.TemporaryDirectory(prefix="mserve-import", dir=options.folder) as name:
-        rates = measured(Path(name), options.nodes, options.passes)
+        rates = measured(Path(name), options.nodes, options.passes, 2 if options.together else 1)
     alone, taken = (statistics.median(rate) for rate in zip(*rates))
     ratio = statistics.median(taken / alone for alone, taken in rates)
     print(f"median: the store by itself {alone:,.0f} nodes a second, the import {taken:,.0f}; of the ratios {ratio:.2f}")

@@ -42,7 +42,7 @@ TESTS, CLIENTS, FRONT, PACKAGING = SUITES = ("tests", "clients/tests", "front/te
 # Those that draw their cases.
 COUNTED = (TESTS, CLIENTS, FRONT)
 # Files that take long begin first, so that none of them is left alone at the end. Nothing rests on that but the time.
-FIRST = {CLIENTS: ("shell", "globals", "routines", "gtm"), FRONT: ("table", "matrix", "standby", "hostile", "page", "machines", "replay")}
+FIRST = {CLIENTS: ("shell", "globals", "routines", "gtm"), FRONT: ("matrix", "table", "standby", "hostile", "page", "machines", "replay")}
 # So many parts the cases of tests/ that compute have for each processor, so that no part is much longer than another.
 PARTS = 2
 # So many more processes than processors run at once where some of them wait.

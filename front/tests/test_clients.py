@@ -259,6 +259,7 @@ def test_shell_of_a_person_over_tls(start: Starter, tmp_path: Path) -> None:
         shell.leave()
 
 
+@pytest.mark.long
 def test_an_idle_shell_answers_pings(start: Starter) -> None:
     """The front pings each three seconds here, and cuts off who does not answer within seven and a half."""
     front = start(limits={"heartbeat": 3})

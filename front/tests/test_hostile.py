@@ -147,6 +147,7 @@ async def test_peer_that_answers_no_ping_is_ended(start) -> None:
         assert cleo.events == []
 
 
+@pytest.mark.long
 @in_loop()
 async def test_quiet_peer_that_answers_pings_stays(start) -> None:
     front = start(limits={"heartbeat": 3})

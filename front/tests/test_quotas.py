@@ -43,6 +43,7 @@ async def others_go_on(slow: Person, other: Person) -> None:
     assert await slowed > 2.5 * PAUSE and count > 8 and not other.events
 
 
+@pytest.mark.long
 @in_loop(120)
 async def test_an_account_over_its_quota_of_rows_is_slowed_and_told(start) -> None:
     """By each way in; another account is not met by it. With fewer rows it goes on as before."""

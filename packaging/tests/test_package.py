@@ -167,11 +167,29 @@ def test_package_has_each_command_its_page_and_the_units(package: Path) -> None:
     assert not re.search(r"^(?!l)\S+ (?!root/root)", listed, re.MULTILINE)
 
 
-@pytest.mark.parametrize("unit", UNITS)
-def test_sandbox_of_a_unit(unit: str) -> None:
+def analyze(*words: str | Path) -> subprocess.CompletedProcess[str]:
+    """Runs systemd-analyze."""
     if shutil.which("systemd-analyze") is None:
         missed("systemd-analyze is not there: apt-get install systemd")
-    done = subprocess.run(["systemd-analyze", "security", "--offline=yes", "--no-pager", TOP / "packaging" / unit], capture_output=True, text=True, timeout=60)
+    return subprocess.run(["systemd-analyze", *words], capture_output=True, text=True, timeout=60)
+
+
+@pytest.mark.parametrize("unit", UNITS)
+def test_systemd_knows_each_word_of_a_unit(unit: str, tmp_path: Path) -> None:
+    """The package is not installed here, so /bin/true stands for its commands. A word that is none is found."""
+    text = re.sub(r"^(Exec\w+=-?)/usr/\S+", r"\1/bin/true", (TOP / "packaging" / unit).read_text(encoding="utf-8"), flags=re.MULTILINE)
+
+    def verified(written: str) -> tuple[int, str]:
+        (tmp_path / unit).write_text(written, encoding="utf-8")
+        done = analyze("verify", "--man=no", "--recursive-errors=no", tmp_path / unit)
+        return done.returncode, done.stdout + done.stderr
+    assert verified(text) == (0, "")
+    assert "LimitMemory" in verified(text.replace("[Service]\n", "[Service]\nLimitMemory=4G\n"))[1]
+
+
+@pytest.mark.parametrize("unit", UNITS)
+def test_sandbox_of_a_unit(unit: str) -> None:
+    done = analyze("security", "--offline=yes", "--no-pager", TOP / "packaging" / unit)
     found = re.search(r"Overall exposure level for \S+: ([0-9.]+)", done.stdout)
     assert found and float(found[1]) <= MOST_EXPOSURE, done.stdout + done.stderr
 

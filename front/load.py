@@ -50,6 +50,11 @@ class User:
     waits: list[float] = field(default_factory=list)
     wrong: int = 0
 
+    def takes(self, number: int, record: dict[str, object], due: float) -> None:
+        """Compares a reply with what it has to be."""
+        self.waits.append(time.monotonic() - due)
+        self.wrong += record != {"id": number, "output": [], "rest": line_of(self.number, number)[1], "code": None}
+
 
 def certificate(folder: Path) -> tuple[Path, Path]:
     """A certificate for localhost, and its key."""
@@ -77,16 +82,20 @@ async def sends(person: Person, user: User, began: float, rate: float, count: in
 
 
 async def hears(person: Person, user: User, began: float, rate: float, count: int) -> None:
-    """Compares each reply with what it has to be."""
+    """Takes the replies."""
     for number in range(count):
-        record = await person.event()
-        due = began + number / rate + user.number / rate / 997
-        user.waits.append(time.monotonic() - due)
-        wanted = {"id": number, "output": [], "rest": line_of(user.number, number)[1], "code": None}
-        user.wrong += record != wanted
+        user.takes(number, await person.event(), began + number / rate + user.number / rate / 997)
 
 
-async def run(front: Front, names: list[str], rate: float, seconds: float) -> tuple[list[User], list[float]]:
+async def asks(person: Person, user: User, count: int) -> None:
+    """Sends each line once the reply before came: the front and the users are always busy."""
+    for number in range(count):
+        due = time.monotonic()
+        await person.socket.send_str(json.dumps({"id": number, "line": line_of(user.number, number)[0]}))
+        user.takes(number, await person.event(), due)
+
+
+async def run(front: Front, names: list[str], rate: float, seconds: float, one_by_one: bool) -> tuple[list[User], list[float]]:
     """All users at once; and the processor time that the front, the server and the users took meanwhile."""
     people = [front.person(name) for name in names]
     for start in range(0, len(people), 20):
@@ -94,7 +103,8 @@ async def run(front: Front, names: list[str], rate: float, seconds: float) -> tu
     users, count, began = [User(number) for number in range(len(people))], int(rate * seconds), time.monotonic() + 1
     pids = (front.process.pid, front.child, os.getpid())
     before = [processor_time(pid) for pid in pids]
-    work = [act(person, user, began, rate, count) for person, user in zip(people, users, strict=True) for act in (sends, hears)]
+    pairs = list(zip(people, users, strict=True))
+    work = [asks(*pair, count) for pair in pairs] if one_by_one else [act(*pair, began, rate, count) for pair in pairs for act in (sends, hears)]
     try:
         async with asyncio.timeout(seconds + 1 + PATIENCE):
             await asyncio.gather(*work)
@@ -158,6 +168,8 @@ def main() -> int:
     words.add_argument("--users", type=int, default=100, help="how many users (default 100)")
     words.add_argument("--rate", type=float, default=20, help="lines of each user in a second (default 20)")
     words.add_argument("--seconds", type=float, default=60, help="for how long (default 60)")
+    words.add_argument("--one-by-one", action="store_true",
+                       help="each user sends a line once the reply before came: as many as by --rate and --seconds, which are not kept to")
     words.add_argument("--store", choices=("memory", "file"), default="memory",
                        help="the kind of store (default memory); in a file each line waits for the disk")
     options = words.parse_args()
@@ -168,7 +180,7 @@ def main() -> int:
         stores = ["memory"] * 2 if options.store == "memory" else [str(folder / f"{kind}.db") for kind in ("front", "alone")]
         front = Front(folder, certificate(folder), users=names, settings=path, store=stores[0], limits={"connections_of_address": 2 * options.users + 10})
         try:
-            users, spent = asyncio.run(run(front, list(names), options.rate, options.seconds))
+            users, spent = asyncio.run(run(front, list(names), options.rate, options.seconds, options.one_by_one))
         finally:
             front.stop()
         return told(users, options.users * int(options.rate * options.seconds), spent, alone(path, stores[1], 2000))

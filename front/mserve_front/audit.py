@@ -5,6 +5,7 @@ from __future__ import annotations
 import contextlib
 import json
 import os
+from collections.abc import Mapping
 from datetime import UTC, datetime
 from pathlib import Path
 
@@ -47,13 +48,17 @@ class Audit:
         """Writes a record. Raises `NoAudit` if that fails, or if earlier ones still wait."""
         if self._path is not None:
             self.check()
-            self._write(_packed(event, what))
+            self._write(_record(event, packed(what)))
 
     def note_later(self, event: str, **what: object) -> None:
         """Writes a record of what has happened; if that fails, once it can be written."""
+        self.note_packed(event, packed(what))
+
+    def note_packed(self, event: str, what: str) -> None:
+        """The same, of what was packed before."""
         if self._path is None:
             return
-        data = _packed(event, what)
+        data = _record(event, what)
         if not self._kept:
             with contextlib.suppress(NoAudit):
                 self._write(data)
@@ -94,5 +99,10 @@ class Audit:
             raise NoAudit(str(error)) from error
 
 
-def _packed(event: str, what: dict[str, object]) -> bytes:
-    return json.dumps({"time": datetime.now(UTC).isoformat(timespec="milliseconds"), "event": event, **what}).encode() + b"\n"
+def packed(what: Mapping[str, object]) -> str:
+    """Keys and values, as they stand in a record."""
+    return json.dumps(what)[1:-1]
+
+
+def _record(event: str, what: str) -> bytes:
+    return f'{{"time": "{datetime.now(UTC).isoformat(timespec="milliseconds")}", "event": "{event}", {what}}}\n'.encode()

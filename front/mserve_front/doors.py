@@ -163,8 +163,12 @@ class Door(asyncio.Protocol):
 
     def _give(self, size: int) -> int:
         """Gives the protocol so many bytes at most, and says how many these are."""
-        piece = bytes(self._held[:size])
-        del self._held[:size]
+        if len(self._held) <= size:
+            piece = bytes(self._held)
+            self._held.clear()
+        else:
+            piece = bytes(self._held[:size])
+            del self._held[:size]
         self.inner.data_received(piece)
         if self._ended and not self._held and self.transport is not None and not self.inner.eof_received():
             self.transport.close()

@@ -101,6 +101,11 @@ class LinePeer:
     async def tell(self, event: Record) -> None:
         """Sends a line of JSON."""
         data = json.dumps(event).encode() + b"\n"
+        if len(data) < LEAST and not self._writer.transport.get_write_buffer_size():
+            # Nothing waits before it, so it does not wait either, and needs no clock.
+            self._writer.write(data)
+            await self._writer.drain()
+            return
         with self._unread.sent(self.account, len(data), self.cut) if len(data) >= LEAST else UNCOUNTED:
             async with asyncio.timeout(self._limits.slow):
                 self._writer.write(data)

@@ -5,6 +5,7 @@ No clock that ends a session runs while one of its lines waits for the server: h
 from __future__ import annotations
 
 import asyncio
+import json
 import secrets
 import time
 from collections.abc import Coroutine, Iterator
@@ -14,7 +15,7 @@ from typing import TYPE_CHECKING, Protocol
 
 from mserve_client.escape import shown
 
-from .audit import Audit, NoAudit
+from .audit import Audit, NoAudit, packed
 from .fair import Pace
 from .faults import HeldBack, NoJournal
 from .lines import Line, Refused
@@ -66,7 +67,8 @@ class Listener(Protocol):
 @dataclass(eq=False, slots=True)
 class Session:
     """A user at a terminal. `number` is the server's session that its variables are of, `proof` the hash that it was signed on by. `carried` counts its
-    lines whose replies were not taken yet; `clean` says that none was sent since HALT; `refused` counts those that were refused and not noted yet."""
+    lines whose replies were not taken yet; `clean` says that none was sent since HALT; `refused` counts those that were refused and not noted yet;
+    `packed` is what each record of the audit log has of it."""
 
     user: str
     account: str
@@ -86,6 +88,15 @@ class Session:
     carried: int = 0
     refused: int = 0
     counted: float = 0.0
+    packed: str = ""
+
+    def __post_init__(self) -> None:
+        self.packed = packed(self.record)
+
+    @property
+    def record(self) -> Record:
+        """Who and where it is, as records of the audit log have it."""
+        return {"user": self.user, "account": self.account, "terminal": self.terminal, "way": self.way, "from": self.address}
 
 
 class Carried:
@@ -268,8 +279,9 @@ class Sessions:
         if "refused" in record:
             session.refused += 1
             return
-        text = {"text": data.decode("latin1")} if self._settings.texts else {}
-        self._note_later("line", session, code=None if code == "none" else code, **text)
+        told = "null" if code == "none" else json.dumps(code)
+        text = f", {packed({'text': data.decode('latin1')})}" if self._settings.texts else ""
+        self._audit.note_packed("line", f'{session.packed}, "code": {told}{text}')
 
     def _count_refused(self, session: Session) -> None:
         """Notes how many lines were refused since the last such record."""
@@ -278,13 +290,10 @@ class Sessions:
             session.refused, session.counted = 0, time.monotonic()
 
     def _note(self, event: str, session: Session, **what: object) -> None:
-        self._audit.note(event, **self._record_of(session), **what)
+        self._audit.note(event, **session.record, **what)
 
     def _note_later(self, event: str, session: Session, **what: object) -> None:
-        self._audit.note_later(event, **self._record_of(session), **what)
-
-    def _record_of(self, session: Session) -> Record:
-        return {"user": session.user, "account": session.account, "terminal": session.terminal, "way": session.way, "from": session.address}
+        self._audit.note_later(event, **session.record, **what)
 
     async def restarted(self) -> None:
         """Tells all that the server was started again: their variables and locks are gone."""

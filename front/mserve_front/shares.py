@@ -63,6 +63,7 @@ class Shares:
         """`accounts` has the account of each terminal; those that it does not have are of one account."""
         self._account_of = accounts
         self._shares: dict[str, Share] = {}
+        self._share_of: dict[int, Share] = {}
         self._least: list[tuple[float, int, Share]] = []
         self._count = 0
         self._now = 0.0
@@ -74,7 +75,9 @@ class Shares:
 
     def of(self, account: str) -> Share:
         """The share of an account."""
-        return self._shares.setdefault(account, Share())
+        if (found := self._shares.get(account)) is None:
+            found = self._shares[account] = Share()
+        return found
 
     def used(self) -> dict[str, tuple[int, float]]:
         """How many lines of each account were answered, and the seconds that the server took for them."""
@@ -128,7 +131,10 @@ class Shares:
             share.flying = share.long = 0
 
     def _of(self, asked: Waiting) -> Share:
-        return self.of(self._account_of.get(asked.terminal, ""))
+        found = self._share_of.get(asked.terminal)
+        if found is None:
+            found = self._share_of[asked.terminal] = self.of(self._account_of.get(asked.terminal, ""))
+        return found
 
     def _far_ahead(self) -> bool:
         return self._windows[0] < WINDOW and self._flying >= 2 and self._ahead > AHEAD
@@ -142,8 +148,11 @@ class Shares:
 
     def _may_go(self, share: Share) -> bool:
         most, most_long = self._windows
-        if most < WINDOW and time.monotonic() < share.slow_until:
-            most = 1
+        if share.slow_until and most < WINDOW:
+            if time.monotonic() < share.slow_until:
+                most = 1
+            else:
+                share.slow_until = 0.0
         return share.flying < most and (not share.ready[0].long or share.long < most_long)
 
     def _chosen(self, share: Share) -> Waiting:

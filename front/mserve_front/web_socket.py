@@ -5,6 +5,7 @@ from __future__ import annotations
 import asyncio
 import contextlib
 import json
+import time
 from collections.abc import Awaitable, Callable
 
 from aiohttp import WSCloseCode, WSMsgType, web
@@ -32,6 +33,8 @@ class PageSocket:
         self._transport = request.transport
         self._door = door
         self._spared = spared
+        # Since when it is waited for the peer's next frame; None while it is not.
+        self._since: float | None = None
         self.socket = web.WebSocketResponse(compress=False, max_msg_size=limits.body, timeout=2.0, autoping=False)
 
     async def begin(self, request: web.Request) -> None:
@@ -44,6 +47,10 @@ class PageSocket:
         """Sends a record. Raises `Gone`."""
         text = json.dumps(record)
         try:
+            if len(text) < LEAST and self._transport is not None and not self._transport.get_write_buffer_size():
+                # Nothing waits before it, so it does not wait either, and needs no clock.
+                await self.socket.send_str(text)
+                return
             with self._unread.sent(self._account, len(text), self.cut) if len(text) >= LEAST else UNCOUNTED:
                 async with asyncio.timeout(self._limits.slow):
                     await self.socket.send_str(text)
@@ -52,11 +59,13 @@ class PageSocket:
             raise Gone from error
 
     async def receive(self) -> str | None:
-        """The next text, or None at the end. Raises `Gone` if not even an answer to a ping comes."""
+        """The next text, or None at the end."""
         while True:
             self._door.more()
+            self._since = time.monotonic()
             try:
-                message = await self.socket.receive(timeout=2.5 * self._limits.heartbeat)
+                message = await self.socket.receive()
+                self._since = None
                 if message.type is WSMsgType.TEXT:
                     return message.data
                 if message.type is WSMsgType.PING:
@@ -73,15 +82,24 @@ class PageSocket:
         return None
 
     async def beat(self) -> None:
-        """Pings the peer, for as long as it is there."""
+        """Pings the peer, for as long as it is there, and cuts it off if not even an answer to a ping comes. That is looked at beside the frames: a timer
+        for each of them costs more than all else that is done with it."""
+        step, due = self._limits.heartbeat / 2, False
         while not self.socket.closed:
-            await asyncio.sleep(self._limits.heartbeat)
-            try:
-                async with asyncio.timeout(self._limits.slow):
-                    await self.socket.ping()
-            except (TimeoutError, ConnectionError, RuntimeError):
+            await asyncio.sleep(step)
+            if self._since is not None and time.monotonic() - self._since > 5 * step or due and not await self._pinged():
                 self.cut()
                 return
+            due = not due
+
+    async def _pinged(self) -> bool:
+        """Sends a ping, and says whether it went out."""
+        try:
+            async with asyncio.timeout(self._limits.slow):
+                await self.socket.ping()
+        except (TimeoutError, ConnectionError, RuntimeError):
+            return False
+        return True
 
     async def tell(self, event: Record) -> None:
         """Sends an event."""

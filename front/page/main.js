@@ -35,7 +35,7 @@ byId("sign-on").addEventListener("submit", (event) => {
   trySignOn();
 });
 byId("sign-off").addEventListener("click", leave);
-byId("change-password").addEventListener("click", () => ask().catch((error) => tell(error.message, "fault")));
+byId("change-password").addEventListener("click", () => ask(house.record.user).catch((error) => tell(error.message, "fault")));
 byId("help").addEventListener("click", () => shown("The language", [
   make("p", {}, "Commands and functions, whole or by their short words. docs/LANGUAGE.md has all of it."),
   make("pre", { tabindex: "0" }, [...Object.values(COMMANDS), "", ...Object.values(FUNCTIONS)].join("\n")),

@@ -16,14 +16,16 @@ export function forget(field, box) {
   box.checked = false;
 }
 
-/** Asks for the password and a new one until they are taken, or the user gives it up. */
-export async function ask() {
+/** Asks a user for the password and a new one until they are taken, or the user gives it up. */
+export async function ask(user) {
   let about = "At least 12 characters: several words are best. Your other sessions end, and your tokens are removed.";
   for (;;) {
     const [old, first, again, box] = [field("old-password", "current-password"), field("new-password", "new-password"),
       field("again-password", "new-password"), make("input", { type: "checkbox", id: "show-passwords" })];
     shows(box, old, first, again);
-    const body = [label(old, "Password"), old, label(first, "New password"), first, label(again, "New password again"), again,
+    // Not shown: by it a password manager knows whose password it is.
+    const whose = make("input", { type: "text", autocomplete: "username", value: user, hidden: "" });
+    const body = [whose, label(old, "Password"), old, label(first, "New password"), first, label(again, "New password again"), again,
       make("label", { class: "check" }, box, " Show the passwords")];
     if (!await confirmed({ question: "Change your password", about, yes: "Change it", body })) {
       return;

@@ -354,6 +354,80 @@ def seen(browser: Browser, name: str) -> None:
     assert browser.run(CUT) == []
 
 
+# What is too small for a finger, or makes a phone zoom in: fields with letters below 16 pixels, and what is touched below 44.
+SMALL = """const told = (one) => one.id || one.className || one.textContent.slice(0, 20), seen = [...document.querySelectorAll(
+             "button, input, select, textarea, .check, [role=tab], [role=treeitem] .row")].filter((one) => one.checkVisibility() && !one.matches(".skip"));
+           return [seen.filter((one) => one.matches("input, select, textarea") && parseFloat(getComputedStyle(one).fontSize) < 16).map(told),
+                   seen.filter((one) => !one.matches("[type=checkbox], textarea") && one.getBoundingClientRect().height < 44).map(told), seen.length];"""
+
+
+def fits_fingers(browser: Browser, least: int) -> None:
+    """Looks at all fields and targets that are there, so many at least."""
+    letters, targets, count = browser.run(SMALL)
+    assert (letters, targets) == ([], []) and count >= least
+
+
+def test_fields_and_targets_of_a_phone(browsers: Opened) -> None:  # noqa: F811
+    ben = browsers(width=390, height=844)
+    fits_fingers(ben, 4)
+    ben.sign_on("ben")
+    ben.line('S ^PHONE(1)="one",^PHONE(2)="two" W NONE')
+    fits_fingers(ben, 5)
+    ben.part("globals")
+    ben.one("#globals-name").send_keys("^PHONE\n")
+    ben.row("1=").click()
+    ben.one("#node-text")
+    fits_fingers(ben, 10)
+    ben.click("#node-kill")
+    fits_fingers(ben, 12)
+    ben.picture("phone-question")
+    ben.no()
+    write_routine(ben, "PHONE", "PHONE ; x\n S X=$$ADD(1)\n")
+    ben.until(lambda: ben.all("dialog"), "the question")
+    ben.no()
+    fits_fingers(ben, 8)
+    ben.click("#change-password")
+    ben.one("#old-password")
+    fits_fingers(ben, 12)
+    ben.picture("phone-password")
+    ben.no()
+
+
+def fill_passwords(browser: Browser, *texts: str) -> None:
+    """Fills in the dialog by which one's own password is changed, and sends it."""
+    for name, text in zip(("old", "new", "again"), texts, strict=True):
+        field = browser.one(f"#{name}-password")
+        field.clear()
+        field.send_keys(text)
+    browser.click("dialog button[type=submit]")
+
+
+def test_ones_own_password_is_changed(browsers: Opened) -> None:  # noqa: F811
+    """It says why one is not taken, and asks again. Then the user's other session has ended, and the new one counts."""
+    chosen = "another of mine 7"
+    here, there = browsers("ben"), browsers("ben")
+    here.line("S A=5")
+    here.click("#change-password")
+    for texts, why in (((PASSWORD, chosen, "another of mine 8"), "The two new passwords differ."), (("not this one", chosen, chosen), "not right"),
+                       ((PASSWORD, "ben ben ben ben", "ben ben ben ben"), "password")):
+        fill_passwords(here, *texts)
+        here.until(lambda why=why: any(why in text for text in here.texts("dialog #about")), f"why it is not taken: {why}")
+    here.click("#show-passwords")
+    assert {here.one(f"#{name}-password").get_attribute("type") for name in ("old", "new", "again")} == {"text"}
+    fill_passwords(here, PASSWORD, chosen, chosen)
+    here.notice("Your password is changed.")
+    there.until(lambda: there.all("#user"), "the door")
+    assert here.line("W A") == "5"
+    there.one("#user").send_keys("ben")
+    there.one("#password").send_keys(PASSWORD + Keys.ENTER)
+    there.until(lambda: there.one("#sign-on-fault").text.startswith("Wrong name or password."), "the refusal")
+    there.until(lambda: there.one("#sign-on button").is_enabled(), "another try")
+    there.sign_on("ben", chosen)
+    there.click("#change-password")
+    fill_passwords(there, chosen, PASSWORD, PASSWORD)
+    there.notice("Your password is changed.")
+
+
 # The roles of elements that have to have a name.
 NAMED = ("button", "textbox", "combobox", "tab", "treeitem", "tree", "tabpanel", "log")
 

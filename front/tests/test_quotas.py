@@ -12,8 +12,8 @@ from front import PASSWORD, Front, Person, in_loop, small_disk, until
 from mserve_front.quotas import PAUSE, Memory, Quotas
 from test_programs import Program, new_token, posted
 
-# A line that fills some 20 MB of variables, and one that stores 300 rows.
-VARIABLES, ROWS = 'F I=1:1:5000 S N=$G(N)+1,A(N)=$J("",4000)', "F I=1:1:300 S N=$G(N)+1,^H(N)=I"
+# A line that fills some 20 MB of variables, and one that stores a hundred rows of several pages each: the store's log is copied after a thousand.
+VARIABLES, ROWS = 'F I=1:1:5000 S N=$G(N)+1,A(N)=$J("",4000)', 'F I=1:1:100 S N=$G(N)+1,^H(N)=$J("",4000)'
 # As LimitAS and LimitFSIZE of the units, and less.
 MEMORY, FILE = 1_500_000_000, 20_000_000
 
@@ -47,13 +47,13 @@ async def others_go_on(slow: Person, other: Person) -> None:
 @in_loop(120)
 async def test_an_account_over_its_quota_of_rows_is_slowed_and_told(start) -> None:
     """By each way in; another account is not met by it. With fewer rows it goes on as before."""
-    front: Front = start(store="store", limits={"rows": 1000})
+    front: Front = start(store="store", limits={"rows": 150})
     token = await new_token(front, "ben")
     async with front.person("ada") as ada, front.person("cleo") as cleo, Program(front, f"ben {PASSWORD}") as ben:
-        assert " rows of 1,000): it has one line a second" in (await fills(ada, ROWS))["quota"]
+        assert " rows of 150): it has one line a second" in (await fills(ada, ROWS))["quota"]
         await until(lambda: ada.events, "the event")
         [event] = ada.events
-        assert event["event"] == "quota" and event["over"]["rows"]["used"] > event["over"]["rows"]["most"] == 1000 and "rows" in event["why"]
+        assert event["event"] == "quota" and event["over"]["rows"]["used"] > event["over"]["rows"]["most"] == 150 and "rows" in event["why"]
         assert (await ben.next())["event"] == "quota" and "quota" in await ben.line("W 1")
         async with front.person().http as http:
             assert "quota" in (await posted(http, token, "W 1"))[1]
@@ -64,7 +64,7 @@ async def test_an_account_over_its_quota_of_rows_is_slowed_and_told(start) -> No
 
         async def is_free() -> bool:
             # Rows are counted in the store's file, into which the log is copied after some hundred writes, whoever's they are.
-            await cleo.line("F I=1:1:500 S ^J=I")
+            await cleo.line('F I=1:1:100 S ^J(I)=$J("",4000)')
             return "quota" not in await ada.line("W 1")
         await until(is_free, "an account within its quota")
         assert ada.events[1:] == [{"event": "quota", "over": {}}]

@@ -94,6 +94,11 @@ def _journal_words(commands: argparse._SubParsersAction, shared: argparse.Argume
                               description="Says of a front that keeps a journal, or of a standby, at which line it is, and how far behind the leader.")
     one.add_argument("--metrics", action="store_true", help="in the text format of Prometheus, for a collector of text files")
     one.set_defaults(act=told_status)
+    one = commands.add_parser("change", parents=[shared], epilog=STATUSES, help="have a front take the server's settings as they stand now",
+                              description="Has a front that keeps a journal take the server's settings as they stand in their file: new accounts and "
+                              "terminals, other steps and grants. Users stay signed on. Between two lines the server is started again, so their variables "
+                              "and locks are gone, and they are told. Refused if a terminal is missing, or the server would not take the settings.")
+    one.set_defaults(act=change)
     one = commands.add_parser("promote", parents=[shared], epilog=STATUSES, help="have a standby serve",
                               description="Has a standby take the journal, run all that was answered, and serve. Refused while another front has the "
                               "journal, and if a line that was answered would be lost.")
@@ -152,6 +157,13 @@ def told_status(options: argparse.Namespace) -> None:
         print(of_standby(found), end="")
         return
     print(", ".join(f"{key} {value}" for key, value in found.items() if value != ""))
+
+
+def change(options: argparse.Namespace) -> None:
+    """Has a front take the server's settings as they stand now."""
+    found = asked(control_of(options), {"ask": "change"}, None)
+    new = f"; new: {', '.join(found['new'])}" if found["new"] else ""
+    print(f"{found['accounts']} accounts{new}; no line was run for {found['seconds']} s")
 
 
 def promote(options: argparse.Namespace) -> None:

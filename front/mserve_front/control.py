@@ -39,6 +39,10 @@ class Control:
         self._handlers = handlers
         self._server: asyncio.Server | None = None
 
+    def answer(self, ask: str, handler: Handler) -> None:
+        """Answers one more kind of request."""
+        self._handlers[ask] = handler
+
     async def listen(self) -> None:
         """Listens. Raises OSError."""
         listener = socket.socket(socket.AF_UNIX)

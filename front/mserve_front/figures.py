@@ -20,11 +20,15 @@ class ByAccount:
     """How long lines of each account waited, from when they came to when their reply was handed out."""
 
     def __init__(self, terminals: Mapping[str, Sequence[int]]) -> None:
-        self._of = {terminal: account for account, some in terminals.items() for terminal in some}
+        self.know(terminals)
         self._count: Counter[str] = Counter()
         self._waited: Counter[str] = Counter()
         self._longest: tuple[dict[str, float], dict[str, float]] = ({}, {})
         self._span = time.monotonic()
+
+    def know(self, terminals: Mapping[str, Sequence[int]]) -> None:
+        """Which terminals each account has, from now on."""
+        self._of = {terminal: account for account, some in terminals.items() for terminal in some}
 
     def handed(self, terminal: int, since: float) -> None:
         """Notes a reply that is handed out."""

@@ -14,7 +14,7 @@ from datetime import UTC, datetime
 from pathlib import Path
 
 from .audit import Audit, NoAudit
-from .control import Answered, Control, Refused
+from .control import Answered, Control, Handler, Refused
 from .faults import NoJournal
 from .figures import ByAccount, of_backup, of_journal
 from .journal import Journal, LogFault, LogTaken, Tail
@@ -68,9 +68,9 @@ class Keeper:
         self.journal = Journal(writer_of(settings.journal), metrics, tell) if promoted is None else promoted.journal
         if promoted is not None:
             promoted.journal.count_in(metrics)
-        accounts = ByAccount(settings.terminals)
-        self.journal.handed = accounts.handed
-        metrics.more += [accounts.text, self._figures]
+        self.accounts = ByAccount(settings.terminals)
+        self.journal.handed = self.accounts.handed
+        metrics.more += [self.accounts.text, self._figures]
 
     async def begin(self, server: Server) -> Child | None:
         """Takes the journal, and notes where the store stands. Gives the server that runs already, if one does. Raises `NoStart`."""
@@ -119,6 +119,14 @@ class Keeper:
         if self._promoted is not None:
             self._note("promoted", line=self._promoted.line)
         await self._control.listen()
+
+    def answer(self, ask: str, handler: Handler) -> None:
+        """Answers one more kind of request of operators; each that is done is noted."""
+        async def noted(request: Answered) -> Answered:
+            found = await handler(request)
+            self._note(ask, **found)
+            return found
+        self._control.answer(ask, noted)
 
     def _note(self, event: str, **what: object) -> None:
         """Notes what an operator did."""

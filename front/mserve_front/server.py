@@ -9,7 +9,7 @@ import os
 import shutil
 import socket
 import sys
-from collections.abc import AsyncIterator, Awaitable, Callable, Iterator, Sequence
+from collections.abc import AsyncIterator, Awaitable, Callable, Iterator, Mapping, Sequence
 from dataclasses import dataclass
 from pathlib import Path
 from typing import TYPE_CHECKING
@@ -74,6 +74,10 @@ class Child:
     enclosed: bool = False
 
 
+class _Ended(Exception):
+    """The child was ended between two lines."""
+
+
 class Server:
     """The server and the one connection to it. `session` counts how often all terminals' sessions were begun anew; `state` is `starting`, `up`
     or `down`; `shares` has what each account has used of it."""
@@ -88,8 +92,8 @@ class Server:
         self._one = asyncio.Lock()
         self._fresh = False
         self._text = b""
-        self._terminals = [terminal for terminals in settings.terminals.values() for terminal in terminals]
-        self.shares = Shares({terminal: account for account, terminals in settings.terminals.items() for terminal in terminals})
+        self.shares = Shares({})
+        self.know(settings.terminals)
         self._process: asyncio.subprocess.Process | None = None
         self._port = settings.join or 0
         self._enclosed = False
@@ -117,6 +121,12 @@ class Server:
         if self.state != "up" or self._turns is None:
             raise Unsent
         return await self._turns.ask(terminal, line, user)
+
+    def know(self, terminals: Mapping[str, Sequence[int]]) -> None:
+        """Which terminals each account has, from now on."""
+        account_of = {terminal: account for account, own in terminals.items() for terminal in own}
+        self._terminals = list(account_of)
+        self.shares.know(account_of)
 
     @contextlib.asynccontextmanager
     async def quiet(self) -> AsyncIterator[None]:
@@ -147,6 +157,21 @@ class Server:
         self.session += 1
         await self._turns.halt(self._terminals)
         await self._restarted()
+
+    async def start_again(self, known: Callable[[], None]) -> None:
+        """Between two lines (`quiet`): ends the child, which is started again by the settings that stand in their file; `known` is called before. Users are
+        told, as after any restart. Raises `Unsent` or `NoJournal` if it cannot be now."""
+        with contextlib.suppress(_Ended):
+            async with self.quiet():
+                turns = self._turns
+                known()
+                self._process.terminate()
+                with contextlib.suppress(TimeoutError):
+                    await asyncio.wait_for(self._process.wait(), ENDING)
+                await self._give_up()
+                await asyncio.shield(turns.ended)
+                self.state = "down"
+                raise _Ended
 
     def forget(self, terminal: int) -> None:
         """Takes back the lines of a terminal that are not sent."""

@@ -16,6 +16,7 @@ from aiohttp import web
 from . import ending
 from .admin import Admin
 from .audit import Audit
+from .changes import Changes
 from .doors import Doors, Made, spare_memory
 from .line_port import LinePort
 from .metrics import Metrics
@@ -54,6 +55,8 @@ class Service:
         self._doors = Doors(settings.limits, self._context, promoted.places if promoted else {}, settings.gate)
         self._signing = Signing(self._register, self._audit, self.metrics)
         self._sessions = Sessions(settings, self.metrics, self._audit, self._register, self._keeper.journal if self._keeper else None)
+        if self._keeper is not None:
+            self._keeper.answer("change", Changes(settings, self._sessions.server, (self._sessions, self._keeper.accounts)).take)
         self._admin = Admin(settings, self._sessions, self.metrics)
         self._stopping = promoted.stopping if promoted else asyncio.Event()
         self._why = "stopping"

@@ -8,7 +8,7 @@ import asyncio
 import json
 import secrets
 import time
-from collections.abc import Coroutine, Iterator
+from collections.abc import Coroutine, Iterator, Mapping, Sequence
 from dataclasses import dataclass, field
 from pathlib import Path
 from typing import TYPE_CHECKING, Protocol
@@ -136,6 +136,11 @@ class Sessions:
         self.quotas = Quotas(settings.limits.rows, settings.limits.memory, Memory(used, lambda: size_of(self.server.pid)), used, self._over_quota)
         self.server.shares.slow = self.quotas.memory.look
         metrics.more.append(self.quotas.text)
+
+    def know(self, terminals: Mapping[str, Sequence[int]]) -> None:
+        """Which terminals each account has, from now on."""
+        self._terminals.know(terminals)
+        self.server.know(terminals)
 
     def __iter__(self) -> Iterator[Session]:
         """The sessions as they stand: they may be ended meanwhile."""

@@ -61,7 +61,6 @@ class Shares:
 
     def __init__(self, accounts: Mapping[int, str]) -> None:
         """`accounts` has the account of each terminal; those that it does not have are of one account."""
-        self._account_of = accounts
         self._shares: dict[str, Share] = {}
         self._share_of: dict[int, Share] = {}
         self._least: list[tuple[float, int, Share]] = []
@@ -71,6 +70,11 @@ class Shares:
         self.slow: Callable[[], None] = lambda: None
         self._flying = 0
         self._ahead = 0.0
+        self.know(accounts)
+
+    def know(self, accounts: Mapping[int, str]) -> None:
+        """Which account each terminal is of, from now on."""
+        self._account_of = accounts
         self._windows = (ACCOUNT_WINDOW, LONG_WINDOW) if len(set(accounts.values())) > 1 else (WINDOW, WINDOW)
 
     def of(self, account: str) -> Share:

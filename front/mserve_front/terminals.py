@@ -31,9 +31,17 @@ class Terminals:
     def __init__(self, terminals: Mapping[str, Sequence[int]], server: Server, journal: Journal | None) -> None:
         self._server = server
         self._journal = journal
-        self._free = {account: deque(own) for account, own in terminals.items()}
+        self._all: set[int] = set()
+        self._free: dict[str, deque[int]] = {}
+        self.know(terminals)
         self._coming_back: Counter[str] = Counter()
         self._freed = asyncio.Event()
+
+    def know(self, terminals: Mapping[str, Sequence[int]]) -> None:
+        """Which terminals each account has, from now on: those that were not there before are free."""
+        for account, own in terminals.items():
+            self._free.setdefault(account, deque()).extend(terminal for terminal in own if terminal not in self._all)
+            self._all.update(own)
 
     async def take(self, account: str) -> int:
         """A terminal of an account. If all are in use it waits for one that is being given back. Raises `AllInUse` or `NotUp`."""

@@ -1,0 +1,90 @@
+# SPDX-License-Identifier: Apache-2.0
+"""A front takes other settings of its server while users stay signed on: a new customer ends nobody's session."""
+from __future__ import annotations
+
+import asyncio
+import re
+from pathlib import Path
+
+from front import CHEAP, PASSWORD, SETTINGS, Front, Ran, in_loop, mjournal, tool, until
+from mserve_front.users import User, changed
+from running import PROGRAM
+from test_replay import held
+from test_restarts import Counting
+
+NEW = '[[account]]\nname = "NEW"\nterminals = [77]\nsteps = 1000\n'
+
+
+def takes(front: Front) -> Ran:
+    """Has a front take the settings as they stand."""
+    return tool("mfront")("change", "--config", front.folder / "front.toml")
+
+
+@in_loop(200)
+async def test_a_new_customer_ends_no_session(start, tmp_path: Path) -> None:
+    settings = tmp_path / "settings.toml"
+    settings.write_text(SETTINGS.read_text())
+    front = start(tls=False, settings=settings, store="store.db", journal={"folder": "journal"})
+    async with front.person("ada") as ada:
+        terminal = ada.record["terminal"]
+        assert await ada.told("S ^X=7,A=5 W A") == "5"
+        await refused(front, settings)
+        assert await ada.told("W A") == "5"
+        settings.write_text(SETTINGS.read_text() + NEW)
+        with changed(front.folder / "users.json") as users:
+            users["nora"] = User("nora", "NEW", CHEAP.hash(PASSWORD))
+        status, output, told = await asyncio.to_thread(takes, front)
+        assert status == 0, told
+        assert re.fullmatch(r"4 accounts; new: NEW; no line was run for [\d.]+ s\n", output)
+        # She is signed on as before, hears that her variables are gone, and has what she stored.
+        async with ada.http.get("/session") as response:
+            assert response.status == 200 and (await response.json())["terminal"] == terminal
+        assert await ada.told("W $D(A),^X") == "07"
+        assert [event["event"] for event in ada.events] == ["restarted"]
+        nora = front.person("nora")
+        await until(nora.signs_on, "a user of the new account")
+        assert nora.record["account"] == "NEW" and nora.record["terminal"] == 77
+        await nora.connect()
+        assert await nora.told("F  S N=1") == "ZSTEPS"
+        await nora.sign_off()
+        await nora.http.close()
+    assert [record["new"] for record in front.audit() if record["event"] == "change"] == [["NEW"]]
+
+
+async def refused(front: Front, settings: Path) -> None:
+    """Settings that are none, that the server would not take, and that lack a terminal: the server goes on."""
+    good = SETTINGS.read_text()
+    for text, wanted in (("account = 1", "account: each is to have a name"), (good.replace("steps = 40", "steps = 0"), "mserve: settings: Steps"),
+                         (good.replace("[1, 2, 3]", "[1, 2]"), "CLINIC: terminal 3 is there no more, which takes a restart of the front"),
+                         (good.replace('"SHORT"', '"OTHER"'), "SHORT: terminal 9999 is there no more")):
+        settings.write_text(text)
+        status, _, told = await asyncio.to_thread(takes, front)
+        assert status == 3 and wanted in told, told
+
+
+@in_loop(300)
+async def test_settings_change_while_users_work(start, tmp_path: Path, count: int) -> None:
+    """Each time more steps: nothing that was answered is lost, nothing runs twice, and a replay has the store."""
+    settings, counting = tmp_path / "settings.toml", Counting()
+    settings.write_text(SETTINGS.read_text())
+    front = start(tls=False, settings=settings, store="store.db", journal={"folder": "journal"})
+    counting.begin(front)
+    for number in range(4 * count):
+        answered = counting.answered
+        await until(lambda before=answered: counting.answered > before + 5, "users who work")
+        settings.write_text(SETTINGS.read_text().replace("steps = 40", f"steps = {400 + number}"))
+        status, output, told = await asyncio.to_thread(takes, front)
+        assert status == 0, told
+        print(output, end="")
+    await counting.end()
+    await counting.seen_by(front)
+    async with front.person("dora") as dora:
+        await dora.line("F  S N=$G(N)+1")
+        assert int(str(await dora.told("W N"))) > 50
+    sign_ons = sum(record["event"] == "sign-on" for record in front.audit())
+    # Each user signed on once for the work, once to look, and dora once: no change made anybody sign on again.
+    assert sign_ons == 2 * 3 + 1
+    assert front.stop() == 0
+    status, _, told = mjournal(front.folder / "journal")("replay", "--program", PROGRAM, "--store", tmp_path / "all")
+    assert status == 0, told
+    assert held(tmp_path / "all") == held(front.folder / "store.db")

@@ -14,7 +14,7 @@ from front import SETTINGS, USERS, Person, write_users
 from machines import HOSTS, Gate, certificates, ports
 from measured import started_by
 from mserve_front.placement import Placement
-from troubles import CATCHING_UP, Troubled
+from troubles import Troubled, catching_up
 
 ISLAND, USERS_GATE = "matrix", "three"
 
@@ -58,7 +58,7 @@ class Gates(Troubled):
                 os.kill(pid, signal.SIGKILL)
 
     async def serves(self) -> None:
-        end = time.monotonic() + CATCHING_UP
+        end = catching_up()
         while not await self._served():
             assert time.monotonic() < end, "users who are not served again"
             await asyncio.sleep(0.2)
@@ -101,7 +101,7 @@ class Gates(Troubled):
 
     async def _to_the_other(self, *words: str) -> None:
         """Waits until the other machine has the island. The database may be away for a moment yet."""
-        end = time.monotonic() + CATCHING_UP
+        end = catching_up()
         while (ran := await asyncio.to_thread(self.gates[USERS_GATE].does, "move", ISLAND, self.there, *words))[0]:
             assert ran[0] == 3 and time.monotonic() < end, ran[2]
             await asyncio.sleep(0.2)

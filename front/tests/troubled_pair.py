@@ -15,7 +15,7 @@ from mserve_front.control import Refused, asked
 from mserve_front.islands import NEAR, put_aside
 from test_replay import backup
 from test_standby import takes_over
-from troubles import CATCHING_UP, Troubled
+from troubles import Troubled, catching_up
 
 
 class Pair(Troubled):
@@ -146,7 +146,7 @@ class Pair(Troubled):
                 return False
             assert not status.get("differs"), status
             return int(str(status["behind"])) <= behind and (bool(status["caught up"]) or behind > 0 and status["fault"] == "")
-        end = time.monotonic() + CATCHING_UP
+        end = catching_up()
         while not await asyncio.to_thread(near):
             assert time.monotonic() < end, "a standby that has not caught up"
             await asyncio.sleep(0.1)

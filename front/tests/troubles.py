@@ -35,8 +35,11 @@ COMBINATIONS = {"files": tuple(itertools.product(STEPS, WHATS, THENS)), "databas
                 "gates": tuple(itertools.product(STEPS, OF_DATABASE, [then for then in THENS if then != "promote"]))}
 # Troubles by which the process ends in which they come.
 ENDING = ("front", "both", "machine")
-# Seconds for a standby to catch up, which may begin with the journal, and for users to be served again.
-CATCHING_UP = 240
+
+
+def catching_up() -> float:
+    """The time at which a standby has caught up, which may begin with the journal, and users are served again."""
+    return time.monotonic() + 8 * Patience.seconds
 
 
 class Troubled(ABC):

@@ -115,10 +115,10 @@ class Front:
 
     def __init__(self, folder: Path, certificate: tuple[Path, Path] | None, users: dict[str, str] | None = None, settings: Path = SETTINGS,
                  store: str = "memory", before: Sequence[str] = (), words: Sequence[str] = (), awaited: str = "serving at",
-                 **more: dict[str, object]) -> None:
+                 command: Sequence[str] = COMMAND, **more: dict[str, object]) -> None:
         """Starts it, with further keys for the tables that are named, words before and behind the command; returns once it tells what is awaited."""
         self.folder, self.certificate, self.store = folder, certificate, store
-        self._before, self._words, self._awaited = list(before), list(words), awaited
+        self._before, self._command, self._words, self._awaited = list(before), command, list(words), awaited
         self.port, self.lines_port = running.free_port(), running.free_port()
         write_users(folder / "users.json", USERS if users is None else users)
         tables: dict[str, dict[str, object]] = {
@@ -134,7 +134,7 @@ class Front:
         self.process = self._started()
 
     def _started(self) -> subprocess.Popen[str]:
-        words = [*self._before, *COMMAND, "--config", str(self.folder / self._config), *self._words] + (["--volatile"] if self.store == "memory" else [])
+        words = [*self._before, *self._command, "--config", str(self.folder / self._config), *self._words] + (["--volatile"] if self.store == "memory" else [])
         with (self.folder / self._told).open("w") as told:
             process = subprocess.Popen(words, stdin=subprocess.DEVNULL, stderr=told, text=True, start_new_session=True)
         self.process = process

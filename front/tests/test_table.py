@@ -7,9 +7,11 @@ import json
 import os
 import random
 import signal
+import statistics
 import time
 from collections.abc import AsyncIterator, Callable, Iterator
 from contextlib import asynccontextmanager
+from itertools import pairwise
 from pathlib import Path
 
 import pytest
@@ -32,6 +34,8 @@ from test_standby import Load, caught_up, stands_by, takes_over
 AWAY = 60.0
 # Seconds after which a front serves at the latest, once its database is back: five, and room for a machine that is busy.
 BACK = 15.0
+# Attempts at a database that is away, and seconds between two of them at most; and those for the whole on a machine that has much else to do.
+ATTEMPTS, APART, LATEST = 7, 4.0, 60.0
 
 
 @pytest.fixture(scope="module")
@@ -280,6 +284,8 @@ class Wire:
         # What leads to the database is kept open after a cut.
         self._far: list[asyncio.StreamWriter] = []
         self._tasks: set[asyncio.Task[None]] = set()
+        # When each connection was asked for.
+        self.asked: list[float] = []
 
     async def begin(self) -> str:
         """Listens, and gives how the database is connected to."""
@@ -287,7 +293,12 @@ class Wire:
         return f"host=127.0.0.1 port={self._server.sockets[0].getsockname()[1]} user=postgres dbname=postgres sslmode=disable"
 
     async def _carries(self, reader: asyncio.StreamReader, writer: asyncio.StreamWriter) -> None:
-        there, back = await asyncio.open_unix_connection(str(self._socket))
+        self.asked.append(time.monotonic())
+        try:
+            there, back = await asyncio.open_unix_connection(str(self._socket))
+        except OSError:
+            writer.close()
+            return
         self._near.append(writer)
         self._far.append(back)
         for one, other in ((reader, back), (there, writer)):
@@ -310,6 +321,35 @@ class Wire:
         for writer in self._far:
             writer.transport.abort()
         self._server.close()
+
+
+@in_loop(200)
+async def test_a_front_goes_on_soon_after_its_database(start) -> None:
+    """It goes on by its first attempts once the database is there, and its attempts are no more than four seconds apart: so within five, but for what the
+    machine takes. That is measured between attempts, of which most have to be so, since a busy machine may hold one up."""
+    async with own_cluster() as cluster:
+        wire = Wire(cluster)
+        front = await asyncio.to_thread(start, tls=False, store="store.db", journal={"database": await wire.begin()})
+        async with front.person("ada") as ada:
+            assert await ada.told("S ^X=1 W ^X") == "1"
+            await asyncio.to_thread(cluster.stop)
+            wire.cut()
+            assert (await ada.line("S ^X=2"))["refused"] == "journal"
+            first = len(wire.asked)
+            while len(wire.asked) < first + ATTEMPTS:
+                await asyncio.sleep(0.1)
+            apart = [later - before for before, later in pairwise(wire.asked[first:])]
+            assert statistics.median(apart) < APART, apart
+            await asyncio.to_thread(cluster.start)
+            began, before = time.monotonic(), len(wire.asked)
+            while "refused" in await ada.line("S ^Y=1"):
+                await asyncio.sleep(0.1)
+            print(f"served again {time.monotonic() - began:.1f} s after the database, by attempt {len(wire.asked) - before}; attempts were "
+                  f"{min(apart):.1f} to {max(apart):.1f} s apart")
+            # One may be on its way when the database is there.
+            assert len(wire.asked) - before <= 2 and time.monotonic() - began < LATEST
+            assert await ada.told("W ^X,^Y") == "11"
+        wire.close()
 
 
 @pytest.mark.long

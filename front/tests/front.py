@@ -42,8 +42,8 @@ class Patience:
     seconds = 30.0
 
 
-def in_loop(seconds: float = 60) -> Callable[[Callable[..., Awaitable[None]]], Callable[..., None]]:
-    """Runs a test that awaits, for so long at most."""
+def in_loop(seconds: float = 180) -> Callable[[Callable[..., Awaitable[None]]], Callable[..., None]]:
+    """Runs a test that awaits, for so long at most: what hangs is to end, and what a busy machine delays is not."""
     def made(test: Callable[..., Awaitable[None]]) -> Callable[..., None]:
         @functools.wraps(test)
         def run(*given: object, **named: object) -> None:

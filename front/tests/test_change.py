@@ -6,6 +6,7 @@ import asyncio
 import re
 from pathlib import Path
 
+import pytest
 from front import CHEAP, PASSWORD, SETTINGS, Front, Ran, in_loop, mjournal, tool, until
 from mserve_front.users import User, changed
 from running import PROGRAM
@@ -62,6 +63,7 @@ async def refused(front: Front, settings: Path) -> None:
         assert status == 3 and wanted in told, told
 
 
+@pytest.mark.long
 @in_loop(300)
 async def test_settings_change_while_users_work(start, tmp_path: Path, count: int) -> None:
     """Each time more steps: nothing that was answered is lost, nothing runs twice, and a replay has the store."""

@@ -7,11 +7,13 @@ import re
 from dataclasses import replace
 from pathlib import Path
 
+import pytest
 import versions
 from front import in_loop
 from running import PROGRAM
 
 
+@pytest.mark.long
 @in_loop(300)
 async def test_a_version_hands_over_to_another(tmp_path: Path) -> None:
     program = tmp_path / "mserve-of-another-version"

@@ -140,7 +140,7 @@ class Web:
             return True
         host = request.host.rpartition(":")[0] if request.host.rpartition(":")[2].isdigit() else request.host
         named = (origin.partition("//")[2] for origin in self._settings.origins)
-        return host in ("localhost", "[::1]") or host.startswith("127.") or request.host.lower() in named
+        return host.lower() == "localhost" or _is_loopback(host) or request.host.lower() in named
 
     async def _received(self, request: web.Request) -> None:
         """Waits for the body. From there on it is not the peer who is waited for, so the connection's time does not run."""
@@ -358,6 +358,14 @@ def refusals_of_a_token() -> Iterator[None]:
         raise Fault(503, str(error), Retry_After="1") from None
     except NoAudit:
         raise Fault(503, "the audit log cannot be written") from None
+
+
+def _is_loopback(host: str) -> bool:
+    """Whether a host is an address of the loopback. A name that begins like one may be anybody's."""
+    try:
+        return ipaddress.ip_address(host.strip("[]")).is_loopback
+    except ValueError:
+        return False
 
 
 async def misdirected(request: web.Request) -> web.StreamResponse:

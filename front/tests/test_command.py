@@ -138,6 +138,24 @@ def test_check_says_what_it_found(command: Run, tmp_path: Path) -> None:
     assert not (tmp_path / "store.db").exists()
 
 
+@pytest.mark.parametrize(("key", "mode"), [("server.store", 0o644), ("listen.key", 0o604), ("audit.file", 0o602), ("journal.folder", 0o701)])
+def test_check_finds_what_others_may_read(command: Run, tmp_path: Path, certificate: tuple[Path, Path], key: str, mode: int) -> None:
+    """Of the machine's other users; with the mode that the front gives it, it is good."""
+    tables = good() | {"listen": {"certificate": str(certificate[0]), "key": "key.pem"}, "audit": {"file": "audit.log"}, "journal": {"folder": "journal"}}
+    (tmp_path / "front.toml").write_text(toml(tables))
+    write_users(tmp_path / "users.json", {"ada": "CLINIC"})
+    (tmp_path / "journal").mkdir(mode=0o700)
+    places = {"server.store": "store.db", "listen.key": "key.pem", "audit.file": "audit.log", "journal.folder": "journal"}
+    for name in ("store.db", "audit.log"):
+        (tmp_path / name).touch(0o600)
+    shutil.copyfile(certificate[1], tmp_path / "key.pem")
+    (tmp_path / "key.pem").chmod(0o600)
+    assert command("check", *CONFIG).returncode == 0
+    (tmp_path / places[key]).chmod(mode)
+    done = command("check", *CONFIG)
+    assert done.returncode == 2 and f"{key}: {tmp_path / places[key]}: every user of the machine may read it: chmod o=" in done.stderr
+
+
 @pytest.mark.parametrize(("table", "key", "value", "told"), [
     ("server", "settings", None, "server.settings: is missing"), ("server", "settings", "none.toml", "none.toml: cannot be read: No such file"),
     ("server", "settings", 5, "server.settings: is to be a text"), ("server", "store", None, "server.store: is missing"),

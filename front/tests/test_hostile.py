@@ -213,6 +213,20 @@ async def test_requests_that_are_none_or_too_large(lasting: Front, data: bytes) 
 
 
 @in_loop()
+async def test_what_peers_send_is_in_no_log(start) -> None:
+    """Keys and tokens of heads that are too long or none; and a flood of such heads writes no log of its own."""
+    front: Front = start()
+    secret = "mft_" + "s" * 40
+    for number in range(300):
+        reader, writer = await asyncio.open_connection("localhost", front.port, ssl=front.context)
+        head = f"GET /session HTTP/1.1\r\nHost: localhost\r\nCookie: __Host-mfront={secret}; {'x' * 9000}\r\n" if number % 2 else f"{secret} \0\r\n"
+        writer.write(f"{head}Authorization: Bearer {secret}\r\n\r\n".encode())
+        await closed(reader, 0.0)
+        writer.close()
+    assert secret not in front.told() + (front.folder / "audit.log").read_text() and len(front.told().splitlines()) < 10
+
+
+@in_loop()
 async def test_line_without_an_end_at_the_line_port(lasting: Front) -> None:
     async with served(lasting):
         for first in (b"", f"ada {PASSWORD}\n".encode()):

@@ -294,6 +294,20 @@ async def test_a_new_certificate_is_taken(start, tmp_path) -> None:
             assert (await second.line("W 2"))["rest"] == "2"
 
 
+@pytest.mark.parametrize(("suites", "good"), [("ECDHE+AESGCM", True), ("ECDHE+AES:!AESGCM:!AESCCM", False), ("kRSA+AESGCM", False)])
+@in_loop()
+async def test_suites_of_tls_1_2_have_forward_secrecy_and_authenticated_encryption(lasting: Front, suites: str, good: bool) -> None:
+    context = lasting.context
+    context.maximum_version = ssl.TLSVersion.TLSv1_2
+    context.set_ciphers(suites)
+    if not good:
+        with pytest.raises((ssl.SSLError, ConnectionError)):
+            await asyncio.open_connection("localhost", lasting.port, ssl=context)
+        return
+    _, writer = await asyncio.open_connection("localhost", lasting.port, ssl=context)
+    writer.close()
+
+
 @in_loop()
 async def test_old_versions_of_tls_are_refused(lasting: Front) -> None:
     context = lasting.context

@@ -6,6 +6,7 @@ import asyncio
 import json
 import statistics
 import time
+from collections.abc import Iterator
 
 import aiohttp
 import pytest
@@ -328,6 +329,23 @@ async def test_without_a_certificate_it_says_so(start) -> None:
         [cookie] = ada.http.cookie_jar
         assert cookie.key == "mfront" and not cookie["secure"] and cookie["httponly"] and cookie["samesite"] == "Strict"
         assert await ada.told("W 1") == "1"
+
+
+@pytest.mark.parametrize(("host", "status"), [("localhost", 200), ("127.0.0.1:80", 200), ("[::1]:{port}", 200), ("evil.example", 421), ("127.0.0.1.evil.example:{port}", 421)])
+@pytest.mark.parametrize("path", ["/health", "/metrics", "/"])
+@in_loop()
+async def test_without_a_certificate_another_name_is_not_this_service(plain: Front, path: str, host: str, status: int) -> None:
+    """A page of another origin could have its own name stand for the loopback, and read here."""
+    async with plain.person().http as http, http.get(path, headers={"Host": host.format(port=plain.port)}) as response:
+        assert response.status == status
+
+
+@pytest.fixture(scope="module")
+def plain(tmp_path_factory: pytest.TempPathFactory) -> Iterator[Front]:
+    """A front without TLS."""
+    made = Front(tmp_path_factory.mktemp("plain"), None)
+    yield made
+    made.stop()
 
 
 @in_loop()

@@ -17,8 +17,8 @@ import pytest
 from conftest import Starter
 from front import FRONT, PASSWORD, SETTINGS, Front, in_loop, toml
 from mserve_client import routines
-from mserve_client.front import FrontConnection, NoSignOn
-from mserve_client.wire import NoServer, ServerGone
+from mserve_client.front import FrontConnection, NoSignOn, reply_of
+from mserve_client.wire import NoServer, Reply, ServerGone
 from mserve_front.gate import Gate, Request
 from mserve_front.http_head import read_head
 from mserve_front.users import token_hash
@@ -260,6 +260,13 @@ def test_shell_of_a_person_over_tls(start: Starter, tmp_path: Path) -> None:
 
 
 @pytest.mark.long
+@pytest.mark.parametrize(("more", "note"), [({}, ""), ({"cut": 7}, "the front left out 7 bytes of this reply (limits.reply)"),
+                                            ({"quota": "the account is over"}, "the account is over"),
+                                            ({"cut": 7, "quota": "over"}, "the front left out 7 bytes of this reply (limits.reply); over")])
+def test_what_a_front_says_of_a_reply_is_its_note(more: dict[str, object], note: str) -> None:
+    assert reply_of({"output": ["a"], "rest": "b", "code": None, **more}) == Reply(("a",), "b", None, note)
+
+
 def test_an_idle_shell_answers_pings(start: Starter) -> None:
     """The front pings each three seconds here, and cuts off who does not answer within seven and a half."""
     front = start(limits={"heartbeat": 3})

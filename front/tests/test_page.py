@@ -373,6 +373,11 @@ def test_fields_and_targets_of_a_phone(browsers: Opened) -> None:  # noqa: F811
     ben.sign_on("ben")
     ben.line('S ^PHONE(1)="one",^PHONE(2)="two" W NONE')
     fits_fingers(ben, 5)
+    # That there is no connection is said in words, and not by a colour alone.
+    width = "return document.querySelector('#connection-text').getBoundingClientRect().width"
+    assert ben.run(width) <= 1 < 40 < ben.run(f"const all = document.querySelector('#connection'); all.className = 'waiting'; {width}")
+    assert ben.run(SIDEWAYS) == [390, []]
+    ben.run("document.querySelector('#connection').className = 'open'")
     ben.part("globals")
     ben.one("#globals-name").send_keys("^PHONE\n")
     ben.row("1=").click()

@@ -40,16 +40,14 @@ PATIENT = 240
 
 
 class Paced(Counting):
-    """Users who rest between two lines. `waits` has how long each reply took, since it was emptied."""
+    """Users who rest before each line. `waits` has how long each reply took from when its line was due, since it was emptied."""
 
     def __init__(self) -> None:
-        super().__init__()
-        self.rest = RESTS
+        super().__init__(rest=RESTS)
         self.waits: list[float] = []
 
     async def sends(self, person: Person, line: str) -> Record:
-        await asyncio.sleep(self.rest)
-        began = time.perf_counter()
+        began = time.perf_counter() + self.rest
         record = await super().sends(person, line)
         self.waits.append(time.perf_counter() - began)
         return record

@@ -33,12 +33,26 @@ KINDS = ("none", "file", "database", "replicated")
 OVER_FILE = 1000
 
 
-async def user(front: Front, name: str, until: float, waits: list[float]) -> None:
+Streams = tuple[asyncio.StreamReader, asyncio.StreamWriter]
+
+
+async def signed_on(front: Front, name: str) -> Streams:
+    """The connection of a user who is signed on. Where many of one address sign on at once, they have to ask again."""
+    while True:
+        reader, writer = await asyncio.open_connection("127.0.0.1", front.lines_port)
+        writer.write(f"{name} {PASSWORD}\n".encode())
+        record = json.loads(await reader.readline())
+        if "error" not in record:
+            return reader, writer
+        writer.close()
+        if "too many sign-ons at once" not in record["error"]:
+            sys.exit(f"journal_rates: {name}: {record['error']}")
+        await asyncio.sleep(0.2)
+
+
+async def user(name: str, streams: Streams, until: float, waits: list[float]) -> None:
     """A user who counts at a node of their own, and compares each reply."""
-    reader, writer = await asyncio.open_connection("127.0.0.1", front.lines_port)
-    writer.write(f"{name} {PASSWORD}\n".encode())
-    if "error" in (record := json.loads(await reader.readline())):
-        sys.exit(f"journal_rates: {name}: {record['error']}")
+    reader, writer = streams
     number = 0
     while time.monotonic() < until:
         number += 1
@@ -60,9 +74,10 @@ async def figures(front: Front) -> dict[str, float]:
 async def rate(front: Front, names: list[str], seconds: float) -> tuple[list[float], list[float], dict[str, float]]:
     """Has all users send for so long: how long each reply took, the processor time of the front, the server and the users, and the front's figures."""
     waits: list[float] = []
+    streams = await asyncio.gather(*(signed_on(front, name) for name in names))
     pids = [[front.process.pid], [front.child], [os.getpid()]]
     before = [processor_time(own) for own in pids]
-    await asyncio.gather(*(user(front, name, time.monotonic() + seconds, waits) for name in names))
+    await asyncio.gather(*(user(name, own, time.monotonic() + seconds, waits) for name, own in zip(names, streams, strict=True)))
     spent = [processor_time(own) - start for own, start in zip(pids, before, strict=True)]
     return waits, spent, await figures(front)
 

@@ -34,8 +34,9 @@ class Served(Protocol):
 class Counting:
     """Users who each count at a node of their own, and hold each reply against what it can be: a line without a reply may have been run, once."""
 
-    def __init__(self, names: tuple[str, ...] = ("ada", "ben", "cleo"), beside: str = "") -> None:
-        self._names, self._beside = names, beside
+    def __init__(self, names: tuple[str, ...] = ("ada", "ben", "cleo"), beside: str = "", rest: float = 0.0) -> None:
+        """`beside` is what each line does besides, and `rest` the seconds before each."""
+        self._names, self._beside, self.rest = names, beside, rest
         self._work: list[asyncio.Task[None]] = []
         self._ends = False
         # Of each user: the least and the most that the counter can be.
@@ -79,6 +80,7 @@ class Counting:
 
     async def sends(self, person: Person, line: str) -> Record:
         """The record of a line."""
+        await asyncio.sleep(self.rest)
         return await person.line(line)
 
     def holds(self, name: str, found: int, least: int) -> None:

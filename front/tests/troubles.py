@@ -119,7 +119,8 @@ def drawn(kind: str, wanted: int, rng: random.Random) -> list[tuple[str, str, st
 
 async def tried(troubled: Troubled, chosen: list[tuple[str, str, str]], rng: random.Random) -> Counting:
     """Has one trouble after another befall; then holds the stores against a replay. Gives the users who worked."""
-    counting = Counting(beside=BESIDE[1])
+    # A standby that begins with the journal runs all that they sent.
+    counting = Counting(beside=BESIDE[1], rest=0.05)
     try:
         for number, (step, what, then) in enumerate(chosen):
             await _befalls_or_tells(troubled, counting, number, (step, what, then), rng.randrange(1, 12) if step not in STEPS[-3:] else 1)

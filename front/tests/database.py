@@ -10,7 +10,7 @@ import tempfile
 import time
 from pathlib import Path
 
-from front import missed
+from front import Patience, missed
 
 # Its programs, of the newest version that is there.
 PROGRAMS = sorted(Path("/usr/lib/postgresql").glob("*/bin"), key=lambda path: int(path.parent.name) if path.parent.name.isdigit() else 0)
@@ -61,7 +61,7 @@ class Cluster:
         return f"host={self.folder} user={USER} dbname=postgres"
 
     def _run(self, name: str, *words: object) -> None:
-        done = subprocess.run([*_owner(), PROGRAMS[-1] / name, *map(str, words)], capture_output=True, text=True, timeout=60, cwd=self.folder,
+        done = subprocess.run([*_owner(), PROGRAMS[-1] / name, *map(str, words)], capture_output=True, text=True, timeout=2 * Patience.seconds, cwd=self.folder,
                               stdin=subprocess.DEVNULL)
         assert done.returncode == 0, f"{name}: {done.stdout}{done.stderr}"
 

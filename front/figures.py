@@ -1,7 +1,9 @@
 #!/usr/bin/python3
 # SPDX-License-Identifier: Apache-2.0
-"""All figures of the journal and of many machines, one measurement after another, unattended and within fourteen minutes. Each has a limit of its own;
+"""All figures of the journal and of many machines, one measurement after another, unattended and within fifteen minutes. Each has a limit of its own;
 what it printed up to there is kept. On a quiet machine these are the figures of docs/PERFORMANCE.md.
+
+With `--to FILE` the times of take-overs, moves, a lost database and replies are a table there too.
 
 Status 1 if a measurement failed or was cut off; the last line says how many did."""
 from __future__ import annotations
@@ -9,14 +11,17 @@ from __future__ import annotations
 import argparse
 import os
 import platform
+import re
 import shutil
 import signal
 import subprocess
 import sys
+import threading
 import time
 from dataclasses import dataclass
 from datetime import UTC, datetime
 from pathlib import Path
+from typing import IO
 
 HERE = Path(__file__).resolve().parent
 sys.path.insert(0, str(HERE.parent / "tools"))
@@ -26,8 +31,11 @@ from running import PROGRAM, require_program  # noqa: E402
 PYTHON = "/usr/bin/python3"
 APART = Path(f"/dev/shm/mfront-figures-{os.getpid()}")
 TEST = [PYTHON, "-m", "pytest", "-q", "-s", "-c", str(HERE / "pytest.ini"), "--rootdir", str(HERE.parent), "-p", "no:cacheprovider"]
+# Of a line that is for the table: what was done, and how long it took.
+FIGURE = re.compile(r"\.*(without service after a kill|\d+ leaders killed[^:;]*|\d+ islands moved|a machine with \d+ islands killed and started|served again"
+                    r"|\d+ lines of a million steps beside \d+ lines|\w+ journal, store in \w+)[^:]*?(?:;[^:]*)?:? ?(.*?)(?:; processor time.*)?$")
 # Seconds for all.
-ALL = 810
+ALL = 900
 
 
 @dataclass(frozen=True, slots=True)
@@ -55,6 +63,8 @@ def measurements(short: bool) -> list[Measurement]:
                     (PYTHON, machines, "--islands", "3", "--accounts", grouped, "--seconds", seconds, "--moved", "1"), 120),
         Measurement("time without service", (PYTHON, rates, "--kinds", "--killed", killed), 120),
         Measurement("leaders killed", (*TEST, *apart, str(HERE / "tests" / "test_standby.py"), "-k", "leaders_that_are_killed", "--count", count), 300),
+        Measurement("a database that is lost",
+                    (*TEST, *apart, str(HERE / "tests" / "test_table.py"), "-k", "goes_on_soon or that_is_away and not minute"), 90),
         Measurement("a heavy account beside another", (*TEST, str(HERE / "tests" / "test_alone.py"), "-k", "heavy"), 90),
         Measurement("journals, one user", (PYTHON, rates, "--users", "1", "--seconds", one, "--replayed", "0", "--killed", "0", "--stores", "memory"), 60),
         Measurement("journals over a store in a file, 64 users",
@@ -64,12 +74,21 @@ def measurements(short: bool) -> list[Measurement]:
     ]
 
 
-def run(one: Measurement, left: float) -> bool:
-    """Makes a measurement within its limit and what is left of all, and says whether it came to its end."""
+def shown(stream: IO[str], kept: list[str]) -> None:
+    """Prints what a measurement prints, and keeps it."""
+    for line in stream:
+        print(line, end="", flush=True)
+        kept.append(line.strip())
+
+
+def run(one: Measurement, left: float, kept: list[str]) -> bool:
+    """Makes a measurement within its limit and what is left of all, keeps what it printed, and says whether it came to its end."""
     limit = min(one.limit, left)
     print(f"==== {one.name}\n{' '.join(one.words)}", flush=True)
     began = time.monotonic()
-    process = subprocess.Popen(one.words, stdin=subprocess.DEVNULL, stderr=subprocess.STDOUT, start_new_session=True)
+    process = subprocess.Popen(one.words, stdin=subprocess.DEVNULL, stdout=subprocess.PIPE, stderr=subprocess.STDOUT, text=True, start_new_session=True)
+    reading = threading.Thread(target=shown, args=(process.stdout, kept), daemon=True)
+    reading.start()
     try:
         status: int | None = process.wait(limit)
     except subprocess.TimeoutExpired:
@@ -81,9 +100,16 @@ def run(one: Measurement, left: float) -> bool:
         except subprocess.TimeoutExpired:
             os.killpg(process.pid, signal.SIGKILL)
             process.wait()
+    reading.join(10)
     how = "done" if status == 0 else f"cut off after {limit:.0f} s" if status is None else f"FAILED with status {status}"
     print(f"---- {one.name}: {how}, {time.monotonic() - began:.0f} s, load {os.getloadavg()[0]:.1f}", flush=True)
     return status == 0
+
+
+def table(made: list[tuple[Measurement, list[str], float]]) -> str:
+    """The rows of the figures that are for a table, each with the load at the end of its measurement."""
+    rows = [f"| {found[1].strip()} | {found[2].strip()} | {load:.1f} |" for one, kept, load in made for line in kept for found in [FIGURE.match(line)] if found]
+    return "\n".join(["| What | How long | Load |", "|---|---|---|", *rows, ""])
 
 
 def machine() -> str:
@@ -96,13 +122,15 @@ def machine() -> str:
 
 def main() -> int:
     """The status of the command."""
-    words = argparse.ArgumentParser(description="Makes all measurements of the journal and of many machines, within fourteen minutes.")
+    words = argparse.ArgumentParser(description="Makes all measurements of the journal and of many machines, within fifteen minutes.")
     words.add_argument("--short", action="store_true", help="small ones, which try that each works: no figures")
+    words.add_argument("--to", type=Path, metavar="FILE", help="where the table is written")
     words.add_argument("--only", metavar="WORD", help="only those whose name has this word")
     options = words.parse_args()
     require_program()
     print(machine(), flush=True)
     end, failed = time.monotonic() + ALL, 0
+    made: list[tuple[Measurement, list[str], float]] = []
     chosen = [one for one in measurements(options.short) if options.only is None or options.only in one.name]
     for one in chosen:
         left = end - time.monotonic()
@@ -110,8 +138,12 @@ def main() -> int:
             print(f"==== {one.name}: left out: no time is left", flush=True)
             failed += 1
             continue
-        failed += not run(one, left)
+        kept: list[str] = []
+        failed += not run(one, left, kept)
+        made.append((one, kept, os.getloadavg()[0]))
         shutil.rmtree(APART, ignore_errors=True)
+    if options.to is not None:
+        options.to.write_text(f"{machine()}\n\n{table(made)}", encoding="utf-8")
     print(f"{len(chosen) - failed} of {len(chosen)} measurements came to their end")
     return 1 if failed else 0
 

@@ -24,8 +24,8 @@ from load import certificate, settings  # noqa: E402
 from running import require_program  # noqa: E402
 from test_restarts import Counting, front_killed, restarted, server_killed  # noqa: E402
 
-# Seconds between two troubles, at least and at most; and those after which something is missed: the machine may have other work.
-TROUBLE, PATIENT = (4.0, 16.0), 240
+# How many times the least seconds between two troubles are the most; and seconds after which something is missed: the machine may have other work.
+MOST, PATIENT = 3, 240
 TROUBLES = {"the server killed": server_killed, "the front killed": front_killed, "the front stopped in order": restarted}
 
 
@@ -59,12 +59,12 @@ class Paced(Counting):
         return record | {"rest": count}
 
 
-async def run(front: Front, users: Paced, seconds: float) -> None:
+async def run(front: Front, users: Paced, seconds: float, between: float) -> None:
     """All users at once, and troubles; then what is stored is held against what it can be."""
     end = time.monotonic() + seconds
     users.begin(front)
     while time.monotonic() < end:
-        await asyncio.sleep(random.uniform(*TROUBLE))
+        await asyncio.sleep(random.uniform(between, MOST * between))
         what = random.choice(list(TROUBLES))
         users.seen[what] += 1
         await TROUBLES[what](front)
@@ -78,6 +78,7 @@ def main() -> int:
     words.add_argument("--users", type=int, default=100, help="how many users (default 100)")
     words.add_argument("--rate", type=float, default=5, help="lines of each user in a second, at most (default 5)")
     words.add_argument("--seconds", type=float, default=3600, help="for how long (default 3600)")
+    words.add_argument("--between", type=float, default=10, help=f"seconds between two troubles at least; at most {MOST} times as many (default 10)")
     words.add_argument("--seed", type=int, default=72, help="what chance begins with (default 72)")
     options = words.parse_args()
     require_program()
@@ -89,7 +90,7 @@ def main() -> int:
         users = Paced(tuple(names), options.rate)
         front = Front(folder, certificate(folder), users=names, settings=path, store="store", journal={"folder": "journal"})
         try:
-            asyncio.run(run(front, users, options.seconds))
+            asyncio.run(run(front, users, options.seconds, options.between))
         except ValueError as error:
             print(f"soak: a line was lost, ran twice or had a wrong reply: {error}")
             return 1

@@ -129,6 +129,8 @@ class Shares:
     def clear(self) -> None:
         """No line waits, and none is on its way. What each account has used stays."""
         self._least.clear()
+        # A terminal may be another account's by now; while its lines wait it is not.
+        self._share_of.clear()
         self._flying, self._ahead = 0, 0.0
         for share in self._shares.values():
             share.ready.clear()

@@ -99,6 +99,17 @@ def test_who_waits_comes_before_an_account_that_used_the_server_for_long() -> No
     assert shares.used() == {"A0": (1, 60.0)} | {"A1": (0, 0.0)}
 
 
+def test_a_terminal_that_is_another_accounts_is_charged_to_that_one() -> None:
+    """From when the server is started again by the new settings: then no line waits."""
+    shares = Shares({1: "A", 2: "B"})
+    for wanted in ({"A": (1, 1.0)}, {"A": (1, 1.0), "B": (1, 1.0)}):
+        shares.add(Asked(1))
+        shares.answered(shares.next(), 1.0)
+        assert {account: used for account, used in shares.used().items() if used[0]} == wanted
+        shares.know({1: "B", 2: "A"})
+        shares.clear()
+
+
 def test_one_account_has_the_whole_window() -> None:
     shares = Shares(accounts([100]))
     for terminal in range(1, 101):

@@ -31,6 +31,8 @@ from troubles import COMBINATIONS, drawn, tried  # noqa: E402
 
 # Seconds that a part takes at most, and after which something is missed in it: the machine may have other work.
 LONGEST, PATIENT = 3600, 240
+# Seconds for which users rest before each line: a standby that begins with the journal runs all that they sent.
+REST = 0.05
 
 
 @dataclass(frozen=True, slots=True)
@@ -57,7 +59,7 @@ async def ran(part: Part) -> dict[str, object]:
         with tempfile.TemporaryDirectory(dir=IN_MEMORY, prefix="matrix-") as folder:
             async with asyncio.timeout(LONGEST):
                 troubled = await asyncio.to_thread(Gates if part.kind == "gates" else Pair, Path(folder), cluster)
-                counting = await tried(troubled, part.chosen, random.Random(part.name))
+                counting = await tried(troubled, part.chosen, random.Random(part.name), REST)
         return {"tried": len(part.chosen), "fired": sum(troubled.fired.values()), "answered": counting.answered}
     finally:
         if cluster is not None:

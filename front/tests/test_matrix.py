@@ -29,16 +29,22 @@ def folder() -> Iterator[Path]:
 @pytest.mark.long
 @in_loop(36_000)
 async def test_the_matrix_of_troubles(folder: Path, count: int) -> None:
-    rng = random.Random(6 + count)
-    await tried(Pair(folder), drawn("files", TRIED["files"] * count, rng), rng)
+    await enough_of(Pair(folder), "files", count)
 
 
 @pytest.mark.long
 @pytest.mark.parametrize(("kind", "made"), [("database", Pair), ("gates", Gates)])
 @in_loop(36_000)
 async def test_the_matrix_of_troubles_over_a_database(folder: Path, kind: str, made: Callable[[Path, Cluster], Troubled], count: int) -> None:
-    cluster, rng = await asyncio.to_thread(Cluster), random.Random(6 + count)
+    cluster = await asyncio.to_thread(Cluster)
     try:
-        await tried(await asyncio.to_thread(made, folder, cluster), drawn(kind, TRIED[kind] * count, rng), rng)
+        await enough_of(await asyncio.to_thread(made, folder, cluster), kind, count)
     finally:
         cluster.remove()
+
+
+async def enough_of(troubled: Troubled, kind: str, count: int) -> None:
+    """Tries combinations of a kind, of which most come to their step: a start gives rows only if a line was on its way."""
+    wanted, rng = TRIED[kind] * count, random.Random(6 + count)
+    await tried(troubled, drawn(kind, wanted, rng), rng)
+    assert sum(troubled.fired.values()) >= wanted // 2

@@ -9,7 +9,7 @@ import stat
 from pathlib import Path
 
 import aiohttp
-from front import Front, in_loop
+from front import Front, in_loop, until
 from mserve_front import figures
 from mserve_front.admin import ALARMS
 
@@ -28,7 +28,9 @@ async def told(front: Front, place: str = "/admin.json") -> aiohttp.ClientRespon
 async def test_the_operators_page(start) -> None:
     """Who is signed on, what each account uses, and the page itself; users cannot reach it, and nobody else of the machine."""
     front: Front = start(admin={"socket": "admin.socket"}, journal={"folder": "journal"}, store="store")
-    assert stat.S_IMODE((front.folder / "admin.socket").stat().st_mode) == 0o600
+    admin = front.folder / "admin.socket"
+    await until(admin.exists, "the operator's socket")
+    assert stat.S_IMODE(admin.stat().st_mode) == 0o600
     async with front.person("ada") as ada, front.person("cleo"):
         for _ in range(5):
             await ada.line("F I=1:1:1000 S A(I)=I")
@@ -45,7 +47,7 @@ async def test_the_operators_page(start) -> None:
             async with ada.http.get(path) as response:
                 assert response.status == 404
     assert await asyncio.to_thread(front.stop) == 0
-    assert not (front.folder / "admin.socket").exists()
+    assert not admin.exists()
 
 
 @in_loop()

@@ -1,17 +1,28 @@
 -- SPDX-License-Identifier: Apache-2.0
 -- The settings that are put together from the parts of a document.
-use Rattle.mgrant.proofs.GrantWords.{◌≡◌, ◌⊎◌, inl, inr, ℕ, suc, ◌+◌, ◌==◌, ◌<◌, ℤ, pos, negsuc, Bool, true, false, cond, List, [], ◌∷◌, ◌++◌, length, map, Option, Some, None, refl, sym, ap, subst, ◌∙◌, arith, append_assoc, length-append, slice_get, option_and_then, unsigned_abs, int_eq, list_all, flat_map, FinMap, from_entries, get-from_entries, same_map, nat_cmp-IsAntisymmetric, find, nat_cmp_total, cases_Bool, cases_eq, and_parts, false≢true, eq-eqb, ne_eqb, Decides-int_eq, list_all-append, none-some, same_Some, get_or_from_slice_get, Account, Written, WrittenAccount, names_of, terminals_of, are_distinct, is_within, account_of, terminals_with, settings_of, Placed, Claim, claims, claimed, HasTerminals, AreGranted, accounts_of, terminals_from, settings_view, nat_cmp}
+use Rattle.mgrant.proofs.GrantWords.{◌≡◌, ◌⊎◌, inl, inr, ℕ, ◌+◌, ◌==◌, ◌<◌, ℤ, pos, negsuc, Bool, true, false, cond, List, [], ◌∷◌, ◌++◌, length, map, Option, Some, None, refl, sym, ap, subst, ◌∙◌, arith, append_assoc, length-append, slice_get, option_and_then, unsigned_abs, int_eq, list_all, flat_map, FinMap, from_entries, get-from_entries, same_map, nat_cmp-IsAntisymmetric, find, nat_cmp_total, cases_Bool, cases_eq, and_parts, false≢true, eq-eqb, ne_eqb, Decides-int_eq, list_all-append, none-some, same_Some, get_or_from_slice_get, Account, Written, WrittenAccount, WrittenGrant, names_of, terminals_of, are_names, are_terminals, are_steps, are_grants, if◌then◌else◌, are_distinct, is_within, account_of, terminals_with, settings_of, Placed, Claim, claims, claimed, HasTerminals, AreGranted, named, names_in, grant_of, terminals_from, settings_view, nat_cmp}
+use Rattle.mgrant.specs.Document.{fault_of}
+use Rattle.mgrant.specs.declared.fault.SettingsFault.TheVariants.{Grant}
 use Rattle.mgrant.proofs.Places.{slice_get_at}
 use Rattle.mgrant.proofs.Seen.{terminal_seen, tied_is}
 use Rattle.mgrant.proofs.Parts.{terminals_all, different}
 
-accounts_are : (accounts : List WrittenAccount) → accounts_of (names_of accounts) (map (λ a. unsigned_abs a.steps) accounts) ≡ map account_of accounts
-accounts_are [] = refl
-accounts_are (a ∷ rest) = ap (λ bs. account_of a ∷ bs) (accounts_are rest)
+-- the names of the accounts are those that were written
+pub names_are : (accounts : List WrittenAccount) → names_in (map account_of accounts) ≡ names_of accounts
+names_are [] = refl
+names_are (a ∷ rest) = ap (λ ns. a.name ∷ ns) (names_are rest)
 
-pub steps_count : (accounts : List WrittenAccount) → length (map (λ a. unsigned_abs a.steps) accounts) ≡ length (names_of accounts)
-steps_count [] = refl
-steps_count (a ∷ rest) = ap suc (steps_count rest)
+-- what is wrong with a document, if all but its grants is good
+fault_left : (w : Written) → are_names (names_of w.accounts) ≡ true → are_terminals (terminals_of w.accounts) ≡ true → are_steps w.accounts ≡ true → (good : Bool) → are_grants (names_of w.accounts) w.grants ≡ good
+    → fault_of w ≡ (if good then None else Some Grant)
+fault_left w names terminals steps true grants = rw (names, terminals, steps, grants) refl
+fault_left w names terminals steps false grants = rw (names, terminals, steps, grants) refl
+
+pub grants_judged : (w : Written) (written : List WrittenAccount) (gs : List WrittenGrant) (accounts : List Account) → written ≡ w.accounts → gs ≡ w.grants → accounts ≡ map account_of written
+    → are_names (names_of written) ≡ true → are_terminals (terminals_of written) ≡ true → are_steps written ≡ true → (good : Bool) → are_grants (names_in accounts) gs ≡ good → fault_of w ≡ (if good then None else Some Grant)
+grants_judged w written gs accounts same given is names terminals steps good grants =
+    fault_left w (sym (ap (λ es. are_names (names_of es)) same) ∙ names) (sym (ap (λ es. are_terminals (terminals_of es)) same) ∙ terminals) (sym (ap are_steps same) ∙ steps) good
+    (sym (λ i. are_grants ((ap names_in is ∙ names_are written ∙ ap names_of same) i) (given i)) ∙ grants)
 
 -- ---- terminals
 
@@ -78,10 +89,9 @@ terminals_are accounts v has =
 
 -- ---- all
 
-pub assembled_is : (w : Written) (steps : List ℕ) (v : List (Option ℕ)) (grants : List Placed) → steps ≡ map (λ a. unsigned_abs a.steps) w.accounts → HasTerminals (claims 0 w.accounts) v → AreGranted (names_of w.accounts) w.grants grants
-    → settings_view (names_of w.accounts) steps v grants ≡ settings_of w
-assembled_is w steps v grants stepped has granted =
-    let accounts : accounts_of (names_of w.accounts) steps ≡ map account_of w.accounts = ap (accounts_of (names_of w.accounts)) stepped ∙ accounts_are w.accounts in
-    let terminals : ◌≡◌ {A = FinMap nat_cmp Account} (from_entries (terminals_from (accounts_of (names_of w.accounts) steps) 0 v)) (from_entries (flat_map terminals_with w.accounts)) =
-    ap (λ all. from_entries (terminals_from all 0 v)) accounts ∙ terminals_are w.accounts v has in
-    λ i. record { accounts = accounts i; terminals = terminals i; grants = granted.same i }
+pub assembled_is : (w : Written) (v : List (Option ℕ)) (grants : List Placed) → HasTerminals (claims 0 w.accounts) v → AreGranted (names_of w.accounts) w.grants grants
+    → settings_view (map account_of w.accounts) v grants ≡ settings_of w
+assembled_is w v grants has granted =
+    let terminals = terminals_are w.accounts v has in
+    let given : map (named (names_in (map account_of w.accounts))) grants ≡ map grant_of w.grants = ap (λ ns. map (named ns) grants) (names_are w.accounts) ∙ granted.same in
+    λ i. record { accounts = map account_of w.accounts; terminals = terminals i; grants = given i }

@@ -1,6 +1,6 @@
 -- SPDX-License-Identifier: Apache-2.0
 -- Chains of grants, by names and by places.
-use Rattle.mgrant.proofs.GrantWords.{◌≡◌, ◌⊎◌, inl, inr, ℕ, ◌==◌, ◌<◌, true, List, ◌∷◌, length, map, get_or, Some, All, refl, sym, ap, subst, ◌∙◌, ◌&&◌, Bool, ◌||◌, [], Option, subst₂, list_any, bytes_decides, and_parts, and_from, or_cases, eqb-true, eq-eqb, false≢true, or_left, or_right, All-head, All-tail, list_any_at, Any-from_list_any, Text, text_eq, carries, flows, Reaches, itself, through, are_names, is_account_name, leads, Leads, stays, goes, Placed, carries_at, ties_at, named, IsAmong, settings_view, AreSettings, text_in, Edge}
+use Rattle.mgrant.proofs.GrantWords.{◌≡◌, ◌⊎◌, inl, inr, ℕ, ◌==◌, ◌<◌, true, List, ◌∷◌, length, map, get_or, Some, All, refl, sym, ap, subst, ◌∙◌, ◌&&◌, Bool, ◌||◌, [], Option, subst₂, list_any, bytes_decides, and_parts, and_from, or_cases, eqb-true, eq-eqb, false≢true, or_left, or_right, All-head, All-tail, list_any_at, Any-from_list_any, Text, text_eq, carries, flows, Reaches, itself, through, are_names, is_account_name, leads, Leads, stays, goes, Placed, carries_at, ties_at, named, IsAmong, settings_view, names_in, text_in, Account, Edge}
 use Rattle.mspec.specs.Access as access
 use Rattle.mgrant.proofs.Seen.{me_test, place_is, name_good, name_seen}
 
@@ -107,13 +107,13 @@ module _ (names : List Text) (good : are_names names ≡ true) where
         goes (sym (step_seen a i) ∙ (λ j. flows settings (sym e j) (sym at j)) ∙ flow) (led_by rest i b inside within at f)
 
 -- chains in settings as they are seen, between the names at places
-module _ (names : List Text) (steps : List ℕ) (terminals : List (Option ℕ)) (gs : List Placed) (inside : AreSettings names steps terminals gs) (now : access.Settings) (is : settings_view names steps terminals gs ≡ now) (a b : ℕ) where
-  pub chain_at : Reaches (settings_view names steps terminals gs) (text_in names a) (text_in names b) → Reaches now (access.name_at now a) (access.name_at now b)
+module _ (accounts : List Account) (terminals : List (Option ℕ)) (gs : List Placed) (now : access.Settings) (is : settings_view accounts terminals gs ≡ now) (a b : ℕ) where
+  pub chain_at : Reaches (settings_view accounts terminals gs) (text_in (names_in accounts) a) (text_in (names_in accounts) b) → Reaches now (access.name_at now a) (access.name_at now b)
   chain_at chain =
       subst (λ s. Reaches s (access.name_at s a) (access.name_at s b)) is
-      (subst₂ (Reaches (settings_view names steps terminals gs)) (name_seen names steps a inside.stepped) (name_seen names steps b inside.stepped) chain)
+      (subst₂ (Reaches (settings_view accounts terminals gs)) (name_seen accounts a) (name_seen accounts b) chain)
 
-  pub chain_of : Reaches now (access.name_at now a) (access.name_at now b) → Reaches (settings_view names steps terminals gs) (text_in names a) (text_in names b)
+  pub chain_of : Reaches now (access.name_at now a) (access.name_at now b) → Reaches (settings_view accounts terminals gs) (text_in (names_in accounts) a) (text_in (names_in accounts) b)
   chain_of chain =
-      subst₂ (Reaches (settings_view names steps terminals gs)) (sym (name_seen names steps a inside.stepped)) (sym (name_seen names steps b inside.stepped))
+      subst₂ (Reaches (settings_view accounts terminals gs)) (sym (name_seen accounts a)) (sym (name_seen accounts b))
       (subst (λ s. Reaches s (access.name_at s a) (access.name_at s b)) (sym is) chain)

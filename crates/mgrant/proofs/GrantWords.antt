@@ -27,12 +27,12 @@ pub use Rattle.mspec.specs.Trees.{text_eq}
 pub use Rattle.toml.proofs.Views.{Entry, table_get}
 pub use Rattle.toml.specs.Data.{Data, as_integer}
 pub use Rattle.toml.specs.View.{array_view, items_view, members_view, table_view, view}
-pub use Rattle.mgrant.specs.Document.{Written, WrittenAccount, WrittenGrant, account_of, are_distinct, are_grants, are_names, are_steps, are_terminals, count_items, each_read, entries_of, grant_of, has_only, is_account_name, is_grant, is_name, is_within, max_entries, mode_named, names_of, settings_of, terminals_of, terminals_with, written_account, written_by, written_grant}
+pub use Rattle.mgrant.specs.Document.{Written, WrittenAccount, WrittenGrant, account_of, are_distinct, are_grants, are_names, are_steps, are_terminals, count_items, each_read, entries_of, grant_of, has_only, has_steps, is_account_name, is_grant, is_name, is_within, max_entries, mode_named, names_of, settings_of, terminals_of, terminals_with, written_account, written_by, written_grant}
 pub use Rattle.mgrant.specs.Edges.{IsMore, IsRun, IsStage, Leads, goes, leads, stays}
 pub use Rattle.mgrant.specs.Islands.{IsIslandAt, IsIslandOf}
 pub use Rattle.mgrant.specs.Placed.{Allowed, IsAllowance, IsInterned, Placed, allows_so, carries_at, lets_at, mode_of, placed, same_permit, ties_at}
-pub use Rattle.mgrant.specs.Reading.{AreGranted, Claim, HasTerminals, IsNumberWithin, IsPlacing, account_view, claimed, claims, claims_at, entries_seen, entries_view, grant_view, grants_seen, keys_view, numbers}
-pub use Rattle.mgrant.specs.View.{AreSettings, IsAmong, accounts_of, named, settings_view, terminals_from, with_terminal}
+pub use Rattle.mgrant.specs.Reading.{AreGranted, Claim, HasTerminals, IsAccountOf, IsNumberWithin, IsPlacing, claimed, claims, claims_at, entries_seen, entries_view, grant_view, grants_seen, keys_view, numbers}
+pub use Rattle.mgrant.specs.View.{AreSettings, IsAmong, account_view, named, names_in, settings_view, terminals_from, with_terminal}
 pub use Rattle.mgrant.specs.Words.{Bytes, IsIndex, IsPlaceOf, Places, found_at, text_in, texts_of}
 pub use Rattle.mgrant.specs.declared.flow.Edge.{Edge}
 pub use Rattle.mgrant.specs.declared.grants.Permit.{Permit}

@@ -1,10 +1,10 @@
 -- SPDX-License-Identifier: Apache-2.0
 -- The island of an account: the names at the places that chains of ties lead to.
-use Rattle.mgrant.proofs.GrantWords.{◌≡◌, ◌↔◌, ◌⊎◌, inl, inr, ℕ, zero, suc, ◌+◌, ◌==◌, ◌<◌, ◌≤◌, Bool, true, false, List, ◌∷◌, ◌++◌, length, map, get_or, Option, Some, All, refl, sym, ap, subst, subst₂, ◌∙◌, arith, ◌&&◌, ◌||◌, unwrap_or, [], Any-from_list_any, list_any_at, both_ways, list_any, filter, range_with_len, bytes_decides, cases_lt, and_parts, and_from, or_cases, or_left, or_right, false≢true, false_from_ne_true, get_or_past, filter_agree, filter-append, slice_get_past, Text, text_eq, carries, flows, are_names, leads, Leads, stays, IsIslandOf, IsIslandAt, Placed, carries_at, ties_at, settings_view, named, IsAmong, AreSettings, text_in, Edge, append-nil}
+use Rattle.mgrant.proofs.GrantWords.{◌≡◌, ◌↔◌, ◌⊎◌, inl, inr, ℕ, zero, suc, ◌+◌, ◌==◌, ◌<◌, ◌≤◌, Bool, true, false, List, ◌∷◌, ◌++◌, length, map, get_or, Option, Some, All, refl, sym, ap, subst, subst₂, ◌∙◌, arith, ◌&&◌, ◌||◌, unwrap_or, [], Any-from_list_any, list_any_at, both_ways, list_any, filter, range_with_len, bytes_decides, cases_lt, and_parts, and_from, or_cases, or_left, or_right, false≢true, false_from_ne_true, get_or_past, filter_agree, filter-append, slice_get_past, Text, text_eq, carries, flows, are_names, leads, Leads, stays, IsIslandOf, IsIslandAt, Placed, carries_at, ties_at, settings_view, named, names_in, IsAmong, AreSettings, text_in, Account, Edge, append-nil}
 use Rattle.mspec.specs.Access as access
 use Rattle.mgrant.proofs.Chains.{flows_seen, none_empty, carried_between, any_more, targets_within, tied_on, tied_within}
 use Rattle.mgrant.proofs.Marks.{leads_on, closed_under}
-use Rattle.mgrant.proofs.Seen.{place_is, name_seen, length_seen}
+use Rattle.mgrant.proofs.Seen.{place_is, name_seen, length_seen, among_seen}
 
 -- ---- flows and ties, by places
 
@@ -157,32 +157,40 @@ none_kept : (p : ℕ → Bool) (a n : ℕ) → ((k : ℕ) → k < a + n → p k 
 none_kept p a zero none = refl
 none_kept p a (suc n) none = rw (none a (omega arith)) (none_kept p (a + 1) n (λ k within. none k (omega arith)))
 
-module _ (names : List Text) (steps : List ℕ) (terminals : List (Option ℕ)) (gs : List Placed) (inside : AreSettings names steps terminals gs) where
+module _ (accounts : List Account) (terminals : List (Option ℕ)) (gs : List Placed) (inside : AreSettings accounts terminals gs) where
   abbrev seen : access.Settings
-  seen = settings_view names steps terminals gs
+  seen = settings_view accounts terminals gs
+
+  abbrev names : List Text
+  names = names_in accounts
 
   -- the places of a set's accounts are those whose names it has
-  places_seen : (s : Text → Bool) → filter (λ p. s (text_in names p)) (range_with_len 0 (length names)) ≡ filter (λ p. s (access.name_at seen p)) (range_with_len 0 (length seen.accounts))
-  places_seen s =
-      filter_agree (λ p. s (text_in names p)) (λ p. s (access.name_at seen p)) (λ p. ap s (name_seen names steps p inside.stepped)) (range_with_len 0 (length names))
-      ∙ ap (λ n. filter (λ p. s (access.name_at seen p)) (range_with_len 0 n)) (sym (length_seen names steps inside.stepped))
+  places_seen : (s : Text → Bool) → filter (λ p. s (text_in names p)) (range_with_len 0 (length accounts)) ≡ filter (λ p. s (access.name_at seen p)) (range_with_len 0 (length accounts))
+  places_seen s = filter_agree (λ p. s (text_in names p)) (λ p. s (access.name_at seen p)) (λ p. ap s (name_seen accounts p)) (range_with_len 0 (length accounts))
 
-  island_at : (s : Text → Bool) (start : ℕ) (places : List ℕ) → IsIslandOf seen (text_in names start) s → places ≡ filter (λ p. s (text_in names p)) (range_with_len 0 (length names)) → IsIslandAt seen (access.name_at seen start) places
+  island_at : (s : Text → Bool) (start : ℕ) (places : List ℕ) → IsIslandOf seen (text_in names start) s → places ≡ filter (λ p. s (text_in names p)) (range_with_len 0 (length accounts)) → IsIslandAt seen (access.name_at seen start) places
   island_at s start places is listed = record {
     members = s;
-    least = subst (λ a. IsIslandOf seen a s) (name_seen names steps start inside.stepped) is;
+    least = subst (λ a. IsIslandOf seen a s) (name_seen accounts start) is;
     listed = listed ∙ places_seen s;
   }
 
-  pub found_at : (edges : List Edge) → ((x y : ℕ) → list_any (leads x y) edges ≡ list_any (ties_at x y) gs) → (marks : List Bool) (start : ℕ) → start < length names
-      → ((y : ℕ) → (get_or marks y false ≡ true) ↔ Leads edges start y) → length marks ≡ length names → (places : List ℕ) → places ≡ filter (λ p. get_or marks p false) (range_with_len 0 (length marks))
+  -- as many names as accounts, and grants among them
+  counted : length names ≡ length accounts
+  counted = length_seen accounts
+
+  among : All (IsAmong (length names)) gs
+  among = among_seen accounts gs inside.granted
+
+  pub found_at : (edges : List Edge) → ((x y : ℕ) → list_any (leads x y) edges ≡ list_any (ties_at x y) gs) → (marks : List Bool) (start : ℕ) → start < length accounts
+      → ((y : ℕ) → (get_or marks y false ≡ true) ↔ Leads edges start y) → length marks ≡ length accounts → (places : List ℕ) → places ≡ filter (λ p. get_or marks p false) (range_with_len 0 (length marks))
       → IsIslandAt seen (access.name_at seen start) places
   found_at edges is marks start low told size places listed =
-      island_at (marked_name names marks) start places (island_found names inside.named gs inside.granted seen refl edges is marks start low told)
-      (listed ∙ filter_agree (λ p. get_or marks p false) (λ p. marked_name names marks (text_in names p)) (mark_is names inside.named marks size) (range_with_len 0 (length marks))
+      island_at (marked_name names marks) start places (island_found names inside.named gs among seen refl edges is marks start (omega (arith, counted)) told)
+      (listed ∙ filter_agree (λ p. get_or marks p false) (λ p. marked_name names marks (text_in names p)) (mark_is names inside.named marks (size ∙ sym counted)) (range_with_len 0 (length marks))
       ∙ ap (λ n. filter (λ p. marked_name names marks (text_in names p)) (range_with_len 0 n)) size)
 
-  pub none_at : (start : ℕ) → length names ≤ start → IsIslandAt seen (access.name_at seen start) []
+  pub none_at : (start : ℕ) → length accounts ≤ start → IsIslandAt seen (access.name_at seen start) []
   none_at start past =
-      island_at (text_eq []) start [] (subst (λ a. IsIslandOf seen a (text_eq [])) (sym (no_name names start past)) (island_of_none names inside.named gs inside.granted seen refl))
-      (sym (none_kept (λ p. text_eq [] (text_in names p)) 0 (length names) (λ k within. empty_apart names inside.named (text_in names k) k (omega arith) refl)))
+      island_at (text_eq []) start [] (subst (λ a. IsIslandOf seen a (text_eq [])) (sym (no_name names start (omega (arith, counted)))) (island_of_none names inside.named gs among seen refl))
+      (sym (none_kept (λ p. text_eq [] (text_in names p)) 0 (length accounts) (λ k within. empty_apart names inside.named (text_in names k) k (omega (arith, counted)) refl)))

@@ -1,6 +1,6 @@
 -- SPDX-License-Identifier: Apache-2.0
 -- The parts of settings, entry by entry.
-use Rattle.mgrant.proofs.GrantWords.{◌≡◌, inl, inr, ℕ, zero, suc, ◌+◌, ◌<◌, ℤ, pos, Bool, true, false, List, ◌∷◌, ◌++◌, length, map, take, drop, get_or, get_or_default, set, Option, Some, None, refl, sym, ap, subst, ◌∙◌, arith, append_assoc, append-nil, length-take-le, add-one, add-zero, take-append-drop, is_some, not, ◌&&◌, unwrap_or, unsigned_abs, if◌then◌else◌, int_eq, [], list_any, list_all, nat_list_eq_equiv, cases_eq, cases_Bool, and_right, false≢true, false_from_ne_true, Decides-int_eq, map-append, take_more, length-map, get_or-set_same, get_or-set_other, list_all-append, none-some, slice_get_within, Text, text_eq, WrittenAccount, WrittenGrant, names_of, terminals_of, are_names, are_terminals, is_account_name, is_name, mode_named, is_grant, is_within, grant_of, Mode, Read, Placed, mode_of, account_view, grant_view, entries_seen, grants_seen, Claim, claims_at, claims, numbers, claimed, HasTerminals, AreGranted, IsNumberWithin, IsPlacing, named, IsAmong, All-append, All-cons, All-nil}
+use Rattle.mgrant.proofs.GrantWords.{◌≡◌, inl, inr, ℕ, zero, suc, ◌+◌, ◌<◌, ◌≤◌, ℤ, pos, Bool, true, false, List, ◌∷◌, ◌++◌, length, map, take, drop, get_or, get_or_default, set, Option, Some, None, refl, sym, ap, subst, ◌∙◌, arith, append_assoc, append-nil, length-take-le, add-one, add-zero, take-append-drop, is_some, not, ◌&&◌, unwrap_or, if◌then◌else◌, int_eq, [], list_any, list_all, nat_list_eq_equiv, cases_eq, cases_Bool, and_right, false≢true, false_from_ne_true, Decides-int_eq, map-append, take_more, length-map, get_or-set_same, get_or-set_other, list_all-append, none-some, slice_get_within, Text, text_eq, WrittenAccount, WrittenGrant, names_of, terminals_of, are_names, are_terminals, is_account_name, is_name, mode_named, is_grant, is_within, grant_of, Mode, Read, Placed, mode_of, account_view, grant_view, entries_seen, grants_seen, Claim, claims_at, claims, numbers, claimed, HasTerminals, AreGranted, IsNumberWithin, IsPlacing, named, IsAmong, All-append, All-cons, All-nil}
 use Rattle.std.proofs.Math.Seq.{split_at}
 use Rattle.std.proofs.lemmas.Cmp.{int_eq_equiv}
 use Rattle.std.specs.Option.{option_or}
@@ -32,6 +32,10 @@ pub names_fail : (es : List AccountEntry) (i : ℕ) (d : AccountEntry) → i < l
 names_fail es i d within bad =
     let whole = ap names_of (mapped_around account_view es i d within) ∙ map-append (λ (a : WrittenAccount). a.name) (entries_seen (take i es)) (account_view (get_or es i d) ∷ entries_seen (drop (i + 1) es)) in
     ap are_names whole ∙ good_fails is_account_name text_eq nat_list_eq_equiv.symm (names_of (entries_seen (take i es))) (get_or es i d).name.items (names_of (entries_seen (drop (i + 1) es))) bad
+
+pub names_count : (es : List AccountEntry) (i : ℕ) → i ≤ length es → length (names_of (entries_seen (take i es))) ≡ i
+names_count es i within =
+    length-map (entries_seen (take i es)) (λ (a : WrittenAccount). a.name) ∙ length-map (take i es) account_view ∙ length-take-le i es within
 
 -- ---- terminals
 
@@ -170,7 +174,7 @@ no_terminals = record { good = refl; each = λ t. refl }
 pub none_more : (v : List (Option ℕ)) → HasTerminals [] v → HasTerminals [] (v ++ None ∷ [])
 none_more v has = record { good = refl; each = λ t. none_last v t ∙ has.each t }
 
--- ---- steps and grants: entries that each pass
+-- ---- accounts and grants: entries that each pass
 
 pub all_more : {X Y : Type 0} (f : X → Y) (p : Y → Bool) (xs : List X) (i : ℕ) (d : X) → i < length xs → list_all p (map f (take i xs)) ≡ true → p (f (get_or xs i d)) ≡ true → list_all p (map f (take (i + 1) xs)) ≡ true
 all_more f p xs i d within had here = ap (list_all p) (mapped_more f xs i d within) ∙ list_all-append p (map f (take i xs)) (f (get_or xs i d) ∷ []) ∙ rw (had, here) refl
@@ -178,10 +182,6 @@ all_more f p xs i d within had here = ap (list_all p) (mapped_more f xs i d with
 pub all_fails : {X Y : Type 0} (f : X → Y) (p : Y → Bool) (xs : List X) (i : ℕ) (d : X) → i < length xs → p (f (get_or xs i d)) ≡ false → list_all p (map f xs) ≡ false
 all_fails f p xs i d within bad =
     ap (list_all p) (mapped_around f xs i d within) ∙ list_all-append p (map f (take i xs)) (f (get_or xs i d) ∷ map f (drop (i + 1) xs)) ∙ and_right (list_all p (map f (take i xs))) _ (rw bad refl)
-
-pub steps_more : (es : List AccountEntry) (i : ℕ) (d : AccountEntry) → i < length es
-    → map (λ a. unsigned_abs a.steps) (entries_seen (take (i + 1) es)) ≡ map (λ a. unsigned_abs a.steps) (entries_seen (take i es)) ++ unsigned_abs (get_or es i d).steps ∷ []
-steps_more es i d within = ap (map (λ a. unsigned_abs a.steps)) (mapped_more account_view es i d within) ∙ map-append (λ (a : WrittenAccount). unsigned_abs a.steps) (entries_seen (take i es)) (account_view (get_or es i d) ∷ [])
 
 pub granted : (names : List Text) (g : WrittenGrant) → list_any (text_eq g.from) names ≡ true → list_any (text_eq g.to) names ≡ true → text_eq g.from g.to ≡ false → is_name g.global ≡ true → (m : Mode) → mode_named g.mode ≡ Some m
     → is_grant names g ≡ true

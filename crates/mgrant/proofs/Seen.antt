@@ -1,6 +1,6 @@
 -- SPDX-License-Identifier: Apache-2.0
 -- The settings of the definitions, beside the parts that the code keeps.
-use Rattle.mgrant.proofs.GrantWords.{◌≡◌, inl, inr, ℕ, zero, suc, ◌+◌, ◌==◌, ◌<◌, Bool, true, false, List, ◌∷◌, length, map, get_or, Option, Some, None, All, refl, sym, subst, ap, ◌∙◌, arith, add-zero, zero-add, not, ◌&&◌, ◌||◌, nat_le, slice_get, option_map, option_and_then, unwrap_or, [], list_any, list_all, get, from_entries, get-from_entries, find, nat_cmp_total, bytes_decides, cases_Bool, cases_lt, and_parts, or_cases, leb-true, false≢true, ne_eqb, eq-eqb, not-true, false_from_ne_true, nat_tests, All-head, All-tail, list_any_at, AllPass-from_list_all, none-some, same_Some, slice_get-get_or, slice_get_within, slice_get_past, get_or_from_slice_get, unwrap_or-slice_get, Text, text_eq, is_letter, is_name_rest, account_name_is, Account, are_names, are_distinct, is_account_name, Placed, lets_at, accounts_of, terminals_from, with_terminal, named, IsAmong, settings_view, AreSettings, text_in, IsPlaceOf}
+use Rattle.mgrant.proofs.GrantWords.{◌≡◌, inl, inr, ℕ, zero, suc, ◌+◌, ◌==◌, ◌<◌, Bool, true, false, List, ◌∷◌, length, map, get_or, Option, Some, None, All, refl, sym, subst, ap, ◌∙◌, arith, add-zero, zero-add, not, ◌&&◌, ◌||◌, nat_le, slice_get, option_map, option_and_then, unwrap_or, [], list_any, list_all, get, from_entries, get-from_entries, find, nat_cmp_total, bytes_decides, cases_Bool, cases_lt, and_parts, or_cases, leb-true, false≢true, ne_eqb, eq-eqb, not-true, false_from_ne_true, nat_tests, All-head, All-tail, list_any_at, AllPass-from_list_all, none-some, same_Some, slice_get-get_or, slice_get_within, slice_get_past, length-map, get_or_from_slice_get, unwrap_or-slice_get, Text, text_eq, is_letter, is_name_rest, account_name_is, Account, are_names, are_distinct, is_account_name, Placed, lets_at, names_in, terminals_from, with_terminal, named, IsAmong, settings_view, text_in, IsPlaceOf}
 use Rattle.std.specs.List.{find as first_of}
 use Rattle.std.specs.Ordering.{nat_cmp, eq_by_cmp}
 use Rattle.mspec.specs.Literal.{is_digit}
@@ -9,48 +9,31 @@ use Rattle.mgrant.proofs.Allowances.{place_test}
 
 -- ---- accounts
 
-account_here : (names : List Text) (steps : List ℕ) (i : ℕ) → length steps ≡ length names
-    → slice_get (accounts_of names steps) i ≡ option_map (λ n. record { name = n; steps = get_or steps i 0 }) (slice_get names i)
-account_here [] steps i same = refl
-account_here (n ∷ ns) [] i same = absurd (omega arith)
-account_here (n ∷ ns) (s ∷ ss) zero same = refl
-account_here (n ∷ ns) (s ∷ ss) (suc i) same = account_here ns ss i (omega arith)
+pub name_seen : (accounts : List Account) (i : ℕ) → text_in (names_in accounts) i ≡ unwrap_or (option_map (λ (a : Account). a.name) (slice_get accounts i)) []
+name_seen [] i = refl
+name_seen (a ∷ rest) zero = refl
+name_seen (a ∷ rest) (suc i) = name_seen rest i
 
-name_of_mapped : (s : ℕ) (o : Option Text) → unwrap_or (option_map (λ (a : Account). a.name) (option_map (λ n. record { name = n; steps = s }) o)) [] ≡ unwrap_or o []
-name_of_mapped s None = refl
-name_of_mapped s (Some n) = refl
+pub length_seen : (accounts : List Account) → length (names_in accounts) ≡ length accounts
+length_seen accounts = length-map accounts (λ (a : Account). a.name)
 
-pub name_seen : (names : List Text) (steps : List ℕ) (i : ℕ) → length steps ≡ length names → text_in names i ≡ unwrap_or (option_map (λ (a : Account). a.name) (slice_get (accounts_of names steps) i)) []
-name_seen names steps i same = sym (ap (λ o. unwrap_or (option_map (λ (a : Account). a.name) o) []) (account_here names steps i same) ∙ name_of_mapped (get_or steps i 0) (slice_get names i))
+pub named_seen : (accounts : List Account) (name : Text) (i : ℕ) → IsPlaceOf (names_in accounts) name i → slice_get accounts i ≡ first_of (λ (a : Account). text_eq name a.name) accounts
+named_seen [] name i is = absurd (none-some name is.here)
+named_seen (a ∷ rest) name zero is = rw ((bytes_decides name a.name).1 (sym (same_Some a.name name is.here))) refl
+named_seen (a ∷ rest) name (suc i) is =
+    let other : text_eq name a.name ≡ false = false_from_ne_true _ (λ here. let first = is.alone 0 (ap Some (sym ((bytes_decides name a.name).0 here))) in absurd (omega arith)) in
+    rw other (named_seen rest name i (record { here = is.here; alone = λ j at. let next = is.alone (suc j) at in omega arith }))
 
-pub length_seen : (names : List Text) (steps : List ℕ) → length steps ≡ length names → length (accounts_of names steps) ≡ length names
-length_seen [] steps same = refl
-length_seen (n ∷ ns) [] same = absurd (omega arith)
-length_seen (n ∷ ns) (s ∷ ss) same = ap suc (length_seen ns ss (omega arith))
-
-pub steps_seen : (names : List Text) (steps : List ℕ) (i : ℕ) → length steps ≡ length names → unwrap_or (slice_get steps i) 0 ≡ unwrap_or (option_map (λ (a : Account). a.steps) (slice_get (accounts_of names steps) i)) 0
-steps_seen [] [] i same = refl
-steps_seen [] (s ∷ ss) i same = absurd (omega arith)
-steps_seen (n ∷ ns) [] i same = absurd (omega arith)
-steps_seen (n ∷ ns) (s ∷ ss) zero same = refl
-steps_seen (n ∷ ns) (s ∷ ss) (suc i) same = steps_seen ns ss i (omega arith)
-
-pub named_seen : (names : List Text) (steps : List ℕ) (name : Text) (i : ℕ) → length steps ≡ length names → IsPlaceOf names name i → slice_get (accounts_of names steps) i ≡ first_of (λ (a : Account). text_eq name a.name) (accounts_of names steps)
-named_seen [] steps name i same is = absurd (none-some name is.here)
-named_seen (n ∷ ns) [] name i same is = absurd (omega arith)
-named_seen (n ∷ ns) (s ∷ ss) name zero same is = rw ((bytes_decides name n).1 (sym (same_Some n name is.here))) refl
-named_seen (n ∷ ns) (s ∷ ss) name (suc i) same is =
-    let other : text_eq name n ≡ false = false_from_ne_true _ (λ here. let first = is.alone 0 (ap Some (sym ((bytes_decides name n).0 here))) in absurd (omega arith)) in
-    rw other (named_seen ns ss name i (omega arith) (record { here = is.here; alone = λ j at. let next = is.alone (suc j) at in omega arith }))
-
-pub unnamed_seen : (names : List Text) (steps : List ℕ) (name : Text) → list_any (text_eq name) names ≡ false → first_of (λ (a : Account). text_eq name a.name) (accounts_of names steps) ≡ None
-unnamed_seen [] steps name none = refl
-unnamed_seen (n ∷ ns) [] name none = refl
-unnamed_seen (n ∷ ns) (s ∷ ss) name none =
-    elim (cases_Bool (text_eq name n)) [
+pub unnamed_seen : (accounts : List Account) (name : Text) → list_any (text_eq name) (names_in accounts) ≡ false → first_of (λ (a : Account). text_eq name a.name) accounts ≡ None
+unnamed_seen [] name none = refl
+unnamed_seen (a ∷ rest) name none =
+    elim (cases_Bool (text_eq name a.name)) [
       | inl same ↦ absurd (false≢true (sym none ∙ rw same refl))
-      | inr other ↦ rw other (unnamed_seen ns ss name (rw other at none))
+      | inr other ↦ rw other (unnamed_seen rest name (rw other at none))
     ]
+
+pub among_seen : (accounts : List Account) (gs : List Placed) → All (IsAmong (length accounts)) gs → All (IsAmong (length (names_in accounts))) gs
+among_seen accounts gs among = subst (λ n. All (IsAmong n) gs) (sym (length_seen accounts)) among
 
 -- ---- terminals
 
@@ -182,7 +165,7 @@ pub either : (a b r : Bool) → a ≡ false → b ≡ r → (a || b) ≡ r
 either a b r e f = rw e f
 
 -- what settings as they are seen let the account at a place do
-pub may_seen : (names : List Text) (steps : List ℕ) (terminals : List (Option ℕ)) (gs : List Placed) → AreSettings names steps terminals gs → (now : access.Settings) → settings_view names steps terminals gs ≡ now → (me : ℕ) (owner name : Text) (asked : access.Mode)
-    → access.may (settings_view names steps terminals gs) (text_in names me) owner name asked ≡ access.may now (access.name_at now me) owner name asked
-may_seen names steps terminals gs inside now is me owner name asked =
-    ap (λ x. access.may (settings_view names steps terminals gs) x owner name asked) (name_seen names steps me inside.stepped) ∙ ap (λ s. access.may s (access.name_at s me) owner name asked) is
+pub may_seen : (accounts : List Account) (terminals : List (Option ℕ)) (gs : List Placed) → (now : access.Settings) → settings_view accounts terminals gs ≡ now → (me : ℕ) (owner name : Text) (asked : access.Mode)
+    → access.may (settings_view accounts terminals gs) (text_in (names_in accounts) me) owner name asked ≡ access.may now (access.name_at now me) owner name asked
+may_seen accounts terminals gs now is me owner name asked =
+    ap (λ x. access.may (settings_view accounts terminals gs) x owner name asked) (name_seen accounts me) ∙ ap (λ s. access.may s (access.name_at s me) owner name asked) is

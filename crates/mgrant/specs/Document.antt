@@ -147,8 +147,11 @@ are_names names = list_all is_account_name names && are_distinct text_eq names
 abbrev pub are_terminals : List ℤ → Bool
 are_terminals ts = list_all (is_within 1 max_terminal) ts && are_distinct int_eq ts
 
+abbrev pub has_steps : WrittenAccount → Bool
+has_steps a = is_within 1 max_steps a.steps
+
 abbrev pub are_steps : List WrittenAccount → Bool
-are_steps accounts = list_all (λ a. is_within 1 max_steps a.steps) accounts
+are_steps accounts = list_all has_steps accounts
 
 abbrev pub mode_named : Text → Option Mode
 mode_named t = if text_eq t (codes "read") then Some Read else (if text_eq t (codes "write") then Some Write else None)

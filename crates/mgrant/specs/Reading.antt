@@ -5,10 +5,10 @@ use Rattle.std.specs.Ordering.{int_eq}
 use denote.Ref.{Bor}
 use Rattle.toml.specs.Data.{Members}
 use Rattle.mspec.specs.Node.{Text}
-use Rattle.mspec.specs.Access.{Settings}
-use Rattle.mgrant.specs.Document.{is_within, are_terminals, is_grant, mode_named, grant_of, Reads, WrittenAccount, WrittenGrant, Written, written, settings_of, first_fault}
+use Rattle.mspec.specs.Access.{Account, Settings}
+use Rattle.mgrant.specs.Document.{account_of, is_within, has_steps, are_terminals, is_grant, mode_named, grant_of, Reads, WrittenAccount, WrittenGrant, Written, written, settings_of, first_fault}
 use Rattle.mgrant.specs.Placed.{Placed, mode_of}
-use Rattle.mgrant.specs.View.{named, IsAmong}
+use Rattle.mgrant.specs.View.{account_view, named, IsAmong}
 use Rattle.mgrant.specs.declared.checks.Placing.{Placing}
 use Rattle.mgrant.specs.declared.document.AccountEntry.{AccountEntry}
 use Rattle.mgrant.specs.declared.document.GrantEntry.{GrantEntry}
@@ -18,9 +18,6 @@ use Rattle.mgrant.specs.declared.fault.SettingsFault.TheVariants.{Toml, Memory}
 
 abbrev pub keys_view : List (Bor Text) → List Text
 keys_view keys = map (λ k. k.now) keys
-
-abbrev pub account_view : AccountEntry → WrittenAccount
-account_view e = record { name = e.name.items; terminals = e.terminals.items; steps = e.steps }
 
 abbrev pub grant_view : GrantEntry → WrittenGrant
 grant_view e = record { from = e.from.items; to = e.to.items; global = e.global.items; mode = e.mode.items }
@@ -53,6 +50,11 @@ pub record IsNumberWithin (most : ℕ) (z : ℤ) (n : ℕ) : Type 0 where
   pub is : z ≡ pos n
   pub good : is_within 1 most z ≡ true
   pub few : n ≤ most
+
+-- the account is that of the entry, whose numbers are good
+pub record IsAccountOf (entry : WrittenAccount) (account : Account) : Type 0 where
+  pub good : has_steps entry ≡ true
+  pub is : account ≡ account_of entry
 
 -- a terminal, and the place of the account that it is given to
 abbrev pub Claim : Type 0

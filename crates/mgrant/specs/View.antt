@@ -1,20 +1,22 @@
 -- SPDX-License-Identifier: Apache-2.0
--- The settings that the code keeps, as those of the definitions.
+-- Accounts as they are written and as the code keeps them, and the settings that it keeps, as those of the definitions.
 use Rattle.std.specs.Prelude.{◌≡◌, ℕ, ◌+◌, ◌<◌, true, List, [], ◌∷◌, length, map, slice_get, All, Option, Some, None, option_and_then, refl, Bool, false}
 use Rattle.std.specs.Coded.{Coded, code_by, coded×, coded_list, coded_ℕ, coded_bool}
 use Rattle.std.specs.FinMap.{FinMap, from_entries, code}
 use Rattle.std.specs.Ordering.{nat_cmp}
 use Rattle.mspec.specs.Node.{Text}
 use Rattle.mspec.specs.Access.{Account, Grant, Settings, Mode, Read, Write}
-use Rattle.mgrant.specs.Document.{are_names}
+use Rattle.mgrant.specs.Document.{WrittenAccount, are_names}
 use Rattle.mgrant.specs.Words.{text_in}
 use Rattle.mgrant.specs.Placed.{Placed}
+use Rattle.mgrant.specs.declared.document.AccountEntry.{AccountEntry}
 
--- names with their steps
-abbrev pub accounts_of : List Text → List ℕ → List Account
-accounts_of [] steps = []
-accounts_of (n ∷ ns) [] = []
-accounts_of (n ∷ ns) (s ∷ ss) = record { name = n; steps = s } ∷ accounts_of ns ss
+-- an entry of the list of accounts, as the code reads it
+abbrev pub account_view : AccountEntry → WrittenAccount
+account_view e = record { name = e.name.items; terminals = e.terminals.items; steps = e.steps }
+
+abbrev pub names_in : List Account → List Text
+names_in accounts = map (λ a. a.name) accounts
 
 abbrev pub with_terminal : ℕ → Option Account → List (ℕ × Account) → List (ℕ × Account)
 with_terminal t None rest = rest
@@ -28,11 +30,11 @@ terminals_from accounts t (o ∷ rest) = with_terminal t (option_and_then (slice
 abbrev pub named : List Text → Placed → Grant
 named names g = record { from = text_in names g.from; to = text_in names g.to; global = g.global; mode = g.mode }
 
-abbrev pub settings_view : List Text → List ℕ → List (Option ℕ) → List Placed → Settings
-settings_view names steps terminals grants = record {
-  accounts = accounts_of names steps;
-  terminals = from_entries (terminals_from (accounts_of names steps) 0 terminals);
-  grants = map (named names) grants;
+abbrev pub settings_view : List Account → List (Option ℕ) → List Placed → Settings
+settings_view accounts terminals grants = record {
+  accounts = accounts;
+  terminals = from_entries (terminals_from accounts 0 terminals);
+  grants = map (named (names_in accounts)) grants;
 }
 
 -- both accounts of the grant are among `count` accounts
@@ -40,12 +42,11 @@ pub record IsAmong (count : ℕ) (g : Placed) : Type 0 where
   pub from : g.from < count
   pub to : g.to < count
 
--- names are good and apart, each has steps, and what is said of places is said of theirs
-pub record AreSettings (names : List Text) (steps : List ℕ) (terminals : List (Option ℕ)) (grants : List Placed) : Type 0 where
-  pub named : are_names names ≡ true
-  pub stepped : length steps ≡ length names
-  pub placed : (t i : ℕ) → slice_get terminals t ≡ Some (Some i) → i < length names
-  pub granted : All (IsAmong (length names)) grants
+-- names are good and apart, and what is said of places is said of accounts that are there
+pub record AreSettings (accounts : List Account) (terminals : List (Option ℕ)) (grants : List Placed) : Type 0 where
+  pub named : are_names (names_in accounts) ≡ true
+  pub placed : (t i : ℕ) → slice_get terminals t ≡ Some (Some i) → i < length accounts
+  pub granted : All (IsAmong (length accounts)) grants
 
 -- codes, by which a proof tells values apart
 abbrev pub coded_account : Coded Account

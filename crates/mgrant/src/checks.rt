@@ -1,43 +1,48 @@
 // SPDX-License-Identifier: Apache-2.0
 // The parts of settings, from the entries of a document: each is good, or has the fault that the format gives it.
-ghost use Rattle.std.specs.Prelude.{◌≡◌, ◌≤◌, ◌<◌, ℕ, List, [], IfOk, OnOk, All, map, false, length, vec_len, MatchBool, MatchOption, unsigned_abs, option_map};
-ghost use Rattle.mgrant.specs.Document.{names_of, terminals_of, are_names, are_terminals, are_steps, are_grants, is_grant, is_within, mode_named};
+ghost use Rattle.std.specs.Prelude.{◌≡◌, ◌≤◌, ◌<◌, ℕ, List, [], IfOk, OnOk, All, map, false, length, vec_len, MatchBool, MatchOption, option_map};
+ghost use Rattle.mgrant.specs.Document.{account_of, names_of, terminals_of, are_names, are_terminals, are_steps, are_grants, is_grant, is_within, mode_named};
 ghost use Rattle.mgrant.specs.Placed.{mode_of};
 ghost use Rattle.mgrant.specs.Reading.{entries_seen, grants_seen, grant_view, Judges, Claim, claims, claims_at, numbers, HasTerminals, IsPlacing, AreGranted, IsNumberWithin};
+ghost use Rattle.mgrant.specs.View.{names_in};
+ghost use Rattle.mgrant.specs.Words.{IsIndex};
 ghost use Rattle.mgrant.specs.declared.fault.SettingsFault.TheVariants as fault;
 
+use crate::accounts::{Account, Accounts};
 use crate::document::{AccountEntry, GrantEntry};
 use crate::fault::SettingsFault;
 use crate::grants::Grants;
 use crate::mode::Mode;
 use crate::names::{is_account_name, is_name};
-use crate::words::Words;
-use mspec::limits::{MAX_STEPS, MAX_TERMINAL};
+use crate::words::{Places, place_in};
+use mspec::limits::MAX_TERMINAL;
 use std::alloc::{AllocError, Global};
+use std::collections::HashMap;
 
 // Terminals are below this number.
 const TERMINALS: usize = 10_000;
 
-// The names of the accounts.
-pub(crate) fn names_of(alloc: Global, accounts: &[AccountEntry]) -> Result<Words, SettingsFault>
-    ensures { Judges (are_names (names_of (entries_seen accounts.now))) fault.Name (λ names. names ≡ names_of (entries_seen accounts.now)) result }
+// The places of the accounts' names.
+pub(crate) fn names_of(alloc: Global, entries: &[AccountEntry]) -> Result<Places, SettingsFault>
+    ensures { Judges (are_names (names_of (entries_seen entries.now))) fault.Name (IsIndex (names_of (entries_seen entries.now))) result }
 {
-    let mut names = Words::new(alloc);
-    for entry in accounts {
+    let mut places = HashMap::new(alloc);
+    for (place, entry) in entries.iter().enumerate() {
         let name = entry.name.as_slice();
         if !is_account_name(name) {
             return Err(SettingsFault::Name);
         }
-        if names.find(name).is_some() {
+        if place_in(&places, name).is_some() {
             return Err(SettingsFault::Name);
         }
-        names = names.with(Vec::from_slice(alloc, name)?)?;
+        let key = Vec::from_slice(alloc, name)?;
+        places.insert(key, place)?;
     }
-    Ok(names)
+    Ok(places)
 }
 
 // A whole number, if it is at least 1 and no more than the bound.
-fn number_within(n: i64, most: u32) -> Option<u32>
+pub(crate) fn number_within(n: i64, most: u32) -> Option<u32>
     ensures { MatchOption result (is_within 1 most n ≡ false) (IsNumberWithin most n) }
 {
     if n < 1 || n > most as i64 {
@@ -93,19 +98,22 @@ pub(crate) fn terminals_of(
     Ok(terminals)
 }
 
-// The steps of the accounts.
-#[tactic(auto, using(crate::proofs::Parts::all_more, crate::proofs::Parts::all_fails, crate::proofs::Parts::steps_more))]
-pub(crate) fn steps_of(alloc: Global, accounts: &[AccountEntry]) -> Result<Vec<u32>, SettingsFault>
-    ensures { Judges (are_steps (entries_seen accounts.now)) fault.Steps (λ steps. steps.items ≡ map (λ a. unsigned_abs a.steps) (entries_seen accounts.now)) result }
+// The accounts of the entries.
+#[tactic(auto, using(crate::proofs::Parts::all_fails))]
+pub(crate) fn accounts_of(
+    alloc: Global,
+    entries: &[AccountEntry],
+) -> Result<Vec<Account>, SettingsFault>
+    ensures { Judges (are_steps (entries_seen entries.now)) fault.Steps (λ accounts. accounts.items ≡ map account_of (entries_seen entries.now)) result }
 {
-    let mut steps = Vec::new(alloc);
-    for entry in accounts {
-        match number_within(entry.steps, MAX_STEPS) {
-            Some(number) => steps.push(number)?,
+    let mut accounts = Vec::new(alloc);
+    for entry in entries {
+        match Account::read(alloc, entry)? {
+            Some(account) => accounts.push(account)?,
             None => return Err(SettingsFault::Steps),
         }
     }
-    Ok(steps)
+    Ok(accounts)
 }
 
 // The mode that a text names.
@@ -129,14 +137,14 @@ pub(crate) struct Placing {
 
 // The places of a grant's accounts, and its mode, if it is good.
 #[tactic(auto, using(crate::proofs::Places::place_any, crate::proofs::Parts::granted))]
-fn places_of(names: &Words, entry: &GrantEntry) -> Option<Placing>
-    ensures { MatchOption result (is_grant names.now (grant_view entry.now) ≡ false) (IsPlacing names.now (grant_view entry.now)) }
+fn places_of(accounts: &Accounts, entry: &GrantEntry) -> Option<Placing>
+    ensures { MatchOption result (is_grant (names_in accounts.now) (grant_view entry.now) ≡ false) (IsPlacing (names_in accounts.now) (grant_view entry.now)) }
 {
     if entry.from == entry.to || !is_name(&entry.global) {
         return None;
     }
-    let from = names.find(&entry.from)?;
-    let to = names.find(&entry.to)?;
+    let from = accounts.find(&entry.from)?;
+    let to = accounts.find(&entry.to)?;
     let mode = mode_named(&entry.mode)?;
     Some(Placing { from, to, mode })
 }
@@ -145,14 +153,14 @@ fn places_of(names: &Words, entry: &GrantEntry) -> Option<Placing>
 #[tactic(auto, using(crate::proofs::Parts::all_fails))]
 pub(crate) fn grants_of(
     alloc: Global,
-    names: &Words,
+    accounts: &Accounts,
     entries: &[GrantEntry],
 ) -> Result<Grants, SettingsFault>
-    ensures { Judges (are_grants names.now (grants_seen entries.now)) fault.Grant (λ grants. AreGranted names.now (grants_seen entries.now) grants) result }
+    ensures { Judges (are_grants (names_in accounts.now) (grants_seen entries.now)) fault.Grant (λ grants. AreGranted (names_in accounts.now) (grants_seen entries.now) grants) result }
 {
     let mut grants = Grants::new(alloc);
     for entry in entries {
-        let Some(Placing { from, to, mode }) = places_of(names, entry) else {
+        let Some(Placing { from, to, mode }) = places_of(accounts, entry) else {
             return Err(SettingsFault::Grant);
         };
         let global = Vec::from_slice(alloc, &entry.global)?;

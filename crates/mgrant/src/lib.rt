@@ -7,6 +7,7 @@
 #![tactic(auto)]
 
 mod account_id;
+mod accounts;
 mod checks;
 mod document;
 mod fault;

@@ -1,6 +1,6 @@
 // SPDX-License-Identifier: Apache-2.0
 // Settings: who has which terminals, and who may do what.
-ghost use Rattle.std.specs.Prelude.{◌≡◌, ◌<◌, ◌↔◌, ◌⊎◌, Some, None, IfOk, IfErr, IfSome, IsTrue, All, false, length, slice_get, slice_index_or, unwrap_or, option_and_then};
+ghost use Rattle.std.specs.Prelude.{◌≡◌, ◌<◌, ◌↔◌, ◌⊎◌, Some, None, IfOk, IfErr, IfSome, IsTrue, All, false, length, slice_index_or, option_and_then};
 ghost use Rattle.std.specs.List.{filter, range_with_len};
 ghost use Rattle.toml.specs.View.{table_view};
 ghost use Rattle.mspec.specs.KeyBytes.{IsAccountName};
@@ -13,13 +13,13 @@ ghost use Rattle.mgrant.specs.Reading.{entries_view, IsRead, IsRefused};
 ghost use Rattle.mgrant.specs.declared.fault.SettingsFault.TheVariants.{Memory};
 
 use crate::account_id::AccountId;
-use crate::checks::{grants_of, names_of, steps_of, terminals_of};
+use crate::accounts::Accounts;
+use crate::checks::{accounts_of, grants_of, names_of, terminals_of};
 use crate::document::{Entries, read_entries};
 use crate::fault::SettingsFault;
 use crate::flow::{leads, reached};
 use crate::grants::Grants;
 use crate::mode::Mode;
-use crate::words::Words;
 use std::alloc::{AllocError, Global};
 use std::marker::Model;
 use toml::Table;
@@ -27,8 +27,7 @@ use toml::Table;
 /// The accounts with their steps, the account of each terminal, and the grants between accounts. Contracts see them as the
 /// settings of the definitions. An `AccountId` belongs to the settings that gave it: in others it names another account or none.
 pub struct Settings {
-    names: Words,
-    steps: Vec<u32>,
+    accounts: Accounts,
     terminals: Vec<Option<usize>>,
     grants: Grants,
 }
@@ -37,8 +36,7 @@ pub struct Settings {
 impl Drop for Settings {
     fn drop(self) {
         let Settings {
-            names: _,
-            steps: _,
+            accounts: _,
             terminals: _,
             grants: _,
         } = self;
@@ -53,9 +51,9 @@ impl Model for Settings {
 
     ghost coded = { settings_code };
 
-    ghost view = { λ s. settings_view s.names s.steps.items s.terminals.items s.grants };
+    ghost view = { λ s. settings_view s.accounts s.terminals.items s.grants };
 
-    ghost invariant = { λ s. AreSettings s.names s.steps.items s.terminals.items s.grants };
+    ghost invariant = { λ s. AreSettings s.accounts s.terminals.items s.grants };
 }
 
 // The bytes as a table.
@@ -81,27 +79,16 @@ fn assembled(alloc: Global, entries: &Entries) -> Result<Settings, SettingsFault
     ensures ok { IfOk result (λ settings. settings ≡ settings_of (entries_view entries.now)) }
     ensures err { IfErr result (λ e. (e ≡ Memory) ⊎ (fault_of (entries_view entries.now) ≡ Some e)) }
 {
-    let accounts = entries.accounts.as_slice();
-    let names = names_of(alloc, accounts)?;
-    let terminals = terminals_of(alloc, accounts)?;
-    let steps = steps_of(alloc, accounts)?;
-    let grants = grants_of(alloc, &names, &entries.grants)?;
+    let written = entries.accounts.as_slice();
+    let places = names_of(alloc, written)?;
+    let terminals = terminals_of(alloc, written)?;
+    let accounts = Accounts::new(accounts_of(alloc, written)?, places);
+    let grants = grants_of(alloc, &accounts, &entries.grants)?;
     Ok(Settings {
-        names,
-        steps,
+        accounts,
         terminals,
         grants,
     })
-}
-
-// The steps at a place, or 0 if there is none.
-fn steps_at(steps: &[u32], place: usize) -> u32
-    ensures { result ≡ unwrap_or (slice_get steps.now place) 0 }
-{
-    match steps.get(place) {
-        Some(steps) => *steps,
-        None => 0,
-    }
 }
 
 // The place that a terminal has.
@@ -144,7 +131,7 @@ impl Settings {
     }
 
     /// The account of a terminal. Takes no memory.
-    #[tactic(auto, using(crate::proofs::Seen::terminal_seen, crate::proofs::Seen::length_seen, crate::proofs::Seen::there))]
+    #[tactic(auto, using(crate::proofs::Seen::terminal_seen, crate::proofs::Seen::there))]
     pub fn account_of(&self, terminal: u32) -> Option<AccountId>
         ensures account { option_and_then (access.account_at self.now) result ≡ access.account_of self.now terminal }
         ensures known { IfSome result (λ id. id < length self.now.accounts) }
@@ -161,7 +148,7 @@ impl Settings {
         ensures account { option_and_then (access.account_at self.now) result ≡ access.account_named self.now name.now }
         ensures known { IfSome result (λ id. id < length self.now.accounts) }
     {
-        match self.names.find(name) {
+        match self.accounts.find(name) {
             Some(place) => Some(AccountId::new(place)),
             None => None,
         }
@@ -174,15 +161,17 @@ impl Settings {
         ensures good { id < length self.now.accounts → IsAccountName result.now }
         ensures named { 0 < length result.now → IsAccountName result.now }
     {
-        self.names.at(id.place())
+        self.accounts.name_at(id.place())
     }
 
     /// The steps that each line of an account may use, 1 to 1,000,000; 0 for an id that names none here. Takes no memory.
-    #[tactic(auto, using(crate::proofs::Seen::steps_seen))]
     pub fn steps_of(&self, id: AccountId) -> u32
         ensures { result ≡ access.steps_at self.now id }
     {
-        steps_at(&self.steps, id.place())
+        match self.accounts.at(id.place()) {
+            Some(account) => account.steps(),
+            None => 0,
+        }
     }
 
     /// Whether an account may use a global of the owner in this mode: the owner is the account itself, or has granted it. A name
@@ -191,10 +180,10 @@ impl Settings {
         ensures { result ≡ access.may self.now (access.name_at self.now me) owner_name.now global.now (mode_of mode) }
     {
         let place = me.place();
-        if owner_name == self.names.at(place) {
+        if owner_name == self.accounts.name_at(place) {
             return true;
         }
-        match self.names.find(owner_name) {
+        match self.accounts.find(owner_name) {
             Some(owner) => self.grants.allow(place, owner, global, mode),
             None => false,
         }
@@ -208,10 +197,10 @@ impl Settings {
     {
         let start = from.place();
         let end = to.place();
-        if self.names.at(start) == self.names.at(end) {
+        if self.accounts.name_at(start) == self.accounts.name_at(end) {
             return Ok(true);
         }
-        let count = self.names.len();
+        let count = self.accounts.len();
         if start >= count || end >= count {
             return Ok(false);
         }
@@ -222,12 +211,11 @@ impl Settings {
     /// The island of an account, in the order of the settings: the least set of accounts that contains it and that no grant ties to
     /// others, so that they may be kept on a machine of their own. No accounts for an id that names none here. Fails only if memory
     /// runs out.
-    #[tactic(auto, using(crate::proofs::IslandsFound::none_at))]
     pub fn island_of(&self, alloc: Global, account: AccountId) -> Result<Vec<AccountId>, AllocError>
         ensures { IfOk result (λ ids. IsIslandAt self.now (access.name_at self.now account) ids.items) }
     {
         let start = account.place();
-        let count = self.names.len();
+        let count = self.accounts.len();
         if start >= count {
             return Ok(Vec::new(alloc));
         }

@@ -3,17 +3,27 @@
 ghost use Rattle.std.specs.Prelude.{◌≡◌, ◌∷◌, [], ◌++◌, IfOk, IfSome, IfNone, false, length};
 ghost use Rattle.std.specs.List.{list_any};
 ghost use Rattle.mspec.specs.Trees.{text_eq};
-ghost use Rattle.mgrant.specs.Words.{text_in, IsPlaceOf};
+ghost use Rattle.mgrant.specs.Words.{text_in, found_at, IsPlaceOf};
 
 use std::alloc::{AllocError, Global};
 use std::collections::HashMap;
 use std::marker::Model;
 
+// Texts with their places.
+pub(crate) type Places = HashMap<Vec<u8>, usize>;
+
+// The place that the map has for a text.
+pub(crate) fn place_in(places: &Places, text: &[u8]) -> Option<usize>
+    ensures { result ≡ found_at places.now text.now }
+{
+    places.get(text).copied()
+}
+
 // Texts, none of which is there twice, in the order in which they came. A text's place is found by hashing it.
 #[derive(Drop)]
 pub(crate) struct Words {
     list: Vec<Vec<u8>>,
-    places: HashMap<Vec<u8>, usize>,
+    places: Places,
 }
 
 impl Model for Words {
@@ -61,7 +71,7 @@ impl Words {
         ensures found { IfSome result (IsPlaceOf self.now text.now) }
         ensures absent { IfNone result (list_any (text_eq text.now) self.now ≡ false) }
     {
-        self.places.get(text).copied()
+        place_in(&self.places, text)
     }
 
     // With one more text after the others.

@@ -40,6 +40,7 @@ impl<S: NodeStore + Drop> Drop for Cached<S> {
 }
 
 impl<S: NodeStore> Model for Cached<S> {
+    ghost use Rattle.std.specs.Prelude.{◌≡◌};
     ghost use Rattle.mcache.specs.CachedStore.{CachedStore, cached_store, cached_store_code};
     ghost use Rattle.mcache.specs.NodeTexts.{AreOf};
 
@@ -49,7 +50,7 @@ impl<S: NodeStore> Model for Cached<S> {
 
     ghost view = { λ cached. cached_store cached.store cached.entries.cap };
 
-    ghost invariant = { λ cached. S.sound → AreOf (S.content cached.store) cached.told cached.entries.entries };
+    ghost invariant = { λ cached. S.doubt cached.store ≡ 0 → AreOf (S.content cached.store) cached.told cached.entries.entries };
 }
 
 // One in this many texts is kept after as many reads in a row as there are entries, none of a text that is kept.
@@ -119,9 +120,13 @@ impl<S: NodeStore> Cached<S> {
 impl<S: NodeStore> NodeStore for Cached<S> {
     ghost content = { λ cached. S.content cached.store };
 
+    ghost doubt = { λ cached. S.doubt cached.store };
+
     ghost sound = { S.sound };
 
     ghost steady = { S.steady };
+
+    ghost has_room = { λ cached. S.has_room cached.store };
 
     fn get(&mut self, key: &NodeKey) -> Result<Option<Bytes7>, StoreFault> {
         if let Some(text) = find(&mut self.entries, key.as_bytes()) {
@@ -174,4 +179,6 @@ impl<S: NodeStore> NodeStore for Cached<S> {
     }
 
     ghost steady_is_sound = { S.steady_is_sound };
+
+    ghost steady_is_told = { λ steady cached. S.steady_is_told steady cached.store };
 }

@@ -1,6 +1,6 @@
 -- SPDX-License-Identifier: Apache-2.0
 -- How the calls of this crate are put together.
-use Rattle.mcommand.proofs.CommandWords.{◌≡◌, ℕ, ◌+◌, ◌<◌, Bool, true, false, cond, List, [], ◌∷◌, ◌++◌, length, drop, get_or, map, next_item, Result, Ok, Err, refl, sym, ap, ◌∙◌, subst, arith, IsErr, IsErrAnd, into_iter_items, into_iter_steps, Text, Act, Gives, ◌>>=◌, give, write, ExprTree, as_truth, Inside, inside, value, Yields, did_then, did_failed, did_gives, did_lost, residual_is, assoc, Ghosts, fault_of, Code, Zmem, truth, Evaluates, KeepsEval, standing_of, eval_here, inside_at, depth_of, Parts, Does, DoesAt, KeepsLoans, here_of}
+use Rattle.mcommand.proofs.CommandWords.{Doubts, Doubts-same, Doubts-then, undoubted, ◌≡◌, ℕ, ◌+◌, ◌<◌, Bool, true, false, cond, List, [], ◌∷◌, ◌++◌, length, drop, get_or, map, next_item, Result, Ok, Err, refl, sym, ap, ◌∙◌, subst, arith, IsErr, IsErrAnd, into_iter_items, into_iter_steps, Text, Act, Gives, ◌>>=◌, give, write, ExprTree, as_truth, Inside, inside, value, Yields, did_then, did_failed, did_gives, did_lost, residual_is, assoc, Ghosts, fault_of, Code, Zmem, truth, Evaluates, KeepsEval, standing_of, eval_here, inside_at, depth_of, Parts, Does, DoesAt, KeepsLoans, here_of}
 use Rattle.std.specs.Iterator.{Yields as IterYields}
 use Rattle.std.specs.declared.vec.IntoIter.{IntoIter}
 use Rattle.mmeaning.proofs.Yieldings.{yielded}
@@ -24,12 +24,17 @@ keeps_at_depth d k = record { eval = eval_keeps_at_depth d k.eval; locks = k.loc
 keeps_same : {S : Type 0} {a b : Parts S} → b.eval ≡ a.eval → b.locks.ghost_name ≡ a.locks.ghost_name → b.out.ghost_name ≡ a.out.ghost_name → KeepsLoans a b
 keeps_same {a = a} same locks out = record { eval = subst (λ e. KeepsEval a.eval e) (sym same) (eval_keeps_itself a.eval); locks = locks; out = out }
 
+-- and so the store
+same_doubt : {S : Type 0} (g : Ghosts S) (a b : Parts S) (is_done : Bool) → b.eval ≡ a.eval → Doubts g.sound (g.doubt a.eval.store.now) (g.doubt b.eval.store.now) is_done
+same_doubt g a b is_done same = subst (λ e. Doubts g.sound (g.doubt a.eval.store.now) (g.doubt e.store.now) is_done) (sym same) (Doubts-same _)
+
 -- ---- what they do
 
 pub does_then : {S A B X Y : Type 0} {g : Ghosts S} {p : Inside → Act A} (q : Inside → A → Act B) {f : X → A} {j : Y → B} {old mid new : Parts S} {x : X} {r : Result Y Code}
     → Does g p f old (Ok x) mid → Does g (λ i. q i (f x)) j mid r new → Does g (λ i. p i >>= q i) j old r new
 does_then q {f = f} {old = old} {x = x} d k = record {
-  at = λ sound. did_then (λ n. q (inside_at old.eval n)) (d.at sound) (moved (λ i. q i (f x)) d.keeps.eval.same d.depth (k.at sound));
+  at = λ sure. did_then (λ n. q (inside_at old.eval n)) (d.at (undoubted k.doubt sure)) (moved (λ i. q i (f x)) d.keeps.eval.same d.depth (k.at sure));
+  doubt = Doubts-then d.doubt k.doubt;
   keeps = keeps_on d.keeps k.keeps;
   depth = k.depth ∙ d.depth;
 }
@@ -38,7 +43,8 @@ does_then q {f = f} {old = old} {x = x} d k = record {
 pub does_stopped : {S A B X Y : Type 0} {g : Ghosts S} {p : Inside → Act A} (q : Inside → A → Act B) {f : X → A} {j : Y → B} {old new : Parts S} {e : Code} {r : Result Y Code}
     → Does g p f old (Err e) new → IsErr r × IsErrAnd r (λ x. x ≡ e) → Does g (λ i. p i >>= q i) j old r new
 does_stopped {g = g} {p = p} q {j = j} {old = old} {new = new} {e = e} {r = r} d h = subst (λ r. Does g (λ i. p i >>= q i) j old r new) (sym (residual_is r e h)) (record {
-  at = λ sound. did_failed (λ n. q (inside_at old.eval n)) (d.at sound);
+  at = λ sure. did_failed (λ n. q (inside_at old.eval n)) (d.at sure);
+  doubt = d.doubt;
   keeps = d.keeps;
   depth = d.depth;
 })
@@ -49,7 +55,8 @@ does_failed q d = does_stopped q d (refl, refl)
 
 pub does_gives : {S A X : Type 0} {g : Ghosts S} {parts : Parts S} (a : A) (f : X → A) (x : X) → f x ≡ a → Does g (λ i. give a) f parts (Ok x) parts
 does_gives a f x same = record {
-  at = λ sound. did_gives a f x same;
+  at = λ sure. did_gives a f x same;
+  doubt = Doubts-same _;
   keeps = keeps_itself _;
   depth = refl;
 }
@@ -57,7 +64,8 @@ does_gives a f x same = record {
 -- an evaluation, by the parts that hold it
 pub does_evaluated : {S A X : Type 0} {g : Ghosts S} {p : Inside → Act A} {f : X → A} {old : Parts S} {e : Eval S} {r : Result X Code} → Evaluates g p f old.eval r e → Does g p f old r (record old { eval = e })
 does_evaluated {old = old} d = record {
-  at = λ sound. d.at sound old.out.now.items old.locks.now;
+  at = λ sure. d.at sure old.out.now.items old.locks.now;
+  doubt = d.doubt;
   keeps = record { eval = d.keeps; locks = refl; out = refl };
   depth = d.depth;
 }
@@ -93,7 +101,8 @@ module _ {S T B V : Type 0} {g : Ghosts S} (all : Inside → List V → List B �
 -- a call that needs no point
 pub does_yielded : {S A X : Type 0} {g : Ghosts S} {p : Act A} {f : X → A} {parts : Parts S} {r : Result X Code} → Yields fault_of p f r → Does g (λ i. p) f parts r parts
 does_yielded {g = g} {parts = parts} y = record {
-  at = λ sound. yielded (here_of g parts) y;
+  at = λ sure. yielded (here_of g parts) y;
+  doubt = Doubts-same _;
   keeps = keeps_itself _;
   depth = refl;
 }
@@ -102,7 +111,8 @@ does_yielded {g = g} {parts = parts} y = record {
 pub does_wanting : {S A X : Type 0} {g : Ghosts S} {old new : Parts S} (p : Inside → Act A) (f : X → A) (r : Result X Code) → IsErr r × IsErrAnd r (λ x. x ≡ Zmem)
     → new.eval ≡ old.eval → new.locks.now ≡ old.locks.now → new.locks.ghost_name ≡ old.locks.ghost_name → new.out.ghost_name ≡ old.out.ghost_name → Does g p f old r new
 does_wanting {g = g} {old = old} {new = new} p f r h same locked locks out = subst (λ r. Does g p f old r new) (sym (residual_is r Zmem h)) (record {
-  at = λ sound.
+  doubt = same_doubt g old new _ same;
+  at = λ sure.
       did_lost (λ n. p (inside_at old.eval n)) f Zmem tt (λ i. record { globals = g.content (sym same i).store.now; locks = sym locked i })
       (let few = ap (λ e. e.steps) same in omega (arith, few));
   keeps = keeps_same same locks out;
@@ -112,7 +122,8 @@ does_wanting {g = g} {old = old} {new = new} p f r h same locked locks out = sub
 -- a text is written
 pub does_write : {S : Type 0} {g : Ghosts S} (old new : Parts S) (x : Text) → new.out.now.items ≡ old.out.now.items ++ x → new.eval ≡ old.eval → new.locks ≡ old.locks → new.out.ghost_name ≡ old.out.ghost_name → Does g (λ i. write x) (λ (u : Unit {0}). u) old (Ok tt) new
 does_write {g = g} old new x out same locked lent = record {
-  at = λ sound. record {
+  doubt = same_doubt g old new _ same;
+  at = λ sure. record {
     at = λ n le i. (Gives tt (eval_here g (sym same i) (sym out i) (sym locked i).now).0, (eval_here g (sym same i) (sym out i) (sym locked i).now).1);
     fewer = let few = ap (λ e. e.steps) same in omega (arith, few);
   };
@@ -124,7 +135,8 @@ does_write {g = g} old new x out same locked lent = record {
 pub at_evaluated : {S A X : Type 0} {g : Ghosts S} {p : Inside → Act A} {f : X → A} {old : Parts S} {e : Eval S} {r : Result X Code} (d : _) → Evaluates g p f (record old.eval { depth = d }) r e
     → DoesAt g (λ a n. p (inside a n (depth_of d))) f old r (record old { eval = e })
 at_evaluated {old = old} d k = record {
-  at = λ sound. k.at sound old.out.now.items old.locks.now;
+  at = λ sure. k.at sure old.out.now.items old.locks.now;
+  doubt = k.doubt;
   keeps = record { eval = eval_keeps_at_depth d k.keeps; locks = refl; out = refl };
 }
 
@@ -132,7 +144,8 @@ at_evaluated {old = old} d k = record {
 pub at_done : {S A X : Type 0} {g : Ghosts S} {p : Inside → Act A} {f : X → A} {old new : Parts S} {r : Result X Code} (d : _) → Does g p f (record old { eval = record old.eval { depth = d } }) r new
     → DoesAt g (λ a n. p (inside a n (depth_of d))) f old r new
 at_done d k = record {
-  at = λ sound. k.at sound;
+  at = λ sure. k.at sure;
+  doubt = k.doubt;
   keeps = keeps_at_depth d k.keeps;
 }
 

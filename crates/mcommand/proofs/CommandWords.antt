@@ -23,6 +23,8 @@ pub use Rattle.mspec.proofs.ListPlaces.{next_item, none_left}
 pub use Rattle.mspec.specs.Act.{Act, Gives, Text, ask, give, set_test, write, ◌>>=◌, ◌>>◌}
 pub use Rattle.mspec.specs.Plan.{Answer, Give_back, Op, Release, Take}
 pub use Rattle.mspec.specs.TextFunctions.{set_piece_of}
+pub use Rattle.mnodes.proofs.Doubting.{Doubts-same, Doubts-then, undoubted}
+pub use Rattle.mnodes.specs.Doubt.{Doubts}
 pub use Rattle.mnodes.specs.declared.store.NodeStore.{Ghosts}
 pub use Rattle.mtext.specs.Made.{Answers}
 pub use Rattle.mtree.specs.Tree.{condition_tree, entry_tree, expr_tree, kind_tree, reference_tree, target_tree}

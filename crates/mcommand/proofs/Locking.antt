@@ -1,7 +1,7 @@
 -- SPDX-License-Identifier: Apache-2.0
 -- What LOCK asks of the locks.
 use Rattle.std.proofs.Common.{Option}
-use Rattle.mcommand.proofs.CommandWords.{◌≡◌, ℕ, ◌+◌, ◌<◌, Bool, true, false, List, [], ◌∷◌, ◌++◌, Some, None, MutBor, Result, Ok, length, drop, get_or, refl, sym, ap, ◌∙◌, subst, if◌then◌else◌, ◌&&◌, Op, Answer, Take, Give_back, Release, Act, ◌>>=◌, ◌>>◌, ask, next_item, ReferenceTree, named_lock, Inside, evaluated, asked, assoc, Ghosts, Code, lock_name_act, standing_of, Parts, Does, here_of, MayTake}
+use Rattle.mcommand.proofs.CommandWords.{Doubts-same, ◌≡◌, ℕ, ◌+◌, ◌<◌, Bool, true, false, List, [], ◌∷◌, ◌++◌, Some, None, MutBor, Result, Ok, length, drop, get_or, refl, sym, ap, ◌∙◌, subst, if◌then◌else◌, ◌&&◌, Op, Answer, Take, Give_back, Release, Act, ◌>>=◌, ◌>>◌, ask, next_item, ReferenceTree, named_lock, Inside, evaluated, asked, assoc, Ghosts, Code, lock_name_act, standing_of, Parts, Does, here_of, MayTake}
 use Rattle.std.specs.List.{list_all}
 use Rattle.std.proofs.lemmas.List.Folds.{list_all-append}
 use Rattle.mspec.specs.LockConflict.{LockName, Locks, taken, given_back, released}
@@ -41,7 +41,8 @@ module _ {S : Type 0} {g : Ghosts S} where
   asked_of_locks : {X : Type 0} {old : Parts S} (l : MutBor Locks) → l.ghost_name ≡ old.locks.ghost_name → (op : Op) (f : X → Answer op) (x : X) → ops_of (standing_of old.eval) op (here_of g old).1 ≡ (f x, (here_of g (record old { locks = l })).1)
       → Does g (λ i. ask op) f old (Ok x) (record old { locks = l })
   asked_of_locks {old = old} l lent op f x e = record {
-    at = λ sound. asked op f x (here_of g (record old { locks = l })).1 e;
+    doubt = Doubts-same _;
+    at = λ sure. asked op f x (here_of g (record old { locks = l })).1 e;
     keeps = record { eval = keeps_itself _; locks = lent; out = refl };
     depth = refl;
   }

@@ -1,6 +1,6 @@
 -- SPDX-License-Identifier: Apache-2.0
 -- Calls that ask a store, and those that ask or set the session.
-use Rattle.meval.proofs.EvalWords.{◌≡◌, Bool, [], ◌∷◌, Some, Result, Ok, Err, refl, sym, ap, ◌∙◌, subst, arith, ⊎_elim, ◌&&◌, text_eq, false≢true, and_parts, and_from, or_cases, or_left, or_right, Own, Zgrant, Node, AreSubscripts, IsAccountName, is_account_name, are_subscripts, Locks, Act, ◌>>◌, give, ask, unless, naked_is, set_naked, subscripts_test, Standing, Did, ops_of, Yields, Place, at_local, at_node, replaced, beside, allowed, node_place, resolve, of_local, asked, Ghosts, fault_of, Code, Eval, Evaluates, KeepsEval, own_global, standing_of, eval_here, use_of, IsOpen, true, false, List, Option}
+use Rattle.meval.proofs.EvalWords.{Doubts, Doubts-same, ◌≡◌, Bool, [], ◌∷◌, Some, Result, Ok, Err, refl, sym, ap, ◌∙◌, subst, arith, ⊎_elim, ◌&&◌, text_eq, false≢true, and_parts, and_from, or_cases, or_left, or_right, Own, Zgrant, Node, AreSubscripts, IsAccountName, is_account_name, are_subscripts, Locks, Act, ◌>>◌, give, ask, unless, naked_is, set_naked, subscripts_test, Standing, Did, ops_of, Yields, Place, at_local, at_node, replaced, beside, allowed, node_place, resolve, of_local, asked, Ghosts, fault_of, Code, Eval, Evaluates, KeepsEval, own_global, standing_of, eval_here, use_of, IsOpen, true, false, List, Option}
 use Rattle.std.specs.Cmp.Lexicographic.{bytes_decides}
 use Rattle.std.specs.List.{list_any}
 use Rattle.mspec.proofs.SubscriptTests.{account_name_test}
@@ -12,6 +12,7 @@ use Rattle.mgrant.specs.declared.mode.Mode as grant
 use Rattle.mgrant.specs.declared.mode.Mode.TheVariants as mode
 use Rattle.mgrant.specs.Placed as placed
 use Rattle.mmeaning.specs.Shared.{Shared}
+use Rattle.mnodes.specs.Steady.{IsSteady}
 use Rattle.moperator.specs.declared.code.Code.TheVariants as code
 use Rattle.meval.proofs.Calls.{evaluates_then, evaluates_gives, evaluates_fails, evaluates_yielded, keeps_itself}
 
@@ -23,11 +24,13 @@ shared g e locks = record { globals = g.content e.store.now; locks = locks }
 -- an operation that was carried out
 pub asks : {S X : Type 0} {g : Ghosts S} {e new : Eval S} (op : Op) (f : X → Answer op) (x : X) → KeepsEval e new → new.depth ≡ e.depth
     → ((out : Text) (locks : Locks) → (eval_here g new out locks).0 ≡ (eval_here g e out locks).0)
-    → (g.sound → (locks : Locks) → ops_of (standing_of e) op (shared g e locks) ≡ (f x, shared g new locks)) → Evaluates g (λ i. ask op) f e (Ok x) new
-asks {g = g} {e = e} {new = new} op f x keeps depth state answer = record {
-  at = λ sound out locks.
-      subst (λ s. Did (standing_of e) g.steady fault_of (λ n. ask op) f (eval_here g e out locks) (Ok x) (s, shared g new locks)) (sym (state out locks))
-      (asked op f x (shared g new locks) (answer sound locks));
+    → Doubts g.sound (g.doubt e.store.now) (g.doubt new.store.now) true
+    → (g.doubt new.store.now ≡ 0 → (locks : Locks) → ops_of (standing_of e) op (shared g e locks) ≡ (f x, shared g new locks)) → Evaluates g (λ i. ask op) f e (Ok x) new
+asks {g = g} {e = e} {new = new} op f x keeps depth state doubt answer = record {
+  at = λ sure out locks.
+      subst (λ s. Did (standing_of e) (IsSteady g new.store.now) fault_of (λ n. ask op) f (eval_here g e out locks) (Ok x) (s, shared g new locks)) (sym (state out locks))
+      (asked op f x (shared g new locks) (answer sure locks));
+  doubt = doubt;
   keeps = keeps;
   depth = depth;
 }
@@ -52,7 +55,8 @@ module _ {S : Type 0} {g : Ghosts S} where
 
   pub naked_told : {e : Eval S} → Evaluates g (λ i. naked_is) (λ (n : Option Node). n) e (Ok e.session.now.naked) e
   naked_told {e = e} = record {
-    at = λ sound out locks. record { at = λ n le. refl; fewer = omega arith };
+    at = λ sure out locks. record { at = λ n le. refl; fewer = omega arith };
+    doubt = Doubts-same _;
     keeps = keeps_itself _;
     depth = refl;
   }
@@ -64,7 +68,7 @@ module _ {S : Type 0} {g : Ghosts S} where
   -- ---- who may use a global
 
   told : {e : Eval S} (m : grant.Mode) (n : Node) → Evaluates g (λ i. ask (May n.account n.name (placed.mode_of m))) (λ (b : Bool). b) e (Ok (may_use e m n)) e
-  told m n = asks (May n.account n.name (placed.mode_of m)) (λ b. b) _ (keeps_itself _) refl (λ out locks. refl) (λ sound locks. refl)
+  told m n = asks (May n.account n.name (placed.mode_of m)) (λ b. b) _ (keeps_itself _) refl (λ out locks. refl) (Doubts-same _) (λ sure locks. refl)
 
   pub let_in : {e : Eval S} (m : grant.Mode) (n : Node) → (is_account_name n.account && may_use e m n) ≡ true → Evaluates g (λ i. allowed (placed.mode_of m) n) (λ (u : Unit {0}). u) e (Ok tt) e
   let_in m n is = evaluates_then (λ i is_let. unless Zgrant (is_account_name n.account && is_let)) (told m n) (passes Zgrant _ is)

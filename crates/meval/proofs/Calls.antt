@@ -1,7 +1,9 @@
 -- SPDX-License-Identifier: Apache-2.0
 -- How the calls of this crate are put together.
-use Rattle.meval.proofs.EvalWords.{◌≡◌, ◌≢◌, ℕ, [], Result, Ok, Err, refl, sym, ap, ◌∙◌, subst, arith, IsErr, IsErrAnd, Own, Act, Gives, Fails, ◌>>=◌, Locals, value_of, of_locals, give, fail, give_some, Place, at_local, at_node, read_at, found_at, Inside, inside, Standing, Here, Did, Ends, FailedBy, Yields, assoc, did_then, did_failed, did_gives, did_lost, residual_is, yielded, Ghosts, fault_of, Code, Zmem, Zstore, Depth, Eval, undefined_at, Evaluates, KeepsEval, standing_of, eval_here, depth_of, Text}
+use Rattle.meval.proofs.EvalWords.{Doubts-same, Doubts-then, undoubted, ◌≡◌, ◌≢◌, ℕ, [], Result, Ok, Err, refl, sym, ap, ◌∙◌, subst, arith, IsErr, IsErrAnd, Own, Act, Gives, Fails, ◌>>=◌, Locals, value_of, of_locals, give, fail, give_some, Place, at_local, at_node, read_at, found_at, Inside, inside, Standing, Here, Did, Ends, FailedBy, Yields, assoc, did_then, did_failed, did_gives, did_lost, residual_is, yielded, Ghosts, fault_of, Code, Zmem, Zstore, Depth, Eval, undefined_at, Evaluates, KeepsEval, standing_of, eval_here, depth_of, Text}
 use Rattle.std.specs.FinMap.{empty}
+use Rattle.std.specs.Prelude.{IsTrue}
+use Rattle.mnodes.specs.Steady.{IsSteady}
 use Rattle.mspec.specs.Code as spec
 
 -- ---- what calls keep to
@@ -28,7 +30,8 @@ moved {b = b} {b1 = b1} {steady = steady} {d = d} {d1 = d1} p {f = f} {h = h} {h
 pub evaluates_then : {S A B X Y : Type 0} {g : Ghosts S} {p : Inside → Act A} (q : Inside → A → Act B) {f : X → A} {j : Y → B} {old mid new : Eval S} {x : X} {r : Result Y Code}
     → Evaluates g p f old (Ok x) mid → Evaluates g (λ i. q i (f x)) j mid r new → Evaluates g (λ i. p i >>= q i) j old r new
 evaluates_then q {f = f} {old = old} {x = x} d k = record {
-  at = λ sound out locks. did_then (λ n. q (inside (standing_of old).account n (depth_of old.depth))) (d.at sound out locks) (moved (λ i. q i (f x)) d.keeps.same d.depth (k.at sound out locks));
+  at = λ sure out locks. did_then (λ n. q (inside (standing_of old).account n (depth_of old.depth))) (d.at (undoubted k.doubt sure) out locks) (moved (λ i. q i (f x)) d.keeps.same d.depth (k.at sure out locks));
+  doubt = Doubts-then d.doubt k.doubt;
   keeps = keeps_on d.keeps k.keeps;
   depth = k.depth ∙ d.depth;
 }
@@ -42,7 +45,8 @@ evaluates_regrouped {g = g} p q k {f = f} {old = old} {new = new} {r = r} d =
 pub evaluates_failed : {S A B X Y : Type 0} {g : Ghosts S} {p : Inside → Act A} (q : Inside → A → Act B) {f : X → A} {j : Y → B} {old new : Eval S} {e : Code}
     → Evaluates g p f old (Err e) new → Evaluates g (λ i. p i >>= q i) j old (Err e) new
 evaluates_failed q {old = old} d = record {
-  at = λ sound out locks. did_failed (λ n. q (inside (standing_of old).account n (depth_of old.depth))) (d.at sound out locks);
+  at = λ sure out locks. did_failed (λ n. q (inside (standing_of old).account n (depth_of old.depth))) (d.at sure out locks);
+  doubt = d.doubt;
   keeps = d.keeps;
   depth = d.depth;
 }
@@ -55,7 +59,8 @@ evaluates_stopped {g = g} {p = p} q {j = j} {old = old} {new = new} {r = r} d h 
 
 pub evaluates_gives : {S A X : Type 0} {g : Ghosts S} {e : Eval S} (a : A) (f : X → A) (x : X) → f x ≡ a → Evaluates g (λ i. give a) f e (Ok x) e
 evaluates_gives a f x same = record {
-  at = λ sound out locks. did_gives a f x same;
+  at = λ sure out locks. did_gives a f x same;
+  doubt = Doubts-same _;
   keeps = keeps_itself _;
   depth = refl;
 }
@@ -63,7 +68,8 @@ evaluates_gives a f x same = record {
 -- out of memory: the call returns by a `?`
 pub evaluates_wanting : {S A X : Type 0} {g : Ghosts S} {e : Eval S} (p : Inside → Act A) (f : X → A) (r : Result X Code) → IsErr r × IsErrAnd r (λ x. x ≡ Zmem) → Evaluates g p f e r e
 evaluates_wanting {g = g} {e = e} p f r h = subst (λ r. Evaluates g p f e r e) (sym (residual_is r Zmem h)) (record {
-  at = λ sound out locks. did_lost (λ n. p (inside (standing_of e).account n (depth_of e.depth))) f Zmem tt refl (omega arith);
+  at = λ sure out locks. did_lost (λ n. p (inside (standing_of e).account n (depth_of e.depth))) f Zmem tt refl (omega arith);
+  doubt = Doubts-same _;
   keeps = keeps_itself _;
   depth = refl;
 })
@@ -71,16 +77,18 @@ evaluates_wanting {g = g} {e = e} p f r h = subst (λ r. Evaluates g p f e r e) 
 -- the same with what a call gives, or its error, seen in another way
 pub evaluates_seen : {S A X Y : Type 0} {g : Ghosts S} {p : Inside → Act A} {f : X → A} {j : Y → A} {old new : Eval S} (x : X) (y : Y) → f x ≡ j y → Evaluates g p f old (Ok x) new → Evaluates g p j old (Ok y) new
 evaluates_seen {g = g} {new = new} x y is d = record {
-  at = λ sound out locks.
-      let did = d.at sound out locks in
+  at = λ sure out locks.
+      let did = d.at sure out locks in
       record { at = λ n le. let h = eval_here g new out locks in did.at n le ∙ ap (λ a. (Gives a h.0, h.1)) is; fewer = did.fewer };
+  doubt = d.doubt;
   keeps = d.keeps;
   depth = d.depth;
 }
 
 pub evaluates_refused : {S A X Y : Type 0} {g : Ghosts S} {p : Inside → Act A} {f : X → A} (j : Y → A) {old new : Eval S} {e : Code} → Evaluates g p f old (Err e) new → Evaluates g p j old (Err e) new
 evaluates_refused j d = record {
-  at = λ sound out locks. let did = d.at sound out locks in record { at = λ n le. did.at n le; fewer = did.fewer };
+  at = λ sure out locks. let did = d.at sure out locks in record { at = λ n le. did.at n le; fewer = did.fewer };
+  doubt = d.doubt;
   keeps = d.keeps;
   depth = d.depth;
 }
@@ -93,21 +101,22 @@ evaluates_whole (Err e) d = evaluates_failed (λ i. give) d
 -- a call that needs no point
 pub evaluates_yielded : {S A X : Type 0} {g : Ghosts S} {e : Eval S} {p : Act A} {f : X → A} {r : Result X Code} → Yields fault_of p f r → Evaluates g (λ i. p) f e r e
 evaluates_yielded {g = g} {e = e} y = record {
-  at = λ sound out locks. yielded (eval_here g e out locks) y;
+  at = λ sure out locks. yielded (eval_here g e out locks) y;
+  doubt = Doubts-same _;
   keeps = keeps_itself _;
   depth = refl;
 }
 
--- ---- over a steady store
+-- ---- over a steady store that has room
 
--- a call over a steady store never fails by the store
+-- a call over such a store never fails by the store
 pub did_steadily : {A X : Type 0} {b : Standing} {steady : Type 0} {p : ℕ → Act A} {f : X → A} {h h1 : Here} {r : Result X Code} → steady → Did b steady fault_of p f h r h1 → ◌≢◌ {A = Result X Code} r (Err Zstore)
 did_steadily {b = b} {steady = steady} {p = p} {f = f} {h = h} {h1 = h1} is did store =
     let lost = subst (λ r. Ends b steady fault_of (p h.0.steps) f h r h1) store (did.at h.0.steps (omega arith)) in
     lost.0 is
 
-pub never_refused : {S A X : Type 0} {g : Ghosts S} {p : Inside → Act A} {f : X → A} {old new : Eval S} {r : Result X Code} → (g.steady → g.sound) → Evaluates g p f old r new → g.steady → ◌≢◌ {A = Result X Code} r (Err Zstore)
-never_refused {g = g} sound does steady = did_steadily steady (does.at (sound steady) [] empty)
+pub never_refused : {S A X : Type 0} {g : Ghosts S} {p : Inside → Act A} {f : X → A} {old new : Eval S} {r : Result X Code} → (g.steady → (s : S) → IsTrue (g.has_room s) → g.doubt s ≡ 0) → Evaluates g p f old r new → g.steady → IsTrue (g.has_room new.store.now) → ◌≢◌ {A = Result X Code} r (Err Zstore)
+never_refused {g = g} {new = new} told does steady room = did_steadily (steady, room) (does.at (told steady new.store.now room) [] empty)
 
 -- ---- places
 
@@ -120,10 +129,11 @@ read_is (at_node n) = refl
 -- what is asked of the locals
 pub asks_locals : {S A X : Type 0} {g : Ghosts S} {e : Eval S} (question : Locals → A) (f : X → A) (x : X) → f x ≡ question e.session.now.locals → Evaluates g (λ i. of_locals question) f e (Ok x) e
 asks_locals {g = g} {e = e} question f x is = record {
-  at = λ sound out locks. record {
+  at = λ sure out locks. record {
     at = λ n le i. let h = eval_here g e out locks in (Gives (sym is i) h.0, h.1);
     fewer = omega arith;
   };
+  doubt = Doubts-same _;
   keeps = keeps_itself _;
   depth = refl;
 }
@@ -131,10 +141,11 @@ asks_locals {g = g} {e = e} question f x is = record {
 -- a code of the act's own
 pub evaluates_fails : {S A X : Type 0} {g : Ghosts S} {e : Eval S} (f : X → A) (c : spec.Code) (code : Code) → fault_of code ≡ Own c → Evaluates g (λ i. fail c) f e (Err code) e
 evaluates_fails {A = A} {g = g} {e = e} f c code is = record {
-  at = λ sound out locks. record {
-    at = λ n le. let h = eval_here g e out locks in subst (λ fault. FailedBy {A = A} (standing_of e) g.steady (fail c) h fault h) (sym is) (λ i. (Fails c h.0, h.1));
+  at = λ sure out locks. record {
+    at = λ n le. let h = eval_here g e out locks in subst (λ fault. FailedBy {A = A} (standing_of e) (IsSteady g e.store.now) (fail c) h fault h) (sym is) (λ i. (Fails c h.0, h.1));
     fewer = omega arith;
   };
+  doubt = Doubts-same _;
   keeps = keeps_itself _;
   depth = refl;
 }

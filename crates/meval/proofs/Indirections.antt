@@ -1,10 +1,11 @@
 -- SPDX-License-Identifier: Apache-2.0
 -- Calls of an indirection: subscripts after those that a reference has already, and what a text names, evaluated an indirection deeper.
-use Rattle.meval.proofs.EvalWords.{◌≡◌, suc, ◌<◌, Bool, [], ◌∷◌, ◌++◌, Some, None, Result, Ok, Err, subst, refl, sym, ap, ◌∙◌, ◌↔◌, IsTrue, IsSome, false≢true, false_from_ne_true, IsErr, IsErrAnd, append_assoc, append-nil, Act, ◌>>=◌, ◌>>◌, give, give_some, PrimaryTree, ReferenceTree, indirect, ExprsTree, no_exprs, exprs, Evaluated, subscripts_of, with_subscripts, Inside, inside, is_indirection_free, an_indirection_free, indirected, named_by, value, values, primary_value, evaluated, through, finds, Did, Yields, assoc, did_then, did_spent, yielded, Ghosts, fault_of, Code, Depth, Eval, Evaluates, standing_of, eval_here, depth_of, true, false, List, Option, Text}
+use Rattle.meval.proofs.EvalWords.{Doubts-same, Doubts-then, undoubted, ◌≡◌, suc, ◌<◌, Bool, [], ◌∷◌, ◌++◌, Some, None, Result, Ok, Err, subst, refl, sym, ap, ◌∙◌, ◌↔◌, IsTrue, IsSome, false≢true, false_from_ne_true, IsErr, IsErrAnd, append_assoc, append-nil, Act, ◌>>=◌, ◌>>◌, give, give_some, PrimaryTree, ReferenceTree, indirect, ExprsTree, no_exprs, exprs, Evaluated, subscripts_of, with_subscripts, Inside, inside, is_indirection_free, an_indirection_free, indirected, named_by, value, values, primary_value, evaluated, through, finds, Did, Yields, assoc, did_then, did_spent, yielded, Ghosts, fault_of, Code, Depth, Eval, Evaluates, standing_of, eval_here, depth_of, true, false, List, Option, Text}
 use Rattle.mspec.specs.Code as spec
 use Rattle.mgrammar.specs.IndirectTexts.{ref_at}
 use Rattle.mmeaning.specs.Expression as meaning
 use Rattle.mmeaning.proofs.Indirections.{did_fail}
+use Rattle.mnodes.specs.Steady.{IsSteady}
 use Rattle.moperator.specs.declared.code.Code.TheVariants as code
 use Rattle.meval.proofs.Calls.{moved, evaluates_stopped, evaluates_yielded, keeps_itself, keeps_on}
 
@@ -42,7 +43,8 @@ module _ {S Y : Type 0} {g : Ghosts S} {j : Y → Evaluated} where
   -- one too deep
   pub evaluates_deep : {mid : Eval S} (subscripts : ExprsTree) (x : Text) → is_indirection_free (depth_of mid.depth) ≡ false → Evaluates g (λ i. named_by i subscripts x) j mid (Err code.Zdepth) mid
   evaluates_deep {mid = mid} subscripts x full = record {
-    at = λ sound out locks. rw full (did_fail spec.Zdepth j code.Zdepth refl);
+    at = λ sure out locks. rw full (did_fail spec.Zdepth j code.Zdepth refl);
+    doubt = Doubts-same _;
     keeps = keeps_itself _;
     depth = refl;
   }
@@ -50,7 +52,8 @@ module _ {S Y : Type 0} {g : Ghosts S} {j : Y → Evaluated} where
   -- what stops after the check of the depth
   free_then : {mid new : Eval S} {r : Result Y Code} (q : Inside → Act Evaluated) → is_indirection_free (depth_of mid.depth) ≡ true → Evaluates g q j mid r new → Evaluates g (λ i. an_indirection_free i.depth >> q i) j mid r new
   free_then {mid = mid} q free d = record {
-    at = λ sound out locks. rw free (d.at sound out locks);
+    at = λ sure out locks. rw free (d.at sure out locks);
+    doubt = d.doubt;
     keeps = d.keeps;
     depth = d.depth;
   }
@@ -72,13 +75,14 @@ module _ {S Y : Type 0} {g : Ghosts S} {j : Y → Evaluated} where
       let free = subst (λ (e : Depth). is_indirection_free (depth_of e) ≡ true) d.depth free in
       let is = is ∙ ap (λ (e : Depth). indirected (depth_of e)) d.depth in
       record {
-        at = λ sound out locks.
+        at = λ sure out locks.
             let found =
-            subst (λ (e : meaning.Depth). Did (standing_of old) g.steady fault_of (λ n. through (inside a n e) (tree r) subscripts) j (eval_here g mid out locks) res (eval_here g within out locks)) is
-            (moved (λ i. through i (tree r) subscripts) d.keeps.same refl (k.at sound out locks))
+            subst (λ (e : meaning.Depth). Did (standing_of old) (IsSteady g within.store.now) fault_of (λ n. through (inside a n e) (tree r) subscripts) j (eval_here g mid out locks) res (eval_here g within out locks)) is
+            (moved (λ i. through i (tree r) subscripts) d.keeps.same refl (k.at sure out locks))
             in
-            did_spent (λ n x. named_by (inside a n (depth_of old.depth)) subscripts x) (d.at sound out locks) less
-            (rw free (did_then (λ n r. finds a (suc n) (indirected (depth_of old.depth)) r subscripts) (yielded (eval_here g mid out locks) named) found));
+            did_spent (λ n x. named_by (inside a n (depth_of old.depth)) subscripts x) (d.at (undoubted k.doubt sure) out locks) less
+            (rw free (did_then {early = IsSteady g within.store.now} (λ n r. finds a (suc n) (indirected (depth_of old.depth)) r subscripts) (yielded (eval_here g mid out locks) named) found));
+        doubt = Doubts-then d.doubt k.doubt;
         keeps = keeps_on d.keeps (record { same = k.keeps.same; session = k.keeps.session; store = k.keeps.store; fewer = k.keeps.fewer });
         depth = d.depth;
       }

@@ -1,6 +1,6 @@
 -- SPDX-License-Identifier: Apache-2.0
 -- Nodes that references name, and what the checks let through as a walk.
-use Rattle.meval.proofs.EvalWords.{◌≡◌, ℕ, zero, suc, ◌<◌, [], ◌∷◌, length, Ok, Err, subst, refl, sym, arith, ◌==◌, false≢true, ◌>>=◌, ◌>>◌, Act, give, unless, ExprsTree, Inside, values, Evaluated, Node, AreOrderSubscripts, are_order_subscripts, order_subscripts_test, of_global, checked, ordering, some_subscript, Yields, did_gives, Ghosts, fault_of, Code, Zsub, Eval, Evaluates, own_global, standing_of, false, List, Text}
+use Rattle.meval.proofs.EvalWords.{Doubts-same, ◌≡◌, ℕ, zero, suc, ◌<◌, [], ◌∷◌, length, Ok, Err, subst, refl, sym, arith, ◌==◌, false≢true, ◌>>=◌, ◌>>◌, Act, give, unless, ExprsTree, Inside, values, Evaluated, Node, AreOrderSubscripts, are_order_subscripts, order_subscripts_test, of_global, checked, ordering, some_subscript, Yields, did_gives, Ghosts, fault_of, Code, Zsub, Eval, Evaluates, own_global, standing_of, false, List, Text}
 use Rattle.mspec.specs.Code as spec
 use Rattle.meval.proofs.Calls.{evaluates_failed, evaluates_then, keeps_itself}
 
@@ -18,7 +18,8 @@ owned name subscripts i owner = values i [] subscripts >>= (λ xs. give (of_glob
 pub gives_own : {S X : Type 0} {g : Ghosts S} {e : Eval S} (f : X → Evaluated) (name : Text) (xs : List Text) (x : X) → f x ≡ of_global (node_of (standing_of e).account name xs)
     → Evaluates g (λ i. give (of_global (node_of i.account name xs))) f e (Ok x) e
 gives_own {e = e} f name xs x is = record {
-  at = λ sound out locks. did_gives (of_global (node_of (standing_of e).account name xs)) f x is;
+  at = λ sure out locks. did_gives (of_global (node_of (standing_of e).account name xs)) f x is;
+  doubt = Doubts-same _;
   keeps = keeps_itself _;
   depth = refl;
 }

@@ -1,6 +1,6 @@
 -- SPDX-License-Identifier: Apache-2.0
 -- The parts of a tree, from a place on.
-use Rattle.meval.proofs.EvalWords.{◌≡◌, ℕ, ◌+◌, ◌<◌, ◌≤◌, [], ◌∷◌, ◌++◌, Bool, length, drop, get_or, map, Result, Ok, Err, subst, refl, sym, arith, cond, significant_digits, numeric_value, Act, ◌>>=◌, charge, give, PrimaryTree, ExprTree, tail, tails_of, exprs_of, choices_of, number, text, special, reference, bracket, call, select, refer, special_of, as_text, as_truth, Inside, value, tails_value, primary_value, evaluated, values, chosen, reading, resolve, read_at, referring, special_value, expr_tree, tail_tree, choice_tree, Expr, Tail, Choice, Ghosts, Code, M4, Eval, Evaluates, List, true, false, Text, function_of, call_value}
+use Rattle.meval.proofs.EvalWords.{Doubts-same, ◌≡◌, ℕ, ◌+◌, ◌<◌, ◌≤◌, [], ◌∷◌, ◌++◌, Bool, length, drop, get_or, map, Result, Ok, Err, subst, refl, sym, arith, cond, significant_digits, numeric_value, Act, ◌>>=◌, charge, give, PrimaryTree, ExprTree, tail, tails_of, exprs_of, choices_of, number, text, special, reference, bracket, call, select, refer, special_of, as_text, as_truth, Inside, value, tails_value, primary_value, evaluated, values, chosen, reading, resolve, read_at, referring, special_value, expr_tree, tail_tree, choice_tree, Expr, Tail, Choice, Ghosts, Code, M4, Eval, Evaluates, List, true, false, Text, function_of, call_value}
 use Rattle.std.proofs.Math.ListN.{drop_of_length-le}
 use Rattle.mspec.proofs.ListPlaces.{next_item}
 use Rattle.meval.proofs.Calls.{evaluates_then, evaluates_failed, evaluates_gives, keeps_itself}
@@ -78,7 +78,8 @@ module _ {S : Type 0} {g : Ghosts S} where
   pub none_chosen : {e : Eval S} (items : List Choice) (i : ℕ) → length items ≤ i → Evaluates g (λ a. chosen a (choices_of (map choice_tree (drop i items)))) itself e (Err M4) e
   none_chosen {e = e} items i past =
       subst (λ (rest : List Choice). Evaluates g (λ a. chosen a (choices_of (map choice_tree rest))) itself e (Err M4) e) (sym (drop_of_length-le items past)) (record {
-        at = λ sound out locks. record { at = λ n le. refl; fewer = omega arith };
+        at = λ sure out locks. record { at = λ n le. refl; fewer = omega arith };
+        doubt = Doubts-same _;
         keeps = keeps_itself _;
         depth = refl;
       })

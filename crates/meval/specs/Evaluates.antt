@@ -1,12 +1,15 @@
 -- SPDX-License-Identifier: Apache-2.0
 -- What a call that evaluates says: it does an act that is given where it stands.
-use Rattle.std.specs.Prelude.{◌≡◌, ◌≤◌, ℕ, List, Result}
+use Rattle.std.specs.Prelude.{◌≡◌, ◌≤◌, ℕ, Bool, true, not, List, Result, Ok, Err}
 use Rattle.mspec.specs.Access.{name_at}
 use Rattle.mspec.specs.LockConflict.{Locks}
 use Rattle.mspec.specs.Act.{Text, Node, Act}
 use Rattle.mmeaning.specs.Expression as meaning
 use Rattle.mmeaning.specs.Expression.{Inside, inside}
+use Rattle.mmeaning.specs.Transition.{is_lost}
 use Rattle.mmeaning.specs.Calls.{Standing, Here, Did, point}
+use Rattle.mnodes.specs.Doubt.{Doubts}
+use Rattle.mnodes.specs.Steady.{IsSteady}
 use Rattle.mnodes.specs.declared.store.NodeStore.{Ghosts}
 use Rattle.moperator.specs.Codes.{fault_of}
 use Rattle.moperator.specs.declared.code.Code.{Code}
@@ -39,9 +42,15 @@ pub record KeepsEval {S : Type 0} (old new : Eval S) : Type 0 where
   pub store : new.store.ghost_name ≡ old.store.ghost_name
   pub fewer : new.steps ≤ old.steps
 
+-- it was done, or ended with a code of the language: memory and the store sufficed
+abbrev pub is_kept : {X : Type 0} → Result X Code → Bool
+is_kept (Ok x) = true
+is_kept (Err c) = not (is_lost (fault_of c))
+
 -- it does an act, whatever the output and the locks
 pub record Evaluates {S A X : Type 0} (g : Ghosts S) (p : Inside → Act A) (f : X → A) (old : Eval S) (r : Result X Code) (new : Eval S) : Type 0 where
-  pub at : g.sound → (out : Text) (locks : Locks) → Did (standing_of old) g.steady fault_of (λ n. p (inside_at old n)) f (eval_here g old out locks) r (eval_here g new out locks)
+  pub at : g.doubt new.store.now ≡ 0 → (out : Text) (locks : Locks) → Did (standing_of old) (IsSteady g new.store.now) fault_of (λ n. p (inside_at old n)) f (eval_here g old out locks) r (eval_here g new out locks)
+  pub doubt : Doubts g.sound (g.doubt old.store.now) (g.doubt new.store.now) (is_kept r)
   pub keeps : KeepsEval old new
   pub depth : new.depth ≡ old.depth
 

@@ -1,6 +1,6 @@
 // SPDX-License-Identifier: Apache-2.0
 // The evaluation of expressions.
-ghost use Rattle.std.specs.Prelude.{◌≡◌, ◌≢◌, ◌≤◌, ◌<◌, [], drop, length, map, Some, Err, IfOk, IfErr, IsErr};
+ghost use Rattle.std.specs.Prelude.{◌≡◌, ◌≢◌, ◌≤◌, ◌<◌, [], drop, length, map, Some, Err, IfOk, IfErr, IsErr, IsTrue};
 ghost use Rattle.mgrammar.specs.Grammar.{global, indirect, extended, tails_of, exprs_of, choices_of};
 ghost use Rattle.mmeaning.specs.Expression as meaning;
 ghost use Rattle.mmeaning.specs.LineMeaning as line;
@@ -460,7 +460,7 @@ impl<'a, S: NodeStore> Eval<'a, S> {
     pub fn eval(&mut self, alloc: Global, e: &Expr) -> Result<Value, Code>
         ensures spent { IfOk result (λ _. self.new.steps < self.old.steps) }
         ensures does { Evaluates S.NodeStore (λ i. meaning.value i (expr_tree e.now)) (λ v. v) self.old result self.new }
-        ensures steady { S.steady → result ≢ Err Zstore }
+        ensures steady { S.steady → IsTrue (S.has_room self.new.store.now) → result ≢ Err Zstore }
     {
         let mut value = Value::of_whole(0);
         self.eval_into(alloc, e, &mut value)?;

@@ -1,7 +1,8 @@
 -- SPDX-License-Identifier: Apache-2.0
 -- How the calls of this crate are put together.
-use Rattle.mexec.proofs.ExecWords.{◌≡◌, ℕ, zero, suc, ◌≤◌, ◌<◌, ◌+◌, ◌++◌, List, [], ◌∷◌, Result, Ok, Err, length, drop, get_or, refl, sym, ◌∙◌, subst, arith, drop_more, IsErr, IsErrAnd, Text, Act, ◌>>=◌, ◌>>◌, give, set_test, ExprTree, ArgTree, CommandTree, as_truth, Inside, inside, value, Go_on, after, Standing, Here, Did, View, Rests, Lists, left, frame, Enough, MovedOn, residual_is, did_then, did_failed, did_gives, then_follows, then_failed, assoc, ended, Ghosts, fault_of, Code, Zmem, standing_of, depth_of, Parts, Does, DoesAt, KeepsLoans, here_of, Runs, view, stack, stacked, resting, completion_of, went, listing, at_done, keeps_at_depth, keeps_itself, keeps_on, Completion}
+use Rattle.mexec.proofs.ExecWords.{Doubts-same, Doubts-then, undoubted, ◌≡◌, ℕ, zero, suc, ◌≤◌, ◌<◌, ◌+◌, ◌++◌, List, [], ◌∷◌, Result, Ok, Err, length, drop, get_or, refl, sym, ◌∙◌, subst, arith, drop_more, IsErr, IsErrAnd, Text, Act, ◌>>=◌, ◌>>◌, give, set_test, ExprTree, ArgTree, CommandTree, as_truth, Inside, inside, value, Go_on, after, Standing, Here, Did, View, Rests, Lists, left, frame, Enough, MovedOn, residual_is, did_then, did_failed, did_gives, then_follows, then_failed, assoc, ended, Ghosts, fault_of, Code, Zmem, standing_of, depth_of, Parts, Does, DoesAt, KeepsLoans, here_of, Runs, view, stack, stacked, resting, completion_of, went, listing, at_done, keeps_at_depth, keeps_itself, keeps_on, Completion}
 use Rattle.mmeaning.specs.LineMeaning as meaning
+use Rattle.mnodes.specs.Steady.{IsSteady}
 use Rattle.mmeaning.proofs.Moves.{on_then, on_failed, on_lost, on_completion, on_frame, on_top, enough}
 use Rattle.meval.specs.declared.depth.Depth.{Depth}
 use Rattle.mcommand.specs.Conditions.{tested}
@@ -13,9 +14,10 @@ use Rattle.mexec.specs.declared.completion.Completion.TheVariants as completion
 pub at_then : {S A B X Y : Type 0} {g : Ghosts S} {p : Text → ℕ → Act A} (q : Text → ℕ → A → Act B) {f : X → A} {j : Y → B} {old mid new : Parts S} {x : X} {r : Result Y Code}
     → DoesAt g p f old (Ok x) mid → DoesAt g (λ a n. q a n (f x)) j mid r new → DoesAt g (λ a n. p a n >>= q a n) j old r new
 at_then {g = g} q {f = f} {j = j} {old = old} {mid = mid} {new = new} {x = x} {r = r} d k = record {
-  at = λ sound.
-      did_then (q (standing_of old.eval).account) (d.at sound)
-      (subst (λ b. Did b g.steady fault_of (λ n. q b.account n (f x)) j (here_of g mid) r (here_of g new)) d.keeps.eval.same (k.at sound));
+  at = λ sure.
+      did_then (q (standing_of old.eval).account) (d.at (undoubted k.doubt sure))
+      (subst (λ b. Did b (IsSteady g new.eval.store.now) fault_of (λ n. q b.account n (f x)) j (here_of g mid) r (here_of g new)) d.keeps.eval.same (k.at sure));
+  doubt = Doubts-then d.doubt k.doubt;
   keeps = keeps_on d.keeps k.keeps;
 }
 
@@ -23,7 +25,8 @@ at_then {g = g} q {f = f} {j = j} {old = old} {mid = mid} {new = new} {x = x} {r
 pub at_stopped : {S A B X Y : Type 0} {g : Ghosts S} {p : Text → ℕ → Act A} (q : Text → ℕ → A → Act B) {f : X → A} {j : Y → B} {old new : Parts S} {e : Code} {r : Result Y Code}
     → DoesAt g p f old (Err e) new → IsErr r × IsErrAnd r (λ x. x ≡ e) → DoesAt g (λ a n. p a n >>= q a n) j old r new
 at_stopped {g = g} {p = p} q {j = j} {old = old} {new = new} {e = e} {r = r} d h = subst (λ r. DoesAt g (λ a n. p a n >>= q a n) j old r new) (sym (residual_is r e h)) (record {
-  at = λ sound. did_failed (q (standing_of old.eval).account) (d.at sound);
+  at = λ sure. did_failed (q (standing_of old.eval).account) (d.at sure);
+  doubt = d.doubt;
   keeps = d.keeps;
 })
 
@@ -32,7 +35,8 @@ at_failed q d = at_stopped q d (refl, refl)
 
 pub at_gives : {S A X : Type 0} {g : Ghosts S} {parts : Parts S} (a : A) (f : X → A) (x : X) → f x ≡ a → DoesAt g (λ b n. give a) f parts (Ok x) parts
 at_gives a f x same = record {
-  at = λ sound. did_gives a f x same;
+  at = λ sure. did_gives a f x same;
+  doubt = Doubts-same _;
   keeps = keeps_itself _;
 }
 
@@ -55,7 +59,7 @@ passes s p not_go = refl
 
 -- a call at a depth that plays no part
 pub at_depth : {S A X : Type 0} {g : Ghosts S} {p : Text → ℕ → Act A} {f : X → A} {old new : Parts S} {r : Result X Code} (d : Depth) → DoesAt g p f (record old { eval = record old.eval { depth = d } }) r new → DoesAt g p f old r new
-at_depth d k = record { at = λ sound. k.at sound; keeps = keeps_at_depth d k.keeps }
+at_depth d k = record { at = λ sure. k.at sure; doubt = k.doubt; keeps = keeps_at_depth d k.keeps }
 
 -- an act by another name
 pub at_as : {S A X : Type 0} {g : Ghosts S} {p q : Text → ℕ → Act A} {f : X → A} {old new : Parts S} {r : Result X Code} → ((a : Text) (n : ℕ) → ◌≡◌ {A = Act A} (p a n) (q a n)) → DoesAt g q f old r new → DoesAt g p f old r new
@@ -72,9 +76,10 @@ pub runs_then : {S A X : Type 0} {g : Ghosts S} {p : Text → ℕ → Act A} (q 
 runs_then q {f = f} {x = x} {fs = fs} {old = old} {mid = mid} d k =
     let few = d.keeps.eval.fewer in
     record {
-      at = λ sound n ns le e.
-          on_then (q (standing_of old.eval).account n) n le (d.at sound)
-          (moved_to (λ a. q a n (f x)) (λ a. left a fs ns) d.keeps.eval.same (k.at sound n ns (omega (arith, few, le)) (enough mid.eval.steps old.eval.steps fs ns few e)));
+      at = λ sure n ns le e.
+          on_then (q (standing_of old.eval).account n) n le (d.at (undoubted k.doubt sure))
+          (moved_to (λ a. q a n (f x)) (λ a. left a fs ns) d.keeps.eval.same (k.at sure n ns (omega (arith, few, le)) (enough mid.eval.steps old.eval.steps fs ns few e)));
+      doubt = Doubts-then d.doubt k.doubt;
       keeps = keeps_on d.keeps k.keeps;
     }
 
@@ -83,35 +88,39 @@ pub runs_spent : {S A X : Type 0} {g : Ghosts S} {p : Text → ℕ → Act A} (q
     → DoesAt g p f old (Ok x) mid → mid.eval.steps < old.eval.steps → Runs g (λ a n. q a (suc n) (f x)) fs mid r fs' new → Runs g (λ a n. p a n >>= q a n) fs old r fs' new
 runs_spent {g = g} {p = p} q {f = f} {x = x} {fs = fs} {fs' = fs'} {old = old} {mid = mid} {new = new} {r = r} d less k = record {
   at = go;
+  doubt = Doubts-then d.doubt k.doubt;
   keeps = keeps_on d.keeps k.keeps;
 }
   where
-    go : g.sound → (n : ℕ) (ns : List ℕ) → old.eval.steps ≤ n → Enough old.eval.steps fs ns
-        → MovedOn (standing_of old.eval) g.steady fault_of completion_of (p (standing_of old.eval).account n >>= q (standing_of old.eval).account n) (left (standing_of old.eval).account fs ns) (here_of g old) r fs' (here_of g new)
-    go sound zero ns le e = absurd (omega arith)
-    go sound (suc n) ns le e =
-        on_then (q (standing_of old.eval).account (suc n)) (suc n) le (d.at sound)
-        (moved_to (λ a. q a (suc n) (f x)) (λ a. left a fs ns) d.keeps.eval.same (k.at sound n ns (omega arith) (enough mid.eval.steps old.eval.steps fs ns (omega arith) e)))
+    go : g.doubt new.eval.store.now ≡ 0 → (n : ℕ) (ns : List ℕ) → old.eval.steps ≤ n → Enough old.eval.steps fs ns
+        → MovedOn (standing_of old.eval) (IsSteady g new.eval.store.now) fault_of completion_of (p (standing_of old.eval).account n >>= q (standing_of old.eval).account n) (left (standing_of old.eval).account fs ns) (here_of g old) r fs' (here_of g new)
+    go sure zero ns le e = absurd (omega arith)
+    go sure (suc n) ns le e =
+        on_then (q (standing_of old.eval).account (suc n)) (suc n) le (d.at (undoubted k.doubt sure))
+        (moved_to (λ a. q a (suc n) (f x)) (λ a. left a fs ns) d.keeps.eval.same (k.at sure n ns (omega arith) (enough mid.eval.steps old.eval.steps fs ns (omega arith) e)))
 
 -- an act fails, and the call returns by a `?`
 pub runs_stopped : {S A X : Type 0} {g : Ghosts S} {p : Text → ℕ → Act A} (q : Text → ℕ → A → Act meaning.Completion) {f : X → A} {fs fs' : List View} {old new : Parts S} {r : Result Completion Code} {e : Code}
     → DoesAt g p f old (Err e) new → IsErr r × IsErrAnd r (λ x. x ≡ e) → Runs g (λ a n. p a n >>= q a n) fs old r fs' new
 runs_stopped {g = g} {p = p} q {fs = fs} {fs' = fs'} {old = old} {new = new} {r = r} d h = subst (λ r. Runs g (λ a n. p a n >>= q a n) fs old r fs' new) (sym (residual_is r _ h)) (record {
-  at = λ sound n ns le e. on_failed (q (standing_of old.eval).account n) n le (d.at sound);
+  at = λ sure n ns le e. on_failed (q (standing_of old.eval).account n) n le (d.at sure);
+  doubt = d.doubt;
   keeps = d.keeps;
 })
 
 -- out of memory: the call returns by a `?`
 pub runs_wanting : {S : Type 0} {g : Ghosts S} (p : Text → ℕ → Act meaning.Completion) {fs fs' : List View} {parts : Parts S} (r : Result Completion Code) → IsErr r × IsErrAnd r (λ x. x ≡ Zmem) → Runs g p fs parts r fs' parts
 runs_wanting {g = g} p {fs = fs} {fs' = fs'} {parts = parts} r h = subst (λ r. Runs g p fs parts r fs' parts) (sym (residual_is r Zmem h)) (record {
-  at = λ sound n ns le e. on_lost (p (standing_of parts.eval).account n) (left (standing_of parts.eval).account fs ns) Zmem tt refl (omega arith);
+  at = λ sure n ns le e. on_lost (p (standing_of parts.eval).account n) (left (standing_of parts.eval).account fs ns) Zmem tt refl (omega arith);
+  doubt = Doubts-same _;
   keeps = keeps_itself _;
 })
 
 -- a completion is given to the frames
 pub runs_completion : {S : Type 0} {g : Ghosts S} {fs : List View} {parts : Parts S} (s : Completion) → Runs g (λ a n. give (completion_of s)) fs parts (Ok s) fs parts
 runs_completion s = record {
-  at = λ sound n ns le e. on_completion s ns e;
+  at = λ sure n ns le e. on_completion s ns e;
+  doubt = Doubts-same _;
   keeps = keeps_itself _;
 }
 
@@ -122,36 +131,40 @@ runs_as {g = g} {fs = fs} {fs' = fs'} {old = old} {new = new} {r = r} same k = s
 -- an act that leaves the frames as they are
 pub runs_done : {S : Type 0} {g : Ghosts S} {p : Text → ℕ → Act meaning.Completion} {fs : List View} {old new : Parts S} (r : Result Completion Code) → DoesAt g p completion_of old r new → Runs g p fs old r fs new
 runs_done {g = g} {p = p} {fs = fs} {old = old} {new = new} (Ok s) d = record {
-  at = λ sound n ns le e. record {
+  at = λ sure n ns le e. record {
     done =
         let b = standing_of old.eval in
-        let did = d.at sound in
+        let did = d.at sure in
         let few = d.keeps.eval.fewer in
         (ns, enough new.eval.steps old.eval.steps fs ns few e, then_follows b (p b.account n) (left b.account fs ns) (here_of g old) (completion_of s) (here_of g new) (did.at n le));
   };
+  doubt = d.doubt;
   keeps = d.keeps;
 }
 runs_done {g = g} {p = p} {fs = fs} {old = old} {new = new} (Err c) d = record {
-  at = λ sound n ns le e. record {
+  at = λ sure n ns le e. record {
     done =
         let b = standing_of old.eval in
-        let did = d.at sound in
-        then_failed b g.steady (p b.account n) (left b.account fs ns) (here_of g old) (fault_of c) (here_of g new) (did.at n le);
+        let did = d.at sure in
+        then_failed b (IsSteady g new.eval.store.now) (p b.account n) (left b.account fs ns) (here_of g old) (fault_of c) (here_of g new) (did.at n le);
   };
+  doubt = d.doubt;
   keeps = d.keeps;
 }
 
 -- a frame stands below what is done, in place of what it does then
 pub runs_frame : {S : Type 0} {g : Ghosts S} {p : Text → ℕ → Act meaning.Completion} (f : View) {fs fs' : List View} {old new : Parts S} {r : Result Completion Code} → Runs g p (f ∷ fs) old r fs' new → Runs g (λ a n. p a n >>= frame a n f) fs old r fs' new
 runs_frame f {fs = fs} k = record {
-  at = λ sound n ns le e. on_frame fs f n ns (k.at sound n (n ∷ ns) le (le, e));
+  at = λ sure n ns le e. on_frame fs f n ns (k.at sure n (n ∷ ns) le (le, e));
+  doubt = k.doubt;
   keeps = k.keeps;
 }
 
 -- a frame is on top, and goes on with what is next
 pub runs_top : {S : Type 0} {g : Ghosts S} {fs : List View} {parts : Parts S} (f : View) → Runs g (λ a n. frame a n f Go_on) fs parts (Ok completion.GoOn) (f ∷ fs) parts
 runs_top f = record {
-  at = λ sound n ns le e. on_top f completion.GoOn n ns le e;
+  at = λ sure n ns le e. on_top f completion.GoOn n ns le e;
+  doubt = Doubts-same _;
   keeps = keeps_itself _;
 }
 

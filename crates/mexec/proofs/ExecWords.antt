@@ -27,6 +27,8 @@ pub use Rattle.mspec.proofs.ListPlaces.{next_item, none_left}
 pub use Rattle.mspec.specs.Act.{Act, Text, ask, charge, give, give_some, set_test, test_is, with_locals, write, ◌>>=◌, ◌>>◌}
 pub use Rattle.mspec.specs.Scopes.{killed_except, newed, newed_except}
 pub use Rattle.mspec.specs.Code.{Zsyntax}
+pub use Rattle.mnodes.proofs.Doubting.{Doubts-same, Doubts-then, undoubted}
+pub use Rattle.mnodes.specs.Doubt.{Doubts}
 pub use Rattle.mnodes.specs.declared.store.NodeStore.{Ghosts}
 pub use Rattle.mtree.specs.Tree.{arg_tree, command_tree, condition_tree, destination_tree, entry_tree, expr_tree, keyword_tree, kind_tree, line_tree, locked_tree, parameter_tree, primary_tree, reference_tree, spaced_tree}
 pub use Rattle.mtree.specs.declared.tree.Arg.{Arg}

@@ -1,6 +1,6 @@
 -- SPDX-License-Identifier: Apache-2.0
 -- Lines and texts that are entered, frame by frame.
-use Rattle.mexec.proofs.ExecWords.{◌≡◌, ℕ, zero, suc, ◌<◌, ◌≤◌, ◌+◌, Bool, true, false, cond, List, [], ◌∷◌, Option, Some, None, Result, Ok, Err, length, drop, get_or, slice_get, refl, sym, ap, ◌∙◌, subst, eqb-true, le-ltb, lt-ltb, arith, drop-drop, get_or-drop, IsErr, IsErrAnd, Text, Act, ◌>>=◌, ◌>>◌, give, give_some, charge, ArgTree, CommandTree, BodyTree, short, spaced_out, RoutineLineTree, dots_of, routine_line_at, indirected, Level, Closing, leaves, deeper, within_indirection, has_dots, commands_of, commands_in, Context, Go_on, texts, context, commands, lines_reached, lines_from, lines_next, line_entered, after_level, closed, View, Rests, Lists, Levels, frame, assoc, Ghosts, fault_of, Code, Zmem, Evaluates, Parts, Does, DoesAt, here_of, Runs, reached, next_reached, entering, so_deep, at_next, text_position, on_body, next_item, Zsyntax, Depth, Yields}
+use Rattle.mexec.proofs.ExecWords.{Doubts-same, ◌≡◌, ℕ, zero, suc, ◌<◌, ◌≤◌, ◌+◌, Bool, true, false, cond, List, [], ◌∷◌, Option, Some, None, Result, Ok, Err, length, drop, get_or, slice_get, refl, sym, ap, ◌∙◌, subst, eqb-true, le-ltb, lt-ltb, arith, drop-drop, get_or-drop, IsErr, IsErrAnd, Text, Act, ◌>>=◌, ◌>>◌, give, give_some, charge, ArgTree, CommandTree, BodyTree, short, spaced_out, RoutineLineTree, dots_of, routine_line_at, indirected, Level, Closing, leaves, deeper, within_indirection, has_dots, commands_of, commands_in, Context, Go_on, texts, context, commands, lines_reached, lines_from, lines_next, line_entered, after_level, closed, View, Rests, Lists, Levels, frame, assoc, Ghosts, fault_of, Code, Zmem, Evaluates, Parts, Does, DoesAt, here_of, Runs, reached, next_reached, entering, so_deep, at_next, text_position, on_body, next_item, Zsyntax, Depth, Yields}
 use Rattle.std.specs.Prelude.{nat_lt, ◌==◌}
 use Rattle.mmeaning.specs.LineMeaning.{Position, Completion}
 use Rattle.mmeaning.proofs.Yieldings.{yielded}
@@ -105,15 +105,16 @@ module _ {S : Type 0} {g : Ghosts S} where
   -- a call that needs no point
   pub at_yielded : {A X : Type 0} {p : Act A} {f : X → A} {parts : Parts S} {r : Result X Code} → Yields fault_of p f r → DoesAt g (λ a n. p) f parts r parts
   at_yielded {parts = parts} y = record {
-    at = λ sound. yielded (here_of g parts) y;
+    at = λ sure. yielded (here_of g parts) y;
+    doubt = Doubts-same _;
     keeps = keeps_itself _;
   }
 
   pub at_any : {A X : Type 0} {p : Act A} {f : X → A} {old new : Parts S} {r : Result X Code} → Does g (λ i. p) f old r new → DoesAt g (λ a n. p) f old r new
-  at_any k = record { at = λ sound. k.at sound; keeps = k.keeps }
+  at_any k = record { at = λ sure. k.at sure; doubt = k.doubt; keeps = k.keeps }
 
   pub at_plain : {A X : Type 0} {p : Act A} {f : X → A} {old : Parts S} {e : Eval S} {r : Result X Code} → Evaluates g (λ i. p) f old.eval r e → DoesAt g (λ a n. p) f old r (record old { eval = e })
-  at_plain {old = old} k = record { at = λ sound. k.at sound old.out.now.items old.locks.now; keeps = record { eval = k.keeps; locks = refl; out = refl } }
+  at_plain {old = old} k = record { at = λ sure. k.at sure old.out.now.items old.locks.now; doubt = k.doubt; keeps = record { eval = k.keeps; locks = refl; out = refl } }
 
   -- the commands of a text that is entered stand on top of its level
   pub text_runs : {fs : List View} {parts : Parts S} (p : Position) (c : Closing) (cs : List CommandTree)

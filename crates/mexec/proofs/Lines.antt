@@ -1,8 +1,9 @@
 -- SPDX-License-Identifier: Apache-2.0
 -- Lines, frame by frame.
-use Rattle.mexec.proofs.ExecWords.{◌≡◌, ℕ, ◌≤◌, List, [], ◌∷◌, Result, Ok, Err, refl, sym, ◌∙◌, subst, arith, IsErr, IsErrAnd, Text, Act, ArgTree, CommandTree, stays, top_level, run_within, context, commands, arguments, Standing, Here, Follows, FailedBy, View, Rests, Lists, Levels, left, frame, Enough, MovedAs, MovedOn, residual_is, follows_itself, follows_on, failed_after, Ghosts, fault_of, Code, standing_of, Parts, DoesAt, here_of, Runs, Leads, completion_of, keeps_itself, keeps_on, Completion}
+use Rattle.mexec.proofs.ExecWords.{Doubts-same, Doubts-then, undoubted, ◌≡◌, ℕ, ◌≤◌, List, [], ◌∷◌, Result, Ok, Err, refl, sym, ◌∙◌, subst, arith, IsErr, IsErrAnd, Text, Act, ArgTree, CommandTree, stays, top_level, run_within, context, commands, arguments, Standing, Here, Follows, FailedBy, View, Rests, Lists, Levels, left, frame, Enough, MovedAs, MovedOn, residual_is, follows_itself, follows_on, failed_after, Ghosts, fault_of, Code, standing_of, Parts, DoesAt, here_of, Runs, Leads, completion_of, keeps_itself, keeps_on, Completion}
 use Rattle.mmeaning.specs.LineMeaning as meaning
 use Rattle.mmeaning.proofs.LevelMoves.{line_begins}
+use Rattle.mnodes.specs.Steady.{IsSteady}
 use Rattle.mexec.specs.declared.completion.Completion.TheVariants as completion
 use Rattle.mexec.proofs.Calls.{passes, runs_as, runs_completion}
 
@@ -10,7 +11,8 @@ module _ {S : Type 0} {g : Ghosts S} where
   -- a line's rest, and its level
   pub leads_first : (cs : List CommandTree) (parts : Parts S) → Leads g (λ a n. run_within a n cs) parts (Rests top_level cs ∷ Levels top_level stays ∷ []) meaning.Go_on parts
   leads_first cs parts = record {
-    at = λ sound n le. (n ∷ n ∷ [], (le, (le, tt)), begins (standing_of parts.eval) n (here_of g parts));
+    doubt = Doubts-same _;
+    at = λ sure n le. (n ∷ n ∷ [], (le, (le, tt)), begins (standing_of parts.eval) n (here_of g parts));
     keeps = keeps_itself parts;
   }
     where
@@ -19,27 +21,28 @@ module _ {S : Type 0} {g : Ghosts S} where
 
   module _ (p : Text → ℕ → Act meaning.Completion) (f : View) (fs : List View) {s : meaning.Completion} {old mid new : Parts S} (d : Leads g p old (f ∷ fs) s mid) where
     -- what the frame on top does, stated from where the line began
-    moved : {fs' : List View} {r : Result Completion Code} → Runs g (λ a n. frame a n f s) fs mid r fs' new → (sound : g.sound) (m : ℕ) (ms : List ℕ) → mid.eval.steps ≤ m → Enough mid.eval.steps fs ms
-        → MovedAs {X = Completion} (standing_of old.eval) g.steady fault_of completion_of (left (standing_of old.eval).account (f ∷ fs) (m ∷ ms) s) (here_of g mid) r fs' (here_of g new)
-    moved {fs' = fs'} {r = r} k sound m ms le e =
+    moved : {fs' : List View} {r : Result Completion Code} → Runs g (λ a n. frame a n f s) fs mid r fs' new → (sure : g.doubt new.eval.store.now ≡ 0) (m : ℕ) (ms : List ℕ) → mid.eval.steps ≤ m → Enough mid.eval.steps fs ms
+        → MovedAs {X = Completion} (standing_of old.eval) (IsSteady g new.eval.store.now) fault_of completion_of (left (standing_of old.eval).account (f ∷ fs) (m ∷ ms) s) (here_of g mid) r fs' (here_of g new)
+    moved {fs' = fs'} {r = r} k sure m ms le e =
         let here =
-        subst (λ b. MovedOn b g.steady fault_of completion_of (frame b.account m f s) (left b.account fs ms) (here_of g mid) r fs' (here_of g new)) d.keeps.eval.same (k.at sound m ms le e)
+        subst (λ b. MovedOn b (IsSteady g new.eval.store.now) fault_of completion_of (frame b.account m f s) (left b.account fs ms) (here_of g mid) r fs' (here_of g new)) d.keeps.eval.same (k.at sure m ms le e)
         in
         here.done
 
     pub leads_on : {fs' : List View} {s' : Completion} → Runs g (λ a n. frame a n f s) fs mid (Ok s') fs' new → Leads g p old fs' (completion_of s') new
     leads_on {fs' = fs'} {s' = s'} k = record {
-      at = λ sound n le. go sound n (d.at sound n le);
+      at = λ sure n le. go sure n (d.at (undoubted k.doubt sure) n le);
+      doubt = Doubts-then d.doubt k.doubt;
       keeps = keeps_on d.keeps k.keeps;
     }
       where
-        go : g.sound → (n : ℕ)
+        go : g.doubt new.eval.store.now ≡ 0 → (n : ℕ)
             → (ns : List ℕ) × Enough mid.eval.steps (f ∷ fs) ns × Follows (standing_of old.eval) (p (standing_of old.eval).account n) (here_of g old) (left (standing_of old.eval).account (f ∷ fs) ns s) (here_of g mid)
             → (ns : List ℕ) × Enough new.eval.steps fs' ns × Follows (standing_of old.eval) (p (standing_of old.eval).account n) (here_of g old) (left (standing_of old.eval).account fs' ns (completion_of s')) (here_of g new)
-        go sound n ([], e, follows) = absurd e
-        go sound n (m ∷ ms, e, follows) =
+        go sure n ([], e, follows) = absurd e
+        go sure n (m ∷ ms, e, follows) =
             let b = standing_of old.eval in
-            let done = moved k sound m ms e.0 e.1 in
+            let done = moved k sure m ms e.0 e.1 in
             (done.0, done.1, follows_on b (p b.account n) (left b.account (f ∷ fs) (m ∷ ms) s) (left b.account fs' done.0 (completion_of s')) (here_of g old) (here_of g mid) (here_of g new) follows done.2)
 
     pub leads_stopped : {fs' : List View} {e : Code} {r : Result Completion Code} → Runs g (λ a n. frame a n f s) fs mid (Err e) fs' new → IsErr r × IsErrAnd r (λ x. x ≡ e) → DoesAt g p completion_of old r new
@@ -47,25 +50,27 @@ module _ {S : Type 0} {g : Ghosts S} where
         let keeps = keeps_on d.keeps k.keeps in
         let few = keeps.eval.fewer in
         subst (λ r. DoesAt g p completion_of old r new) (sym (residual_is r e h)) (record {
-          at = λ sound. record {
-            at = λ n le. go sound n (d.at sound n le);
+          doubt = Doubts-then d.doubt k.doubt;
+          at = λ sure. record {
+            at = λ n le. go sure n (d.at (undoubted k.doubt sure) n le);
             fewer = few;
           };
           keeps = keeps;
         })
       where
-        go : (sound : g.sound) (n : ℕ)
+        go : (sure : g.doubt new.eval.store.now ≡ 0) (n : ℕ)
             → (ns : List ℕ) × Enough mid.eval.steps (f ∷ fs) ns × Follows (standing_of old.eval) (p (standing_of old.eval).account n) (here_of g old) (left (standing_of old.eval).account (f ∷ fs) ns s) (here_of g mid)
-            → FailedBy (standing_of old.eval) g.steady (p (standing_of old.eval).account n) (here_of g old) (fault_of e) (here_of g new)
-        go sound n ([], enough, follows) = absurd enough
-        go sound n (m ∷ ms, enough, follows) =
+            → FailedBy (standing_of old.eval) (IsSteady g new.eval.store.now) (p (standing_of old.eval).account n) (here_of g old) (fault_of e) (here_of g new)
+        go sure n ([], enough, follows) = absurd enough
+        go sure n (m ∷ ms, enough, follows) =
             let b = standing_of old.eval in
-            failed_after b g.steady (p b.account n) (left b.account (f ∷ fs) (m ∷ ms) s) (here_of g old) (here_of g mid) (fault_of e) (here_of g new) follows (moved k sound m ms enough.0 enough.1)
+            failed_after b (IsSteady g new.eval.store.now) (p b.account n) (left b.account (f ∷ fs) (m ∷ ms) s) (here_of g old) (here_of g mid) (fault_of e) (here_of g new) follows (moved k sure m ms enough.0 enough.1)
 
   pub leads_ends : (p : Text → ℕ → Act meaning.Completion) (s : Completion) {old new : Parts S} → Leads g p old [] (completion_of s) new → DoesAt g p completion_of old (Ok s) new
   leads_ends p s d = record {
-    at = λ sound. record {
-      at = λ n le. let here = d.at sound n le in let follows = here.2 in follows.whole;
+    doubt = d.doubt;
+    at = λ sure. record {
+      at = λ n le. let here = d.at sure n le in let follows = here.2 in follows.whole;
       fewer = d.keeps.eval.fewer;
     };
     keeps = d.keeps;

@@ -1,6 +1,6 @@
 -- SPDX-License-Identifier: Apache-2.0
 -- Frames of the program as those of the definitions, and what calls say of them.
-use Rattle.std.specs.Prelude.{◌≡◌, ℕ, ◌≤◌, List, [], ◌∷◌, Result, Ok, Err, map, drop}
+use Rattle.std.specs.Prelude.{◌≡◌, ℕ, ◌≤◌, List, [], ◌∷◌, Result, Ok, Err, map, drop, true}
 use Rattle.mspec.specs.Act.{Text, Act}
 use Rattle.mgrammar.specs.Grammar.{CommandTree}
 use Rattle.mmeaning.specs.LineMeaning as meaning
@@ -11,10 +11,12 @@ use Rattle.mmeaning.specs.Frames.{View, Rests, Lists, Turns, Levels, left, Enoug
 use Rattle.mtree.specs.Tree.{spaced_tree, parameter_tree, arg_tree}
 use Rattle.mtree.specs.declared.tree.Arg.{Arg}
 use Rattle.mtree.specs.declared.tree.Line.{Line}
+use Rattle.mnodes.specs.Doubt.{Doubts}
+use Rattle.mnodes.specs.Steady.{IsSteady}
 use Rattle.mnodes.specs.declared.store.NodeStore.{Ghosts}
 use Rattle.moperator.specs.Codes.{fault_of}
 use Rattle.moperator.specs.declared.code.Code.{Code}
-use Rattle.meval.specs.Evaluates.{standing_of, depth_of}
+use Rattle.meval.specs.Evaluates.{is_kept, standing_of, depth_of}
 use Rattle.mcommand.specs.declared.parts.Parts.{Parts}
 use Rattle.mcommand.specs.Does.{KeepsLoans, here_of}
 use Rattle.mcommand.specs.Targets.{target_view}
@@ -99,13 +101,15 @@ resting p (c ∷ cs) fs = Rests p (c ∷ cs) ∷ fs
 
 -- a call does an act before some frames, and leaves frames that have to do what is then left
 pub record Runs {S : Type 0} (g : Ghosts S) (p : Text → ℕ → Act meaning.Completion) (fs : List View) (old : Parts S) (r : Result Completion Code) (fs' : List View) (new : Parts S) : Type 0 where
-  pub at : g.sound → (n : ℕ) (ns : List ℕ) → old.eval.steps ≤ n → Enough old.eval.steps fs ns →
-      MovedOn (standing_of old.eval) g.steady fault_of completion_of (p (standing_of old.eval).account n) (left (standing_of old.eval).account fs ns) (here_of g old) r fs' (here_of g new)
+  pub at : g.doubt new.eval.store.now ≡ 0 → (n : ℕ) (ns : List ℕ) → old.eval.steps ≤ n → Enough old.eval.steps fs ns →
+      MovedOn (standing_of old.eval) (IsSteady g new.eval.store.now) fault_of completion_of (p (standing_of old.eval).account n) (left (standing_of old.eval).account fs ns) (here_of g old) r fs' (here_of g new)
+  pub doubt : Doubts g.sound (g.doubt old.eval.store.now) (g.doubt new.eval.store.now) (is_kept r)
   pub keeps : KeepsLoans old new
 
 -- what the frames have to do with a completion is what is left of an act
 pub record Leads {S : Type 0} (g : Ghosts S) (p : Text → ℕ → Act meaning.Completion) (old : Parts S) (fs : List View) (s : meaning.Completion) (new : Parts S) : Type 0 where
-  pub at : g.sound → (n : ℕ) → old.eval.steps ≤ n →
+  pub at : g.doubt new.eval.store.now ≡ 0 → (n : ℕ) → old.eval.steps ≤ n →
       (ns : List ℕ) × Enough new.eval.steps fs ns ×
       Follows (standing_of old.eval) (p (standing_of old.eval).account n) (here_of g old) (left (standing_of old.eval).account fs ns s) (here_of g new)
+  pub doubt : Doubts g.sound (g.doubt old.eval.store.now) (g.doubt new.eval.store.now) true
   pub keeps : KeepsLoans old new

@@ -1,12 +1,14 @@
 -- SPDX-License-Identifier: Apache-2.0
 -- What a call that carries out a text says of the text's meaning.
-use Rattle.std.specs.Prelude.{◌≡◌, Option}
+use Rattle.std.specs.Prelude.{◌≡◌, Option, Bool, true, not}
 use Rattle.mspec.specs.Act.{Act}
 use Rattle.mgrammar.specs.Grammar.{LineTree}
 use Rattle.mmeaning.specs.LineMeaning.{Completion}
 use Rattle.mmeaning.specs.Transition as transition
-use Rattle.mmeaning.specs.Transition.{Ending, Finished, Halted, Faulted, text_run}
+use Rattle.mmeaning.specs.Transition.{Ending, is_lost, Finished, Halted, Faulted, text_run}
 use Rattle.mmeaning.specs.Calls.{Standing, Here, Gave, FailedBy}
+use Rattle.mnodes.specs.Doubt.{Doubts}
+use Rattle.mnodes.specs.Steady.{IsSteady}
 use Rattle.mnodes.specs.declared.store.NodeStore.{Ghosts}
 use Rattle.moperator.specs.Codes.{fault_of}
 use Rattle.meval.specs.Evaluates.{standing_of}
@@ -20,6 +22,11 @@ ending_of ended.Done = Finished
 ending_of ended.Halt = Halted
 ending_of (ended.Fault c) = Faulted (fault_of c)
 
+-- memory and the store sufficed
+abbrev pub is_kept_by : Ended → Bool
+is_kept_by (ended.Fault c) = not (is_lost (fault_of c))
+is_kept_by _ = true
+
 -- the act gave a completion that ends a line in this way
 abbrev pub GaveEnding : Standing → Act Completion → Here → Ending → Here → Type 0
 GaveEnding b p h ending h' = (s : Completion) × (transition.ending_of s ≡ ending) × Gave b p h s h'
@@ -31,5 +38,6 @@ EndsBy b steady p h (ended.Fault c) h' = FailedBy b steady p h (fault_of c) h'
 
 -- the text with this tree is carried out: the call ends as it does
 pub record RunsText {S : Type 0} (g : Ghosts S) (tree : Option LineTree) (old : Parts S) (ended : Ended) (new : Parts S) : Type 0 where
-  pub at : g.sound → EndsBy (standing_of old.eval) g.steady (text_run (standing_of old.eval).account tree) (here_of g old) ended (here_of g new)
+  pub at : g.doubt new.eval.store.now ≡ 0 → EndsBy (standing_of old.eval) (IsSteady g new.eval.store.now) (text_run (standing_of old.eval).account tree) (here_of g old) ended (here_of g new)
+  pub doubt : Doubts g.sound (g.doubt old.eval.store.now) (g.doubt new.eval.store.now) (is_kept_by ended)
   pub keeps : KeepsLoans old new

@@ -1,6 +1,6 @@
 // SPDX-License-Identifier: Apache-2.0
 // A text, carried out.
-ghost use Rattle.std.specs.Prelude.{◌≡◌, ◌≢◌};
+ghost use Rattle.std.specs.Prelude.{◌≡◌, ◌≢◌, IsTrue};
 ghost use Rattle.mmeaning.specs.Transition as meaning;
 ghost use Rattle.mgrammar.specs.Reading.{line_at};
 ghost use Rattle.moperator.specs.declared.code.Code.TheVariants.{Zstore};
@@ -48,7 +48,7 @@ pub fn run_text<S: NodeStore>(
     text: &[u8],
 ) -> Ended
     ensures does { RunsText S.NodeStore (line_at text.now) parts.old result parts.new }
-    ensures steady { S.steady → result ≢ Ended.Fault Zstore }
+    ensures steady { S.steady → IsTrue (S.has_room parts.new.eval.store.now) → result ≢ Ended.Fault Zstore }
 {
     match scratch.trees.line(alloc, text) {
         Err(ParseFault::Syntax) => Ended::Fault(Code::Zsyntax),

@@ -1,6 +1,7 @@
 // SPDX-License-Identifier: Apache-2.0
 //! What $DATA and $ORDER ask of a node.
-ghost use Rattle.std.specs.Prelude.{◌≡◌, ◌≢◌, IfOk, IfSome, OnOk, Err, option_map};
+ghost use Rattle.std.specs.Prelude.{◌≡◌, ◌≢◌, IfOk, IfSome, OnOk, Err, IsTrue, is_ok, option_map};
+ghost use Rattle.mnodes.specs.Doubt.{Doubts};
 ghost use Rattle.mglobal.specs.Next.{nearest_key};
 ghost use Rattle.mglobal.specs.Words.{AreHeld, AreOrderSubscripts, IsAccountName, IsName, IsSub, order_at, status, way};
 
@@ -15,12 +16,13 @@ use std::alloc::Global;
 ///
 /// # Errors
 ///
-/// Those of the store: `Memory` if memory runs out, and `Store`, which a steady one never answers.
+/// Those of the store: `Memory` if memory runs out, and `Store`, which a steady one that has room never answers.
 pub fn status<S: NodeStore>(store: &mut S, alloc: Global, key: &NodeKey) -> Result<Data, StoreFault>
-    ensures value { S.sound → IfOk result (λ found. found.value ≡ (status (S.content store.old) key.now).0) }
-    ensures descendants { S.sound → IfOk result (λ found. found.descendants ≡ (status (S.content store.old) key.now).1) }
-    ensures same { S.sound → S.content store.new ≡ S.content store.old }
-    ensures store { S.steady → result ≢ Err StoreFault.Store }
+    ensures value { S.doubt store.new ≡ 0 → IfOk result (λ found. found.value ≡ (status (S.content store.old) key.now).0) }
+    ensures descendants { S.doubt store.new ≡ 0 → IfOk result (λ found. found.descendants ≡ (status (S.content store.old) key.now).1) }
+    ensures same { S.doubt store.new ≡ 0 → S.content store.new ≡ S.content store.old }
+    ensures doubt { Doubts S.sound (S.doubt store.old) (S.doubt store.new) (is_ok result) }
+    ensures store { S.steady → IsTrue (S.has_room store.new) → result ≢ Err StoreFault.Store }
 {
     let value = store.get(key)?.is_some();
     let (low, high) = key.child_bounds(alloc)?;
@@ -35,10 +37,11 @@ fn nearest<S: NodeStore>(
     high: &[u8],
     direction: Direction,
 ) -> Result<Option<Vec<u8>>, StoreFault>
-    ensures found { S.sound → IfOk result (λ key. option_map (λ bytes. bytes.items) key ≡ nearest_key (way direction) (S.content store.old) low.now high.now) }
-    ensures held { S.sound → AreHeld (S.content store.old) }
-    ensures same { S.sound → S.content store.new ≡ S.content store.old }
-    ensures store { S.steady → result ≢ Err StoreFault.Store }
+    ensures found { S.doubt store.new ≡ 0 → IfOk result (λ key. option_map (λ bytes. bytes.items) key ≡ nearest_key (way direction) (S.content store.old) low.now high.now) }
+    ensures held { S.doubt store.new ≡ 0 → AreHeld (S.content store.old) }
+    ensures same { S.doubt store.new ≡ 0 → S.content store.new ≡ S.content store.old }
+    ensures doubt { Doubts S.sound (S.doubt store.old) (S.doubt store.new) (is_ok result) }
+    ensures store { S.steady → IsTrue (S.has_room store.new) → result ≢ Err StoreFault.Store }
 {
     match direction {
         Direction::Forward => store.next(low, high),
@@ -51,7 +54,7 @@ fn nearest<S: NodeStore>(
 ///
 /// # Errors
 ///
-/// Those of the store: `Memory` if memory runs out, and `Store`, which a steady one never answers; also `Store` if the key that
+/// Those of the store: `Memory` if memory runs out, and `Store`, which a steady one that has room never answers; also `Store` if the key that
 /// was found is not that of a node.
 pub fn neighbour<S: NodeStore>(
     store: &mut S,
@@ -64,11 +67,12 @@ pub fn neighbour<S: NodeStore>(
     requires account { IsAccountName account.now }
     requires name { IsName name.now }
     requires subs { AreOrderSubscripts subs.now }
-    ensures next { S.sound → IfOk result (λ next. next ≡ order_at (S.content store.old) (way direction) (record { account = account.now; name = name.now; subscripts = subs.now })) }
-    ensures held { S.sound → OnOk result (AreHeld (S.content store.old)) }
+    ensures next { S.doubt store.new ≡ 0 → IfOk result (λ next. next ≡ order_at (S.content store.old) (way direction) (record { account = account.now; name = name.now; subscripts = subs.now })) }
+    ensures held { S.doubt store.new ≡ 0 → OnOk result (AreHeld (S.content store.old)) }
     ensures sub { IfOk result (λ next. IfSome next IsSub) }
-    ensures same { S.sound → S.content store.new ≡ S.content store.old }
-    ensures store { S.steady → result ≢ Err StoreFault.Store }
+    ensures same { S.doubt store.new ≡ 0 → S.content store.new ≡ S.content store.old }
+    ensures doubt { Doubts S.sound (S.doubt store.old) (S.doubt store.new) (is_ok result) }
+    ensures store { S.steady → IsTrue (S.has_room store.new) → result ≢ Err StoreFault.Store }
 {
     let above = key_of(alloc, account, name, front(subs))?;
     let (low, high) = bounds(alloc, account, name, subs, direction, &above)?;

@@ -1,7 +1,8 @@
 // SPDX-License-Identifier: Apache-2.0
 //! The lines of a routine.
-ghost use Rattle.std.specs.Prelude.{◌≡◌, ◌≢◌, ◌≤◌, length, true, IfOk, IfSome, OnOk, Err, [], ◌∷◌, ◌++◌, codes};
+ghost use Rattle.std.specs.Prelude.{◌≡◌, ◌≢◌, ◌≤◌, length, true, IfOk, IfSome, OnOk, Err, IsTrue, is_ok, [], ◌∷◌, ◌++◌, codes};
 ghost use Rattle.std.specs.Option.{option_to_list};
+ghost use Rattle.mnodes.specs.Doubt.{Doubts};
 ghost use Rattle.mglobal.specs.Lines.{line_at, line_in};
 ghost use Rattle.mglobal.specs.Words.{AreHeld, Forward, IsAccountName, IsName, IsSub, IsSubscript, is_before, lines_of, order_at};
 
@@ -24,7 +25,7 @@ fn subs_of(alloc: Global, name: &Bytes7, place: &Bytes7) -> Result<Vec<Value>, A
     Ok(subs)
 }
 
-// The subscript after a place of a routine. A sound store names none that is not after it.
+// The subscript after a place of a routine. A store without doubt names none that is not after it.
 fn next_place<S: NodeStore>(
     store: &mut S,
     alloc: Global,
@@ -37,12 +38,13 @@ fn next_place<S: NodeStore>(
     requires global { global.now ≡ codes "ROUTINE" }
     requires name { IsName name.now }
     requires place { length place.now ≤ 255 }
-    ensures next { S.sound → IfOk result (λ next. next ≡ order_at (S.content store.old) Forward (line_at account.now name.now place.now)) }
-    ensures held { S.sound → OnOk result (AreHeld (S.content store.old)) }
+    ensures next { S.doubt store.new ≡ 0 → IfOk result (λ next. next ≡ order_at (S.content store.old) Forward (line_at account.now name.now place.now)) }
+    ensures held { S.doubt store.new ≡ 0 → OnOk result (AreHeld (S.content store.old)) }
     ensures sub { IfOk result (λ next. IfSome next IsSub) }
     ensures behind { IfOk result (λ next. IfSome next (λ there. is_before place.now there ≡ true)) }
-    ensures same { S.sound → S.content store.new ≡ S.content store.old }
-    ensures store { S.steady → result ≢ Err StoreFault.Store }
+    ensures same { S.doubt store.new ≡ 0 → S.content store.new ≡ S.content store.old }
+    ensures doubt { Doubts S.sound (S.doubt store.old) (S.doubt store.new) (is_ok result) }
+    ensures store { S.steady → IsTrue (S.has_room store.new) → result ≢ Err StoreFault.Store }
 {
     let subs = subs_of(alloc, name, place)?;
     match neighbour(
@@ -78,9 +80,10 @@ fn line_text<S: NodeStore>(
     requires global { global.now ≡ codes "ROUTINE" }
     requires name { IsName name.now }
     requires place { IsSubscript place.now }
-    ensures text { S.sound → IfOk result (λ text. option_to_list text ≡ line_in (S.content store.old) account.now name.now place.now) }
-    ensures same { S.sound → S.content store.new ≡ S.content store.old }
-    ensures store { S.steady → result ≢ Err StoreFault.Store }
+    ensures text { S.doubt store.new ≡ 0 → IfOk result (λ text. option_to_list text ≡ line_in (S.content store.old) account.now name.now place.now) }
+    ensures same { S.doubt store.new ≡ 0 → S.content store.new ≡ S.content store.old }
+    ensures doubt { Doubts S.sound (S.doubt store.old) (S.doubt store.new) (is_ok result) }
+    ensures store { S.steady → IsTrue (S.has_room store.new) → result ≢ Err StoreFault.Store }
 {
     if !is_numeric(place) {
         return Ok(None);
@@ -105,7 +108,7 @@ fn add(lines: &mut Vec<Bytes7>, text: Option<Bytes7>) -> Result<(), AllocError>
 ///
 /// # Errors
 ///
-/// Those of the store: `Memory` if memory runs out, and `Store`, which a steady one never answers; also `Store` if the place that was
+/// Those of the store: `Memory` if memory runs out, and `Store`, which a steady one that has room never answers; also `Store` if the place that was
 /// found is not after the one before it.
 pub fn routine<S: NodeStore>(
     store: &mut S,
@@ -115,9 +118,10 @@ pub fn routine<S: NodeStore>(
 ) -> Result<Vec<Bytes7>, StoreFault>
     requires account { IsAccountName account.now }
     requires name { IsName name.now }
-    ensures lines { S.sound → IfOk result (λ lines. lines.items ≡ lines_of (S.content store.old) account.now name.now) }
-    ensures same { S.sound → S.content store.new ≡ S.content store.old }
-    ensures store { S.steady → result ≢ Err StoreFault.Store }
+    ensures lines { S.doubt store.new ≡ 0 → IfOk result (λ lines. lines.items ≡ lines_of (S.content store.old) account.now name.now) }
+    ensures same { S.doubt store.new ≡ 0 → S.content store.new ≡ S.content store.old }
+    ensures doubt { Doubts S.sound (S.doubt store.old) (S.doubt store.new) (is_ok result) }
+    ensures store { S.steady → IsTrue (S.has_room store.new) → result ≢ Err StoreFault.Store }
 {
     let global = Bytes7::from_slice(alloc, b"ROUTINE")?;
     let mut lines = Vec::new(alloc);
@@ -144,9 +148,10 @@ pub fn shared_routine<S: NodeStore>(
 ) -> Result<Rc<Vec<Bytes7>>, StoreFault>
     requires account { IsAccountName account.now }
     requires name { IsName name.now }
-    ensures lines { S.sound → IfOk result (λ lines. lines.value.items ≡ lines_of (S.content store.old) account.now name.now) }
-    ensures same { S.sound → S.content store.new ≡ S.content store.old }
-    ensures store { S.steady → result ≢ Err StoreFault.Store }
+    ensures lines { S.doubt store.new ≡ 0 → IfOk result (λ lines. lines.value.items ≡ lines_of (S.content store.old) account.now name.now) }
+    ensures same { S.doubt store.new ≡ 0 → S.content store.new ≡ S.content store.old }
+    ensures doubt { Doubts S.sound (S.doubt store.old) (S.doubt store.new) (is_ok result) }
+    ensures store { S.steady → IsTrue (S.has_room store.new) → result ≢ Err StoreFault.Store }
 {
     if let Some(lines) = store.kept_routine(account, name) {
         return Ok(lines);

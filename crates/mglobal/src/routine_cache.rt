@@ -30,6 +30,7 @@ impl<S: NodeStore + Drop> Drop for RoutineCache<S> {
 }
 
 impl<S: NodeStore> Model for RoutineCache<S> {
+    ghost use Rattle.std.specs.Prelude.{◌≡◌};
     ghost use Rattle.mglobal.specs.Copies.{AreCopiesIn};
 
     ghost Value = { S };
@@ -38,7 +39,7 @@ impl<S: NodeStore> Model for RoutineCache<S> {
 
     ghost view = { λ kept. kept.store };
 
-    ghost invariant = { λ kept. S.sound → AreCopiesIn (S.content kept.store) kept.copies.items };
+    ghost invariant = { λ kept. S.doubt kept.store ≡ 0 → AreCopiesIn (S.content kept.store) kept.copies.items };
 }
 
 impl<S: NodeStore> RoutineCache<S> {
@@ -76,9 +77,13 @@ impl<S: NodeStore> RoutineCache<S> {
 impl<S: NodeStore> NodeStore for RoutineCache<S> {
     ghost content = { λ kept. S.content kept };
 
+    ghost doubt = { λ kept. S.doubt kept };
+
     ghost sound = { S.sound };
 
     ghost steady = { S.steady };
+
+    ghost has_room = { λ kept. S.has_room kept };
 
     fn get(&mut self, key: &NodeKey) -> Result<Option<Bytes7>, StoreFault> {
         self.store.get(key)
@@ -111,4 +116,6 @@ impl<S: NodeStore> NodeStore for RoutineCache<S> {
     }
 
     ghost steady_is_sound = { S.steady_is_sound };
+
+    ghost steady_is_told = { S.steady_is_told };
 }

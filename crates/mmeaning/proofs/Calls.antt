@@ -70,8 +70,9 @@ ended p = λ i s. then_give (p s) i
 
 -- ---- calls
 
-pub did_then : {A B X Y E : Type 0} {b : Standing} {steady : Type 0} {fault_of : E → Fault} {h h1 h2 : Here} {p : ℕ → Act A} (q : ℕ → A → Act B) {f : X → A} {g : Y → B} {x : X} {r : Result Y E}
-    → Did b steady fault_of p f h (Ok x) h1 → Did b steady fault_of (λ n. q n (f x)) g h1 r h2 → Did b steady fault_of (λ n. p n >>= q n) g h r h2
+-- what is done by an act that was done does not turn on what is said of a steady store (`early`)
+pub did_then : {A B X Y E : Type 0} {b : Standing} {early steady : Type 0} {fault_of : E → Fault} {h h1 h2 : Here} {p : ℕ → Act A} (q : ℕ → A → Act B) {f : X → A} {g : Y → B} {x : X} {r : Result Y E}
+    → Did b early fault_of p f h (Ok x) h1 → Did b steady fault_of (λ n. q n (f x)) g h1 r h2 → Did b steady fault_of (λ n. p n >>= q n) g h r h2
 did_then {b = b} {steady = steady} {fault_of = fault_of} {h = h} {h1 = h1} {h2 = h2} {p = p} q {f = f} {g = g} {x = x} {r = r} d k =
     let few = d.fewer in
     let fewer = k.fewer in
@@ -81,8 +82,8 @@ did_then {b = b} {steady = steady} {fault_of = fault_of} {h = h} {h1 = h1} {h2 =
     }
 
 -- the same, if the first act spent the step of an entry: what follows runs with one text fewer
-pub did_spent : {A B X Y E : Type 0} {b : Standing} {steady : Type 0} {fault_of : E → Fault} {h h1 h2 : Here} {p : ℕ → Act A} (q : ℕ → A → Act B) {f : X → A} {g : Y → B} {x : X} {r : Result Y E}
-    → Did b steady fault_of p f h (Ok x) h1 → h1.0.steps < h.0.steps → Did b steady fault_of (λ n. q (suc n) (f x)) g h1 r h2 → Did b steady fault_of (λ n. p n >>= q n) g h r h2
+pub did_spent : {A B X Y E : Type 0} {b : Standing} {early steady : Type 0} {fault_of : E → Fault} {h h1 h2 : Here} {p : ℕ → Act A} (q : ℕ → A → Act B) {f : X → A} {g : Y → B} {x : X} {r : Result Y E}
+    → Did b early fault_of p f h (Ok x) h1 → h1.0.steps < h.0.steps → Did b steady fault_of (λ n. q (suc n) (f x)) g h1 r h2 → Did b steady fault_of (λ n. p n >>= q n) g h r h2
 did_spent {b = b} {steady = steady} {fault_of = fault_of} {h = h} {h1 = h1} {h2 = h2} {p = p} q {f = f} {g = g} {x = x} {r = r} d less k = record { at = go; fewer = omega (arith, k.fewer, less) }
   where
     go : (n : ℕ) → h.0.steps ≤ n → Ends b steady fault_of (p n >>= q n) g h r h2

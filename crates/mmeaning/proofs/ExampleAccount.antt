@@ -1,6 +1,10 @@
 -- SPDX-License-Identifier: Apache-2.0
--- The account of the examples, and replies to its lines.
+-- The accounts of the examples, and replies to their lines.
 use Rattle.mmeaning.proofs.MeaningWords.{ℕ, [], ◌∷◌, codes, empty, insert, Code, Own, Text, Account, Settings, Reply, Finished, Faulted}
+
+-- an account of this name, with 2,000 steps a line
+abbrev pub account_named : Text → Account
+account_named name = record { name = name; steps = 2000 }
 
 -- ALICE with this many steps a line
 abbrev pub with_steps : ℕ → Account

@@ -2,18 +2,16 @@
 -- Lines of several terminals, one after another, and the maps of locks and sessions that they leave: for examples of LOCK and HALT.
 use Rattle.mmeaning.proofs.MeaningWords.{◌≡◌, ℕ, Bool, true, false, cond, List, [], ◌∷◌, Option, Some, None, refl, sym, ap, ◌∙◌, codes, not, map, eq_by_cmp, Plan, Ask, Take, Give_back, Release, perform, Ops, LineTree, line_at, Completion, Session, World, Event, Reply, Halted, normal, replies, get, insert, empty, entries, remove, retain_keys, get-insert, get-remove, get-empty, entries-insert, same_map, LockName, Locks, Held, held_cmp, Read, Text, Outcome, no_locals, equal_of, get_cut, cut_drops, entries_none, Shared, act, Inside, inside}
 use Rattle.std.specs.FinMap.Entries.{put}
-use Rattle.mspec.specs.Access.{Account, Settings}
+use Rattle.mspec.specs.Access.{Settings}
 use Rattle.mspec.proofs.LockOrders.{held_cmp_total, held_cmp_exact}
+use Rattle.mmeaning.proofs.ExampleAccount.{account_named}
 use Rattle.mmeaning.proofs.LineRuns.{shut_step, step_is_shut}
-
-abbrev pub account : Text → Account
-account name = record { name = name; steps = 2000 }
 
 -- ALICE has terminals 1 and 2, and BOB terminal 3; she lets him read her X
 abbrev pub lending : Settings
 lending = record {
-  accounts = account (codes "ALICE") ∷ account (codes "BOB") ∷ [];
-  terminals = insert (insert (insert empty 1 (account (codes "ALICE"))) 2 (account (codes "ALICE"))) 3 (account (codes "BOB"));
+  accounts = account_named (codes "ALICE") ∷ account_named (codes "BOB") ∷ [];
+  terminals = insert (insert (insert empty 1 (account_named (codes "ALICE"))) 2 (account_named (codes "ALICE"))) 3 (account_named (codes "BOB"));
   grants = record { from = codes "ALICE"; to = codes "BOB"; global = codes "X"; mode = Read } ∷ [];
 }
 

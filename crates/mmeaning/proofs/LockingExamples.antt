@@ -3,13 +3,14 @@
 use Rattle.mmeaning.proofs.MeaningWords.{◌≡◌, ℕ, suc, Bool, true, false, [], ◌∷◌, Option, Some, None, refl, rules, codes, empty, get, M9, Zgrant, Zlocked, Zsub, Zsyntax, perform, LockName, Locks, taken, given_back, released, Read, Text, Node, Locals, State, Gives, Fails, ExprTree, divide, number, text, ReferenceTree, local, global, indirect, extended, exprs, no_exprs, anew, adding, giving_back, lock_one, lock_several, reference, reads, finds, Shared, computes}
 use Rattle.mspec.specs.Access.{Settings}
 use Rattle.mmeaning.specs.Locking.{locking}
+use Rattle.mmeaning.proofs.ExampleAccount.{account_named}
 use Rattle.mmeaning.proofs.LineTrees.{only, with_operator}
 use Rattle.mmeaning.proofs.LockRuns.{hers, his, her_line, his_line}
 
 -- ALICE lets BOB read her global X
 abbrev lending : Settings
 lending = record {
-  accounts = record { name = codes "ALICE"; steps = 2000 } ∷ record { name = codes "BOB"; steps = 2000 } ∷ [];
+  accounts = account_named (codes "ALICE") ∷ account_named (codes "BOB") ∷ [];
   terminals = empty;
   grants = record { from = codes "ALICE"; to = codes "BOB"; global = codes "X"; mode = Read } ∷ [];
 }

@@ -14,8 +14,8 @@ moved_as b steady fault_of completion_of p q h r fs h1 same m = subst (λ p. Mov
 
 module _ {X E : Type 0} {b : Standing} {steady : Type 0} {fault_of : E → Fault} {completion_of : X → Completion} where
   -- an act was done, and the rest goes on
-  pub on_then : {A B Y : Type 0} {h h1 h2 : Here} {p : ℕ → Act A} (q : A → Act B) {k : B → Act Completion} {f : Y → A} {x : Y} {r : Result X E} {fs : List View} (n : ℕ) → h.0.steps ≤ n
-      → Did b steady fault_of p f h (Ok x) h1 → MovedOn b steady fault_of completion_of (q (f x)) k h1 r fs h2 → MovedOn b steady fault_of completion_of (p n >>= q) k h r fs h2
+  pub on_then : {early A B Y : Type 0} {h h1 h2 : Here} {p : ℕ → Act A} (q : A → Act B) {k : B → Act Completion} {f : Y → A} {x : Y} {r : Result X E} {fs : List View} (n : ℕ) → h.0.steps ≤ n
+      → Did b early fault_of p f h (Ok x) h1 → MovedOn b steady fault_of completion_of (q (f x)) k h1 r fs h2 → MovedOn b steady fault_of completion_of (p n >>= q) k h r fs h2
   on_then {h = h} {h1 = h1} {h2 = h2} {p = p} q {k = k} {f = f} {x = x} {r = r} {fs = fs} n le d m = record {
     done =
         moved_as b steady fault_of completion_of ((p n >>= q) >>= k) (p n >>= (λ a. q a >>= k)) h r fs h2 (assoc (p n) q k)

@@ -2,11 +2,12 @@
 -- What operations do on examples, as proved equations: an account does what its settings let it, and nothing else.
 use Rattle.mmeaning.proofs.MeaningWords.{◌≡◌, [], ◌∷◌, None, true, false, rules, codes, empty, get, insert, remove, LockName, taken, released, May, Value, Status, Put, Kill, Take, State, Gives, Halts, Quits, World, Finished, Halted, ended, kept, Read, Write, status, Shared, act, took, Text, Node}
 use Rattle.mspec.specs.Access.{Settings}
+use Rattle.mmeaning.proofs.ExampleAccount.{account_named}
 
 -- ALICE lets BOB read her global X
 abbrev lending : Settings
 lending = record {
-  accounts = record { name = codes "ALICE"; steps = 2000 } ∷ record { name = codes "BOB"; steps = 2000 } ∷ [];
+  accounts = account_named (codes "ALICE") ∷ account_named (codes "BOB") ∷ [];
   terminals = empty;
   grants = record { from = codes "ALICE"; to = codes "BOB"; global = codes "X"; mode = Read } ∷ [];
 }

@@ -43,8 +43,8 @@ abbrev pub Ends : {A X E : Type 0} → Standing → (steady : Type 0) → (E →
 Ends b steady fault_of p f h (Ok x) h' = Gave b p h (f x) h'
 Ends b steady fault_of p f h (Err e) h' = FailedBy b steady p h (fault_of e) h'
 
--- A call does an act, with any fuel that is at least the steps left, and adds no steps. `steady` says that the store is steady: as
--- a field of the standing it would lift that to a greater universe.
+-- A call does an act, with any fuel that is at least the steps left, and adds no steps. `steady` says that the store after it is
+-- steady and has room: as a field of the standing it would lift that to a greater universe.
 pub record Did {A X E : Type 0} (b : Standing) (steady : Type 0) (fault_of : E → Fault) (p : ℕ → Act A) (f : X → A) (h : Here) (r : Result X E) (h' : Here) : Type 0 where
   pub at : (n : ℕ) → h.0.steps ≤ n → Ends b steady fault_of (p n) f h r h'
   pub fewer : h'.0.steps ≤ h.0.steps

@@ -5,3 +5,4 @@ pub mod EntryPlaces
 pub mod EntryRanges
 pub mod Subtrees
 pub mod Holding
+pub mod Doubting

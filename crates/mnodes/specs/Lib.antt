@@ -2,3 +2,5 @@
 pub mod Failures
 pub mod Entries
 pub mod Held
+pub mod Doubt
+pub mod Steady

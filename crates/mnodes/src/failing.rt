@@ -1,10 +1,11 @@
 // SPDX-License-Identifier: Apache-2.0
 // A store of which one call fails.
 ghost use Rattle.std.specs.Prelude.{◌≡◌, ◌≢◌, ◌↔◌, ◌-◌, ◌<◌, ◌≤◌, ◌==◌, length, option_map};
-ghost use Rattle.std.specs.Prelude.{IsTrue, IfOk, OnOk, OnErr, Err, if◌then◌else◌};
+ghost use Rattle.std.specs.Prelude.{IsTrue, IfOk, OnOk, OnErr, Err, is_ok, if◌then◌else◌};
 ghost use Rattle.std.specs.FinMap.{get, insert};
 ghost use Rattle.mspec.specs.Globals.{without_subtree, next_key, previous_key};
 ghost use Rattle.mspec.specs.TextFunctions.{max_text};
+ghost use Rattle.mnodes.specs.Doubt.{Doubts};
 ghost use Rattle.mnodes.specs.Failures.{IsDue, Counts};
 ghost use Rattle.mnodes.specs.Held.{AreHeld};
 
@@ -84,17 +85,22 @@ impl<S: NodeStore> Failing<S> {
 impl<S: NodeStore> NodeStore for Failing<S> {
     ghost content = { λ failing. S.content failing.store };
 
+    ghost doubt = { λ failing. S.doubt failing.store };
+
     ghost sound = { S.sound };
 
     ghost steady = { ⊥ };
 
+    ghost has_room = { λ failing. S.has_room failing.store };
+
     fn get(&mut self, key: &NodeKey) -> Result<Option<Bytes7>, StoreFault>
-        ensures found { S.sound → IfOk result (λ text. text ≡ get (S.content self.old.store) key.now) }
-        ensures held { S.sound → AreHeld (S.content self.old.store) }
-        ensures same { S.sound → S.content self.new.store ≡ S.content self.old.store }
-        ensures store { ⊥ → result ≢ Err StoreFault.Store }
+        ensures found { S.doubt self.new.store ≡ 0 → IfOk result (λ text. text ≡ get (S.content self.old.store) key.now) }
+        ensures held { S.doubt self.new.store ≡ 0 → AreHeld (S.content self.old.store) }
+        ensures same { S.doubt self.new.store ≡ 0 → S.content self.new.store ≡ S.content self.old.store }
+        ensures doubt { Doubts S.sound (S.doubt self.old.store) (S.doubt self.new.store) (is_ok result) }
+        ensures store { ⊥ → IsTrue (S.has_room self.new.store) → result ≢ Err StoreFault.Store }
         ensures due { IsDue self.old.call self.old.left StoreCall.Get → result ≡ Err StoreFault.Store }
-        ensures alone { S.steady → result ≡ Err StoreFault.Store → IsDue self.old.call self.old.left StoreCall.Get }
+        ensures alone { S.steady → IsTrue (S.has_room self.new.store) → result ≡ Err StoreFault.Store → IsDue self.old.call self.old.left StoreCall.Get }
         ensures counts { Counts self.old.call self.old.left self.new.left StoreCall.Get }
         ensures kind { self.new.call ≡ self.old.call }
     {
@@ -107,12 +113,13 @@ impl<S: NodeStore> NodeStore for Failing<S> {
 
     fn put(&mut self, key: &NodeKey, text: &Bytes7) -> Result<(), StoreFault>
         requires { length text.now ≤ max_text }
-        ensures put { S.sound → OnOk result (S.content self.new.store ≡ insert (S.content self.old.store) key.now text.now) }
-        ensures held { S.sound → OnOk result (AreHeld (S.content self.old.store)) }
-        ensures fault { S.sound → OnErr result (S.content self.new.store ≡ S.content self.old.store) }
-        ensures store { ⊥ → result ≢ Err StoreFault.Store }
+        ensures put { S.doubt self.new.store ≡ 0 → OnOk result (S.content self.new.store ≡ insert (S.content self.old.store) key.now text.now) }
+        ensures held { S.doubt self.new.store ≡ 0 → OnOk result (AreHeld (S.content self.old.store)) }
+        ensures fault { S.doubt self.new.store ≡ 0 → OnErr result (S.content self.new.store ≡ S.content self.old.store) }
+        ensures doubt { Doubts S.sound (S.doubt self.old.store) (S.doubt self.new.store) (is_ok result) }
+        ensures store { ⊥ → IsTrue (S.has_room self.new.store) → result ≢ Err StoreFault.Store }
         ensures due { IsDue self.old.call self.old.left StoreCall.Put → result ≡ Err StoreFault.Store }
-        ensures alone { S.steady → result ≡ Err StoreFault.Store → IsDue self.old.call self.old.left StoreCall.Put }
+        ensures alone { S.steady → IsTrue (S.has_room self.new.store) → result ≡ Err StoreFault.Store → IsDue self.old.call self.old.left StoreCall.Put }
         ensures counts { Counts self.old.call self.old.left self.new.left StoreCall.Put }
         ensures kind { self.new.call ≡ self.old.call }
     {
@@ -123,11 +130,12 @@ impl<S: NodeStore> NodeStore for Failing<S> {
     }
 
     fn kill(&mut self, key: &NodeKey) -> Result<(), StoreFault>
-        ensures killed { S.sound → OnOk result (S.content self.new.store ≡ without_subtree (S.content self.old.store) key.now) }
-        ensures fault { S.sound → OnErr result (S.content self.new.store ≡ S.content self.old.store) }
-        ensures store { ⊥ → result ≢ Err StoreFault.Store }
+        ensures killed { S.doubt self.new.store ≡ 0 → OnOk result (S.content self.new.store ≡ without_subtree (S.content self.old.store) key.now) }
+        ensures fault { S.doubt self.new.store ≡ 0 → OnErr result (S.content self.new.store ≡ S.content self.old.store) }
+        ensures doubt { Doubts S.sound (S.doubt self.old.store) (S.doubt self.new.store) (is_ok result) }
+        ensures store { ⊥ → IsTrue (S.has_room self.new.store) → result ≢ Err StoreFault.Store }
         ensures due { IsDue self.old.call self.old.left StoreCall.Kill → result ≡ Err StoreFault.Store }
-        ensures alone { S.steady → result ≡ Err StoreFault.Store → IsDue self.old.call self.old.left StoreCall.Kill }
+        ensures alone { S.steady → IsTrue (S.has_room self.new.store) → result ≡ Err StoreFault.Store → IsDue self.old.call self.old.left StoreCall.Kill }
         ensures counts { Counts self.old.call self.old.left self.new.left StoreCall.Kill }
         ensures kind { self.new.call ≡ self.old.call }
     {
@@ -138,12 +146,13 @@ impl<S: NodeStore> NodeStore for Failing<S> {
     }
 
     fn next(&mut self, low: &[u8], high: &[u8]) -> Result<Option<Vec<u8>>, StoreFault>
-        ensures found { S.sound → IfOk result (λ key. option_map (λ bytes. bytes.items) key ≡ next_key (S.content self.old.store) low.now high.now) }
-        ensures held { S.sound → AreHeld (S.content self.old.store) }
-        ensures same { S.sound → S.content self.new.store ≡ S.content self.old.store }
-        ensures store { ⊥ → result ≢ Err StoreFault.Store }
+        ensures found { S.doubt self.new.store ≡ 0 → IfOk result (λ key. option_map (λ bytes. bytes.items) key ≡ next_key (S.content self.old.store) low.now high.now) }
+        ensures held { S.doubt self.new.store ≡ 0 → AreHeld (S.content self.old.store) }
+        ensures same { S.doubt self.new.store ≡ 0 → S.content self.new.store ≡ S.content self.old.store }
+        ensures doubt { Doubts S.sound (S.doubt self.old.store) (S.doubt self.new.store) (is_ok result) }
+        ensures store { ⊥ → IsTrue (S.has_room self.new.store) → result ≢ Err StoreFault.Store }
         ensures due { IsDue self.old.call self.old.left StoreCall.Next → result ≡ Err StoreFault.Store }
-        ensures alone { S.steady → result ≡ Err StoreFault.Store → IsDue self.old.call self.old.left StoreCall.Next }
+        ensures alone { S.steady → IsTrue (S.has_room self.new.store) → result ≡ Err StoreFault.Store → IsDue self.old.call self.old.left StoreCall.Next }
         ensures counts { Counts self.old.call self.old.left self.new.left StoreCall.Next }
         ensures kind { self.new.call ≡ self.old.call }
     {
@@ -155,12 +164,13 @@ impl<S: NodeStore> NodeStore for Failing<S> {
     }
 
     fn prev(&mut self, low: &[u8], high: &[u8]) -> Result<Option<Vec<u8>>, StoreFault>
-        ensures found { S.sound → IfOk result (λ key. option_map (λ bytes. bytes.items) key ≡ previous_key (S.content self.old.store) low.now high.now) }
-        ensures held { S.sound → AreHeld (S.content self.old.store) }
-        ensures same { S.sound → S.content self.new.store ≡ S.content self.old.store }
-        ensures store { ⊥ → result ≢ Err StoreFault.Store }
+        ensures found { S.doubt self.new.store ≡ 0 → IfOk result (λ key. option_map (λ bytes. bytes.items) key ≡ previous_key (S.content self.old.store) low.now high.now) }
+        ensures held { S.doubt self.new.store ≡ 0 → AreHeld (S.content self.old.store) }
+        ensures same { S.doubt self.new.store ≡ 0 → S.content self.new.store ≡ S.content self.old.store }
+        ensures doubt { Doubts S.sound (S.doubt self.old.store) (S.doubt self.new.store) (is_ok result) }
+        ensures store { ⊥ → IsTrue (S.has_room self.new.store) → result ≢ Err StoreFault.Store }
         ensures due { IsDue self.old.call self.old.left StoreCall.Prev → result ≡ Err StoreFault.Store }
-        ensures alone { S.steady → result ≡ Err StoreFault.Store → IsDue self.old.call self.old.left StoreCall.Prev }
+        ensures alone { S.steady → IsTrue (S.has_room self.new.store) → result ≡ Err StoreFault.Store → IsDue self.old.call self.old.left StoreCall.Prev }
         ensures counts { Counts self.old.call self.old.left self.new.left StoreCall.Prev }
         ensures kind { self.new.call ≡ self.old.call }
     {
@@ -180,4 +190,6 @@ impl<S: NodeStore> NodeStore for Failing<S> {
     }
 
     ghost steady_is_sound = { λ steady. absurd steady };
+
+    ghost steady_is_told = { λ steady. absurd steady };
 }

@@ -1,6 +1,6 @@
 // SPDX-License-Identifier: Apache-2.0
 // A store in a sorted vector.
-ghost use Rattle.std.specs.Prelude.{◌≡◌, ◌≤◌, ◌≢◌, length, option_map, IfOk, IfErr, OnOk, OnErr};
+ghost use Rattle.std.specs.Prelude.{◌≡◌, ◌≤◌, ◌≢◌, length, option_map, IfOk, IfErr, OnOk, OnErr, refl, true};
 ghost use Rattle.std.specs.FinMap.{empty};
 ghost use Rattle.std.specs.Option.{option_copied};
 ghost use Rattle.mspec.specs.NodeOrder.{node_cmp};
@@ -27,8 +27,8 @@ impl Drop for Entry {
     }
 }
 
-/// A store in memory, without a database: a vector of nodes in order. It is sound and steady: what is said of its content
-/// always holds, and no call answers `Store`.
+/// A store in memory, without a database: a vector of nodes in order. It is sound and steady, its doubt is 0, and it
+/// always has room: what is said of its content always holds, and no call answers `Store`.
 pub struct Plain {
     entries: Vec<Entry>,
 }
@@ -118,9 +118,13 @@ fn key_within(
 impl NodeStore for Plain {
     ghost content = { λ plain. plain };
 
+    ghost doubt = { λ _. 0 };
+
     ghost sound = { Unit };
 
     ghost steady = { Unit };
+
+    ghost has_room = { λ _. true };
 
     fn get(&mut self, key: &NodeKey) -> Result<Option<Bytes7>, StoreFault> {
         match search(&self.entries, key) {
@@ -164,4 +168,6 @@ impl NodeStore for Plain {
     }
 
     ghost steady_is_sound = { λ _. tt };
+
+    ghost steady_is_told = { λ _ _ _. refl };
 }

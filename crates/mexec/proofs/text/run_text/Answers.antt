@@ -12,7 +12,7 @@ returns-in-Err-clause-does g c =
 
 pub returns-in-Err-clause-steady : goal.returns-in-Err-clause-steady
 returns-in-Err-clause-steady g c =
-    never_refused g.met.S.NodeStore.steady_is_sound
+    never_refused g.met.S.NodeStore.steady_is_told
     (failed (line_at c.args.text.now) (line_tree c.in-Ok.line.value) _ _ _ c.in-Ok.ensures.tree c.in-Err.ensures)
 
 pub returns-in-Ok-run_line-clause-does : goal.returns-in-Ok-run_line-clause-does

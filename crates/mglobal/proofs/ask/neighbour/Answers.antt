@@ -37,8 +37,8 @@ returns-in-Some-2-clause-next g c sound =
     sym c.in-Some-2.is ∙ c.in_ok-child.ensures.child node (subst (IsKeyOf node) (sym c.deref-3.ensures.value) is) ∙ sym order
 
 pub returns-clause-store : goal.returns-clause-store
-returns-clause-store g c steady same =
-    let sound = g.met.S.NodeStore.steady_is_sound steady in
+returns-clause-store g c steady room same =
+    let sound = g.met.S.NodeStore.steady_is_told steady c.nearest.new.store room in
     let (node, is, order, some) =
     one (record { account = c.args.account.now; name = c.args.name.now; subscripts = c.args.subs.now }) c.in_ok-above.above _ c.in_ok-above.ensures.key c.front.ensures (way c.args.direction) (g.S.NodeStore.content c.args.store.now)
     (c.in_ok-found.ensures.held sound) c.in_ok-low.low.items c.in_ok-low.high.items _ _ c.in_ok-low.ensures.bounds c.deref.ensures.value c.deref-2.ensures.value c.in-Some.found.items (ap (option_map (λ bytes. bytes.items)) (sym c.in-Some.is) ∙ c.in_ok-found.ensures.found sound) in

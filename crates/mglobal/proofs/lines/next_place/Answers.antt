@@ -3,10 +3,10 @@ use Rattle.mglobal.proofs.GlobalWords.{◌≡◌, true, false, Some, sym, ap, �
 use Rattle.mglobal.proofs.LineWalks.{next_behind}
 use Rattle.mglobal.proofs.lines.next_place.Goals as goal
 
--- a sound store named no such place
+-- a store without doubt named no such place
 pub returns-clause-store : goal.returns-clause-store
-returns-clause-store g c steady same =
-    let sound = g.met.S.NodeStore.steady_is_sound steady in
+returns-clause-store g c steady room same =
+    let sound = g.met.S.NodeStore.steady_is_told steady c.neighbour.new.store room in
     let globals = g.S.NodeStore.content c.args.store.now in
     let asked = rw (c.deref.ensures.value, c.in_ok-subs.ensures, c.as_bytes.ensures.bytes, c.requires.global) at c.in_ok-neighbour.ensures.next sound in
     let there : Some c.in-Some.value ≡ order_at globals Forward (line_at c.args.account.now c.args.name.now c.args.place.now) = sym c.in-Some.is ∙ asked in

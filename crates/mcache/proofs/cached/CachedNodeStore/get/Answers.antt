@@ -1,5 +1,5 @@
 -- SPDX-License-Identifier: Apache-2.0
-use Rattle.mcache.proofs.CacheWords.{◌≡◌, Some, refl, sym, ap, subst, ◌∙◌, get, AreHeld}
+use Rattle.mcache.proofs.CacheWords.{◌≡◌, undoubted, Some, refl, sym, ap, subst, ◌∙◌, get, AreHeld}
 use Rattle.mcache.proofs.EntriesOf.{is_got, is_held, in_them, read_now, with_one}
 use Rattle.mcache.proofs.cached.CachedNodeStore.get.Goals as goal
 
@@ -18,7 +18,7 @@ pub invariant_of-self-in-Some-found : goal.invariant_of-self-in-Some-found
 invariant_of-self-in-Some-found g c sound =
     let same = c.get-answer.ensures.same sound in
     let now = g.S.NodeStore.content c.get-answer.new.self in
-    let before = in_them (c.self.invariant sound) c.find.new.entries.entries c.find.ensures.kept in
+    let before = in_them (c.self.invariant (undoubted c.get-answer.ensures.doubt sound)) c.find.new.entries.entries c.find.ensures.kept in
     let were = read_now before now same (c.get-answer.ensures.held sound) in
     let has : get now c.args.key.now ≡ Some c.in-Some-found.text = ap (λ x. get x c.args.key.now) same ∙ sym (c.in_ok-found.ensures.found sound) ∙ c.in-Some-found.is in
     let again = c.as_bytes-in-Some-found.ensures in

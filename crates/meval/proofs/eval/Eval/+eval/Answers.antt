@@ -470,7 +470,7 @@ eval-returns-clause-does g t c = evaluates_seen tt _ refl c.in_ok-eval_into.ensu
 
 pub eval-returns-in_err-eval_into-clause-steady : goal.eval-returns-in_err-eval_into-clause-steady
 eval-returns-in_err-eval_into-clause-steady g t c =
-    rw (residual_is _ _ c.from_residual.ensures) (never_refused g.met.S.NodeStore.steady_is_sound (evaluates_refused (λ (v : Text). v) c.in_err-eval_into.ensures.does))
+    rw (residual_is _ _ c.from_residual.ensures) (never_refused g.met.S.NodeStore.steady_is_told (evaluates_refused (λ (v : Text). v) c.in_err-eval_into.ensures.does))
 
 -- ---- numbers
 

@@ -1,0 +1,14 @@
+-- SPDX-License-Identifier: Apache-2.0
+-- How far what is said of a store's content can be relied on.
+use Rattle.std.specs.Prelude.{◌≡◌, ◌≤◌, ℕ, Bool, false}
+
+-- Doubt is a number: 0, what is said of the content holds; 1, nothing is said any more, since a fault has shut the store; 2, nothing is
+-- said at all, since a wrong answer of the disk may have been taken as true, which no call tells, or was never said.
+abbrev pub shut : ℕ
+shut = 1
+
+-- What a call does to it: it never falls; the call that shuts a store fails; and over a sound store it does not rise.
+pub record Doubts (sound : Type 0) (old new : ℕ) (is_done : Bool) : Type 0 where
+  pub order : old ≤ new
+  pub failed : old ≡ 0 → new ≡ shut → is_done ≡ false
+  pub stays : sound → new ≤ old

@@ -1,6 +1,6 @@
 -- SPDX-License-Identifier: Apache-2.0
 -- What rows hold are nodes of a store, with texts that they may have.
-use Rattle.mstore.proofs.Words.{◌≡◌, List, [], ◌∷◌, length, All, refl, sym, ◌∙◌, subst, inl, inr, arith, entries, empty, entries-insert, len-entries, len-empty, node_of, Node, node_cmp, significant_digits, IsStored, node_cmp_total, Row, Has, Ghosts, Held, state, stored, IsHeld, AreHeld, globals_by, IsInForm, key_of, value_of, Text, IsSound}
+use Rattle.mstore.proofs.Words.{◌≡◌, List, [], ◌∷◌, length, All, refl, sym, ◌∙◌, subst, inl, inr, arith, entries, empty, entries-insert, len-entries, len-empty, node_of, Node, node_cmp, significant_digits, IsStored, node_cmp_total, Row, Has, Ghosts, Held, state, stored, IsHeld, AreHeld, globals_by, IsInForm, key_of, value_of, Text, IsStore}
 use Rattle.mnodes.proofs.Holding.{put_held}
 use Rattle.mstore.proofs.KeyedRows.{node_at}
 
@@ -17,9 +17,5 @@ rows_held (r ∷ rows) in_form =
     subst (All IsHeld) (sym (entries-insert (node_cmp_total significant_digits) (globals_by key_of value_of rows) (node_of (key_of r)) (value_of r)))
     (put_held (node_of (key_of r)) (value_of r) (record { node = node; text = form.1.0 }) (entries (globals_by key_of value_of rows)) (rows_held rows (λ s has. in_form s (inr has))))
 
-pub table_held : {S : Type 0} (g : Ghosts S) (h : Held S) → IsSound g h → AreHeld (stored g h)
-table_held g h sound = rows_held ((state g h).now.trees 0) sound.1.nodes.in_form
-
--- the same of the table as it is seen
-pub seen_held : {S : Type 0} (g : Ghosts S) (h t : Held S) → h ≡ t → IsSound g h → AreHeld (stored g t)
-seen_held g h t is sound = subst (λ t. AreHeld (stored g t)) is (table_held g h sound)
+pub table_held : {S : Type 0} (g : Ghosts S) (h : Held S) → IsStore (state g h) → AreHeld (stored g h)
+table_held g h store = rows_held ((state g h).now.trees 0) store.nodes.in_form

@@ -1,11 +1,12 @@
 -- SPDX-License-Identifier: Apache-2.0
 -- How the tables are made.
-use Rattle.mstore.proofs.Words.{◌≡◌, ℕ, pos, true, false, List, [], ◌∷◌, codes, None, Ok, refl, sym, ap, ap₂, subst, ◌∙◌, inl, arith, Null, Int, Row, lit, Source, CreateTable, Insert, Enforced, Chosen, Tally, Does, lacks_sequence, Written, Database, State, mode_of, Opens, Writes, Executes, IsPlain, command_of, statement_of, runs_as, one_step, put_all_adds, Has, Values, over_memory, everything, understood, node, meta, schema, no_schema, version_name, this_version, IsBare, IsBlank, IsDatabase, IsMemory, GivesVersion, key_of, value_of, globals_by, empty, no_doubt, NodeTable, MetaTable, Version, sql, Trees}
+use Rattle.mstore.proofs.Words.{◌≡◌, ℕ, pos, true, false, List, [], ◌∷◌, codes, None, Ok, refl, sym, ap, ap₂, subst, ◌∙◌, inl, inr, arith, Null, Int, Row, lit, Source, CreateTable, Insert, Enforced, Chosen, Tally, Does, lacks_sequence, Written, Database, State, mode_of, Opens, Writes, Executes, IsPlain, command_of, statement_of, runs_as, one_step, put_all_adds, put_all_has, Has, Values, over_memory, everything, understood, node, meta, schema, no_schema, version_name, this_version, IsBare, IsBlank, IsMemory, IsOneVersion, GivesVersion, key_of, value_of, globals_by, empty, no_doubt, NodeTable, MetaTable, Version, sql, Trees}
 use Rattle.sqlite.specs.declared.types.Value.TheVariants.{Text}
 use Rattle.sqlite.specs.Table.{Table}
 use Rattle.sqlite.specs.Edit.{edit_of, numbered, next_rowid, put_all}
 use Rattle.sqlite.specs.Change.{created, next_tree}
-use Rattle.mmemory.specs.Memory.{memory_is_listed, memory_is_ordered}
+use Rattle.mmemory.specs.Memory.{memory_is_ordered, memory_is_listed}
+use Rattle.mstore.specs.Room.{IsFaultless}
 use Rattle.mstore.proofs.Texts.{node_is, meta_is}
 use Rattle.mstore.proofs.Casts.{cast_null, cast_int}
 use Rattle.mstore.proofs.Writes.{went, same_value}
@@ -30,6 +31,7 @@ version_is = (refl, (refl, refl))
 pub record HasTables (db : Database) : Type 0 where
   pub schema_is : db.schema ≡ schema
   pub empty : db.trees 0 ≡ []
+  pub unnamed : db.trees 2 ≡ []
 
 pub makes_node : (old new : State) (count : ℕ) → old.now.schema ≡ no_schema → Executes (sql NodeTable) [] old new (Ok count) → (new.now.schema ≡ created no_schema node) × (new.now.trees 0 ≡ [])
 makes_node old new count has h =
@@ -55,7 +57,7 @@ makes_meta old new count has none h =
     let made_is : first.0.schema ≡ schema = made.is ∙ ap (created (created no_schema node)) same in
     let plain : lacks_sequence first.0.schema ≡ false = ap lacks_sequence made_is in
     let now : new.now ≡ first.0 = ap (λ (p : Tally × Database). p.1) (same_value all.2) ∙ same_value (rw plain at first.2) in
-    record { schema_is = ap (λ (d : Database). d.schema) now ∙ made_is; empty = ap (λ (d : Database). d.trees 0) now ∙ made.others.0 ∙ none }
+    record { schema_is = ap (λ (d : Database). d.schema) now ∙ made_is; empty = ap (λ (d : Database). d.trees 0) now ∙ made.others.0 ∙ none; unnamed = ap (λ (d : Database). d.trees 2) now ∙ made.empty }
 
 pub apart : ◌≡◌ {A = ℕ} 0 2 → ⊥
 apart e = absurd (omega (arith, e))
@@ -74,7 +76,13 @@ pub record HasVersionRow (db : Database) : Type 0 where
   pub schema_is : db.schema ≡ schema
   pub empty : db.trees 0 ≡ []
   pub gives : GivesVersion db this_version
-  pub sound : IsDatabase db
+  pub one : IsOneVersion db
+
+one_row : (rows news : List Row) (v x : Row) → rows ≡ [] → news ≡ v ∷ [] → Has (put_all rows news) x → x ≡ v
+one_row rows news v x none is h = elim (put_all_has news rows x h) [
+  | inl new ↦ elim (subst (λ l. Has l x) is new) [ inl same ↦ same | inr other ↦ absurd other ]
+  | inr old ↦ absurd (let there : Has [] x = subst (λ l. Has l x) none old in there)
+]
 
 pub adds_version : (old new : State) (count : ℕ) → HasTables old.now → Executes (sql Version) [] old new (Ok count) → HasVersionRow new.now
 adds_version old new count bare h =
@@ -93,18 +101,22 @@ adds_version old new count bare h =
     let news : edit.news ≡ version_row (db 2) ∷ [] = news_is db given.0 given.1.1 in
     let added = put_all_adds edit.news (db 2) (version_row (db 2)) step.fresh (subst (λ l. Has l (version_row (db 2))) (sym news) (inl refl)) in
     let rows : new.now.trees 2 ≡ put_all (db 2) edit.news = ap (λ (d : Database). d.trees 2) now ∙ ap (λ (t : Trees). t 2) trees ∙ step.rows in
+    let only : (x : Row) → Has (new.now.trees 2) x → x ≡ version_row (db 2) = λ x h. one_row (db 2) edit.news (version_row (db 2)) x bare.unnamed news (subst (λ l. Has l x) rows h) in
     record {
       schema_is = ap (λ (d : Database). d.schema) now;
       empty = ap (λ (d : Database). d.trees 0) now ∙ ap (λ (t : Trees). t 0) trees ∙ kept ∙ bare.empty;
       gives = (version_row (db 2), subst (λ l. Has l (version_row (db 2))) (sym rows) added, refl, refl);
-      sound = w.sound;
+      one = λ r s a b first second. only r a ∙ sym (only s b);
     }
 
 pub blank_from : (s : State) → Opens s → s.now.schema ≡ no_schema → IsBlank s
 blank_from s opens none = record { idle = record { autocommit = opens.autocommit; settled = opens.clean }; schema_is = none }
 
 pub memory_is : IsMemory over_memory
-memory_is = record { clean = λ s. no_doubt true refl; is_open = λ s. refl; listed = memory_is_listed; ordered = memory_is_ordered; undisturbed = λ s. refl }
+memory_is = record { clean = λ s. no_doubt true refl; is_open = λ s. refl }
+
+pub memory_is_faultless : IsFaultless over_memory
+memory_is_faultless = record { memory = memory_is; faultless = λ s. refl; ordered = memory_is_ordered; listed = memory_is_listed }
 
 pub bare_is_empty : (s : State) → IsBare s.now → globals_by key_of value_of (s.now.trees 0) ≡ empty
 bare_is_empty s bare = ap (globals_by key_of value_of) bare.empty

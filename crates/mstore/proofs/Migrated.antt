@@ -1,6 +1,7 @@
 -- SPDX-License-Identifier: Apache-2.0
 -- A store of version 1 whose rows have all been moved.
-use Rattle.mstore.proofs.Words.{arith, ◌≡◌, ℕ, true, false, List, [], ◌∷◌, Option, Some, refl, sym, ap, ap₂, subst, ◌∙◌, inl, inr, OnErr, Result, IsTrue, Value, Blob, Row, column, Has, all_from, Ghosts, Database, Held, state, Error, State, Shows, IsRolledBack, FailsToCommit, Node, significant_digits, key_bytes, IsStored, IsKey, old_digits, none_empty, globals_by, AreKeyed, HoldBy, AreRows, AreNodes, IsNode, IsInForm, IsInFormBy, IsValue, key_of, value_of, lookup, shown_of, version_name, old_version, IsStore, IsUntouched, IsMigrated, HasVersion, this_version, ShowsAll, content, IsAny, IsWorking, IsMoving, IsOldStore, ShowContent}
+use Rattle.mstore.proofs.Words.{arith, ◌≡◌, ℕ, true, false, List, [], ◌∷◌, drop, map, Option, Some, refl, sym, ap, ap₂, subst, ◌∙◌, inl, inr, OnErr, Result, IsTrue, Value, Blob, Row, column, Has, all_from, Ghosts, Database, Held, state, Error, State, Shows, IsRolledBack, FailsToCommit, Node, significant_digits, key_bytes, IsStored, IsKey, old_digits, none_empty, globals_by, AreKeyed, HoldBy, AreRows, AreNodes, IsNode, IsInForm, IsInFormBy, IsValue, key_of, value_of, lookup, shown_of, version_name, old_version, IsStore, IsUntouched, IsMigrated, HasVersion, OnlyGives, Int, ℤ, this_version, ShowsAll, content, IsAny, IsWorking, IsMoving, IsOldStore, ShowContent}
+use Rattle.mstore.proofs.Answer.{has_mapped, mapped_has}
 use Rattle.mstore.proofs.Holding.{rows_held}
 use Rattle.mstore.proofs.KeyedRows as keyed_rows
 use Rattle.mstore.proofs.Maps.{lookup_some, lookup_has}
@@ -13,21 +14,24 @@ any_rows rows are = record { each = are.each; in_form = λ r h. tt; ids = are.id
 same_bytes : (a b : List ℕ) → ◌≡◌ {A = Value} (Blob a) (Blob b) → a ≡ b
 same_bytes a b e = cc
 
-shown_is : (r : Row) → IsNode r → shown_of r ≡ Blob (key_of r) ∷ Blob (value_of r) ∷ []
+shown_is : (r : Row) → IsNode r → drop 1 (shown_of r) ≡ Blob (key_of r) ∷ Blob (value_of r) ∷ []
 shown_is r node = ap₂ (λ a b. a ∷ b ∷ []) (key_column r node) (value_column r node)
 
--- the rows that are shown are what the map has
-pub shows_content : (s : State) (rows : List Row) → IsOldStore s → ShowsAll s rows → ShowContent (content s) rows
+-- what the rows show behind their rowids is what the map has
+pub shows_content : (s : State) (rows : List Row) → IsOldStore s → ShowsAll s rows → ShowContent (content s) (map (drop 1) rows)
 shows_content s rows was shown = record {
   each = λ k v e.
       let it = lookup_some (s.now.trees 0) k v e in
       let r = it.0 in
-      let form = was.rows.in_form r it.1 in
-      ((form.0.0, (form.0.1.0, form.0.1.1 ∙ it.2)), subst (Has rows) (shown_is r (was.rows.each r it.1) ∙ ap₂ (λ a b. Blob a ∷ Blob b ∷ []) it.2 it.3) (shown.each r it.1));
+      let form = was.rows.in_form r it.1 in (
+        (form.0.0, (form.0.1.0, form.0.1.1 ∙ it.2)),
+        subst (Has (map (drop 1) rows)) (shown_is r (was.rows.each r it.1) ∙ ap₂ (λ a b. Blob a ∷ Blob b ∷ []) it.2 it.3) (mapped_has (drop 1) rows (shown_of r) (shown.each r it.1)),
+      );
   only = λ k v has.
-      let it = shown.only (Blob k ∷ Blob v ∷ []) has in
+      let of = has_mapped (drop 1) rows (Blob k ∷ Blob v ∷ []) has in
+      let it = shown.only of.0 of.1 in
       let r = it.0 in
-      let is : Blob k ∷ Blob v ∷ [] ≡ Blob (key_of r) ∷ Blob (value_of r) ∷ [] = it.2 ∙ shown_is r (was.rows.each r it.1) in
+      let is : Blob k ∷ Blob v ∷ [] ≡ Blob (key_of r) ∷ Blob (value_of r) ∷ [] = of.2 ∙ ap (drop 1) it.2 ∙ shown_is r (was.rows.each r it.1) in
       let key : k ≡ key_of r = same_bytes k (key_of r) (ap (λ (x : Row). column x 0) is) in
       let value : v ≡ value_of r = same_bytes v (value_of r) (ap (λ (x : Row). column x 1) is) in
       ap (lookup (s.now.trees 0)) key ∙ lookup_has (s.now.trees 0) r was.rows it.1 ∙ ap Some (sym value);
@@ -75,6 +79,7 @@ module _ (old mid last new : State) (was : IsOldStore old) (working : IsWorking 
   pub store_now : IsStore new
   store_now = record {
     calm = record { idle = record { autocommit = mode; settled = now ∙ sym committed }; schema_is = ap (λ (d : Database). d.schema) now ∙ set.schema_is };
+    version = subst (λ (d : Database). HasVersion d this_version) (sym now) version;
     nodes = subst AreNodes (sym same_rows) (nodes_now (old.now.trees 0) (mid.now.trees 0) was.rows working.rows moved);
   }
 
@@ -92,14 +97,19 @@ module _ {S : Type 0} (g : Ghosts S) (old start : Held S) (begun : start ≡ rec
   pub starts : IsWorking (state g start)
   starts = subst (λ h. IsWorking (state g h)) (sym begun) (record { inside = refl; schema_is = was.calm.schema_is; rows = any_rows _ was.rows })
 
-  pub starts_shown : (rows : List Row) → ShowsAll (state g old) rows → ShowContent (content (state g start)) rows
-  starts_shown rows shown = subst (λ h. ShowContent (content (state g h)) rows) (sym begun) (shows_content (state g old) rows was shown)
+  pub starts_shown : (rows : List Row) → ShowsAll (state g old) rows → ShowContent (content (state g start)) (map (drop 1) rows)
+  starts_shown rows shown = subst (λ h. ShowContent (content (state g h)) (map (drop 1) rows)) (sym begun) (shows_content (state g old) rows was shown)
 
   abbrev Versioned : List Row → Type 0
   Versioned rows = ((r : Row) × Has rows r × (column r 1 ≡ version_name) × (column r 2 ≡ old_version)) × ((r s : Row) → Has rows r → Has rows s → column r 1 ≡ version_name → column s 1 ≡ version_name → r ≡ s)
 
   pub still_old : (mid : Held S) → (state g mid).now.trees 2 ≡ (state g start).now.trees 2 → HasVersion (state g mid).now old_version
   still_old mid same = subst Versioned (sym same) (subst (λ h. HasVersion (state g h).now old_version) (sym begun) was.version)
+
+  pub still_only : (mid : Held S) → (state g mid).now.trees 2 ≡ (state g start).now.trees 2 → OnlyGives (state g mid).now old_version
+  still_only mid same =
+      subst (λ (rows : List Row). (n : ℤ) × ((r : Row) → Has rows r → column r 1 ≡ version_name → (column r 0 ≡ Int n) × (column r 2 ≡ old_version))) (sym same)
+      (subst (λ h. OnlyGives (state g h).now old_version) (sym begun) was.only)
 
   module _ (mid last end : Held S) (working : IsWorking (state g mid)) (moved : IsMoving (content (state g start)) (content (state g mid)) []) (set : IsWorking (state g last))
       (rows : (state g last).now.trees 0 ≡ (state g mid).now.trees 0) (version : HasVersion (state g last).now this_version) (shows : Shows (state g last) (state g end) (state g last).now (state g last).now false) where

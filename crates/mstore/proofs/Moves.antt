@@ -1,7 +1,8 @@
 -- SPDX-License-Identifier: Apache-2.0
 -- Rows that go from their keys by fifteen digits to those of this version.
-use Rattle.mstore.proofs.Words.{arith, ◌≡◌, ◌≢◌, ◌⊎◌, ℕ, suc, true, List, [], ◌∷◌, Option, Some, None, sym, ap, subst, ◌∙◌, inl, inr, drop-cons, ◌+◌, ◌<◌, length, drop, get_or, add-one, cases_Bool, slice_cmp, Blob, Row, Has, same_bytes, bytes_eq_refl, has_at, State, Node, significant_digits, key_bytes, IsStored, node_of, keys_are_read, IsKeyBy, old_digits, Content, content, MovesKey, MovesRow, IsMoving, ShowContent, true≢false}
+use Rattle.mstore.proofs.Words.{arith, ◌≡◌, ◌≢◌, ◌⊎◌, ℕ, suc, true, List, [], ◌∷◌, Option, Some, None, sym, ap, subst, ◌∙◌, inl, inr, drop-cons, ◌+◌, ◌<◌, length, drop, map, get_or, add-one, cases_Bool, slice_cmp, Blob, Row, Has, same_bytes, bytes_eq_refl, has_at, State, Node, significant_digits, key_bytes, IsStored, node_of, keys_are_read, IsKeyBy, old_digits, Content, content, MovesKey, MovesRow, IsMoving, ShowContent, true≢false}
 use Rattle.std.proofs.Common.{is_eq, nat_cmp}
+use Rattle.mstore.proofs.Answer.{mapped_has}
 
 -- ---- keys of one node, or of two
 
@@ -108,11 +109,12 @@ module _ (first old new : Content) (m : Node) (k v : List ℕ) (left : List Row)
   one_moved = record { forth = forth; back = back }
 
 -- the row that comes next of those that are shown
-pub next_moved : (first : Content) (old new : State) (rows : List Row) (i : ℕ) (row : Row) → ShowContent first rows → i < length rows → row ≡ get_or rows i row → IsMoving first (content old) (drop i rows) → MovesRow row old new
-    → IsMoving first (content new) (drop (i + 1) rows)
+pub next_moved : (first : Content) (old new : State) (rows : List Row) (i : ℕ) (row : Row) → ShowContent first (map (drop 1) rows) → i < length rows → row ≡ get_or rows i row → IsMoving first (content old) (map (drop 1) (drop i rows)) → MovesRow (drop 1 row) old new
+    → IsMoving first (content new) (map (drop 1) (drop (i + 1) rows))
 next_moved first old new rows i row all inside is was m =
-    let here : first m.key ≡ Some m.value = all.only m.key m.value (subst (Has rows) m.shows (has_at rows i row inside is)) in
+    let here : first m.key ≡ Some m.value = all.only m.key m.value (subst (Has (map (drop 1) rows)) m.shows (mapped_has (drop 1) rows row (has_at rows i row inside is))) in
     let cut : drop i rows ≡ row ∷ drop (i + 1) rows = drop-cons rows i row inside ∙ ap (λ r. r ∷ drop (suc i) rows) (sym is) ∙ ap (λ n. row ∷ drop n rows) (sym (add-one i)) in
-    let before : IsMoving first (content old) ((Blob m.key ∷ Blob m.value ∷ []) ∷ drop (i + 1) rows) =
-    subst (λ r. IsMoving first (content old) (r ∷ drop (i + 1) rows)) m.shows (subst (IsMoving first (content old)) cut was) in
-    one_moved first (content old) (content new) m.node m.key m.value (drop (i + 1) rows) m.is here m.moved before
+    let left : List Row = map (drop 1) (drop (i + 1) rows) in
+    let before : IsMoving first (content old) ((Blob m.key ∷ Blob m.value ∷ []) ∷ left) =
+    subst (λ r. IsMoving first (content old) (r ∷ left)) m.shows (subst (λ l. IsMoving first (content old) (map (drop 1) l)) cut was) in
+    one_moved first (content old) (content new) m.node m.key m.value left m.is here m.moved before

@@ -47,7 +47,7 @@ put_map rows next k v right nodes put = record {
 or_false : (b : Bool) → (b || false) ≡ b
 or_false b = grind arith
 
-not_at : (k : List ℕ) (r : Row) → key_of r ≢ k → is_at k r ≡ false
+pub not_at : (k : List ℕ) (r : Row) → key_of r ≢ k → is_at k r ≡ false
 not_at k r other = false_from_ne_true (is_at k r) (λ h. other (same_bytes (key_of r) k h))
 
 -- the new rows are copies of one, put where the others are left
@@ -69,10 +69,10 @@ module _ (rows left news next : List Row) (k v : List ℕ) (id : ℤ) (kept : Is
     free = λ r h other same. true≢false (sym (taken_own left r (row_of id k v) (kept.stays r h (not_at k r other)) same) ∙ untaken news free copies some);
   }
 
-int_same : (m n : ℤ) → int_eq m n ≡ true → m ≡ n
+pub int_same : (m n : ℤ) → int_eq m n ≡ true → m ≡ n
 int_same m n h = grind (arith, ints)
 
-int_itself : (m : ℤ) → int_eq m m ≡ true
+pub int_itself : (m : ℤ) → int_eq m m ≡ true
 int_itself m = grind (arith, ints)
 
 -- the table of the version is another one
@@ -94,10 +94,10 @@ module _ {F : List ℕ → List ℕ → Type 0} (old : State) (has_schema : old.
   fresh = row_of (next_rowid rows) k v
 
   -- a row conflicts where it has the key
-  conflict_is : (r : Row) → IsNode r → conflicts (Some (1 ∷ [])) schema.indexes node fresh r ≡ is_at k r
+  pub conflict_is : (r : Row) → IsNode r → conflicts (Some (1 ∷ [])) schema.indexes node fresh r ≡ is_at k r
   conflict_is r n = ap (λ (f : Key). is_true (binary (Compare Eq f.collation) (column r 1) (Blob k)) && true || false) first_key-plain ∙ or_false _ ∙ last_term (ap (λ x. is_true (binary (Compare Eq Binary) x (Blob k))) (key_column r n) ∙ at_blobs false Eq (key_of r) k)
 
-  none_at : AreConflicts (Some (1 ∷ [])) schema.indexes node rows fresh [] → (r : Row) → Has rows r → key_of r ≢ k
+  pub none_at : AreConflicts (Some (1 ∷ [])) schema.indexes node rows fresh [] → (r : Row) → Has rows r → key_of r ≢ k
   none_at are r h same = are.complete r h (conflict_is r (nodes.each r h) ∙ at_itself r k same)
 
   -- a key that is not there
@@ -123,13 +123,13 @@ module _ {F : List ℕ → List ℕ → Type 0} (old : State) (has_schema : old.
     abbrev number : ℤ
     number = id_in (rowid r)
 
-    own : (s : Row) → Has rows s → rowid s ≡ Int (id_in (rowid s))
+    pub own : (s : Row) → Has rows s → rowid s ≡ Int (id_in (rowid s))
     own s h = ap (λ t. rowid t) (nodes.each s h)
 
     abbrev full : Row
     full = rowid r ∷ rowid r ∷ column r 1 ∷ Blob v ∷ []
 
-    passes_is : (s : Row) → Has rows s → passes at_rowid given_params s ≡ int_eq (id_in (rowid s)) number
+    pub passes_is : (s : Row) → Has rows s → passes at_rowid given_params s ≡ int_eq (id_in (rowid s)) number
     passes_is s h = last_term (ap₂ (λ a b. is_true (binary (Compare Eq Binary) a b)) (own s h) (own r has) ∙ at_ints false Eq (id_in (rowid s)) number)
 
     asked_from : (asked : List Row) → IsAnswer put_query (overlay old.now.trees []) given_params asked → (x : Row) → Has asked x → x ≡ full
@@ -144,7 +144,7 @@ module _ {F : List ℕ → List ℕ → Type 0} (old : State) (has_schema : old.
     abbrev cast_of : Row → Row
     cast_of s = cast_row node (drop 1 s)
 
-    cast_full : cast_of full ≡ row_of number k v
+    pub cast_full : cast_of full ≡ row_of number k v
     cast_full = ap₂ (λ a b. a ∷ b ∷ Blob v ∷ []) (ap (cast Integer) (own r has) ∙ cast_int number) (key_column r (nodes.each r has) ∙ ap Blob same)
 
     puts_over : (one : Written) → Updates (task old params) (program put_query) given_params old.now.trees (Ok one) → IsMade one.trees

@@ -1,10 +1,16 @@
 -- SPDX-License-Identifier: Apache-2.0
 -- What a statement leaves, whatever became of it.
-use Rattle.mstore.proofs.Words.{arith, ◌≡◌, ℕ, false, List, [], Option, Some, None, Result, Ok, Err, IsTrue, sym, ap, subst, ◌∙◌, inl, inr, cases_Bool, Row, Command, Database, RefusesToRead, Error, QueryReturnedNoRows, State, IsUnchanged, FailsToShow, Executes, RunsCommand, ShowsRows, shows_rows, IsPlain, understood, IsNotRun, FailsToQuery, QueriesRow, ExecutesIn, Shown, IsIdle, IsCalm, Stays, IsUntouched, Gives, IfOk, OnErr, OnOk, Statement, is_ok, schema, sql}
+use Rattle.mstore.proofs.Words.{arith, ◌≡◌, ℕ, false, List, [], Option, Some, None, Result, Ok, Err, IsTrue, sym, ap, subst, ◌∙◌, inl, inr, cases_Bool, Row, Command, Database, RefusesToRead, Error, QueryReturnedNoRows, State, IsUnchanged, FailsToShow, Executes, RunsCommand, ShowsRows, shows_rows, IsPlain, understood, IsNotRun, FailsToQuery, QueriesRow, ExecutesIn, Shown, IsIdle, IsCalm, Stays, IsUntouched, Gives, IfOk, OnErr, OnOk, Statement, is_ok, schema, sql, Value, Has, HasVersion, version_name, column}
 use Rattle.mstore.proofs.Texts.{Asks}
 
 pub stays_calm : (old new : State) → IsCalm old → Stays old new → IsCalm new
 stays_calm old new was k = record { idle = k.idle; schema_is = ap (λ (d : Database). d.schema) k.same ∙ was.schema_is }
+
+-- a version that the same rows give
+pub same_version : (old new : Database) (v : Value) → new.trees 2 ≡ old.trees 2 → HasVersion old v → HasVersion new v
+same_version old new v same has =
+    subst (λ (rows : List Row). ((r : Row) × Has rows r × (column r 1 ≡ version_name) × (column r 2 ≡ v))
+    × ((r s : Row) → Has rows r → Has rows s → column r 1 ≡ version_name → column s 1 ≡ version_name → r ≡ s)) (sym same) has
 
 -- one call after another
 pub stays_on : (a b c : State) → Stays a b → Stays b c → Stays a c

@@ -93,7 +93,7 @@ step_is false = (refl, (refl, refl), refl)
 step_is true = (refl, (refl, refl), refl)
 
 abbrev pub all_command : Command
-all_command = Select (program (table_query 0 [] (col 1 1 ∷ col 1 2 ∷ []) [])) (codes "k" ∷ codes "v" ∷ [])
+all_command = Select (program (table_query 0 [] (col 1 0 ∷ col 1 1 ∷ col 1 2 ∷ []) [])) (codes "rowid" ∷ codes "k" ∷ codes "v" ∷ [])
 
 pub all_is : Asks Each all_command
 unfolding understood everything
@@ -104,7 +104,7 @@ abbrev pub at_name : List Term
 at_name = op2 (Compare Eq Binary) (col 1 1) (lit version_name) ∷ []
 
 abbrev pub which_command : Command
-which_command = Select (program (table_query 2 at_name (col 1 2 ∷ []) [])) (codes "n" ∷ [])
+which_command = Select (program (table_query 2 at_name (col 1 0 ∷ col 1 2 ∷ []) [])) (codes "rowid" ∷ codes "n" ∷ [])
 
 pub which_is : Asks Which which_command
 unfolding understood everything

@@ -1,14 +1,14 @@
 -- SPDX-License-Identifier: Apache-2.0
 -- What the statements do, of the globals that the rows are.
-use Rattle.mstore.proofs.Words.{arith, ◌≡◌, ℕ, Bool, List, [], ◌∷◌, Some, None, Result, OnOk, sym, ap, subst, ◌∙◌, get, Value, Blob, Row, column, Ghosts, all_from, Held, state, Node, significant_digits, key_bytes, subtree_end, IsStored, without_subtree, IsKey, none_empty, AreKeyed, PutsAt, RemovesWithin, IsNearest, ShowsValue, ShowsKey, key_of, value_of, stored, step_key, insert, IsSound, holds}
+use Rattle.mstore.proofs.Words.{arith, ◌≡◌, ℕ, Bool, List, [], ◌∷◌, Some, None, Result, Ok, Err, OnOk, sym, ap, subst, ◌∙◌, get, Value, Blob, Row, column, Ghosts, all_from, Held, state, Node, significant_digits, key_bytes, subtree_end, IsStored, without_subtree, IsKey, none_empty, AreKeyed, PutsAt, RemovesWithin, IsNearest, ShowsValue, ShowsKey, key_of, value_of, stored, step_key, insert, IsStore, holds}
 use Rattle.mstore.proofs.KeyedRows as keyed_rows
 use Rattle.mstore.proofs.KeyedOrder as keyed_order
 
 abbrev rows : {S : Type 0} → Ghosts S → Held S → List Row
 rows g h = (state g h).now.trees 0
 
-are_keyed : {S : Type 0} (g : Ghosts S) (h : Held S) → IsSound g h → AreKeyed key_of (rows g h)
-are_keyed g h sound = all_from (λ r. IsKey (key_of r)) (rows g h) (λ r has. (sound.1.nodes.in_form r has).0)
+are_keyed : {S : Type 0} (g : Ghosts S) (h : Held S) → IsStore (state g h) → AreKeyed key_of (rows g h)
+are_keyed g h store = all_from (λ r. IsKey (key_of r)) (rows g h) (λ r has. (store.nodes.in_form r has).0)
 
 same_bytes : (a b : List ℕ) → ◌≡◌ {A = Value} (Blob a) (Blob b) → a ≡ b
 same_bytes a b e = cc
@@ -17,12 +17,12 @@ same_bytes a b e = cc
 shown_bytes : (row : Row) (a b : List ℕ) → row ≡ Blob a ∷ [] → column row 0 ≡ Blob b → a ≡ b
 shown_bytes row a b is shows = same_bytes a b (sym (ap (λ (r : Row). column r 0) is) ∙ shows)
 
-module _ {S : Type 0} (g : Ghosts S) (h : Held S) (sound : IsSound g h) where
+module _ {S : Type 0} (g : Ghosts S) (h : Held S) (store : IsStore (state g h)) where
   abbrev here : List Row
   here = rows g h
 
   abbrev keyed : AreKeyed key_of here
-  keyed = are_keyed g h sound
+  keyed = are_keyed g h store
 
   got : (n : Node) → IsStored n → get (stored g h) n ≡ holds g h (key_bytes significant_digits n)
   got n is = keyed_rows.gets key_of value_of here keyed n (none_empty n is)
@@ -40,7 +40,7 @@ module _ {S : Type 0} (g : Ghosts S) (h : Held S) (sound : IsSound g h) where
   step_some down low high row k shows column_is =
       keyed_order.steps key_of value_of here keyed down low high (Some k) (subst (IsNearest down (holds g h) low high) (shown_bytes row shows.0 k shows.1 column_is) shows.2)
 
-module _ {S : Type 0} (g : Ghosts S) (old new : Held S) (was : IsSound g old) (is : IsSound g new) where
+module _ {S : Type 0} (g : Ghosts S) (old new : Held S) (was : IsStore (state g old)) (is : IsStore (state g new)) where
   pub put_is : (n : Node) (text : List ℕ) → IsStored n → PutsAt (holds g old) (holds g new) (key_bytes significant_digits n) text → stored g new ≡ insert (stored g old) n text
   put_is n text stored_n put = keyed_rows.puts key_of value_of (rows g old) (rows g new) (are_keyed g old was) (are_keyed g new is) n text (none_empty n stored_n) put
 
@@ -49,3 +49,7 @@ module _ {S : Type 0} (g : Ghosts S) (old new : Held S) (was : IsSound g old) (i
 
 pub on_ok : {A E P Q : Type 0} (r : Result A E) → (P → Q) → OnOk r P → OnOk r Q
 on_ok r h e = grind arith
+
+pub both_ok : {A E : Type 0} (P Q : Type 0) (r : Result A E) → OnOk r P → OnOk r Q → OnOk r (P × Q)
+both_ok P Q (Ok a) p q = (p, q)
+both_ok P Q (Err e) p q = p

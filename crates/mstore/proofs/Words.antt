@@ -1,6 +1,6 @@
 -- SPDX-License-Identifier: Apache-2.0
 -- The words that most proofs of this crate have, in one place.
-pub use Rattle.std.proofs.Common.{All, Bool, Equal, Err, Greater, IfErr, IfOk, IsPermutation, IsSorted, IsTrue, Less, List, None, Ok, OnErr, OnOk, Option, Ordering, Result, Some, T, [], add-one, ap, append-nil, ap₂, arith, codes, cond, drop, drop-cons, false, find, flat_map, get_or, if◌then◌else◌, inl, inr, int_cmp, int_eq, is_eq, is_ok, is_some, length, map, negsuc, not, option_copied, option_map, pos, refl, reverse, rules, slice_get, slice_index_or, slice_set, subst, suc, sym, take, true, zero, ℕ, ℤ, ◌&&◌, ◌++◌, ◌+◌, ◌-◌, ◌<◌, ◌||◌, ◌∙◌, ◌∷◌, ◌≡◌, ◌≢◌, ◌≤◌, ◌⊎◌}
+pub use Rattle.std.proofs.Common.{All, Bool, Equal, Err, Greater, IfErr, IfOk, IsPermutation, IsSorted, IsTrue, Less, List, None, Ok, OnErr, OnOk, Option, Ordering, Result, Some, T, [], add-one, ap, append-nil, ap₂, arith, codes, cond, drop, drop-cons, false, find, flat_map, get_or, if◌then◌else◌, inl, inr, int_cmp, int_eq, int_lt, is_eq, is_ok, is_some, length, map, negsuc, not, option_copied, option_map, pos, refl, reverse, rules, slice_get, slice_index_or, slice_set, subst, suc, sym, take, true, zero, ℕ, ℤ, ◌&&◌, ◌++◌, ◌+◌, ◌-◌, ◌<◌, ◌||◌, ◌∙◌, ◌∷◌, ◌≡◌, ◌≢◌, ◌≤◌, ◌⊎◌}
 pub use Rattle.std.proofs.lemmas.Bool.{and_from, and_parts, cases_Bool, cases_lt, cases_order, false_from_ne_true, not-true, true≢false}
 pub use Rattle.std.proofs.lemmas.Cmp.{tied_itself}
 pub use Rattle.std.proofs.lemmas.Int.{ints}
@@ -82,7 +82,9 @@ pub use Rattle.sqlite_value.specs.Keys.{by_key, plain}
 pub use Rattle.sqlite_value.specs.Order.{bytes}
 unfoldable pub use Rattle.sqlite_value.specs.Order.{value_cmp}
 pub use Rattle.sqlite_value.specs.declared.keys.Key.{Key}
-pub use Rattle.mstore.specs.Database.{GivesVersion, HasVersion, IsBare, IsBlank, IsCalm, IsIdle, IsMemory, IsMigrated, IsOneVersion, IsSound, IsStore, IsUntouched, ShowsAll, ShowsNodes, ShowsNodesBy, ShowsVersion, Stays, content, globals_in, holds, old_version, stored, this_version, version_name}
+pub use Rattle.mstore.specs.Database.{AllGive, DoubtsStore, GivesVersion, HasVersion, IsBare, IsBlank, IsCalm, IsIdle, IsMemory, IsMigrated, IsOneVersion, IsStore, IsUntouched, OnlyGives, ShowsAll, ShowsNodes, ShowsNodesBy, ShowsVersion, Stays, TableOver, content, doubt_as, doubt_in, doubt_of, globals_in, holds, old_version, stored, table_doubt, this_version, version_name}
+pub use Rattle.mnodes.proofs.Doubting.{Doubts-same, Doubts-then, undoubted}
+pub use Rattle.mnodes.specs.Doubt.{Doubts, shut}
 pub use Rattle.mnodes.specs.Entries.{AreEntries, IsAt, IsGapFor, IsPlaceOf, bytes_of, entries_of, entry_of, held, is_before, key_within}
 pub use Rattle.mnodes.specs.Held.{AreHeld, IsHeld}
 pub use Rattle.mstore.specs.InMemory.{over_memory}
@@ -90,7 +92,7 @@ pub use Rattle.mstore.specs.Keyed.{AreKeyed, globals_by, lookup_by}
 pub use Rattle.mstore.specs.Layout.{column_of, index_of, meta, no_schema, node, schema, table_of}
 pub use Rattle.mstore.specs.Map.{Content, HasNone, IsNearest, PutsAt, RemovesWithin, ShowsBytes, in_bounds, is_below, is_down, is_nearer, step_key}
 pub use Rattle.mstore.specs.Moving.{IsAny, IsMoving, IsOldCalm, IsOldStore, IsWorking, MovesKey, MovesRow, RanInside, ShowContent}
-pub use Rattle.mstore.specs.Rows.{AreNodes, AreRows, HasOther, HasOtherBy, IsInForm, IsInFormBy, IsNode, IsValue, ShowsKey, ShowsNodeBy, ShowsValue, is_at, key_of, lookup, shown_of, value_of}
+pub use Rattle.mstore.specs.Rows.{AreNodes, AreNumbered, AreRows, HasOther, HasOtherBy, IsInForm, IsAbove, IsInFormBy, IsNode, IsValue, RiseFrom, ShowsKey, ShowsNodeBy, ShowsValue, is_at, key_of, lookup, shown_of, value_of}
 pub use Rattle.mstore.specs.Statements.{Each, Get, Gives, Kill, MetaTable, NodeTable, Put, Set, Statement, Step, Version, Which, sql}
 pub use Rattle.mstore.specs.Versions.{HoldBy, digits_of, number_of}
 pub use Rattle.mnodes.specs.declared.plain.Entry.{Entry}

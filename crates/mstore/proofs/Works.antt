@@ -1,16 +1,16 @@
 -- SPDX-License-Identifier: Apache-2.0
 -- What the statements do inside the transaction of a migration.
-use Rattle.mstore.proofs.Words.{arith, ◌≡◌, ℕ, pos, true, List, [], ◌∷◌, codes, drop, map, None, Ok, refl, sym, ap, subst, ◌∙◌, Value, Null, Row, column, col, lit, Query, IsAnswer, Command, Update, overlay, cast, cast_row, Written, Task, Updates, Tally, Does, Database, State, mode_of, ExecutesInside, runs_as, one_step, statement_of, Enforced, Given, Has, without_all, are_fresh, ids_of, put_all_adds, given, rowid, last_term, understood, everything, schema, PutsAt, RemovesWithin, Kill, Put, Set, content, this_version, GivesVersion, IsDatabase, IsAny, IsWorking, sql, MovesKey, RanInside, ◌++◌, ◌≢◌, Trees, edit_of, put_all}
+use Rattle.mstore.proofs.Words.{arith, ◌≡◌, ◌⊎◌, ℕ, ℤ, pos, true, false, List, [], ◌∷◌, codes, drop, map, None, Ok, refl, sym, ap, subst, ◌∙◌, Value, Null, Row, column, col, lit, Query, IsAnswer, Command, Update, overlay, cast, cast_row, Written, Task, Updates, Tally, Does, Database, State, mode_of, ExecutesInside, runs_as, one_step, statement_of, Enforced, Given, Has, without_all, are_fresh, ids_of, put_all_adds, given, rowid, last_term, inl, inr, and_parts, id_in, has_rowid, put_all_has, Int, understood, everything, schema, PutsAt, RemovesWithin, Kill, Put, Set, content, this_version, GivesVersion, IsOneVersion, OnlyGives, true≢false, version_name, IsAny, IsWorking, sql, MovesKey, RanInside, ◌++◌, ◌≢◌, Trees, edit_of, put_all}
 use Rattle.sqlite.specs.Kind.TheVariants.{Text as KindText}
-use Rattle.mstore.proofs.Answer.{rows_to, mapped_has}
-use Rattle.mstore.proofs.Edits.{left_nodes}
+use Rattle.mstore.proofs.Answer.{rows_from, rows_to, has_mapped, mapped_has}
+use Rattle.mstore.proofs.Edits.{left_nodes, left_from, has_own}
 use Rattle.mstore.proofs.Kills.{kills, kill_map}
 use Rattle.mstore.proofs.Makes.{apart, meta_table}
 use Rattle.mstore.proofs.Puts.{puts, put_nodes, put_map}
 use Rattle.mstore.proofs.Casts.{cast_int}
 use Rattle.mstore.proofs.Ranges.{key_moved}
 use Rattle.mstore.proofs.Texts.{Compiles, table_query, program, at_name}
-use Rattle.mstore.proofs.Versions.{text_equal}
+use Rattle.mstore.proofs.Versions.{equal_text, text_equal}
 use Rattle.mstore.proofs.Writes.{went, same_value}
 
 module _ (old new : State) (was : IsWorking old) where
@@ -72,6 +72,7 @@ module _ (old new : State) (was : IsWorking old) (count : ℕ) (h : ExecutesInsi
   -- the rows that are shown are put in the place of those that have their rowids
   asked : (asked : List Row) × IsAnswer set_query (overlay old.now.trees []) [] asked × (new.now.trees 0 ≡ old.now.trees 0)
       × ((x : Row) → Has (map cast_of asked) x → Has (new.now.trees 2) x)
+      × ((x : Row) → Has (new.now.trees 2) x → Has (map cast_of asked) x ⊎ (Has rows x × ((id : ℤ) → Has (ids_of asked) id → has_rowid id x ≡ false)))
   asked =
       let done = updated in
       let shown = went done.1 in
@@ -88,6 +89,7 @@ module _ (old new : State) (was : IsWorking old) (count : ℕ) (h : ExecutesInsi
         shown.1.answer Null,
         ap (λ (t : Trees). t 0) now ∙ step.tables.0 apart,
         λ x here. subst (λ l. Has l x) (sym is) (put_all_adds (map cast_of shown.0) left x (subst (λ l. are_fresh left l ≡ true) news step.fresh) here),
+        λ x here. elim (put_all_has (map cast_of shown.0) left x (subst (λ l. Has l x) is here)) [ inl put ↦ inl put | inr stays ↦ inr (left_from ids rows x stays) ],
       )
 
   pub sets_inside : IsWorking new × (new.now.trees 0 ≡ old.now.trees 0)
@@ -96,10 +98,6 @@ module _ (old new : State) (was : IsWorking old) (count : ℕ) (h : ExecutesInsi
   abbrev full : Row → Row
   full r = rowid r ∷ rowid r ∷ column r 1 ∷ this_version ∷ []
 
-  -- the database obeys its schema still
-  pub sound_still : IsDatabase new.now
-  sound_still = (runs_as (sql Set) [] old new schema was.schema_is set_command set_is.0 set_is.1 count h.0).sound
-
   pub version_set : (v : Value) → GivesVersion old.now v → GivesVersion new.now this_version
   version_set v has =
       let r = has.0 in
@@ -107,3 +105,30 @@ module _ (old new : State) (was : IsWorking old) (count : ℕ) (h : ExecutesInsi
       rows_to at_name [] (col 1 0 ∷ col 1 0 ∷ col 1 1 ∷ lit this_version ∷ []) [] old.now.trees 2 refl asked.0 asked.1 r has.1 (last_term (text_equal (column r 1) (codes "version") has.2)) in
       let put : Has (new.now.trees 2) (cast_of (full r)) = asked.3 (cast_of (full r)) (mapped_has cast_of asked.0 (full r) shown) in
       (cast_of (full r), put, ap (cast KindText) has.2, cast_int (pos 2))
+
+  -- only the row that had a version has one
+  module _ (v : Value) (has : GivesVersion old.now v) (one : IsOneVersion old.now) (only : OnlyGives old.now v) where
+    abbrev named : Row
+    named = has.0
+
+    put_only : (x : Row) → Has (map cast_of asked.0) x → x ≡ cast_of (full named)
+    put_only x h =
+        let made = has_mapped cast_of asked.0 x h in
+        let it = rows_from at_name [] (col 1 0 ∷ col 1 0 ∷ col 1 1 ∷ lit this_version ∷ []) [] old.now.trees 2 refl asked.0 asked.1 made.0 made.1 in
+        let same : it.0 ≡ named = one it.0 named it.1 has.1 (equal_text (column it.0 1) (codes "version") (and_parts _ _ it.2).0) has.2 in
+        made.2 ∙ ap cast_of (it.3 ∙ ap full same)
+
+    not_left : (x : Row) → Has rows x → column x 1 ≡ version_name → ((id : ℤ) → Has (ids_of asked.0) id → has_rowid id x ≡ false) → ⊥
+    not_left x h first free =
+        let same : x ≡ named = one x named h has.1 first has.2 in
+        let id : rowid x ≡ Int only.0 = (only.1 x h first).0 in
+        let shown : Has asked.0 (full x) =
+        rows_to at_name [] (col 1 0 ∷ col 1 0 ∷ col 1 1 ∷ lit this_version ∷ []) [] old.now.trees 2 refl asked.0 asked.1 x h (last_term (text_equal (column x 1) (codes "version") first)) in
+        let among : Has (ids_of asked.0) (id_in (rowid x)) = mapped_has (λ r. id_in (rowid r)) asked.0 (full x) shown in
+        true≢false (sym (has_own x (id_in (rowid x)) (id ∙ ap Int (sym (ap id_in id)))) ∙ free (id_in (rowid x)) among)
+
+    the_put : (x : Row) → Has (new.now.trees 2) x → column x 1 ≡ version_name → x ≡ cast_of (full named)
+    the_put x h first = elim (asked.4 x h) [ inl put ↦ put_only x put | inr left ↦ absurd (not_left x left.0 first left.1) ]
+
+    pub one_set : IsOneVersion new.now
+    one_set r s a b first second = the_put r a first ∙ sym (the_put s b second)

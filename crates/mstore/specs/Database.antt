@@ -1,18 +1,19 @@
 -- SPDX-License-Identifier: Apache-2.0
 -- What a connection holds if its database is that of a table, and what a call leaves of it.
-use Rattle.std.specs.Prelude.{◌≡◌, ◌≢◌, ◌⊎◌, ◌||◌, ℕ, pos, List, ◌∷◌, [], codes, false, Option, Some, None, IsTrue}
+use Rattle.std.specs.Prelude.{◌≡◌, ◌≢◌, ◌⊎◌, ◌||◌, ◌≤◌, ℕ, ℤ, pos, Bool, if◌then◌else◌, List, ◌∷◌, [], codes, false, Option, Some, None, IsTrue, refl}
+use Rattle.std.specs.Coded.{Coded, code_by, coded×, coded_bool}
 use Rattle.sqlite_schema.specs.declared.schema.Schema.{Schema}
 use Rattle.sqlite_value.specs.declared.value.Value.{Value}
 use Rattle.sqlite_value.specs.declared.value.Value.TheVariants.{Int, Text}
 use Rattle.sqlite_value.specs.Order.{Row, column}
-use Rattle.sqlite_trees.specs.View.{IsClean, IsOrdered}
-use Rattle.sqlite_trees.specs.Objects.{catalog_tree, IsListed}
+use Rattle.sqlite_trees.specs.View.{IsClean}
 use Rattle.sqlite_trees.specs.declared.store.Store.{Ghosts}
 use Rattle.sqlite_rules.specs.Lists.{Has}
 use Rattle.sqlite.specs.State.{State}
 use Rattle.sqlite.specs.Effect.{Database}
-use Rattle.sqlite.specs.Held.{Held, state}
+use Rattle.sqlite.specs.Held.{Held, held_code, state}
 use Rattle.mspec.specs.Globals.{Globals}
+use Rattle.mnodes.specs.Doubt.{shut}
 use Rattle.mstore.specs.Beside.{has_table}
 use Rattle.mstore.specs.Layout.{schema, no_schema}
 use Rattle.mstore.specs.Keyed.{globals_by}
@@ -22,14 +23,20 @@ use Rattle.mstore.specs.Versions.{HoldBy}
 use Rattle.mkey.specs.Key.{old_digits}
 use Rattle.mstore.specs.Statements.{RefusesOne}
 
--- The store beneath is memory: it never loses what it holds, and is in order at each moment. It notes no fault of a disk, as each store
--- over files does, so that none of these is memory.
+-- The store beneath is memory, which never loses what it holds.
 pub record IsMemory {S : Type 0} (g : Ghosts S) : Type 0 where
   pub clean : (s : S) → IsClean (g.view s)
   pub is_open : (s : S) → IsTrue (g.view s).is_open
-  pub listed : (s : S) → IsListed ((g.view s).trees catalog_tree) (g.view s).shape (g.view s).reals
-  pub ordered : (s : S) → IsOrdered (g.view s).shape (g.view s).trees
-  pub undisturbed : (s : S) → g.blamed s ≡ None
+
+-- How far what is said of a connection can be relied on, as `Doubt` of mnodes counts: it is clean and open, or shut, or not clean.
+abbrev pub doubt_as : Bool → Bool → ℕ
+doubt_as is_clean is_open = if is_clean then (if is_open then 0 else 1) else 2
+
+abbrev pub doubt_in : State → ℕ
+doubt_in s = doubt_as s.is_clean s.is_open
+
+abbrev pub doubt_of : {S : Type 0} → Ghosts S → Held S → ℕ
+doubt_of g h = doubt_in (state g h)
 
 -- between statements, outside a transaction
 pub record IsIdle (s : State) : Type 0 where
@@ -45,54 +52,6 @@ pub record IsCalm (s : State) : Type 0 where
 pub record IsBlank (s : State) : Type 0 where
   pub idle : IsIdle s
   pub schema_is : s.now.schema ≡ no_schema
-
--- both tables, and the rows are a map
-pub record IsStore (s : State) : Type 0 where
-  pub calm : IsCalm s
-  pub nodes : AreNodes (s.now.trees 0)
-
-abbrev pub content : State → Content
-content s = lookup (s.now.trees 0)
-
-abbrev pub holds : {S : Type 0} → Ghosts S → Held S → Content
-holds g h = content (state g h)
-
--- the globals that the rows are
-abbrev pub stored : {S : Type 0} → Ghosts S → Held S → Globals
-stored g h = globals_by key_of value_of ((state g h).now.trees 0)
-
--- what the calls say holds if the store is memory and was a table
-abbrev pub IsSound : {S : Type 0} → Ghosts S → Held S → Type 0
-IsSound g h = IsMemory g × IsStore (state g h)
-
--- ---- after a call
-
--- what the database holds is as it was
-pub record Stays (old new : State) : Type 0 where
-  pub idle : IsIdle new
-  pub same : new.now ≡ old.now
-
--- and a table is still one
-abbrev pub IsKept : {S : Type 0} → Ghosts S → Held S → Held S → Type 0
-IsKept g old new = IsSound g old → IsSound g new × (stored g new ≡ stored g old)
-
--- all that the database holds, what is committed and whether a transaction is open is as it was
-pub record IsUntouched (old new : State) : Type 0 where
-  pub now : new.now ≡ old.now
-  pub committed : new.committed ≡ old.committed
-  pub mode : new.in_transaction ≡ old.in_transaction
-
--- the rows show each node, and nothing else
-pub record ShowsAll (s : State) (shown : List Row) : Type 0 where
-  pub each : (r : Row) → Has (s.now.trees 0) r → Has shown (shown_of r)
-  pub only : (row : Row) → Has shown row → (r : Row) × Has (s.now.trees 0) r × (row ≡ shown_of r)
-
--- each row is a key and a value in form
-abbrev pub ShowsNodes : Database → Type 0
-ShowsNodes db = (r : Row) → Has (db.trees 0) r → ShowsNode (shown_of r)
-
-abbrev pub ShowsNodesBy : ℕ → Database → Type 0
-ShowsNodesBy kept db = (r : Row) → Has (db.trees 0) r → ShowsNodeBy kept (shown_of r)
 
 -- ---- the version
 
@@ -119,13 +78,88 @@ IsOneVersion db = (r s : Row) → Has (db.trees 2) r → Has (db.trees 2) s → 
 abbrev pub HasVersion : Database → Value → Type 0
 HasVersion db v = GivesVersion db v × IsOneVersion db
 
+-- ---- a database of a table
+
+-- both tables, with this version, and the rows are a map
+pub record IsStore (s : State) : Type 0 where
+  pub calm : IsCalm s
+  pub version : HasVersion s.now this_version
+  pub nodes : AreNodes (s.now.trees 0)
+
+abbrev pub content : State → Content
+content s = lookup (s.now.trees 0)
+
+abbrev pub holds : {S : Type 0} → Ghosts S → Held S → Content
+holds g h = content (state g h)
+
+-- the globals that the rows are
+abbrev pub stored : {S : Type 0} → Ghosts S → Held S → Globals
+stored g h = globals_by key_of value_of ((state g h).now.trees 0)
+
+-- ---- a table over a connection
+
+pub record TableOver (S : Type 0) : Type 0 where
+  pub conn : Held S
+  -- the database has the two tables and no other
+  pub is_alone : Bool
+
+abbrev pub table_code : {S : Type 0} → Coded S → Coded (TableOver S)
+table_code {S} store = code_by (Held S × Bool) (coded× (held_code store) coded_bool) (λ t. (t.conn, t.is_alone)) (λ p. record { conn = p.0; is_alone = p.1 }) (λ _. refl)
+
+-- nothing is said yet of a table beside others
+abbrev pub table_doubt : {S : Type 0} → Ghosts S → TableOver S → ℕ
+table_doubt g t = if t.is_alone then doubt_of g t.conn else 2
+
+-- ---- after a call
+
+-- what the database holds is as it was
+pub record Stays (old new : State) : Type 0 where
+  pub idle : IsIdle new
+  pub same : new.now ≡ old.now
+
+-- What a statement does to the doubt: it never falls, and one that was done on a store leaves it open.
+pub record DoubtsStore {S : Type 0} (g : Ghosts S) (old new : Held S) (is_done : Bool) : Type 0 where
+  pub order : doubt_of g old ≤ doubt_of g new
+  pub failed : IsStore (state g old) → doubt_of g new ≡ shut → is_done ≡ false
+
+-- and a table is still one
+abbrev pub IsKept : {S : Type 0} → Ghosts S → Held S → Held S → Type 0
+IsKept g old new = IsStore (state g old) → doubt_of g new ≡ 0 → IsStore (state g new) × (stored g new ≡ stored g old)
+
+-- all that the database holds, what is committed and whether a transaction is open is as it was
+pub record IsUntouched (old new : State) : Type 0 where
+  pub now : new.now ≡ old.now
+  pub committed : new.committed ≡ old.committed
+  pub mode : new.in_transaction ≡ old.in_transaction
+
+-- the rows show each node, and nothing else
+pub record ShowsAll (s : State) (shown : List Row) : Type 0 where
+  pub each : (r : Row) → Has (s.now.trees 0) r → Has shown (shown_of r)
+  pub only : (row : Row) → Has shown row → (r : Row) × Has (s.now.trees 0) r × (row ≡ shown_of r)
+
+-- each row is a key and a value in form
+abbrev pub ShowsNodes : Database → Type 0
+ShowsNodes db = (r : Row) → Has (db.trees 0) r → ShowsNode (shown_of r)
+
+abbrev pub ShowsNodesBy : ℕ → Database → Type 0
+ShowsNodesBy kept db = (r : Row) → Has (db.trees 0) r → ShowsNodeBy kept (shown_of r)
+
+-- ---- what is read of the version
+
 abbrev pub HasNoVersion : Database → Type 0
 HasNoVersion db = (r : Row) → Has (db.trees 2) r → column r 1 ≢ version_name
+
+-- each row that gives a version has this rowid and gives this one
+abbrev pub AllGive : Database → Value → Value → Type 0
+AllGive db id v = (r : Row) → Has (db.trees 2) r → column r 1 ≡ version_name → (column r 0 ≡ id) × (column r 2 ≡ v)
+
+abbrev pub OnlyGives : Database → Value → Type 0
+OnlyGives db v = (n : ℤ) × AllGive db (Int n) v
 
 -- the row shows the version, and there is none if no row gives one
 abbrev pub ShowsVersion : Database → Option Row → Type 0
 ShowsVersion db None = HasNoVersion db
-ShowsVersion db (Some row) = (v : Value) × (row ≡ v ∷ []) × GivesVersion db v
+ShowsVersion db (Some row) = (id : Value) × (v : Value) × (row ≡ id ∷ v ∷ []) × GivesVersion db v × AllGive db id v
 
 -- both tables are there, with the version and no node
 pub record IsBare (db : Database) : Type 0 where

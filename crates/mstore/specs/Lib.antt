@@ -10,3 +10,5 @@ pub mod Statements
 pub mod Versions
 pub mod Moving
 pub mod InMemory
+pub mod Room
+pub mod InFiles

@@ -12,7 +12,7 @@ use Rattle.mkey.specs.Key.{IsKeyBy, old_digits}
 use Rattle.mstore.specs.Layout.{schema}
 use Rattle.mstore.specs.Map.{Content}
 use Rattle.mstore.specs.Rows.{AreRows, IsInFormBy}
-use Rattle.mstore.specs.Database.{IsCalm, HasVersion, old_version, content}
+use Rattle.mstore.specs.Database.{IsCalm, HasVersion, OnlyGives, old_version, content}
 
 abbrev pub IsAny : List ℕ → List ℕ → Type 0
 IsAny k v = Unit {0}
@@ -21,6 +21,7 @@ IsAny k v = Unit {0}
 pub record IsOldStore (s : State) : Type 0 where
   pub calm : IsCalm s
   pub version : HasVersion s.now old_version
+  pub only : OnlyGives s.now old_version
   pub rows : AreRows (IsInFormBy old_digits) (s.now.trees 0)
 
 -- the same before the rows are known
@@ -28,6 +29,7 @@ pub record IsOldCalm (s : State) : Type 0 where
   pub calm : IsCalm s
   pub live : IsLive s
   pub version : HasVersion s.now old_version
+  pub only : OnlyGives s.now old_version
 
 -- inside a transaction, both tables are there, and the rows are a map, whatever their keys
 pub record IsWorking (s : State) : Type 0 where

@@ -1,8 +1,9 @@
 -- SPDX-License-Identifier: Apache-2.0
 -- The rows of the table of nodes as a map from keys to values.
-use Rattle.std.specs.Prelude.{◌≡◌, ◌≤◌, ℕ, List, ◌∷◌, [], length, Bool, find, Option, Some, None, option_map}
+use Rattle.std.specs.Prelude.{◌≡◌, ◌≤◌, ℕ, ℤ, int_lt, IsTrue, List, ◌∷◌, [], length, Bool, find, Option, Some, None, option_map}
 use Rattle.std.specs.Ordering.{is_eq, nat_cmp}
 use Rattle.std.specs.Cmp.Lexicographic.{slice_cmp}
+use Rattle.sqlite_value.specs.declared.value.Value.{Value}
 use Rattle.sqlite_value.specs.declared.value.Value.TheVariants.{Int, Blob}
 use Rattle.sqlite_value.specs.Order.{Row, column, bytes}
 use Rattle.sqlite_trees.specs.Tree.{rowid}
@@ -66,16 +67,31 @@ abbrev pub ShowsKey : Bool → Content → List ℕ → List ℕ → Option Row 
 ShowsKey down m low high None = HasNone m low high
 ShowsKey down m low high (Some row) = (k : List ℕ) × (row ≡ Blob k ∷ []) × IsNearest down m low high k
 
--- the row is a key and a value, in form
+-- behind a rowid the row is a key and a value, in form
 abbrev pub ShowsNode : Row → Type 0
-ShowsNode row = (k : List ℕ) × (v : List ℕ) × (row ≡ Blob k ∷ Blob v ∷ []) × IsInForm k v
+ShowsNode row = (id : Value) × (k : List ℕ) × (v : List ℕ) × (row ≡ id ∷ Blob k ∷ Blob v ∷ []) × IsInForm k v
 
 abbrev pub ShowsNodeBy : ℕ → Row → Type 0
-ShowsNodeBy kept row = (k : List ℕ) × (v : List ℕ) × (row ≡ Blob k ∷ Blob v ∷ []) × IsInFormBy kept k v
+ShowsNodeBy kept row = (id : Value) × (k : List ℕ) × (v : List ℕ) × (row ≡ id ∷ Blob k ∷ Blob v ∷ []) × IsInFormBy kept k v
 
 -- what is shown of a row
 abbrev pub shown_of : Row → Row
-shown_of r = column r 1 ∷ column r 2 ∷ []
+shown_of r = column r 0 ∷ column r 1 ∷ column r 2 ∷ []
+
+-- the number is above the last, if there is one
+abbrev pub IsAbove : Option ℤ → ℤ → Type 0
+IsAbove None n = Unit {0}
+IsAbove (Some m) n = IsTrue (int_lt m n)
+
+-- each row shows a rowid that is above that of the row before it
+abbrev pub RiseFrom : Option ℤ → List Row → Type 0
+RiseFrom last [] = Unit {0}
+RiseFrom last (r ∷ rows) = (n : ℤ) × (column r 0 ≡ Int n) × IsAbove last n × RiseFrom (Some n) rows
+
+-- each row has a rowid, and those of one rowid show the same
+pub record AreNumbered (rows : List Row) : Type 0 where
+  pub each : (r : Row) → Has rows r → (n : ℤ) × (column r 0 ≡ Int n)
+  pub single : (r s : Row) → Has rows r → Has rows s → column r 0 ≡ column s 0 → shown_of r ≡ shown_of s
 
 -- a row that is no node in form
 abbrev pub HasOther : List Row → Type 0

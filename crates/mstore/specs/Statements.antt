@@ -1,10 +1,11 @@
 -- SPDX-License-Identifier: Apache-2.0
 -- The statements by which a table is made, read and written.
-use Rattle.std.specs.Prelude.{◌≡◌, ℕ, Bool, true, false, List, [], ◌∷◌, codes, Option, Some, None, Result, Ok, Err}
+use Rattle.std.specs.Prelude.{◌≡◌, ◌≢◌, ℕ, Bool, true, false, List, [], ◌∷◌, codes, Option, Some, None, Result, Ok, Err}
 use Rattle.sqlite.specs.Order.{Row}
 use Rattle.sqlite.specs.Schema.{Schema}
 use Rattle.sqlite.specs.declared.error.Error.{Error}
-use Rattle.sqlite.specs.declared.error.Error.TheVariants.{QueryReturnedNoRows}
+use Rattle.sqlite.specs.declared.error.Error.TheVariants.{QueryReturnedNoRows, SqliteFailure}
+use Rattle.sqlite.specs.declared.error.ErrorCode.TheVariants.{OutOfMemory}
 use Rattle.sqlite.specs.Listing.{understood}
 use Rattle.sqlite_resolve.specs.declared.error.CompileError.{CompileError}
 use Rattle.sqlite_rules.specs.Lists.{Has}
@@ -35,8 +36,8 @@ sql Put = codes "INSERT INTO node (k, v) VALUES (?1, ?2) ON CONFLICT (k) DO UPDA
 sql Kill = codes "DELETE FROM node WHERE k >= ?1 AND k < ?2"
 sql (Step false) = codes "SELECT k FROM node WHERE k >= ?1 AND k < ?2 ORDER BY k"
 sql (Step true) = codes "SELECT k FROM node WHERE k >= ?1 AND k < ?2 ORDER BY k DESC"
-sql Which = codes "SELECT n FROM meta WHERE name = 'version'"
-sql Each = codes "SELECT k, v FROM node"
+sql Which = codes "SELECT rowid, n FROM meta WHERE name = 'version'"
+sql Each = codes "SELECT rowid, k, v FROM node"
 sql Set = codes "UPDATE meta SET n = 2 WHERE name = 'version'"
 
 -- those that a database has to take
@@ -53,3 +54,8 @@ RefusesOne schema = (text : List ℕ) × Has statements text × (fault : Compile
 abbrev pub Gives : Result Row Error → Option Row → Type 0
 Gives answer None = answer ≡ Err QueryReturnedNoRows
 Gives answer (Some row) = answer ≡ Ok row
+
+-- an error, but not that memory ran out
+abbrev pub IsRefusal : {X : Type 0} → Result X Error → Type 0
+IsRefusal (Ok x) = ⊥
+IsRefusal (Err e) = e ≢ SqliteFailure OutOfMemory

@@ -5,6 +5,8 @@
 #![tactic(auto)]
 
 mod create;
+pub mod file_laws;
+pub mod files;
 mod layout;
 mod migrating;
 mod open_fault;

@@ -1,12 +1,12 @@
 // SPDX-License-Identifier: Apache-2.0
 // How a store of version 1 gets this version: each row goes to the key that its node has now, in one transaction.
-ghost use Rattle.std.specs.Prelude.{◌≡◌, [], ◌∷◌, ◌++◌, false, IfOk, OnOk, OnErr};
+ghost use Rattle.std.specs.Prelude.{◌≡◌, [], ◌∷◌, ◌++◌, ◌≤◌, map, drop, false, IfOk, OnOk, OnErr};
 ghost use Rattle.mspec.specs.KeyBytes.{key_bytes};
 ghost use Rattle.mspec.specs.Node.{Node};
 ghost use Rattle.mspec.specs.Number.{significant_digits};
 ghost use Rattle.mkey.specs.Key.{IsKeyBy, old_digits};
 ghost use Rattle.sqlite.specs.Held.{state};
-ghost use Rattle.mstore.specs.Database.{IsMemory, IsStore, IsUntouched, IsMigrated, HasVersion, ShowsAll, content, old_version, this_version};
+ghost use Rattle.mstore.specs.Database.{doubt_of, IsStore, IsUntouched, IsMigrated, HasVersion, OnlyGives, ShowsAll, content, old_version, this_version};
 ghost use Rattle.mstore.specs.Moving.{IsWorking, RanInside, MovesKey, MovesRow, ShowContent, IsMoving, IsOldStore};
 
 use crate::statements::{KILL, PUT, SET, done, fault_of};
@@ -47,8 +47,9 @@ fn change_inside<S: Alter>(
     second: &[u8],
 ) -> Result<(), StoreFault>
     ensures same_reference { tx.new.conn.ghost_name ≡ tx.old.conn.ghost_name }
-    ensures committed { IsMemory S.Store → IsWorking (state S.Store tx.old.conn.now) → (state S.Store tx.new.conn.now).committed ≡ (state S.Store tx.old.conn.now).committed }
-    ensures ran { IsMemory S.Store → IsWorking (state S.Store tx.old.conn.now) → OnOk result (RanInside text.now first.now second.now (state S.Store tx.old.conn.now) (state S.Store tx.new.conn.now)) }
+    ensures order { doubt_of S.Store tx.old.conn.now ≤ doubt_of S.Store tx.new.conn.now }
+    ensures committed { doubt_of S.Store tx.new.conn.now ≡ 0 → IsWorking (state S.Store tx.old.conn.now) → (state S.Store tx.new.conn.now).committed ≡ (state S.Store tx.old.conn.now).committed }
+    ensures ran { doubt_of S.Store tx.new.conn.now ≡ 0 → IsWorking (state S.Store tx.old.conn.now) → OnOk result (RanInside text.now first.now second.now (state S.Store tx.old.conn.now) (state S.Store tx.new.conn.now)) }
 {
     done(tx.execute(text, params![first, second]))
 }
@@ -56,10 +57,11 @@ fn change_inside<S: Alter>(
 // Gives the database this version.
 fn set_version<S: Alter>(tx: &mut Transaction<'_, S>) -> Result<(), StoreFault>
     ensures same_reference { tx.new.conn.ghost_name ≡ tx.old.conn.ghost_name }
-    ensures committed { IsMemory S.Store → IsWorking (state S.Store tx.old.conn.now) → (state S.Store tx.new.conn.now).committed ≡ (state S.Store tx.old.conn.now).committed }
-    ensures working { IsMemory S.Store → IsWorking (state S.Store tx.old.conn.now) → OnOk result (IsWorking (state S.Store tx.new.conn.now)) }
-    ensures rows { IsMemory S.Store → IsWorking (state S.Store tx.old.conn.now) → OnOk result ((state S.Store tx.new.conn.now).now.trees 0 ≡ (state S.Store tx.old.conn.now).now.trees 0) }
-    ensures version { IsMemory S.Store → IsWorking (state S.Store tx.old.conn.now) → HasVersion (state S.Store tx.old.conn.now).now old_version → OnOk result (HasVersion (state S.Store tx.new.conn.now).now this_version) }
+    ensures order { doubt_of S.Store tx.old.conn.now ≤ doubt_of S.Store tx.new.conn.now }
+    ensures committed { doubt_of S.Store tx.new.conn.now ≡ 0 → IsWorking (state S.Store tx.old.conn.now) → (state S.Store tx.new.conn.now).committed ≡ (state S.Store tx.old.conn.now).committed }
+    ensures working { doubt_of S.Store tx.new.conn.now ≡ 0 → IsWorking (state S.Store tx.old.conn.now) → OnOk result (IsWorking (state S.Store tx.new.conn.now)) }
+    ensures rows { doubt_of S.Store tx.new.conn.now ≡ 0 → IsWorking (state S.Store tx.old.conn.now) → OnOk result ((state S.Store tx.new.conn.now).now.trees 0 ≡ (state S.Store tx.old.conn.now).now.trees 0) }
+    ensures version { doubt_of S.Store tx.new.conn.now ≡ 0 → IsWorking (state S.Store tx.old.conn.now) → HasVersion (state S.Store tx.old.conn.now).now old_version → OnlyGives (state S.Store tx.old.conn.now).now old_version → OnOk result (HasVersion (state S.Store tx.new.conn.now).now this_version) }
 {
     done(tx.execute(SET, &[]))
 }
@@ -72,10 +74,11 @@ fn move_key<S: Alter>(
     value: &[u8],
 ) -> Result<(), StoreFault>
     ensures same_reference { tx.new.conn.ghost_name ≡ tx.old.conn.ghost_name }
-    ensures committed { IsMemory S.Store → IsWorking (state S.Store tx.old.conn.now) → (state S.Store tx.new.conn.now).committed ≡ (state S.Store tx.old.conn.now).committed }
-    ensures working { IsMemory S.Store → IsWorking (state S.Store tx.old.conn.now) → OnOk result (IsWorking (state S.Store tx.new.conn.now)) }
-    ensures moved { IsMemory S.Store → IsWorking (state S.Store tx.old.conn.now) → OnOk result ((n : Node) × IsKeyBy old_digits n key.now × MovesKey (content (state S.Store tx.old.conn.now)) (content (state S.Store tx.new.conn.now)) key.now (key_bytes significant_digits n) value.now) }
-    ensures version { IsMemory S.Store → IsWorking (state S.Store tx.old.conn.now) → OnOk result ((state S.Store tx.new.conn.now).now.trees 2 ≡ (state S.Store tx.old.conn.now).now.trees 2) }
+    ensures order { doubt_of S.Store tx.old.conn.now ≤ doubt_of S.Store tx.new.conn.now }
+    ensures committed { doubt_of S.Store tx.new.conn.now ≡ 0 → IsWorking (state S.Store tx.old.conn.now) → (state S.Store tx.new.conn.now).committed ≡ (state S.Store tx.old.conn.now).committed }
+    ensures working { doubt_of S.Store tx.new.conn.now ≡ 0 → IsWorking (state S.Store tx.old.conn.now) → OnOk result (IsWorking (state S.Store tx.new.conn.now)) }
+    ensures moved { doubt_of S.Store tx.new.conn.now ≡ 0 → IsWorking (state S.Store tx.old.conn.now) → OnOk result ((n : Node) × IsKeyBy old_digits n key.now × MovesKey (content (state S.Store tx.old.conn.now)) (content (state S.Store tx.new.conn.now)) key.now (key_bytes significant_digits n) value.now) }
+    ensures version { doubt_of S.Store tx.new.conn.now ≡ 0 → IsWorking (state S.Store tx.old.conn.now) → OnOk result ((state S.Store tx.new.conn.now).now.trees 2 ≡ (state S.Store tx.old.conn.now).now.trees 2) }
 {
     let node = new_key(alloc, key)?;
     let place = node.as_bytes();
@@ -94,14 +97,15 @@ fn move_row<S: Alter>(
     row: &Row,
 ) -> Result<(), StoreFault>
     ensures same_reference { tx.new.conn.ghost_name ≡ tx.old.conn.ghost_name }
-    ensures committed { IsMemory S.Store → IsWorking (state S.Store tx.old.conn.now) → (state S.Store tx.new.conn.now).committed ≡ (state S.Store tx.old.conn.now).committed }
-    ensures working { IsMemory S.Store → IsWorking (state S.Store tx.old.conn.now) → OnOk result (IsWorking (state S.Store tx.new.conn.now)) }
-    ensures moved { IsMemory S.Store → IsWorking (state S.Store tx.old.conn.now) → OnOk result (MovesRow row.now (state S.Store tx.old.conn.now) (state S.Store tx.new.conn.now)) }
+    ensures order { doubt_of S.Store tx.old.conn.now ≤ doubt_of S.Store tx.new.conn.now }
+    ensures committed { doubt_of S.Store tx.new.conn.now ≡ 0 → IsWorking (state S.Store tx.old.conn.now) → (state S.Store tx.new.conn.now).committed ≡ (state S.Store tx.old.conn.now).committed }
+    ensures working { doubt_of S.Store tx.new.conn.now ≡ 0 → IsWorking (state S.Store tx.old.conn.now) → OnOk result (IsWorking (state S.Store tx.new.conn.now)) }
+    ensures moved { doubt_of S.Store tx.new.conn.now ≡ 0 → IsWorking (state S.Store tx.old.conn.now) → OnOk result (MovesRow (drop 1 row.now) (state S.Store tx.old.conn.now) (state S.Store tx.new.conn.now)) }
 {
-    if row.column_count() != 2 {
+    if row.column_count() != 3 {
         return Err(StoreFault::Store);
     }
-    match (row.get_ref(0), row.get_ref(1)) {
+    match (row.get_ref(1), row.get_ref(2)) {
         (Ok(ValueRef::Blob(key)), Ok(ValueRef::Blob(value))) => move_key(alloc, tx, key, value),
         _ => Err(StoreFault::Store),
     }
@@ -114,10 +118,11 @@ fn move_rows<S: Alter>(
     rows: &[Row],
 ) -> Result<(), StoreFault>
     ensures same_reference { tx.new.conn.ghost_name ≡ tx.old.conn.ghost_name }
-    ensures committed { IsMemory S.Store → IsWorking (state S.Store tx.old.conn.now) → (state S.Store tx.new.conn.now).committed ≡ (state S.Store tx.old.conn.now).committed }
-    ensures working { IsMemory S.Store → IsWorking (state S.Store tx.old.conn.now) → OnOk result (IsWorking (state S.Store tx.new.conn.now)) }
-    ensures moved { IsMemory S.Store → IsWorking (state S.Store tx.old.conn.now) → ShowContent (content (state S.Store tx.old.conn.now)) rows.now → OnOk result (IsMoving (content (state S.Store tx.old.conn.now)) (content (state S.Store tx.new.conn.now)) []) }
-    ensures version { IsMemory S.Store → IsWorking (state S.Store tx.old.conn.now) → OnOk result ((state S.Store tx.new.conn.now).now.trees 2 ≡ (state S.Store tx.old.conn.now).now.trees 2) }
+    ensures order { doubt_of S.Store tx.old.conn.now ≤ doubt_of S.Store tx.new.conn.now }
+    ensures committed { doubt_of S.Store tx.new.conn.now ≡ 0 → IsWorking (state S.Store tx.old.conn.now) → (state S.Store tx.new.conn.now).committed ≡ (state S.Store tx.old.conn.now).committed }
+    ensures working { doubt_of S.Store tx.new.conn.now ≡ 0 → IsWorking (state S.Store tx.old.conn.now) → OnOk result (IsWorking (state S.Store tx.new.conn.now)) }
+    ensures moved { doubt_of S.Store tx.new.conn.now ≡ 0 → IsWorking (state S.Store tx.old.conn.now) → ShowContent (content (state S.Store tx.old.conn.now)) (map (drop 1) rows.now) → OnOk result (IsMoving (content (state S.Store tx.old.conn.now)) (content (state S.Store tx.new.conn.now)) []) }
+    ensures version { doubt_of S.Store tx.new.conn.now ≡ 0 → IsWorking (state S.Store tx.old.conn.now) → OnOk result ((state S.Store tx.new.conn.now).now.trees 2 ≡ (state S.Store tx.old.conn.now).now.trees 2) }
 {
     for row in rows {
         move_row(alloc, tx, row)?;
@@ -133,9 +138,10 @@ pub(crate) fn migrate<S: Alter>(
     rows: &[Row],
 ) -> Result<(), StoreFault>
     requires { conn.old.in_transaction ≡ false }
-    ensures store { IsMemory S.Store → IsOldStore (state S.Store conn.old) → ShowsAll (state S.Store conn.old) rows.now → OnOk result (IsStore (state S.Store conn.new)) }
-    ensures migrated { IsMemory S.Store → IsOldStore (state S.Store conn.old) → ShowsAll (state S.Store conn.old) rows.now → OnOk result (IsMigrated (state S.Store conn.old) (state S.Store conn.new)) }
-    ensures untouched { IsMemory S.Store → IsOldStore (state S.Store conn.old) → OnErr result (IsUntouched (state S.Store conn.old) (state S.Store conn.new)) }
+    ensures order { doubt_of S.Store conn.old ≤ doubt_of S.Store conn.new }
+    ensures store { doubt_of S.Store conn.new ≡ 0 → IsOldStore (state S.Store conn.old) → ShowsAll (state S.Store conn.old) rows.now → OnOk result (IsStore (state S.Store conn.new)) }
+    ensures migrated { doubt_of S.Store conn.new ≡ 0 → IsOldStore (state S.Store conn.old) → ShowsAll (state S.Store conn.old) rows.now → OnOk result (IsMigrated (state S.Store conn.old) (state S.Store conn.new)) }
+    ensures untouched { doubt_of S.Store conn.new ≡ 0 → IsOldStore (state S.Store conn.old) → OnErr result (IsUntouched (state S.Store conn.old) (state S.Store conn.new)) }
 {
     let mut tx = conn.transaction();
     move_rows(alloc, &mut tx, rows)?;

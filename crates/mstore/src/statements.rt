@@ -1,11 +1,13 @@
 // SPDX-License-Identifier: Apache-2.0
 // The statements, each alone.
 
-ghost use Rattle.std.specs.Prelude.{◌≡◌, ◌↔◌, IfOk, OnOk, OnErr, is_ok};
-ghost use Rattle.mstore.specs.Database.{IsSound, IsKept, holds, stored};
+ghost use Rattle.std.specs.Prelude.{◌≡◌, ◌≢◌, ◌↔◌, IfOk, OnOk, OnErr, is_ok, true, Ok, Err, None};
+ghost use Rattle.sqlite.specs.Held.{state};
+ghost use Rattle.mstore.specs.Database.{DoubtsStore, IsKept, IsStore, doubt_of, holds, stored};
 ghost use Rattle.mstore.specs.Map.{PutsAt, RemovesWithin, is_down};
 ghost use Rattle.mstore.specs.Rows.{IsInForm, ShowsValue, ShowsKey};
-ghost use Rattle.mstore.specs.Statements.{Gives, Step, sql};
+ghost use Rattle.mstore.specs.Room.{IsFaultless, is_full};
+ghost use Rattle.mstore.specs.Statements.{Gives, IsRefusal, Step, sql};
 
 use mkey::Direction;
 use mnodes::StoreFault;
@@ -37,7 +39,9 @@ pub(crate) fn fault_of(error: &Error) -> StoreFault
 
 // The row of an answer, if it has one.
 pub(crate) fn found(answer: Result<Row, Error>) -> Result<Option<Row>, StoreFault>
-    ensures { IfOk result (Gives answer) }
+    ensures row { IfOk result (Gives answer) }
+    ensures refused { result ≡ Err StoreFault.Store → IsRefusal answer }
+    ensures none { answer ≡ Err Error.QueryReturnedNoRows → result ≡ Ok None }
 {
     match answer {
         Ok(row) => Ok(Some(row)),
@@ -48,7 +52,8 @@ pub(crate) fn found(answer: Result<Row, Error>) -> Result<Option<Row>, StoreFaul
 
 // Whether a change was made, however many rows it met.
 pub(crate) fn done(count: Result<usize, Error>) -> Result<(), StoreFault>
-    ensures { is_ok result ≡ is_ok count }
+    ensures is_done { is_ok result ≡ is_ok count }
+    ensures refused { result ≡ Err StoreFault.Store → IsRefusal count }
 {
     match count {
         Ok(_) => Ok(()),
@@ -61,8 +66,11 @@ pub(crate) fn find_value<S: Alter>(
     conn: &mut Connection<S>,
     key: &[u8],
 ) -> Result<Option<Row>, StoreFault>
+    ensures limit { conn.new.step_limit ≡ conn.old.step_limit }
+    ensures doubt { DoubtsStore S.Store conn.old conn.new (is_ok result) }
     ensures kept { IsKept S.Store conn.old conn.new }
-    ensures found { IsSound S.Store conn.old → IfOk result (ShowsValue (holds S.Store conn.old key.now)) }
+    ensures found { IsStore (state S.Store conn.old) → doubt_of S.Store conn.new ≡ 0 → IfOk result (ShowsValue (holds S.Store conn.old key.now)) }
+    ensures store { IsFaultless S.Store → IsStore (state S.Store conn.old) → conn.old.step_limit ≡ None → result ≢ Err StoreFault.Store }
 {
     found(conn.query_row(GET, params![key]))
 }
@@ -84,8 +92,11 @@ pub(crate) fn find_key<S: Alter>(
     low: &[u8],
     high: &[u8],
 ) -> Result<Option<Row>, StoreFault>
+    ensures limit { conn.new.step_limit ≡ conn.old.step_limit }
+    ensures doubt { DoubtsStore S.Store conn.old conn.new (is_ok result) }
     ensures kept { IsKept S.Store conn.old conn.new }
-    ensures found { IsSound S.Store conn.old → IfOk result (ShowsKey (is_down direction) (holds S.Store conn.old) low.now high.now) }
+    ensures found { IsStore (state S.Store conn.old) → doubt_of S.Store conn.new ≡ 0 → IfOk result (ShowsKey (is_down direction) (holds S.Store conn.old) low.now high.now) }
+    ensures store { IsFaultless S.Store → IsStore (state S.Store conn.old) → conn.old.step_limit ≡ None → result ≢ Err StoreFault.Store }
 {
     found(conn.query_row(step(direction), params![low, high]))
 }
@@ -97,10 +108,15 @@ pub(crate) fn store_value<S: Alter>(
     value: &[u8],
 ) -> Result<(), StoreFault>
     requires { IsInForm key.now value.now }
-    ensures sound { IsSound S.Store conn.old → IsSound S.Store conn.new }
-    ensures put { IsSound S.Store conn.old → OnOk result (PutsAt (holds S.Store conn.old) (holds S.Store conn.new) key.now value.now) }
-    ensures fault { IsSound S.Store conn.old → OnErr result (stored S.Store conn.new ≡ stored S.Store conn.old) }
+    ensures limit { conn.new.step_limit ≡ conn.old.step_limit }
+    ensures doubt { DoubtsStore S.Store conn.old conn.new (is_ok result) }
+    ensures store { IsStore (state S.Store conn.old) → doubt_of S.Store conn.new ≡ 0 → IsStore (state S.Store conn.new) }
+    ensures put { IsStore (state S.Store conn.old) → doubt_of S.Store conn.new ≡ 0 → OnOk result (PutsAt (holds S.Store conn.old) (holds S.Store conn.new) key.now value.now) }
+    ensures fault { IsStore (state S.Store conn.old) → doubt_of S.Store conn.new ≡ 0 → OnErr result (stored S.Store conn.new ≡ stored S.Store conn.old) }
+    ensures full { IsFaultless S.Store → IsStore (state S.Store conn.old) → conn.old.step_limit ≡ None → result ≡ Err StoreFault.Store → is_full ((state S.Store conn.new).now.trees 0) ≡ true }
 {
+    // The contract of `schema` says that the database obeys its schema.
+    conn.schema();
     done(conn.execute(PUT, params![key, value]))
 }
 
@@ -110,9 +126,14 @@ pub(crate) fn remove_range<S: Alter>(
     low: &[u8],
     high: &[u8],
 ) -> Result<(), StoreFault>
-    ensures sound { IsSound S.Store conn.old → IsSound S.Store conn.new }
-    ensures removed { IsSound S.Store conn.old → OnOk result (RemovesWithin (holds S.Store conn.old) (holds S.Store conn.new) low.now high.now) }
-    ensures fault { IsSound S.Store conn.old → OnErr result (stored S.Store conn.new ≡ stored S.Store conn.old) }
+    ensures limit { conn.new.step_limit ≡ conn.old.step_limit }
+    ensures doubt { DoubtsStore S.Store conn.old conn.new (is_ok result) }
+    ensures store { IsStore (state S.Store conn.old) → doubt_of S.Store conn.new ≡ 0 → IsStore (state S.Store conn.new) }
+    ensures removed { IsStore (state S.Store conn.old) → doubt_of S.Store conn.new ≡ 0 → OnOk result (RemovesWithin (holds S.Store conn.old) (holds S.Store conn.new) low.now high.now) }
+    ensures fault { IsStore (state S.Store conn.old) → doubt_of S.Store conn.new ≡ 0 → OnErr result (stored S.Store conn.new ≡ stored S.Store conn.old) }
+    ensures refused { IsFaultless S.Store → IsStore (state S.Store conn.old) → conn.old.step_limit ≡ None → result ≢ Err StoreFault.Store }
 {
+    // The contract of `schema` says that the database obeys its schema.
+    conn.schema();
     done(conn.execute(KILL, params![low, high]))
 }

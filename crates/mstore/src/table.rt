@@ -1,12 +1,15 @@
 // SPDX-License-Identifier: Apache-2.0
 // A table over a connection.
-ghost use Rattle.std.specs.Prelude.{◌≡◌, ◌≢◌, ◌≤◌, length, option_map, IfOk, IfErr, List, ℕ, None, Err, codes};
+ghost use Rattle.std.specs.Prelude.{◌≡◌, ◌≢◌, ◌≤◌, ◌⊎◌, length, option_map, IfOk, IfErr, List, [], ◌∷◌, ℕ, None, Err, is_ok, IsTrue};
 ghost use Rattle.sqlite.specs.Order.{column};
 ghost use Rattle.sqlite.specs.declared.types.Value.TheVariants.{Blob};
 ghost use Rattle.mspec.specs.TextFunctions.{max_text};
-ghost use Rattle.mstore.specs.Database.{IsKept, IsSound, stored};
-ghost use Rattle.mstore.specs.Layout.{schema};
+ghost use Rattle.sqlite.specs.Held.{state};
+ghost use Rattle.mstore.specs.Database.{DoubtsStore, IsKept, IsStore, doubt_of, stored};
+ghost use Rattle.mstore.specs.Layout.{no_schema, schema};
 ghost use Rattle.mstore.specs.Map.{is_down, step_key};
+ghost use Rattle.mstore.specs.Room.{IsFaultless};
+ghost use Rattle.mstore.specs.Rows.{IsValue};
 
 use crate::create::make_tables;
 use crate::layout::is_blank;
@@ -20,43 +23,48 @@ use mnum::Bytes7;
 use mspec::limits::MAX_TEXT;
 use sqlite::{Alter, Connection, Row};
 use sqlite_disk::Disk;
-use sqlite_std_file::File;
 use sqlite_store::FileStore;
 use std::alloc::Global;
 use std::marker::Model;
-use std::rt::HostRuntime;
 
-/// A store in the table `node` of a database. What is said of its content holds if its connection is in memory.
+/// A store in the table `node` of a database. What is said of its content holds while its doubt is 0.
 pub struct Table<S: Alter> {
     conn: Connection<S>,
+    // The database has the two tables and no other. What is said of statements is said of such a one.
+    alone: bool,
     alloc: Global,
 }
 
 // Written out, so that dropping it is one call, which is proved once.
 impl<S: Alter + Drop> Drop for Table<S> {
     fn drop(self) {
-        let Table { conn: _, alloc: _ } = self;
+        let Table {
+            conn: _,
+            alone: _,
+            alloc: _,
+        } = self;
     }
 }
 
 impl<S: Alter> Model for Table<S> {
-    ghost use Rattle.sqlite.specs.Held.{Held, held_code, state};
-    ghost use Rattle.mstore.specs.Database.{IsMemory, IsStore};
+    ghost use Rattle.std.specs.Prelude.{◌≡◌, IsTrue, None};
+    ghost use Rattle.sqlite.specs.Held.{state};
+    ghost use Rattle.mstore.specs.Database.{TableOver, table_code, doubt_of, IsStore};
 
-    ghost Value = { Held S };
+    ghost Value = { TableOver S };
 
-    ghost coded = { held_code S.code };
+    ghost coded = { table_code S.code };
 
-    ghost view = { λ t. t.conn };
+    ghost view = { λ t. record { conn = t.conn; is_alone = t.alone } };
 
-    ghost invariant = { λ t. IsMemory S.Store → IsStore (state S.Store t.conn) };
+    ghost invariant = { λ t. (IsTrue t.alone → doubt_of S.Store t.conn ≡ 0 → IsStore (state S.Store t.conn)) × (t.conn.step_limit ≡ None) };
 }
 
 impl Table<Memory> {
     ghost use Rattle.std.specs.FinMap.{empty};
     ghost use Rattle.sqlite.specs.Held.{state};
     ghost use Rattle.mstore.specs.InMemory.{over_memory};
-    ghost use Rattle.mstore.specs.Database.{IsMemory, HasVersion, this_version, stored};
+    ghost use Rattle.mstore.specs.Database.{IsMemory, HasVersion, this_version, stored, table_doubt};
 
     /// An empty table in memory, for which what is said of a table's content holds.
     ///
@@ -64,9 +72,11 @@ impl Table<Memory> {
     ///
     /// `Memory` and `Store`.
     pub fn open_memory(alloc: Global) -> Result<Table<Memory>, OpenFault>
-        ensures empty { IfOk result (λ t. stored over_memory t ≡ empty) }
-        ensures version { IfOk result (λ t. HasVersion (state over_memory t).now this_version) }
+        ensures empty { IfOk result (λ t. stored over_memory t.conn ≡ empty) }
+        ensures version { IfOk result (λ t. HasVersion (state over_memory t.conn).now this_version) }
+        ensures sure { IfOk result (λ t. table_doubt over_memory t ≡ 0) }
         ensures sound { IfOk result (λ _. IsMemory over_memory) }
+        ensures steady { IfOk result (λ _. IsFaultless over_memory) }
         ensures key { result ≢ Err OpenFault.BadKey }
         ensures other_version { result ≢ Err OpenFault.BadVersion }
     {
@@ -78,13 +88,19 @@ impl Table<Memory> {
             return Err(OpenFault::Store);
         }
         make_tables(&mut conn)?;
-        Ok(Table { conn, alloc })
+        conn.set_step_limit(None);
+        Ok(Table {
+            conn,
+            alone: true,
+            alloc,
+        })
     }
 }
 
 impl<D: Disk> Table<FileStore<D>> {
-    ghost use Rattle.sqlite.specs.Files.{file_state};
+    ghost use Rattle.sqlite.specs.Files.{file_state, over_files};
     ghost use Rattle.mstore.specs.Beside.{IsBeside};
+    ghost use Rattle.mstore.specs.Database.{doubt_of, IsOpenedFrom, table_doubt};
 
     /// Takes a connection to a file, in which others may have tables of their own: these stay as they are. The two tables are taken
     /// as by `adopt`, also if they were made in another order, and made if neither is there.
@@ -97,41 +113,25 @@ impl<D: Disk> Table<FileStore<D>> {
         alloc: Global,
         mut conn: Connection<FileStore<D>>,
     ) -> Result<Table<FileStore<D>>, (OpenFault, Connection<FileStore<D>>)>
-        ensures { IfOk result (λ _. IsBeside (file_state conn).now.schema) }
+        ensures beside { IfOk result (λ _. IsBeside (file_state conn).now.schema) }
+        ensures alone { IfOk result (λ t. ((file_state conn).now.schema ≡ no_schema) ⊎ ((file_state conn).now.schema ≡ schema) → IsTrue t.is_alone) }
+        ensures order { IfOk result (λ t. doubt_of over_files conn ≤ doubt_of over_files t.conn) }
+        ensures back_order { IfErr result (λ e. doubt_of over_files conn ≤ doubt_of over_files e.1) }
+        ensures opened { IfOk result (λ t. table_doubt over_files t ≡ 0 → IsOpenedFrom (file_state conn) (file_state t.conn)) }
     {
         match open_beside(alloc, &mut conn) {
-            Ok(()) => Ok(Table { conn, alloc }),
+            Ok(alone) => {
+                conn.set_step_limit(None);
+                Ok(Table { conn, alone, alloc })
+            }
             Err(fault) => Err((fault, conn)),
-        }
-    }
-}
-
-impl Table<FileStore<File>> {
-    ghost use Rattle.mstore.specs.declared.open_fault.OpenFault.TheVariants.{Store};
-
-    /// The table in a file, which is created if it does not exist. The log of the database is beside the file, and a
-    /// statement that has returned is in it, even if the process is killed.
-    ///
-    /// # Errors
-    ///
-    /// Those of `adopt_file`. A file that is no database, or that another process has open, gives `Store`, and so does `:memory:`.
-    pub fn open_file(rt: &HostRuntime, path: &str) -> Result<Table<FileStore<File>>, OpenFault>
-        ensures { path.now ≡ codes ":memory:" → result ≡ Err Store }
-    {
-        let conn = match Connection::open(rt, path) {
-            Ok(conn) => conn,
-            Err(error) => return Err(OpenFault::from(fault_of(&error))),
-        };
-        match Table::adopt_file(rt.alloc(), conn) {
-            Ok(table) => Ok(table),
-            Err((fault, _)) => Err(fault),
         }
     }
 }
 
 impl<S: Alter> Table<S> {
     ghost use Rattle.sqlite.specs.Held.{state};
-    ghost use Rattle.mstore.specs.Database.{IsMemory, IsStore, IsOpenedFrom, IsOtherVersion, IsUntouched, IsBadlyKeyed};
+    ghost use Rattle.mstore.specs.Database.{doubt_of, table_doubt, IsStore, IsOpenedFrom, IsOtherVersion, IsUntouched, IsBadlyKeyed};
 
     /// Takes a connection whose database is a table of this version, with exactly its rows, or has no table and gets it. A table of
     /// version 1, whose numbers kept fifteen digits, becomes one of this version in one transaction, with the same text at each
@@ -142,29 +142,51 @@ impl<S: Alter> Table<S> {
     /// Each comes with the connection, whose database is unchanged, including the version: `BadVersion` if just one of `node` and
     /// `meta` is there, if their columns do not take a statement of this crate, or if there is no row `version` or one of another
     /// version than these two; otherwise `BadKey` if a row is not a node's by the digits of the version; `Memory`; and `Store` if the
-    /// database refuses, if a transaction is open, if there are tables but neither of the two, or if both take the statements but
-    /// there are further tables, or they are made in another way.
+    /// database refuses, if its rows do not come by rising rowids, if a transaction is open, if there are tables but neither of the
+    /// two, or if both take the statements but there are further tables, or they are made in another way.
     pub fn adopt(
         alloc: Global,
         mut conn: Connection<S>,
     ) -> Result<Table<S>, (OpenFault, Connection<S>)>
-        ensures store { IfOk result (λ t. IsMemory S.Store → IsStore (state S.Store t)) }
-        ensures opened { IfOk result (λ t. IsMemory S.Store → IsOpenedFrom (state S.Store conn) (state S.Store t)) }
-        ensures back { IfErr result (λ e. IsMemory S.Store → IsUntouched (state S.Store conn) (state S.Store e.1)) }
-        ensures version { IfErr result (λ e. IsMemory S.Store → e.0 ≡ OpenFault.BadVersion → IsOtherVersion (state S.Store conn).now) }
-        ensures key { IfErr result (λ e. IsMemory S.Store → e.0 ≡ OpenFault.BadKey → ((state S.Store conn).now.schema ≡ schema) × IsBadlyKeyed (state S.Store conn).now) }
+        ensures order { IfOk result (λ t. doubt_of S.Store conn ≤ doubt_of S.Store t.conn) }
+        ensures alone { IfOk result (λ t. IsTrue t.is_alone) }
+        ensures back_order { IfErr result (λ e. doubt_of S.Store conn ≤ doubt_of S.Store e.1) }
+        ensures store { IfOk result (λ t. doubt_of S.Store t.conn ≡ 0 → IsStore (state S.Store t.conn)) }
+        ensures opened { IfOk result (λ t. doubt_of S.Store t.conn ≡ 0 → IsOpenedFrom (state S.Store conn) (state S.Store t.conn)) }
+        ensures back { IfErr result (λ e. doubt_of S.Store e.1 ≡ 0 → IsUntouched (state S.Store conn) (state S.Store e.1)) }
+        ensures version { IfErr result (λ e. doubt_of S.Store e.1 ≡ 0 → e.0 ≡ OpenFault.BadVersion → IsOtherVersion (state S.Store conn).now) }
+        ensures key { IfErr result (λ e. doubt_of S.Store e.1 ≡ 0 → e.0 ≡ OpenFault.BadKey → ((state S.Store conn).now.schema ≡ schema) × IsBadlyKeyed (state S.Store conn).now) }
     {
         match open_tables(alloc, &mut conn) {
-            Ok(()) => Ok(Table { conn, alloc }),
+            Ok(()) => {
+                conn.set_step_limit(None);
+                Ok(Table {
+                    conn,
+                    alone: true,
+                    alloc,
+                })
+            }
             Err(fault) => Err((fault, conn)),
         }
     }
 
+    /// Whether the database has the two tables and no other.
+    pub fn is_alone(&self) -> bool
+        ensures { result ≡ self.now.is_alone }
+    {
+        self.alone
+    }
+
     /// The connection, with the rows as they are. Takes no memory.
     pub fn into_connection(self) -> Connection<S>
-        ensures { result ≡ self }
+        ensures conn { result ≡ self.conn }
+        ensures store { table_doubt S.Store self ≡ 0 → IsStore (state S.Store result) }
     {
-        let Table { conn, alloc: _ } = self;
+        let Table {
+            conn,
+            alone: _,
+            alloc: _,
+        } = self;
         conn
     }
 }
@@ -173,6 +195,7 @@ impl<S: Alter> Table<S> {
 fn text_in(row: &Row) -> Result<Bytes7, StoreFault>
     ensures text { IfOk result (λ text. column row.now 0 ≡ Blob text) }
     ensures short { IfOk result (λ text. length text ≤ max_text) }
+    ensures told { (v : List ℕ) → row.now ≡ Blob v ∷ [] → IsValue v → result ≢ Err StoreFault.Store }
 {
     let bytes = bytes_in(row)?;
     if bytes.len() > MAX_TEXT {
@@ -186,7 +209,8 @@ fn text_in(row: &Row) -> Result<Bytes7, StoreFault>
 
 // The bytes that a row shows.
 fn bytes_in(row: &Row) -> Result<Vec<u8>, StoreFault>
-    ensures { IfOk result (λ bytes. column row.now 0 ≡ Blob bytes.items) }
+    ensures bytes { IfOk result (λ bytes. column row.now 0 ≡ Blob bytes.items) }
+    ensures told { (v : List ℕ) → row.now ≡ Blob v ∷ [] → result ≢ Err StoreFault.Store }
 {
     match row.get::<Vec<u8>>(0) {
         Ok(bytes) => Ok(bytes),
@@ -201,8 +225,11 @@ fn key_within<S: Alter>(
     low: &[u8],
     high: &[u8],
 ) -> Result<Option<Vec<u8>>, StoreFault>
+    ensures doubt { DoubtsStore S.Store conn.old conn.new (is_ok result) }
     ensures kept { IsKept S.Store conn.old conn.new }
-    ensures found { IsSound S.Store conn.old → IfOk result (λ key. option_map (λ bytes. bytes.items) key ≡ step_key (is_down direction) (stored S.Store conn.old) low.now high.now) }
+    ensures limit { conn.new.step_limit ≡ conn.old.step_limit }
+    ensures store { IsFaultless S.Store → IsStore (state S.Store conn.old) → conn.old.step_limit ≡ None → result ≢ Err StoreFault.Store }
+    ensures found { IsStore (state S.Store conn.old) → doubt_of S.Store conn.new ≡ 0 → IfOk result (λ key. option_map (λ bytes. bytes.items) key ≡ step_key (is_down direction) (stored S.Store conn.old) low.now high.now) }
 {
     let Some(row) = find_key(conn, direction, low, high)? else {
         return Ok(None);
@@ -212,13 +239,18 @@ fn key_within<S: Alter>(
 }
 
 impl<S: Alter> NodeStore for Table<S> {
-    ghost use Rattle.mstore.specs.Database.{IsMemory, stored};
+    ghost use Rattle.mstore.specs.Database.{IsMemory, stored, table_doubt};
+    ghost use Rattle.mstore.specs.Room.{has_room, told_of};
 
-    ghost content = { λ t. stored S.Store t };
+    ghost content = { λ t. stored S.Store t.conn };
+
+    ghost doubt = { table_doubt S.Store };
 
     ghost sound = { IsMemory S.Store };
 
-    ghost steady = { ⊥ };
+    ghost steady = { IsFaultless S.Store };
+
+    ghost has_room = { has_room S.Store };
 
     fn get(&mut self, key: &NodeKey) -> Result<Option<Bytes7>, StoreFault> {
         let Some(row) = find_value(&mut self.conn, key.as_bytes())? else {
@@ -245,5 +277,7 @@ impl<S: Alter> NodeStore for Table<S> {
         key_within(&mut self.conn, Direction::Backward, low, high)
     }
 
-    ghost steady_is_sound = { λ never. absurd never };
+    ghost steady_is_sound = { λ beneath. beneath.memory };
+
+    ghost steady_is_told = { told_of };
 }

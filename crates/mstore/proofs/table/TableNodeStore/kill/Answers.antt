@@ -1,11 +1,31 @@
 -- SPDX-License-Identifier: Apache-2.0
-use Rattle.mstore.proofs.Words.{◌≡◌, OnOk, subst, without_subtree, stored, IsSound}
+use Rattle.mstore.proofs.Words.{◌≡◌, ◌∙◌, OnOk, OnErr, TableOver, subst, without_subtree, stored}
 use Rattle.mstore.proofs.Tied.{kill_is, on_ok}
+use Rattle.mstore.proofs.Tables.{known, still_store, doubts_seen}
+use Rattle.mstore.proofs.Rooms.{store_is}
 use Rattle.mstore.proofs.table.TableNodeStore.kill.Goals as goal
 
-pub returns-clause-killed : goal.returns-clause-killed
-returns-clause-killed g c quiet =
-    let sound : IsSound g.S.Store c.self.inside.conn = (quiet, c.self.invariant quiet) in
-    let gone = rw (c.as_bytes.ensures.bytes, c.as_slice.ensures.value, c.in_ok-end.ensures.bytes) at c.remove_range.ensures.removed sound in
-    subst (λ t. OnOk c.remove_range.result (stored g.S.Store c.remove_range.new.conn ≡ without_subtree (stored g.S.Store t) c.args.key.now)) c.self.view_is
-    (on_ok c.remove_range.result (kill_is g.S.Store c.self.inside.conn c.remove_range.new.conn sound (c.remove_range.ensures.sound sound) c.args.key.now c.as_bytes.ensures.stored) gone)
+pub invariant_of-self : goal.invariant_of-self
+invariant_of-self g c = (
+  still_store g.S.Store c.self.inside.conn c.remove_range.new.conn c.self.inside.alone c.self.invariant.0 c.remove_range.ensures.doubt.order c.remove_range.ensures.store,
+  c.remove_range.ensures.limit ∙ c.self.invariant.1,
+)
+
+pub returns : goal.returns
+returns g c =
+    let old = c.self.inside.conn in
+    let new = c.remove_range.new.conn in
+    let d = c.remove_range.ensures.doubt in
+    record {
+      killed = λ sure.
+          let it = known g.S.Store old new c.self.inside.alone c.self.invariant.0 d.order sure in
+          let gone = rw (c.as_bytes.ensures.bytes, c.as_slice.ensures.value, c.in_ok-end.ensures.bytes) at c.remove_range.ensures.removed it.0 it.1 in
+          subst (λ (t : TableOver _). OnOk c.remove_range.result (stored g.S.Store new ≡ without_subtree (stored g.S.Store t.conn) c.args.key.now)) c.self.view_is
+          (on_ok c.remove_range.result (kill_is g.S.Store old new it.0 (c.remove_range.ensures.store it.0 it.1) c.args.key.now c.as_bytes.ensures.stored) gone);
+      fault = λ sure.
+          let it = known g.S.Store old new c.self.inside.alone c.self.invariant.0 d.order sure in
+          subst (λ (t : TableOver _). OnErr c.remove_range.result (stored g.S.Store new ≡ stored g.S.Store t.conn)) c.self.view_is (c.remove_range.ensures.fault it.0 it.1);
+      doubt = doubts_seen g.S.Store old new c.self.inside.alone c.self.invariant.0 _ c.self.view_is _ d;
+      store = λ beneath room.
+          c.remove_range.ensures.refused beneath (store_is g.S.Store beneath old new c.self.inside.alone c.self.invariant room) c.self.invariant.1;
+    }

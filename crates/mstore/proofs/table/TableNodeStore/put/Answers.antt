@@ -1,17 +1,35 @@
 -- SPDX-License-Identifier: Apache-2.0
-use Rattle.mstore.proofs.Words.{◌≡◌, OnOk, subst, stored, insert, IsSound}
+use Rattle.mstore.proofs.Words.{◌≡◌, ◌∙◌, OnOk, OnErr, TableOver, subst, stored, insert}
 use Rattle.mstore.proofs.Tied.{put_is, on_ok}
-use Rattle.mstore.proofs.Holding.{seen_held}
+use Rattle.mstore.proofs.Tables.{known, still_store, doubts_seen, held_seen}
+use Rattle.mstore.proofs.Rooms.{store_is, not_full}
 use Rattle.mstore.proofs.table.TableNodeStore.put.Goals as goal
 
-pub returns-clause-put : goal.returns-clause-put
-returns-clause-put g c quiet =
-    let sound : IsSound g.S.Store c.self.inside.conn = (quiet, c.self.invariant quiet) in
-    let put = rw (c.as_bytes.ensures.bytes, c.as_bytes-2.ensures.bytes) at c.store_value.ensures.put sound in
-    subst (λ t. OnOk c.store_value.result (stored g.S.Store c.store_value.new.conn ≡ insert (stored g.S.Store t) c.args.key.now c.args.text.now)) c.self.view_is
-    (on_ok c.store_value.result (put_is g.S.Store c.self.inside.conn c.store_value.new.conn sound (c.store_value.ensures.sound sound) c.args.key.now c.args.text.now c.as_bytes.ensures.stored) put)
+pub invariant_of-self : goal.invariant_of-self
+invariant_of-self g c = (
+  still_store g.S.Store c.self.inside.conn c.store_value.new.conn c.self.inside.alone c.self.invariant.0 c.store_value.ensures.doubt.order c.store_value.ensures.store,
+  c.store_value.ensures.limit ∙ c.self.invariant.1,
+)
 
-pub returns-clause-held : goal.returns-clause-held
-returns-clause-held g c quiet =
-    let sound : IsSound g.S.Store c.self.inside.conn = (quiet, c.self.invariant quiet) in
-    on_ok c.store_value.result (λ _. seen_held g.S.Store c.self.inside.conn _ c.self.view_is sound) (c.store_value.ensures.put sound)
+pub returns : goal.returns
+returns g c =
+    let old = c.self.inside.conn in
+    let new = c.store_value.new.conn in
+    let d = c.store_value.ensures.doubt in
+    record {
+      put = λ sure.
+          let it = known g.S.Store old new c.self.inside.alone c.self.invariant.0 d.order sure in
+          let put = rw (c.as_bytes.ensures.bytes, c.as_bytes-2.ensures.bytes) at c.store_value.ensures.put it.0 it.1 in
+          subst (λ (t : TableOver _). OnOk c.store_value.result (stored g.S.Store new ≡ insert (stored g.S.Store t.conn) c.args.key.now c.args.text.now)) c.self.view_is
+          (on_ok c.store_value.result (put_is g.S.Store old new it.0 (c.store_value.ensures.store it.0 it.1) c.args.key.now c.args.text.now c.as_bytes.ensures.stored) put);
+      held = λ sure.
+          let it = known g.S.Store old new c.self.inside.alone c.self.invariant.0 d.order sure in
+          on_ok c.store_value.result (λ _. held_seen g.S.Store old new c.self.inside.alone c.self.invariant.0 _ c.self.view_is d.order sure) (c.store_value.ensures.put it.0 it.1);
+      fault = λ sure.
+          let it = known g.S.Store old new c.self.inside.alone c.self.invariant.0 d.order sure in
+          subst (λ (t : TableOver _). OnErr c.store_value.result (stored g.S.Store new ≡ stored g.S.Store t.conn)) c.self.view_is (c.store_value.ensures.fault it.0 it.1);
+      doubt = doubts_seen g.S.Store old new c.self.inside.alone c.self.invariant.0 _ c.self.view_is _ d;
+      store = λ beneath room refused.
+          not_full g.S.Store beneath old new c.self.inside.alone c.self.invariant room
+          (c.store_value.ensures.full beneath (store_is g.S.Store beneath old new c.self.inside.alone c.self.invariant room) c.self.invariant.1 refused);
+    }

@@ -1,0 +1,55 @@
+-- SPDX-License-Identifier: Apache-2.0
+-- When a table has no number for one more row, and the stores beneath over which nothing else refuses a call.
+use Rattle.std.specs.Prelude.{◌≡◌, ℕ, pos, ◌+ℤ◌, Bool, true, false, IsTrue, refl, not, ◌&&◌, if◌then◌else◌, List}
+use Rattle.std.specs.List.{list_any}
+use Rattle.sqlite_value.specs.Order.{Row}
+use Rattle.sqlite_trees.specs.Tree.{rowid}
+use Rattle.sqlite_trees.specs.View.{IsOrdered}
+use Rattle.sqlite_trees.specs.Objects.{catalog_tree, IsListed}
+use Rattle.sqlite_trees.specs.declared.store.Store.{Ghosts}
+use Rattle.sqlite_sql.specs.Ops.{fits_i64}
+use Rattle.sqlite_rules.specs.Edit.{id_in}
+use Rattle.sqlite_trees.proofs.Doubt.{clean_of}
+use Rattle.sqlite.specs.Held.{state}
+use Rattle.mstore.specs.Database.{IsMemory, TableOver, doubt_as, table_doubt}
+
+-- the number of the row is one that a row may have, and so is the next
+abbrev pub has_next : Row → Bool
+has_next r = fits_i64 (id_in (rowid r)) && fits_i64 (id_in (rowid r) +ℤ pos 1)
+
+-- a row has the last number of all
+abbrev pub is_full : List Row → Bool
+is_full rows = list_any (λ r. not (has_next r)) rows
+
+-- The store beneath is memory, in which no disk can fail, and its trees are in order and as they are listed.
+pub record IsFaultless {S : Type 0} (g : Ghosts S) : Type 0 where
+  pub memory : IsMemory g
+  pub faultless : (s : S) → g.faults s ≡ 0
+  pub ordered : (s : S) → IsOrdered (g.view s).shape (g.view s).trees
+  pub listed : (s : S) → IsListed ((g.view s).trees catalog_tree) (g.view s).shape (g.view s).reals
+
+-- nothing is said of a table beside others; one alone has room unless it is full
+abbrev pub has_room : {S : Type 0} → Ghosts S → TableOver S → Bool
+has_room g t = t.is_alone && not (is_full ((state g t.conn).now.trees 0))
+
+-- ---- such a table is in no doubt
+
+sure_as : (is_clean is_open : Bool) → IsTrue is_clean → IsTrue is_open → doubt_as is_clean is_open ≡ 0
+sure_as true true h k = refl
+sure_as true false h k = absurd (never k)
+  where
+    never : ◌≡◌ {A = Bool} false true → ⊥
+    never e = cc
+sure_as false is_open h k = absurd (never h)
+  where
+    never : ◌≡◌ {A = Bool} false true → ⊥
+    never e = cc
+
+alone_is : (is_alone has_room : Bool) (n : ℕ) → IsTrue (is_alone && has_room) → n ≡ 0 → (if is_alone then n else 2) ≡ 0
+alone_is true has_room n h e = e
+alone_is false has_room n h e = absurd (let clash = h in cc)
+
+pub told_of : {S : Type 0} {g : Ghosts S} → IsFaultless g → (t : TableOver S) → IsTrue (has_room g t) → table_doubt g t ≡ 0
+told_of {g = g} beneath t room =
+    let v = g.view t.conn.store in
+    alone_is t.is_alone (not (is_full ((state g t.conn).now.trees 0))) _ room (sure_as v.is_clean v.is_open (clean_of v.is_clean (beneath.memory.clean t.conn.store)) (beneath.memory.is_open t.conn.store))

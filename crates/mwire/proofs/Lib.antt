@@ -5,6 +5,7 @@ pub mod EventLines
 pub mod Fronts
 pub mod Shown
 pub mod Cuts
+pub mod StepsTaken
 pub mod LineAnswers
 pub mod Progresses
 pub mod Promised

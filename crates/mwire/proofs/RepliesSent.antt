@@ -1,6 +1,6 @@
 -- SPDX-License-Identifier: Apache-2.0
 -- The replies that one account is told, sent one after another.
-use Rattle.mwire.proofs.WireWords.{arith, ◌≡◌, ℕ, ◌+◌, ◌<◌, Bool, true, List, [], ◌∷◌, ◌++◌, Option, map, take, drop, length, get_or, refl, sym, ap, ◌∙◌, subst, append_assoc, inl, map-append, take-append-drop, Appends-trans, Appends-nil, Appends, Consumes, IsAtEnd, lines, Text, Event, Ghosts, settings_of, world_of, IsTold, IsEquallyTold, IsToldEach, RanFirst, events_of, reply_text, told_text, RanOnly, ServeOnlyCutShort, ServesOnly, FrontSent, WireFault, Read, Write, Memory, ◌≢◌, Ok, Err}
+use Rattle.mwire.proofs.WireWords.{doubt_of, Doubts, Doubts-same, false, arith, ◌≡◌, ℕ, ◌+◌, ◌<◌, Bool, true, List, [], ◌∷◌, ◌++◌, Option, map, take, drop, length, get_or, refl, sym, ap, ◌∙◌, subst, append_assoc, inl, map-append, take-append-drop, Appends-trans, Appends-nil, Appends, Consumes, IsAtEnd, lines, Text, Event, Ghosts, settings_of, world_of, IsTold, IsEquallyTold, IsToldEach, IsToldUntilShut, RanFirst, RanUntilShut, events_of, reply_text, told_text, RanOnly, ServeOnlyCutShort, ServesOnly, FrontSent, WireFault, Read, Write, Memory, ◌≢◌, Ok, Err}
 use Rattle.std.proofs.lemmas.List.{append-nil}
 use Rattle.std.proofs.lemmas.Grind.{flat_map-append}
 use Rattle.mspec.specs.Access.{name_at}
@@ -60,36 +60,49 @@ module _ {S : Type 0} (g : Ghosts S) (old new : World S g) (account : ℕ) (left
     consumed = consumed;
     sent = [];
     appended = subst (λ h. Appends held h []) (sym kept) (Appends-nil held);
+    doubt = subst (λ w. Doubts g.sound (doubt_of g old) (doubt_of g w) false) (sym same) (Doubts-same _);
     outcome = broke fault other;
   }
     where
       broke : (e : WireFault) → e ≢ Write → ServeOnlyCutShort g old account left' (events_of (lines read)) [] new e
       broke Read o = (refl, same)
       broke Write o = absurd (o refl)
-      broke Memory o = inl (refl, λ sound. record { count = 0; lines = []; sent = refl; history = ap (world_of g) same })
+      broke Memory o = inl (
+        refl,
+        λ sound. record { count = 0; lines = []; sent = refl; history = ap (world_of g) same },
+        λ before now. absurd (omega (arith, before, now, ap (doubt_of g) same)),
+      )
 
   -- out of memory for what is told
-  pub untold : (g.sound → RanFirst (settings_of old) (world_of g old) (events_of (lines read)) (world_of g new)) → held' ≡ held → ServesOnly g old account left left' held held' (Err Memory) new
-  untold first kept = record {
+  pub untold : (es : List Event) → es ≡ events_of (lines read) → (doubt_of g new ≡ 0 → RanFirst (settings_of old) (world_of g old) es (world_of g new))
+      → (doubt_of g old ≡ 0 → doubt_of g new ≡ 1 → RanUntilShut (settings_of old) (world_of g old) es)
+      → Doubts g.sound (doubt_of g old) (doubt_of g new) false → held' ≡ held → ServesOnly g old account left left' held held' (Err Memory) new
+  untold es same first until_shut doubt kept = record {
     read = read;
     consumed = consumed;
     sent = [];
     appended = subst (λ h. Appends held h []) (sym kept) (Appends-nil held);
-    outcome = inl (refl, first);
+    doubt = doubt;
+    outcome = inl (
+      refl,
+      λ sure. subst (λ xs. RanFirst (settings_of old) (world_of g old) xs (world_of g new)) same (first sure),
+      λ before now. subst (RanUntilShut (settings_of old) (world_of g old)) same (until_shut before now),
+    );
   }
 
-  module _ (at_end : IsAtEnd left') (bytes : Text) (whole : Bool) (ran : RanOnly g old account (events_of (lines read)) bytes whole new) where
+  module _ (at_end : IsAtEnd left') (bytes : Text) (whole : Bool) (ran : RanOnly g old account (events_of (lines read)) bytes whole new) (doubt : Doubts g.sound (doubt_of g old) (doubt_of g new) false) where
     -- a fault of the writing
     pub unwritten : (fault : WireFault) → fault ≢ Read → (b : Bool) → FrontSent bytes held held' b → ServesOnly g old account left left' held held' (Err fault) new
     unwritten fault other b s = grind arith
 
     pub written : FrontSent bytes held held' true → ServesOnly g old account left left' held held' (Ok whole) new
-    written s = record { read = read; consumed = consumed; sent = bytes; appended = subst (Appends held held') (sym (FrontSent-whole s)) s.appended; outcome = (at_end, ran) }
+    written s = record { read = read; consumed = consumed; sent = bytes; appended = subst (Appends held held') (sym (FrontSent-whole s)) s.appended; doubt = doubt; outcome = (at_end, ran) }
 
 -- what was told of a slice's events, of a stream's
 pub ran_only : {S : Type 0} (g : Ghosts S) (old new : World S g) (account : ℕ) (es es' : List Event) → es ≡ es' → (replies : List Told) (bytes : Text) (whole : Bool) → bytes ≡ told_text replies
     → IsToldEach (name_at (settings_of old) account) (settings_of old) es replies
-    → (g.sound → IsTold g old account es replies whole new)
-    → (g.sound → IsEquallyTold g old account es replies whole)
+    → (doubt_of g new ≡ 0 → IsTold g old account es replies whole new)
+    → (doubt_of g new ≡ 0 → IsEquallyTold g old account es replies whole)
+    → (doubt_of g old ≡ 0 → doubt_of g new ≡ 1 → IsToldUntilShut (name_at (settings_of old) account) (settings_of old) (world_of g old) es replies whole)
     → RanOnly g old account es' bytes whole new
-ran_only g old new account es es' same replies bytes whole text each told alone = grind arith
+ran_only g old new account es es' same replies bytes whole text each told alone until_shut = grind arith

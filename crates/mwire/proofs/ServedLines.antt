@@ -1,6 +1,6 @@
 -- SPDX-License-Identifier: Apache-2.0
 -- The answers of a history of normal steps.
-use Rattle.mwire.proofs.WireWords.{arith, ◌≡◌, ◌++◌, List, [], ◌∷◌, true, false, refl, sym, ap, ◌∙◌, lines, Text, Settings, World, Event, Reply, normal, is_failure, replies, world_after, answered, opening, Ghosts, WireLine, classify, before_events, events_of, line_served, lines_served, StoreSufficed, StoreSufficedForEach, line_text, replies_behind, answer_text, NormalAnswersAreServed, NormalStreamsAreServed, LinesHaveAnswers, map}
+use Rattle.mwire.proofs.WireWords.{Doubts-same, arith, ◌≡◌, ◌++◌, List, [], ◌∷◌, true, false, refl, sym, ap, ◌∙◌, lines, Text, Settings, World, Event, Reply, normal, is_failure, replies, world_after, answered, opening, Ghosts, WireLine, classify, before_events, events_of, line_served, lines_served, StoreSufficed, StoreSufficedForEach, line_text, replies_behind, answer_text, NormalAnswersAreServed, NormalStreamsAreServed, LinesHaveAnswers, map}
 use Rattle.mmeaning.proofs.Histories.{normal_never_fails, normal_transitions_are_history, history_is_normal}
 
 line_is_served : (settings : Settings) (world : World) (more : List Text) (wire_line : WireLine)
@@ -14,16 +14,18 @@ lines_are_served : (settings : Settings) (world : World) (all : List Text) → a
 lines_are_served settings world [] = refl
 lines_are_served settings world (line ∷ more) = line_is_served settings world more (classify line) (λ s. lines_are_served settings s more)
 
-pub normal_answers_are_served : {S : Type 0} {g : Ghosts S} → g.sound → NormalAnswersAreServed g
-normal_answers_are_served sound settings world after all bytes answers none =
-    let normal_history = history_is_normal settings world after answers.trace (answers.history sound) none in (
+pub normal_answers_are_served : {S : Type 0} {g : Ghosts S} → NormalAnswersAreServed g
+normal_answers_are_served settings before after all bytes answers sure none =
+    let world = before.world in
+    let normal_history = history_is_normal settings world after.world answers.trace (answers.steps.history sure) none in (
       answers.text
           ∙ (ap (answer_text all) (normal_history.0 ∙ ap (replies settings world) answers.events) ∙ lines_are_served settings world all),
       normal_history.1 ∙ ap (world_after settings world) answers.events,
     )
 
-pub normal_streams_are_served : {S : Type 0} {g : Ghosts S} → g.sound → NormalStreamsAreServed g
-normal_streams_are_served sound settings globals after stream bytes answers none = (normal_answers_are_served sound settings (opening globals) after (lines stream) bytes answers none).0
+pub normal_streams_are_served : {S : Type 0} {g : Ghosts S} → NormalStreamsAreServed g
+normal_streams_are_served settings globals doubt after stream bytes answers sure none =
+    (normal_answers_are_served settings (record { world = opening globals; doubt = doubt }) after (lines stream) bytes answers sure none).0
 
 events_of_answered : (settings : Settings) (world : World) (es : List Event) → map (λ e. e.0) (answered settings world es) ≡ es
 events_of_answered settings world [] = refl
@@ -43,10 +45,14 @@ store_sufficed settings world (e ∷ es) =
     (sufficed_by (normal settings e world).0 (normal_never_fails settings e world), store_sufficed settings (normal settings e world).1 es)
 
 pub lines_have_answers : {S : Type 0} {g : Ghosts S} → LinesHaveAnswers g
-lines_have_answers settings world all = record {
+lines_have_answers settings world doubt all = record {
   trace = answered settings world (events_of all);
   events = events_of_answered settings world (events_of all);
   text = sym (lines_are_served settings world all) ∙ ap (answer_text all) (sym (replies_of_answered settings world (events_of all)));
-  history = λ sound. normal_transitions_are_history settings world (events_of all);
+  steps = record {
+    history = λ sure. normal_transitions_are_history settings world (events_of all);
+    doubt = Doubts-same _;
+    until_shut = λ before now. absurd (omega (arith, before, now));
+  };
   steady = λ steady. store_sufficed settings world (events_of all);
 }

@@ -1,6 +1,6 @@
 -- SPDX-License-Identifier: Apache-2.0
 -- The words that most proofs of this crate have, in one place.
-pub use Rattle.std.proofs.Common.{Bool, Err, IfErr, IsErr, List, Ok, OnOk, Option, Result, Some, [], ap, append-nil, append_assoc, arith, drop, false, get_or, inl, inr, is_err, is_ok, length, length-append, length-drop, map, min, refl, rules, slice_index, subst, suc, sym, take, true, zero, ℕ, ◌++◌, ◌+◌, ◌-◌, ◌<◌, ◌==◌, ◌^◌, ◌∙◌, ◌∷◌, ◌≡◌, ◌≢◌, ◌≤◌}
+pub use Rattle.std.proofs.Common.{Bool, not, IsTrue, Err, IfErr, IsErr, List, Ok, OnOk, Option, Result, Some, [], ap, append-nil, append_assoc, arith, drop, false, get_or, inl, inr, is_err, is_ok, length, length-append, length-drop, map, min, refl, rules, slice_index, subst, suc, sym, take, true, zero, ℕ, ◌++◌, ◌+◌, ◌-◌, ◌<◌, ◌==◌, ◌^◌, ◌∙◌, ◌∷◌, ◌≡◌, ◌≢◌, ◌≤◌}
 pub use Rattle.std.proofs.KnownBytes.{Appends-kept, Appends-nil, Appends-trans, Consumes-kept, Consumes-nil, Consumes-trans}
 pub use Rattle.std.proofs.lemmas.Bool.Decides.{nat_tests}
 pub use Rattle.std.proofs.lemmas.List.{get_or-append-add, length-take, length-take-le, map-append, take-append-drop, take-append-le, take_all, take_min, take_more}
@@ -24,12 +24,16 @@ pub use Rattle.mmeaning.specs.History.{History, answered, opening, replies, worl
 pub use Rattle.mmeaning.specs.Transition.{Event, Faulted, Finished, Halted, Reply, Settings, Transition, World, is_failure, max_line, normal}
 pub use Rattle.moperator.specs.declared.code.Code.TheVariants.{M1, M10, M13, M15, M4, M6, M7, M9, Zarg, Zchar, Zdepth, Zgrant, Zlevel, Zline, Zlocked, Zmem, Zover, Zsteps, Zstore, Zsub, Zsyntax, Zterm}
 pub use Rattle.mnodes.specs.declared.store.NodeStore.{Ghosts}
-pub use Rattle.mworld.specs.Isolated.{IsEquallyTold, IsTold, IsToldEach, RanFirst, replies_of, told_of}
-pub use Rattle.mworld.specs.View.{event_of, reply_of, settings_of, world_of}
+pub use Rattle.mworld.specs.Isolated.{IsEquallyTold, IsTold, IsToldEach, IsToldUntilShut, RanFirst, RanUntilShut, replies_of, told_of}
+pub use Rattle.mnodes.proofs.Doubting.{Doubts-same, undoubted}
+pub use Rattle.mnodes.specs.Doubt.{Doubts}
+pub use Rattle.mworld.proofs.Doubted.{Doubts-on}
+pub use Rattle.mworld.specs.View.{Seen, doubt_of, event_of, reply_of, seen_of, settings_of, world_of}
 pub use Rattle.mwire.specs.Answers.{AnswersCutShort, LineAnswered, LinesAnswered, RunAnswered, StoreSufficed, StoreSufficedForEach, WireLineAnswered, answer_text, line_text, replies_behind}
 pub use Rattle.mwire.specs.Connections.{AreOfPeers, AreServed, HasServedEach, ServesEach, Visit}
 pub use Rattle.mwire.specs.Only.{RanOnly, RepliesCutShort, ServeOnlyCutShort, ServesOnly, told_text}
 pub use Rattle.mwire.specs.Progress.{AreOpen, EachAnswered, FrontSent, Gathered, HasGathered, HasServed, IsCut, IsOpen, LineSent, SentUpTo, Stands, TakesOn}
+pub use Rattle.mwire.specs.Steps.{AreSteps, StepsUntilShut}
 pub use Rattle.mwire.specs.Serves.{EndsBy, Outcome, ServeCutShort, Serves}
 pub use Rattle.mwire.specs.Watched.{calls_of, counted_on, failed_of, inner_of, stalls_of}
 pub use Rattle.mwire.specs.Wire.{Ignored, Runs, TooLong, Unreadable, WireLine, before_events, but_last, classify, events_of, finished_lines, is_escaped, is_event, is_line_end, is_space, is_terminal, line_served, lines_served, output_text, parts_of, reply_text, shown, shown_character, stream_served, too_long_text, unreadable_text}

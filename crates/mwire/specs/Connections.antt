@@ -3,9 +3,11 @@
 use Rattle.std.specs.Prelude.{◌≡◌, ◌<◌, ℕ, List, [], ◌∷◌, ◌++◌, length, map, Option, Some, Result, MatchResult}
 use Rattle.std.specs.List.{All}
 use Rattle.mspec.specs.Act.{Text}
-use Rattle.mmeaning.specs.Transition.{Settings, World, Event, Reply}
+use Rattle.mmeaning.specs.Transition.{Settings, Event, Reply}
 use Rattle.mnodes.specs.declared.store.NodeStore.{Ghosts}
-use Rattle.mworld.specs.Promises.{IsSound, KeepsPromise}
+use Rattle.mworld.specs.Promises.{KeepsPromise}
+use Rattle.mworld.specs.View.{Seen}
+use Rattle.mwire.specs.Steps.{AreSteps}
 use Rattle.mwire.specs.Serves.{Serves, lines_run}
 use Rattle.mwire.specs.declared.fault.WireFault.{WireFault}
 use Rattle.mwire.specs.declared.fault.AcceptFault.{AcceptFault}
@@ -19,13 +21,13 @@ pub record Visit : Type 0 where
   pub result : Result (Unit {0}) WireFault
 
 -- connections, one after another, lead from one world to the other, each as `serve` says
-abbrev pub AreServed : {S : Type 0} → Ghosts S → Settings → List Visit → World → World → Type 0
+abbrev pub AreServed : {S : Type 0} → Ghosts S → Settings → List Visit → Seen → Seen → Type 0
 AreServed g settings [] world after = after ≡ world
-AreServed g settings (v ∷ more) world after = (between : World)
+AreServed g settings (v ∷ more) world after = (between : Seen)
     × Serves g settings world between v.left v.left' v.held v.held' v.result × AreServed g settings more between after
 
 -- the lines of all the connections that were run, in their order, with their replies
-abbrev pub lines_of_each : {S : Type 0} (g : Ghosts S) (settings : Settings) (visits : List Visit) (world after : World) → AreServed g settings visits world after → List (Event × Reply)
+abbrev pub lines_of_each : {S : Type 0} (g : Ghosts S) (settings : Settings) (visits : List Visit) (world after : Seen) → AreServed g settings visits world after → List (Event × Reply)
 lines_of_each g settings [] world after served = []
 lines_of_each g settings (v ∷ more) world after served =
     lines_run g settings world v.left' served.1.read served.1.sent served.0 v.result served.1.outcome ++ lines_of_each g settings more served.0 after served.2
@@ -37,18 +39,19 @@ pub record AreOfPeers (visits : List Visit) (waiting waiting' answered answered'
   pub fresh : All (λ (v : Visit). v.held ≡ Some []) visits
   pub went : map Some answered' ≡ map Some answered ++ map (λ (v : Visit). v.held') visits
 
--- `count` connections were served, and if the listener tells who comes, they are those of its peers. Over a sound store the replies of all
--- their lines together keep the promise.
-pub record HasServedEach {S : Type 0} (g : Ghosts S) (settings : Settings) (count : ℕ) (world after : World)
+-- `count` connections were served, and if the listener tells who comes, they are those of its peers. If there is no doubt of the store then, the
+-- replies of all their lines together keep the promise.
+pub record HasServedEach {S : Type 0} (g : Ghosts S) (settings : Settings) (count : ℕ) (world after : Seen)
     (tells : Type 0) (waiting waiting' answered answered' : List Text) : Type 0 where
   pub visits : List Visit
   pub many : length visits ≡ count
   pub served : AreServed g settings visits world after
   pub of_peers : tells → AreOfPeers visits waiting waiting' answered answered'
-  pub promise : IsSound g → KeepsPromise settings world (lines_of_each g settings visits world after served)
+  pub steps : AreSteps g settings world (lines_of_each g settings visits world after served) after
+  pub promise : after.doubt ≡ 0 → KeepsPromise settings world.world (lines_of_each g settings visits world after served)
 
 -- All the connections were served; or fewer, until none could be accepted: if the listener tells who comes, until nobody waited.
-abbrev pub ServesEach : {S : Type 0} → Ghosts S → Settings → ℕ → World → World
+abbrev pub ServesEach : {S : Type 0} → Ghosts S → Settings → ℕ → Seen → Seen
     → (tells : Type 0) → List Text → List Text → List Text → List Text → Result (Unit {0}) AcceptFault → Type 0
 ServesEach g settings count world after tells waiting waiting' answered answered' result = MatchResult result
     (λ _. HasServedEach g settings count world after tells waiting waiting' answered answered')

@@ -2,6 +2,7 @@
 pub mod Wire
 pub mod WireLaws
 pub mod WireLines
+pub mod Steps
 pub mod Answers
 pub mod Watched
 pub mod Serves

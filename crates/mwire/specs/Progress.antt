@@ -5,8 +5,9 @@ use Rattle.std.specs.List.{All, flat_map}
 use Rattle.std.specs.Io.KnownBytes.{Appends, Consumes}
 use Rattle.std.specs.Str.Lines.{strip_carriage_return}
 use Rattle.mspec.specs.Act.{Text}
-use Rattle.mmeaning.specs.Transition.{Settings, World, Event}
+use Rattle.mmeaning.specs.Transition.{Settings, Event}
 use Rattle.mnodes.specs.declared.store.NodeStore.{Ghosts}
+use Rattle.mworld.specs.View.{Seen}
 use Rattle.mwire.specs.Wire.{finished_lines, events_of}
 use Rattle.mwire.specs.Answers.{LineAnswered, AnswersCutShort}
 
@@ -28,22 +29,22 @@ pub record IsCut (bytes : Text) (finished : List Text) (kept : Text) : Type 0 wh
   pub kept_is : kept ≡ take 262 rest
 
 -- the lines are answered, one after another
-abbrev pub EachAnswered : {S : Type 0} → Ghosts S → Settings → World → List Text → Text → World → Type 0
+abbrev pub EachAnswered : {S : Type 0} → Ghosts S → Settings → Seen → List Text → Text → Seen → Type 0
 EachAnswered g settings world [] bytes after = (bytes ≡ []) × (after ≡ world)
-EachAnswered g settings world (line ∷ more) bytes after = (answer : Text) × (between : World) × (rest : Text)
+EachAnswered g settings world (line ∷ more) bytes after = (answer : Text) × (between : Seen) × (rest : Text)
     × LineAnswered g settings world line answer between × EachAnswered g settings between more rest after × (bytes ≡ answer ++ rest)
 
 -- the finished lines of the bytes so far are answered
-pub record Stands {S : Type 0} (g : Ghosts S) (settings : Settings) (first : World) (bytes : Text) (now : World) (kept sent : Text) : Type 0 where
+pub record Stands {S : Type 0} (g : Ghosts S) (settings : Settings) (first : Seen) (bytes : Text) (now : Seen) (kept sent : Text) : Type 0 where
   pub finished : List Text
   pub cut : IsCut bytes finished kept
   pub answered : EachAnswered g settings first (map strip_carriage_return finished) sent now
 
 -- what taking more bytes does, wherever the stream stands
-pub record TakesOn {S E : Type 0} (g : Ghosts S) (settings : Settings) (old : World) (kept bytes : Text) (new : World) (kept' : Text) (before after : Option Text) (result : Result (Unit {0}) E) : Type 0 where
+pub record TakesOn {S E : Type 0} (g : Ghosts S) (settings : Settings) (old : Seen) (kept bytes : Text) (new : Seen) (kept' : Text) (before after : Option Text) (result : Result (Unit {0}) E) : Type 0 where
   pub sent : Text
   pub appended : Appends before after sent
-  pub outcome : (first : World) (past text : Text) → Stands g settings first past old kept text
+  pub outcome : (first : Seen) (past text : Text) → Stands g settings first past old kept text
       → MatchResult result (λ _. Stands g settings first (past ++ bytes) new kept' (text ++ sent))
       (λ _. (more : Text) → AnswersCutShort g settings first (finished_lines ((past ++ bytes) ++ more)) (text ++ sent) new)
 
@@ -62,13 +63,13 @@ pub record FrontSent (bytes : Text) (before after : Option Text) (whole : Bool) 
   pub appended : Appends before after part
 
 -- a line was answered, and a front of its answer was sent
-pub record LineSent {S : Type 0} (g : Ghosts S) (settings : Settings) (old : World) (line : Text) (new : World) (before after : Option Text) (whole : Bool) : Type 0 where
+pub record LineSent {S : Type 0} (g : Ghosts S) (settings : Settings) (old : Seen) (line : Text) (new : Seen) (before after : Option Text) (whole : Bool) : Type 0 where
   pub answer : Text
   pub answered : LineAnswered g settings old line answer new
   pub sent : FrontSent answer before after whole
 
 -- so far these bytes were read and those sent, and the finished lines of those read are answered
-pub record HasServed {S : Type 0} (g : Ghosts S) (settings : Settings) (first now : World) (left left' held held' : Option Text) (kept : Text) : Type 0 where
+pub record HasServed {S : Type 0} (g : Ghosts S) (settings : Settings) (first now : Seen) (left left' held held' : Option Text) (kept : Text) : Type 0 where
   pub read : Text
   pub sent : Text
   pub consumed : Consumes left left' read

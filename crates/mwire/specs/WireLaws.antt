@@ -1,6 +1,6 @@
 -- SPDX-License-Identifier: Apache-2.0
 -- The laws of the wire form.
-use Rattle.std.specs.Prelude.{◌≡◌, ◌<◌, ◌≤◌, List, [], ◌∷◌, ◌++◌, length}
+use Rattle.std.specs.Prelude.{◌≡◌, ◌<◌, ◌≤◌, ℕ, List, [], ◌∷◌, ◌++◌, length}
 use Rattle.std.specs.List.{All, flat_map}
 use Rattle.std.specs.Fmt.{decimal}
 use Rattle.std.specs.Str.Lines.{lines, strip_carriage_return}
@@ -10,6 +10,7 @@ use Rattle.mspec.specs.Globals.{Globals}
 use Rattle.mmeaning.specs.Transition.{Settings, World, Event, max_line}
 use Rattle.mmeaning.specs.History.{opening, world_after, NoneFailed}
 use Rattle.mnodes.specs.declared.store.NodeStore.{Ghosts}
+use Rattle.mworld.specs.View.{Seen}
 use Rattle.mwire.specs.Wire.{lines_served, stream_served, events_of}
 use Rattle.mwire.specs.Answers.{LinesAnswered}
 use Rattle.mwire.specs.Progress.{IsOpen}
@@ -34,15 +35,15 @@ EventsHaveStream = (events : List Event) → All HasLine events → events_of (l
 -- If memory and the store sufficed for each line, the bytes that answer lines are those of the definitional interpreter,
 -- and it leaves the same world
 abbrev pub NormalAnswersAreServed : {S : Type 0} → Ghosts S → Type 0
-NormalAnswersAreServed g = (settings : Settings) (world after : World) (all : List Text) (bytes : Text) (answers : LinesAnswered g settings world all bytes after)
-    → NoneFailed answers.trace → (bytes ≡ lines_served settings world all) × (after ≡ world_after settings world (events_of all))
+NormalAnswersAreServed g = (settings : Settings) (world after : Seen) (all : List Text) (bytes : Text) (answers : LinesAnswered g settings world all bytes after)
+    → after.doubt ≡ 0 → NoneFailed answers.trace → (bytes ≡ lines_served settings world.world all) × (after.world ≡ world_after settings world.world (events_of all))
 
 -- so what answers a whole stream, from an opening world, is determined by the settings, the globals and the stream alone
 abbrev pub NormalStreamsAreServed : {S : Type 0} → Ghosts S → Type 0
-NormalStreamsAreServed g = (settings : Settings) (globals : Globals) (after : World) (stream bytes : Text) (answers : LinesAnswered g settings (opening globals) (lines stream) bytes after)
-    → NoneFailed answers.trace → bytes ≡ stream_served settings globals stream
+NormalStreamsAreServed g = (settings : Settings) (globals : Globals) (doubt : ℕ) (after : Seen) (stream bytes : Text)
+    (answers : LinesAnswered g settings (record { world = opening globals; doubt = doubt }) (lines stream) bytes after) → after.doubt ≡ 0 → NoneFailed answers.trace → bytes ≡ stream_served settings globals stream
 
 -- and any lines have an answer, by normal steps, over a store of any type
 abbrev pub LinesHaveAnswers : {S : Type 0} → Ghosts S → Type 0
-LinesHaveAnswers g = (settings : Settings) (world : World) (all : List Text)
-    → LinesAnswered g settings world all (lines_served settings world all) (world_after settings world (events_of all))
+LinesHaveAnswers g = (settings : Settings) (world : World) (doubt : ℕ) (all : List Text)
+    → LinesAnswered g settings (record { world = world; doubt = doubt }) all (lines_served settings world all) (record { world = world_after settings world (events_of all); doubt = doubt })

@@ -1,7 +1,7 @@
 // SPDX-License-Identifier: Apache-2.0
 // Connections, served one after the other.
 ghost use Rattle.std.specs.Prelude.{◌≡◌};
-ghost use Rattle.mworld.specs.View.{settings_of, world_of};
+ghost use Rattle.mworld.specs.View.{settings_of, seen_of};
 ghost use Rattle.mwire.specs.Connections.{ServesEach};
 
 use crate::fault::{AcceptFault, WireFault};
@@ -29,7 +29,7 @@ pub fn serve_each<S: NodeStore, L: Listener, E: Write>(
     count: u32,
     errors: &mut E,
 ) -> Result<(), AcceptFault>
-    ensures served { ServesEach S.NodeStore (settings_of world.old) count (world_of S.NodeStore world.old) (world_of S.NodeStore world.new)
+    ensures served { ServesEach S.NodeStore (settings_of world.old) count (seen_of S.NodeStore world.old) (seen_of S.NodeStore world.new)
         L.tells (L.waiting listener.old) (L.waiting listener.new) (L.answered listener.old) (L.answered listener.new) result }
     ensures settings { settings_of world.new ≡ settings_of world.old }
 {
@@ -49,7 +49,7 @@ fn serve_next<S: NodeStore, L: Listener, E: Write>(
     number: u32,
     errors: &mut E,
 ) -> Result<(), AcceptFault>
-    ensures served { ServesEach S.NodeStore (settings_of world.old) 1 (world_of S.NodeStore world.old) (world_of S.NodeStore world.new)
+    ensures served { ServesEach S.NodeStore (settings_of world.old) 1 (seen_of S.NodeStore world.old) (seen_of S.NodeStore world.new)
         L.tells (L.waiting listener.old) (L.waiting listener.new) (L.answered listener.old) (L.answered listener.new) result }
     ensures settings { settings_of world.new ≡ settings_of world.old }
 {

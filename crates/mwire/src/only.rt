@@ -20,7 +20,8 @@ use std::io::{Read, Write};
 
 /// Reads a stream to its end, runs its lines, and writes the replies at the terminals of one account of the world's settings. It
 /// returns whether no line of an account that reaches this one was answered ZMEM or ZSTORE. If none was, the replies are those
-/// that the account is told where there is nothing but the accounts that reach it, as `isolated_replies` says.
+/// that the account is told where there is nothing but the accounts that reach it, as `isolated_replies` says; if a fault shut the
+/// store on the way, up to the line at which it did.
 ///
 /// The faults:
 /// - `Read`: a read failed, or there were 1,000,000,000 reads. No line is run.

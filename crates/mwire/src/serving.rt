@@ -1,7 +1,7 @@
 // SPDX-License-Identifier: Apache-2.0
 // A stream, served: each line is run and answered before the next one.
 ghost use Rattle.std.specs.Prelude.{◌≡◌, ◌≢◌, ◌+◌, ◌≤◌, ℕ, List, [], ◌∷◌, ◌++◌, false, OnOk, IfOk, IfErr, is_ok, Ok, Err};
-ghost use Rattle.mworld.specs.View.{settings_of, world_of, reply_of};
+ghost use Rattle.mworld.specs.View.{settings_of, seen_of, reply_of};
 ghost use Rattle.mwire.specs.Wire.{reply_text};
 ghost use Rattle.mwire.specs.Watched.{inner_of, failed_of, calls_of, stalls_of, ReadFailed, WriteFailed};
 ghost use Rattle.mwire.specs.Serves.{Serves};
@@ -18,7 +18,8 @@ use std::alloc::Global;
 use std::io::{Read, Write};
 
 /// Runs the lines of a stream, to its end, and writes their replies: each one whole before the next line is run. If the store is
-/// sound, each line is a transition of the definitions, by the world's settings; over a steady store no line is answered ZSTORE.
+/// sound, each line is a transition of the definitions, by the world's settings; over a steady store that always has room no
+/// line is answered ZSTORE.
 ///
 /// The faults:
 /// - `Read`: a read failed, or there were 1,000,000,000 reads. The lines that a line feed ended are run and answered, and no other.
@@ -38,7 +39,7 @@ pub fn serve<S: NodeStore, R: Read, W: Write>(
 ) -> Result<(), WireFault>
     requires reader_works { failed_of reader.old ≡ false }
     requires writer_works { failed_of writer.old ≡ false }
-    ensures serves { Serves S.NodeStore (settings_of world.old) (world_of S.NodeStore world.old) (world_of S.NodeStore world.new)
+    ensures serves { Serves S.NodeStore (settings_of world.old) (seen_of S.NodeStore world.old) (seen_of S.NodeStore world.new)
         (R.remaining (inner_of reader.old)) (R.remaining (inner_of reader.new))
         (W.contents (inner_of writer.old)) (W.contents (inner_of writer.new)) result }
     ensures settings { settings_of world.new ≡ settings_of world.old }
@@ -76,7 +77,7 @@ fn take_piece<S: NodeStore, W: Write>(
     piece: &[u8],
     writer: &mut Watched<W>,
 ) -> Result<(), WireFault>
-    ensures passes { TakesOn S.NodeStore (settings_of world.old) (world_of S.NodeStore world.old) line.old piece.now (world_of S.NodeStore world.new) line.new
+    ensures passes { TakesOn S.NodeStore (settings_of world.old) (seen_of S.NodeStore world.old) line.old piece.now (seen_of S.NodeStore world.new) line.new
         (W.contents (inner_of writer.old)) (W.contents (inner_of writer.new)) result }
     ensures settings { settings_of world.new ≡ settings_of world.old }
     ensures fault { IfErr result (λ e. (e ≢ WireFault.Read) × (e ≡ WireFault.Write → WriteFailed writer.old writer.new)) }
@@ -101,7 +102,7 @@ fn take_line<S: NodeStore, W: Write>(
     writer: &mut Watched<W>,
 ) -> Result<(), WireFault>
     requires { IsOpen bytes.now }
-    ensures passes { TakesOn S.NodeStore (settings_of world.old) (world_of S.NodeStore world.old) line.old (bytes.now ++ 10 ∷ []) (world_of S.NodeStore world.new) line.new
+    ensures passes { TakesOn S.NodeStore (settings_of world.old) (seen_of S.NodeStore world.old) line.old (bytes.now ++ 10 ∷ []) (seen_of S.NodeStore world.new) line.new
         (W.contents (inner_of writer.old)) (W.contents (inner_of writer.new)) result }
     ensures settings { settings_of world.new ≡ settings_of world.old }
     ensures fault { IfErr result (λ e. (e ≢ WireFault.Read) × (e ≡ WireFault.Write → WriteFailed writer.old writer.new)) }
@@ -124,7 +125,7 @@ fn answer_line<S: NodeStore, W: Write>(
     line: &[u8],
     writer: &mut Watched<W>,
 ) -> Result<(), WireFault>
-    ensures sent { LineSent S.NodeStore (settings_of world.old) (world_of S.NodeStore world.old) line.now (world_of S.NodeStore world.new)
+    ensures sent { LineSent S.NodeStore (settings_of world.old) (seen_of S.NodeStore world.old) line.now (seen_of S.NodeStore world.new)
         (W.contents (inner_of writer.old)) (W.contents (inner_of writer.new)) (is_ok result) }
     ensures settings { settings_of world.new ≡ settings_of world.old }
     ensures fault { IfErr result (λ e. (e ≢ WireFault.Read) × (e ≡ WireFault.Write → WriteFailed writer.old writer.new)) }

@@ -10,15 +10,15 @@ pub fn events_have_stream()
     ensures { EventsHaveStream }
 {}
 
-/// Over a sound store, if no reply is a failure, lines are answered as the definitional interpreter answers them, by any settings.
+/// If nothing casts doubt on the store, and no reply is a failure, lines are answered as the definitional interpreter answers them, by any settings.
 pub fn normal_answers_are_served<S: NodeStore>()
-    ensures { S.sound → NormalAnswersAreServed S.NodeStore }
+    ensures { NormalAnswersAreServed S.NodeStore }
 {}
 
-/// Over a sound store, if no reply is a failure, a stream is answered from an opening world as the definitional interpreter answers
+/// If nothing casts doubt on the store, and no reply is a failure, a stream is answered from an opening world as the definitional interpreter answers
 /// it, by any settings.
 pub fn normal_streams_are_served<S: NodeStore>()
-    ensures { S.sound → NormalStreamsAreServed S.NodeStore }
+    ensures { NormalStreamsAreServed S.NodeStore }
 {}
 
 /// Any lines have an answer, by normal steps, by any settings and over any store.

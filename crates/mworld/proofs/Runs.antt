@@ -1,6 +1,6 @@
 -- SPDX-License-Identifier: Apache-2.0
 -- A line's transition, from the run of its text.
-use Rattle.mworld.proofs.WorldWords.{◌≡◌, ℕ, [], true, false, Vec, Global, refl, sym, ap, subst, ◌∙◌, nat_cmp, FinMap, get, insert, remove, Own, Lost, Memory, Store, Settings, name_at, steps_at, Act, State, Gives, Fails, level_begun, Shared, Event, World, Transition, FailedTransition, lost, TransitionBy, normal, begun, kept, ended, settled, session_or_new, text_run, is_failure, is_lost, Ending, Finished, Halted, Faulted, act, AreFit, fault_of, Code, Session, session_of, RunsText, EndsBy, GaveEnding, ending_of, reply_of, shared, Passes}
+use Rattle.mworld.proofs.WorldWords.{Doubts, Doubts-same, is_kept_by, ◌≡◌, ℕ, [], true, false, Vec, Global, refl, sym, ap, subst, ◌∙◌, nat_cmp, FinMap, get, insert, remove, Own, Lost, Memory, Store, Settings, name_at, steps_at, Act, State, Gives, Fails, level_begun, Shared, Event, World, Transition, FailedTransition, lost, TransitionBy, normal, begun, kept, ended, settled, session_or_new, text_run, is_failure, is_lost, Ending, Finished, Halted, Faulted, act, AreFit, fault_of, Code, Session, session_of, RunsText, EndsBy, GaveEnding, ending_of, reply_of, shared, Passes}
 use Rattle.mspec.specs.Code as spec
 use Rattle.mspec.specs.Plan.{perform, cut_short}
 use Rattle.mspec.specs.LockConflict.{Locks, released}
@@ -16,6 +16,7 @@ use Rattle.misolation.specs.PlanLaws.{Actor, KeepsFit}
 use Rattle.misolation.proofs.PlansInside.{plans_keep_fit}
 use Rattle.mmeaning.proofs.Calls.{cut_all}
 use Rattle.mmeaning.proofs.OtherLocks.{others_kept}
+use Rattle.mnodes.specs.Steady.{IsSteady}
 use Rattle.mnodes.specs.declared.store.NodeStore.{Ghosts}
 use Rattle.moperator.specs.declared.code.Code.TheVariants.{Zmem, Zstore}
 use Rattle.meval.specs.Evaluates.{standing_of}
@@ -70,7 +71,7 @@ is_cut b steady p h (Fault c) h' d = is_cut_by b steady p h (fault_of c) h' d
 -- ---- steps
 
 module _ {S : Type 0} (g : Ghosts S) (settings : Settings) (e : Event) (place : ℕ) (sessions : FinMap nat_cmp transition.Session) (old new : Session) (store store' : S) (locks locks' : Locks) (reply : Reply) (passes : Passes settings e place)
-    (same : session_of old ≡ session_or_new (get sessions e.terminal)) (ran : Ran g settings e.terminal place e.text old store locks reply new store' locks') (sound : g.sound) where
+    (same : session_of old ≡ session_or_new (get sessions e.terminal)) (ran : Ran g settings e.terminal place e.text old store locks reply new store' locks') (sure : g.doubt store' ≡ 0) where
   abbrev world : World
   world = record { shared = shared g store locks; sessions = sessions }
 
@@ -83,8 +84,8 @@ module _ {S : Type 0} (g : Ghosts S) (settings : Settings) (e : Event) (place : 
   abbrev there : Here
   there = point new.locals new.naked new.test reply.out.items ran.left (shared g store' locks')
 
-  ends : EndsBy b g.steady (text_run (name_at settings place) (line_at e.text)) here reply.ending there
-  ends = ran.at sound
+  ends : EndsBy b (IsSteady g store') (text_run (name_at settings place) (line_at e.text)) here reply.ending there
+  ends = ran.at sure
 
   begins : begun passes.account (session_or_new (get sessions e.terminal)) ≡ here.0
   begins = λ i. record { locals = level_begun (sym same i).locals; naked = (sym same i).naked; test = (sym same i).test; out = []; steps = passes.steps i }
@@ -97,7 +98,7 @@ module _ {S : Type 0} (g : Ghosts S) (settings : Settings) (e : Event) (place : 
       normally =
           let_through settings e passes.account world passes.known passes.short passes.ascii
           ∙ (λ i. ended e.terminal world (perform (act settings e.terminal (passes.name i)) (text_run (passes.name i) (line_at e.text) (begins i)) world.shared))
-          ∙ ended_by b g.steady e.terminal world (text_run (name_at settings place) (line_at e.text)) here reply.ending there ends fine
+          ∙ ended_by b (IsSteady g store') e.terminal world (text_run (name_at settings place) (line_at e.text)) here reply.ending there ends fine
           ∙ ap (λ (s : World). (reply_of reply, s)) (sym stored)
 
   -- one that is lost, even if it was run to its end: what it left of its session is gone
@@ -105,7 +106,7 @@ module _ {S : Type 0} (g : Ghosts S) (settings : Settings) (e : Event) (place : 
   lost_transition after answer loss gone is = subst (λ r. Transition settings e r world after) (sym is) (refl, failed)
     where
       cut : IsCut b (text_run (name_at settings place) (line_at e.text)) here there
-      cut = is_cut b g.steady (text_run (name_at settings place) (line_at e.text)) here reply.ending there ends
+      cut = is_cut b (IsSteady g store') (text_run (name_at settings place) (line_at e.text)) here reply.ending there ends
 
       -- whatever was done for the terminal, others hold what they held
       others : PlanKeepsOthersLocks settings e.terminal (name_at settings place) (text_run (name_at settings place) (line_at e.text) here.0) here.1
@@ -127,13 +128,13 @@ module _ {S : Type 0} (g : Ghosts S) (settings : Settings) (e : Event) (place : 
 
 -- whatever a text did, what is held is held as it may be
 pub ran_fits : {S : Type 0} (g : Ghosts S) (settings : Settings) (e : Event) (place : ℕ) (old new : Session) (store store' : S) (locks locks' : Locks) (reply : Reply) (passes : Passes settings e place)
-    → Ran g settings e.terminal place e.text old store locks reply new store' locks' → g.sound → AreFit settings locks → AreFit settings locks'
-ran_fits g settings e place old new store store' locks locks' reply passes ran sound fit =
+    → Ran g settings e.terminal place e.text old store locks reply new store' locks' → g.doubt store' ≡ 0 → AreFit settings locks → AreFit settings locks'
+ran_fits g settings e place old new store store' locks locks' reply passes ran sure fit =
     let b : Standing = record { settings = settings; terminal = e.terminal; account = name_at settings place } in
     let here : Here = point (level_begun old.locals) old.naked old.test [] (steps_at settings place) (shared g store locks) in
     let there : Here = point new.locals new.naked new.test reply.out.items ran.left (shared g store' locks') in
     let p : Act Completion = text_run (name_at settings place) (line_at e.text) in
-    let cut : IsCut b p here there = is_cut b g.steady p here reply.ending there (ran.at sound) in
+    let cut : IsCut b p here there = is_cut b (IsSteady g store') p here reply.ending there (ran.at sure) in
     let sender : Actor = record { settings = settings; terminal = e.terminal; account = passes.account; known = passes.known } in
     let kept : KeepsFit sender (p here.0) here.1 = plans_keep_fit sender (p here.0) here.1 fit in
     subst (λ (w : Shared). AreFit settings w.locks)
@@ -161,15 +162,17 @@ unrun_transition g settings e place sessions store locks passes after answer los
 pub ran_over : {S : Type 0} {g : Ghosts S} {text : Text} {old new : Parts S} {ended : Ended} {session session' : Session} {store' : S} {locks' : Locks} {out : Vec ℕ Global} → RunsText g (line_at text) old ended new → old.eval.steps ≡ steps_at old.eval.settings.now old.eval.account
     → old.out.now.items ≡ [] → old.eval.session.now ≡ record session { locals = level_begun session.locals } → session' ≡ new.eval.session.now → store' ≡ new.eval.store.now → locks' ≡ new.locks.now → out ≡ new.out.now
     → Ran g old.eval.settings.now old.eval.terminal old.eval.account text session old.eval.store.now old.locks.now (record { out = out; ending = ended }) session' store' locks'
-ran_over {g = g} {text = text} {old = old} {new = new} {ended = ended} runs steps first begun s u l o = record {
+ran_over {S = S} {g = g} {text = text} {old = old} {new = new} {ended = ended} runs steps first begun s u l o = record {
   left = new.eval.steps;
-  at = λ sound.
-      subst (λ (q : Here × Here). EndsBy (standing_of old.eval) g.steady (text_run (standing_of old.eval).account (line_at text)) q.0 ended q.1)
+  doubt = subst (λ u. Doubts g.sound (g.doubt old.eval.store.now) (g.doubt u) (is_kept_by ended)) (sym u) runs.doubt;
+  at = λ sure.
+      subst (λ (q : Here × Here × S). EndsBy (standing_of old.eval) (IsSteady g q.2) (text_run (standing_of old.eval).account (line_at text)) q.0 ended q.1)
       (λ i. (
         point (begun i).locals (begun i).naked (begun i).test (first i) (steps i) (shared g old.eval.store.now old.locks.now),
         point (sym s i).locals (sym s i).naked (sym s i).test (sym o i).items new.eval.steps (shared g (sym u i) (sym l i)),
+        sym u i,
       ))
-      (runs.at sound);
+      (runs.at (subst (λ u. g.doubt u ≡ 0) u sure));
 }
 
 -- a text that was not run because memory ran out
@@ -177,8 +180,9 @@ pub not_run : {S : Type 0} {g : Ghosts S} {settings : Settings} {terminal place 
     → Ran g settings terminal place text session store locks reply session' store' locks'
 not_run {g = g} {settings = settings} {terminal = terminal} {place = place} {text = text} {session = session} {session' = session'} {store = store} {store' = store'} {locks = locks} {locks' = locks'} {reply = reply} is same unlocked = record {
   left = 0;
-  at = λ sound.
-      subst (λ (ending : Ended). EndsBy (record { settings = settings; terminal = terminal; account = name_at settings place }) g.steady (text_run (name_at settings place) (line_at text))
+  doubt = subst (λ u. Doubts g.sound (g.doubt store) (g.doubt u) (is_kept_by reply.ending)) (sym same) (Doubts-same _);
+  at = λ sure.
+      subst (λ (ending : Ended). EndsBy (record { settings = settings; terminal = terminal; account = name_at settings place }) (IsSteady g store') (text_run (name_at settings place) (line_at text))
       (point (level_begun session.locals) session.naked session.test [] (steps_at settings place) (shared g store locks)) ending
       (point session'.locals session'.naked session'.test reply.out.items 0 (shared g store' locks')))
       (sym is) (0, λ i. shared g (sym same i) (sym unlocked i));

@@ -1,6 +1,6 @@
 -- SPDX-License-Identifier: Apache-2.0
 -- A run of events goes on by one transition of the program.
-use Rattle.mworld.proofs.WorldWords.{◌≡◌, ℕ, ◌+◌, ◌<◌, Bool, true, false, cond, List, [], ◌∷◌, ◌++◌, Option, Some, None, map, take, length, get_or, refl, sym, ap, ◌∙◌, subst, IsTrue, ◌↔◌, unwrap_or, option_map, Result, Ok, Err, IfErr, append-nil, map-append, take_more, take-map, get, Settings, account_at, account_of, name_at, World, Event, Transition, is_failure, is_member, is_inside, part, Told, told_by, told_to, Tells, tells_on, history_on, IsToldEach, IsUnseen, RanFirst}
+use Rattle.mworld.proofs.WorldWords.{◌≡◌, ℕ, ◌+◌, ◌<◌, Bool, true, false, cond, List, [], ◌∷◌, ◌++◌, Option, Some, None, map, take, length, get_or, refl, sym, ap, ◌∙◌, subst, IsTrue, ◌↔◌, unwrap_or, option_map, Result, Ok, Err, IfErr, IsErr, OnOk, append-nil, map-append, take_more, take-map, get, Settings, account_at, account_of, name_at, World, Event, Transition, is_failure, is_member, is_inside, part, Told, told_by, told_to, Tells, tells_on, history_on, IsToldEach, IsUnseen, RanFirst, TellsOne}
 use Rattle.std.proofs.lemmas.List.Elements.{filter-append}
 use Rattle.std.proofs.lemmas.Bool.{false_from_ne_true}
 use Rattle.mspec.specs.Node.{Text}
@@ -41,20 +41,19 @@ module _ (settings : Settings) (e : Event) (place : ℕ) (same : account_at sett
   inside : (s : Accounts) → is_inside s settings e.terminal ≡ s (name_at settings place)
   inside s = ap (is_member s) there.1 ∙ ap s named
 
-module _ (a : Text) (settings : Settings) (world between after : World) (events : List Event) (told : List Told) (whole : Bool) (h : Tells a settings world events told whole between) (e : Event) (reply : Reply)
-    (transition : Transition settings e reply between after) where
-  told_more : (b : Bool) → is_inside (only a) settings e.terminal ≡ b → (more : Bool) → (IsTrue more ↔ (IsTrue whole × NoneFailed (part (reachers settings a) settings ((e, reply) ∷ []))))
-      → Tells a settings world (events ++ e ∷ []) (told ++ map told_by (cond b ((e, reply) ∷ []) [])) more after
-  told_more b is more iff =
-      subst (λ es. Tells a settings world (events ++ e ∷ []) (told ++ map told_by es) more after) (part_of_one (only a) settings e reply b is)
-      (tells_on a settings world between after events told whole h e reply transition more iff)
+-- ---- one event more
+
+module _ (a : Text) (settings : Settings) (told : List Told) (whole : Bool) (e : Event) (reply : Reply) where
+  tells_by : (b : Bool) → is_inside (only a) settings e.terminal ≡ b → (more : Bool) → (IsTrue more ↔ (IsTrue whole × NoneFailed (part (reachers settings a) settings ((e, reply) ∷ []))))
+      → TellsOne a settings e reply told whole (told ++ map told_by (cond b ((e, reply) ∷ []) [])) more
+  tells_by b is more iff = record { replies = ap (λ es. told ++ map told_by es) (sym (part_of_one (only a) settings e reply b is)); failures = iff }
 
   -- at a terminal of no account
-  pub nobody_told : get settings.terminals e.terminal ≡ None → Tells a settings world (events ++ e ∷ []) told whole after
+  pub nobody_told : get settings.terminals e.terminal ≡ None → TellsOne a settings e reply told whole told whole
   nobody_told none =
       let outside = part_of_one (reachers settings a) settings e reply false (ap (is_member (reachers settings a)) none) in
-      subst (λ ts. Tells a settings world (events ++ e ∷ []) ts whole after) (append-nil told)
-      (told_more false (ap (is_member (only a)) none) whole (λ w. (w, subst NoneFailed (sym outside) tt), λ both. both.0))
+      subst (λ ts. TellsOne a settings e reply told whole ts whole) (append-nil told)
+      (tells_by false (ap (is_member (only a)) none) whole (λ w. (w, subst NoneFailed (sym outside) tt), λ both. both.0))
 
   module _ (place : ℕ) (same : account_at settings place ≡ account_of settings e.terminal) (within : place < length settings.accounts) (more : Bool) (iff : IsTrue more ↔ (IsTrue whole × IsUnseen settings (name_at settings place) a reply)) where
     abbrev sender : Text
@@ -69,43 +68,36 @@ module _ (a : Text) (settings : Settings) (world between after : World) (events 
     still = (λ m. let both = iff.0 m in (both.0, unseen.0 both.1), λ both. iff.1 (both.0, unseen.1 both.1))
 
     -- at another account's terminal
-    pub other_told : text_eq a sender ≡ false → Tells a settings world (events ++ e ∷ []) told more after
+    pub other_told : text_eq a sender ≡ false → TellsOne a settings e reply told whole told more
     other_told apart =
-        subst (λ ts. Tells a settings world (events ++ e ∷ []) ts more after) (append-nil told)
-        (told_more false (inside settings e place same within (only a) ∙ apart) more still)
+        subst (λ ts. TellsOne a settings e reply told whole ts more) (append-nil told)
+        (tells_by false (inside settings e place same within (only a) ∙ apart) more still)
 
     -- at its own
-    pub own_told : text_eq a sender ≡ true → Tells a settings world (events ++ e ∷ []) (told ++ told_by (e, reply) ∷ []) more after
-    own_told own = told_more true (inside settings e place same within (only a) ∙ own) more still
+    pub own_told : text_eq a sender ≡ true → TellsOne a settings e reply told whole (told ++ told_by (e, reply) ∷ []) more
+    own_told own = tells_by true (inside settings e place same within (only a) ∙ own) more still
 
--- ---- the same, whatever the store does
+module _ {a : Text} {settings : Settings} {told told' : List Told} {whole whole' : Bool} {e : Event} {reply : Reply} (one : TellsOne a settings e reply told whole told' whole') where
+  -- by a transition
+  pub tells_more : (world between after : World) (events : List Event) → Tells a settings world events told whole between → Transition settings e reply between after → Tells a settings world (events ++ e ∷ []) told' whole' after
+  tells_more world between after events h transition =
+      subst (λ ts. Tells a settings world (events ++ e ∷ []) ts whole' after) (sym one.replies)
+      (tells_on a settings world between after events told whole h e reply transition whole' one.failures)
 
-module _ (a : Text) (settings : Settings) (events : List Event) (told : List Told) (h : IsToldEach a settings events told) (e : Event) (reply : Reply) where
-  each_more : (b : Bool) → is_inside (only a) settings e.terminal ≡ b → IsToldEach a settings (events ++ e ∷ []) (told ++ map told_by (cond b ((e, reply) ∷ []) []))
-  each_more b is = record {
+  -- whatever the store does
+  pub each_more : (events : List Event) → IsToldEach a settings events told → IsToldEach a settings (events ++ e ∷ []) told'
+  each_more events h = record {
     lines = h.lines ++ last;
     sent = map-append (λ (x : Event × Reply). x.0) h.lines last ∙ ap (λ es. es ++ e ∷ []) h.sent;
     replies =
         ap (map told_by) (filter-append (λ (x : Event × Reply). is_inside (only a) settings x.0.terminal) h.lines last)
         ∙ map-append told_by (part (only a) settings h.lines) (part (only a) settings last)
         ∙ ap (λ ts. ts ++ told_to a settings last) h.replies
-        ∙ ap (λ es. told ++ map told_by es) (part_of_one (only a) settings e reply b is);
+        ∙ sym one.replies;
   }
     where
       last : List (Event × Reply)
       last = (e, reply) ∷ []
-
-  pub nobody_each : get settings.terminals e.terminal ≡ None → IsToldEach a settings (events ++ e ∷ []) told
-  nobody_each none = subst (IsToldEach a settings (events ++ e ∷ [])) (append-nil told) (each_more false (ap (is_member (only a)) none))
-
-  module _ (place : ℕ) (same : account_at settings place ≡ account_of settings e.terminal) (within : place < length settings.accounts) where
-    pub other_each : text_eq a (name_at settings place) ≡ false → IsToldEach a settings (events ++ e ∷ []) told
-    other_each apart =
-        subst (IsToldEach a settings (events ++ e ∷ [])) (append-nil told)
-        (each_more false (inside settings e place same within (only a) ∙ apart))
-
-    pub own_each : text_eq a (name_at settings place) ≡ true → IsToldEach a settings (events ++ e ∷ []) (told ++ told_by (e, reply) ∷ [])
-    own_each own = each_more true (inside settings e place same within (only a) ∙ own)
 
 -- ---- runs of the first of some events
 
@@ -124,6 +116,11 @@ module _ {X : Type 0} (f : X → Event) (xs : List X) (i : ℕ) (x : X) (a : Tex
         ∙ sym (take_on f xs i x within is) ∙ sym (take-map f (i + 1) xs);
     history = history_on settings world between after h.lines ((f x, more.0) ∷ []) h.history (after, more.1, refl);
   }
+
+-- an error has nothing of this
+pub no_ok : {X E : Type 0} (P : Type 0) (r : Result X E) → IsErr r → OnOk r P
+no_ok P (Ok x) h = cc
+no_ok P (Err e) h = tt
 
 -- what is so is so whatever the error is
 pub whichever : {X E P : Type 0} (r : Result X E) → P → IfErr r (λ _. P)

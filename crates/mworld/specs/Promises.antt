@@ -10,11 +10,13 @@ use Rattle.misolation.specs.Reach.{reachers}
 use Rattle.misolation.specs.Cut.{part}
 use Rattle.misolation.specs.HistoryLaws.{Promise}
 use Rattle.mnodes.specs.declared.store.NodeStore.{Ghosts}
+use Rattle.mworld.specs.declared.world.World as world
+use Rattle.mworld.specs.View.{doubt_of}
 
--- The store's calls did what is said of its content. It is a fact of the store's type: proved of stores in memory, and known of none in a
--- file.
-abbrev pub IsSound : {S : Type 0} → Ghosts S → Type 0
-IsSound g = g.sound
+-- What is said of the content of the world's store holds, and held before each line that was run so far: no fault has shut it, and no wrong
+-- answer of a disk was taken as true.
+abbrev pub IsUndoubted : {S : Type 0} (g : Ghosts S) → world.World S g → Type 0
+IsUndoubted g w = doubt_of g w ≡ 0
 
 -- **The promise.** These lines were run from a world that has globals alone. Then each account whose reaching accounts' lines did not fail
 -- has the replies that `Promise` says: those of the definitional interpreter where there is nothing but what reaches it, and the same

@@ -1,23 +1,26 @@
 -- SPDX-License-Identifier: Apache-2.0
 -- What a call that runs a text over a session says of the text's meaning.
-use Rattle.std.specs.Prelude.{ℕ, []}
+use Rattle.std.specs.Prelude.{◌≡◌, ℕ, []}
 use Rattle.mspec.specs.Access.{Settings, name_at, steps_at}
 use Rattle.mspec.specs.LockConflict.{Locks}
 use Rattle.mspec.specs.Act.{Text, level_begun}
 use Rattle.mgrammar.specs.Reading.{line_at}
 use Rattle.mmeaning.specs.Transition.{text_run}
 use Rattle.mmeaning.specs.Calls.{point}
+use Rattle.mnodes.specs.Doubt.{Doubts}
+use Rattle.mnodes.specs.Steady.{IsSteady}
 use Rattle.mnodes.specs.declared.store.NodeStore.{Ghosts}
 use Rattle.meval.specs.declared.session.Session.{Session}
-use Rattle.mexec.specs.Runs.{EndsBy}
+use Rattle.mexec.specs.Runs.{EndsBy, is_kept_by}
 use Rattle.mworld.specs.declared.reply.Reply.{Reply}
 use Rattle.mworld.specs.View.{shared}
 
 -- the reply is that of the text, as a level of its own, with the steps of the account at this place
 pub record Ran {S : Type 0} (g : Ghosts S) (settings : Settings) (terminal place : ℕ) (text : Text) (session : Session) (store : S) (locks : Locks) (reply : Reply) (session' : Session) (store' : S) (locks' : Locks) : Type 0 where
   pub left : ℕ
+  pub doubt : Doubts g.sound (g.doubt store) (g.doubt store') (is_kept_by reply.ending)
   pub at :
-      g.sound →
-      EndsBy (record { settings = settings; terminal = terminal; account = name_at settings place }) g.steady (text_run (name_at settings place) (line_at text))
+      g.doubt store' ≡ 0 →
+      EndsBy (record { settings = settings; terminal = terminal; account = name_at settings place }) (IsSteady g store') (text_run (name_at settings place) (line_at text))
       (point (level_begun session.locals) session.naked session.test [] (steps_at settings place) (shared g store locks)) reply.ending
       (point session'.locals session'.naked session'.test reply.out.items left (shared g store' locks'))

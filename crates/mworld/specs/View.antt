@@ -29,6 +29,18 @@ sessions_of m = hash_map_of {R = nat_cmp} session_of m
 abbrev pub world_of : {S : Type 0} (g : Ghosts S) → World S g → transition.World
 world_of g w = record { shared = shared g w.store w.locks; sessions = sessions_of w.sessions }
 
+-- how far what is said of its store can be relied on
+abbrev pub doubt_of : {S : Type 0} (g : Ghosts S) → World S g → ℕ
+doubt_of g w = g.doubt w.store
+
+-- a world as calls say what they did to it: with that doubt
+pub record Seen : Type 0 where
+  pub world : transition.World
+  pub doubt : ℕ
+
+abbrev pub seen_of : {S : Type 0} (g : Ghosts S) → World S g → Seen
+seen_of g w = record { world = world_of g w; doubt = doubt_of g w }
+
 abbrev pub reply_of : Reply → transition.Reply
 reply_of r = record { out = r.out.items; ending = ending_of r.ending }
 

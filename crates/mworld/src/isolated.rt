@@ -1,14 +1,15 @@
 // SPDX-License-Identifier: Apache-2.0
 // A run of events, as an account sees it.
-ghost use Rattle.std.specs.Prelude.{◌≡◌, List, ◌∷◌, [], ◌++◌, map, IfOk, IfErr, OnOk, IsTrue, ◌↔◌};
+ghost use Rattle.std.specs.Prelude.{◌≡◌, List, ◌∷◌, [], ◌++◌, map, IfOk, IfErr, OnOk, IsTrue, ◌↔◌, false};
 ghost use Rattle.mspec.specs.Access.{name_at};
 ghost use Rattle.mspec.specs.Trees.{text_eq};
 ghost use Rattle.mmeaning.specs.Transition as transition;
-ghost use Rattle.mmeaning.specs.Transition.{Transition};
+ghost use Rattle.mmeaning.specs.Transition.{Transition, is_failure};
 ghost use Rattle.misolation.specs.Telling.{Tells};
-ghost use Rattle.mworld.specs.View.{settings_of, world_of, reply_of, event_of};
-ghost use Rattle.mworld.specs.Isolated.{replies_of, IsTold, IsEquallyTold, IsToldEach, IsUnseen, RanFirst};
-ghost use Rattle.mworld.specs.Promises.{IsSound};
+ghost use Rattle.mnodes.specs.Doubt.{Doubts, shut};
+ghost use Rattle.mworld.specs.View.{settings_of, world_of, doubt_of, reply_of, event_of};
+ghost use Rattle.mworld.specs.Isolated.{replies_of, IsTold, IsEquallyTold, IsToldEach, IsToldUntilShut, IsUnseen, RanFirst, RanUntilShut, TellsOne};
+ghost use Rattle.mworld.specs.Promises.{IsUndoubted};
 
 use crate::reply::{Event, Reply};
 use crate::world::World;
@@ -53,13 +54,15 @@ impl Drop for Isolated {
 /// Runs the events in their order, and tells an account of the world's settings the replies at its terminals.
 ///
 /// **The account learns nothing of the accounts that do not reach it.** An account reaches another if a chain of grants leads there; a
-/// grant to write leads both ways. Over a sound store, if no line of an account that reaches this one was answered `Zmem` or `Zstore`,
+/// grant to write leads both ways. If no line of an account that reaches this one was answered `Zmem` or `Zstore`,
 /// as `whole` says, the replies are those of the definitional interpreter run on the reaching accounts' lines, globals, sessions and
 /// locks, and the grants between them, alone: whatever other accounts store, lock, run or exhaust. After such a line they are still
 /// those of these lines alone, with the replies that they got here, in which that line failed. This holds from any world. If the run is
 /// whole, the reaching accounts' own replies are those of that interpreter too. From a world that has globals alone it keeps the promise:
-/// any other world that agrees on what reaches this account gives it the same replies. Over any store they are replies to the account's
-/// events, one each and in their order.
+/// any other world that agrees on what reaches this account gives it the same replies.
+///
+/// All this is said if there is no doubt of the store after the run. If a fault shut it on the way, it is said of the events before the one
+/// whose line shut it, and that line failed. Over any store they are replies to the account's events, one each and in their order.
 ///
 /// An id that names no account of the world's settings is told nothing.
 ///
@@ -72,11 +75,18 @@ pub fn isolated_replies<S: NodeStore>(
     events: &[Event],
     account: AccountId,
 ) -> Result<Isolated, AllocError>
-    ensures told { IsSound S.NodeStore → IfOk result (λ isolated. IsTold S.NodeStore world.old account (map event_of events.now) (replies_of isolated) isolated.whole world.new) }
-    ensures alone { IsSound S.NodeStore → IfOk result (λ isolated. IsEquallyTold S.NodeStore world.old account (map event_of events.now) (replies_of isolated) isolated.whole) }
+    ensures told { IsUndoubted S.NodeStore world.new → IfOk result (λ isolated. IsTold S.NodeStore world.old account (map event_of events.now) (replies_of isolated) isolated.whole world.new) }
+    ensures alone { IsUndoubted S.NodeStore world.new → IfOk result (λ isolated. IsEquallyTold S.NodeStore world.old account (map event_of events.now) (replies_of isolated) isolated.whole) }
     ensures each { IfOk result (λ isolated. IsToldEach (name_at (settings_of world.old) account) (settings_of world.old) (map event_of events.now) (replies_of isolated)) }
-    ensures first { IsSound S.NodeStore → IfErr result (λ _. RanFirst (settings_of world.old) (world_of S.NodeStore world.old) (map event_of events.now) (world_of S.NodeStore world.new)) }
+    ensures first { IsUndoubted S.NodeStore world.new → IfErr result (λ _. RanFirst (settings_of world.old) (world_of S.NodeStore world.old) (map event_of events.now) (world_of S.NodeStore world.new)) }
     ensures settings { settings_of world.new ≡ settings_of world.old }
+    ensures doubt { Doubts S.sound (doubt_of S.NodeStore world.old) (doubt_of S.NodeStore world.new) false }
+
+    // A fault shut the store on the way.
+    ensures told_until_shut { IsUndoubted S.NodeStore world.old → doubt_of S.NodeStore world.new ≡ shut → IfOk result (λ isolated.
+        IsToldUntilShut (name_at (settings_of world.old) account) (settings_of world.old) (world_of S.NodeStore world.old) (map event_of events.now) (replies_of isolated) isolated.whole) }
+    ensures first_until_shut { IsUndoubted S.NodeStore world.old → doubt_of S.NodeStore world.new ≡ shut → IfErr result (λ _.
+        RanUntilShut (settings_of world.old) (world_of S.NodeStore world.old) (map event_of events.now)) }
 {
     let mut isolated = Isolated {
         replies: Vec::new(alloc),
@@ -96,14 +106,17 @@ fn tell<S: NodeStore>(
     account: AccountId,
     isolated: &mut Isolated,
 ) -> Result<(), AllocError>
-    ensures told { S.sound → OnOk result ((first : transition.World) (events : List transition.Event) →
+    ensures told { IsUndoubted S.NodeStore world.new → OnOk result ((first : transition.World) (events : List transition.Event) →
         Tells (name_at (settings_of world.old) account) (settings_of world.old) first events (replies_of isolated.old) isolated.old.whole (world_of S.NodeStore world.old) →
         Tells (name_at (settings_of world.old) account) (settings_of world.old) first (events ++ event_of event.now ∷ []) (replies_of isolated.new) isolated.new.whole (world_of S.NodeStore world.new)) }
     ensures each { OnOk result ((events : List transition.Event) →
         IsToldEach (name_at (settings_of world.old) account) (settings_of world.old) events (replies_of isolated.old) →
         IsToldEach (name_at (settings_of world.old) account) (settings_of world.old) (events ++ event_of event.now ∷ []) (replies_of isolated.new)) }
-    ensures transition { S.sound → (reply : transition.Reply) × Transition (settings_of world.old) (event_of event.now) reply (world_of S.NodeStore world.old) (world_of S.NodeStore world.new) }
+    ensures ran { (reply : transition.Reply) × (IsUndoubted S.NodeStore world.old → doubt_of S.NodeStore world.new ≡ shut → IsTrue (is_failure reply.ending))
+        × OnOk result (TellsOne (name_at (settings_of world.old) account) (settings_of world.old) (event_of event.now) reply (replies_of isolated.old) isolated.old.whole (replies_of isolated.new) isolated.new.whole) }
+    ensures transition { IsUndoubted S.NodeStore world.new → (reply : transition.Reply) × Transition (settings_of world.old) (event_of event.now) reply (world_of S.NodeStore world.old) (world_of S.NodeStore world.new) }
     ensures settings { settings_of world.new ≡ settings_of world.old }
+    ensures doubt { Doubts S.sound (doubt_of S.NodeStore world.old) (doubt_of S.NodeStore world.new) false }
 {
     let reply = world.line(event.terminal, &event.text);
     let Some(sender) = world.settings().account_of(event.terminal) else {

@@ -1,6 +1,6 @@
 // SPDX-License-Identifier: Apache-2.0
 // A text, run over a session.
-ghost use Rattle.std.specs.Prelude.{◌≡◌, ◌≢◌, []};
+ghost use Rattle.std.specs.Prelude.{◌≡◌, ◌≢◌, [], IsTrue};
 ghost use Rattle.moperator.specs.declared.code.Code.TheVariants.{Zstore};
 ghost use Rattle.mworld.specs.Ran.{Ran};
 
@@ -37,7 +37,7 @@ pub(crate) fn run_over<S: NodeStore>(
     room: &mut Vec<u8>,
 ) -> Reply
     ensures ran { Ran S.NodeStore settings.now terminal account text.now session.old store.old locks.old result session.new store.new locks.new }
-    ensures steady { S.steady → result.ending ≢ Ended.Fault Zstore }
+    ensures steady { S.steady → IsTrue (S.has_room store.new) → result.ending ≢ Ended.Fault Zstore }
 {
     let mut out = taken(alloc, room);
     let Ok(()) = session.locals.enter() else {

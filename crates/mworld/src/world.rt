@@ -24,7 +24,7 @@ const KEPT_TREES: usize = 256;
 /// The sessions and the locks of all terminals over a store, with the settings that say which account each terminal belongs to. Contracts
 /// see it through `world_of`, as the world of the definitions, and through `settings_of`.
 ///
-/// In every world over a sound store, each lock is known to be on a name that its terminal's account may hold: one without `^` of its
+/// In every world over a store without doubt, each lock is known to be on a name that its terminal's account may hold: one without `^` of its
 /// own, or a global that it may write.
 pub struct World<S: NodeStore> {
     settings: Settings,
@@ -36,7 +36,7 @@ pub struct World<S: NodeStore> {
     // buffer for the output of a line
     room: Vec<u8>,
     alloc: Global,
-    pub ghost fit: { S.sound → AreFit settings locks },
+    pub ghost fit: { S.doubt store ≡ 0 → AreFit settings locks },
 }
 
 // Written out, so that dropping it is one call, which is proved once.
@@ -62,7 +62,10 @@ impl<S: NodeStore> World<S> {
     ghost use Rattle.misolation.specs.Reach.{Accounts, IsClosed};
     ghost use Rattle.misolation.specs.Cut.{is_inside, cut_world};
     ghost use Rattle.misolation.specs.TransitionLaws.{TransitionWrites, TransitionWithin};
-    ghost use Rattle.mworld.specs.View.{settings_of, world_of, reply_of};
+    ghost use Rattle.mnodes.specs.Doubt.{Doubts};
+    ghost use Rattle.mexec.specs.Runs.{is_kept_by};
+    ghost use Rattle.mworld.specs.Promises.{IsUndoubted};
+    ghost use Rattle.mworld.specs.View.{settings_of, world_of, doubt_of, reply_of};
     ghost use Rattle.mworld.specs.Admits.{Passes};
 
     /// A world without a session and without a lock, over a store. It keeps the trees of at most 256 texts that were run, of all
@@ -74,6 +77,7 @@ impl<S: NodeStore> World<S> {
     pub fn new(alloc: Global, settings: Settings, store: S) -> Result<World<S>, (Settings, S)>
         ensures world { IfOk result (λ world. world_of S.NodeStore world ≡ opening (S.content store)) }
         ensures settings { IfOk result (λ world. settings_of world ≡ settings) }
+        ensures doubt { IfOk result (λ world. doubt_of S.NodeStore world ≡ S.doubt store) }
         ensures back { IfErr result (λ back. back ≡ (settings, store)) }
     {
         World::with_entries(alloc, settings, store, KEPT_TREES)
@@ -93,6 +97,7 @@ impl<S: NodeStore> World<S> {
         requires { 1 ≤ entries }
         ensures world { IfOk result (λ world. world_of S.NodeStore world ≡ opening (S.content store)) }
         ensures settings { IfOk result (λ world. settings_of world ≡ settings) }
+        ensures doubt { IfOk result (λ world. doubt_of S.NodeStore world ≡ S.doubt store) }
         ensures back { IfErr result (λ back. back ≡ (settings, store)) }
     {
         let Ok(scratch) = Scratch::new(alloc, entries) else {
@@ -111,14 +116,16 @@ impl<S: NodeStore> World<S> {
 
     /// The store as the lines left it, lent. Takes no memory.
     pub fn store(&self) -> &S
-        ensures { S.content result.now ≡ (world_of S.NodeStore self.now).shared.globals }
+        ensures content { S.content result.now ≡ (world_of S.NodeStore self.now).shared.globals }
+        ensures doubt { S.doubt result.now ≡ doubt_of S.NodeStore self.now }
     {
         &self.store
     }
 
     /// The store as the lines left it. Takes no memory.
     pub fn into_store(self) -> S
-        ensures { S.content result ≡ (world_of S.NodeStore self).shared.globals }
+        ensures content { S.content result ≡ (world_of S.NodeStore self).shared.globals }
+        ensures doubt { S.doubt result ≡ doubt_of S.NodeStore self }
     {
         let World {
             settings: _,
@@ -132,24 +139,25 @@ impl<S: NodeStore> World<S> {
         left
     }
 
-    /// Runs a line of a terminal, to its end: one transition of the definitions, if the store is sound.
+    /// Runs a line of a terminal, to its end: one transition of the definitions, if there is no doubt of the store after it.
     ///
     /// The reply says how it ended. `Zterm`, `Zline` and `Zchar` change nothing. After HALT the terminal's session and its locks are gone. The
     /// same happens after `Zmem` and `Zstore`, and then there is no output. These two can come anywhere after the check for `Zchar`, and
-    /// `Zstore` never over a steady store.
+    /// `Zstore` over a steady store only if that has no room then.
     ///
     /// **It keeps every closed set of accounts apart from the others.** At a member's terminal it is that transition over what is left where there
     /// is nothing but the set, with the same reply and the same writes; at any other terminal it leaves that as it was. The globals that
     /// it leaves are the old ones after the line's writes up to some point: after all of them, if it did not fail.
     pub fn line(&mut self, terminal: u32, text: &[u8]) -> Reply
-        ensures transition { S.sound → Transition (settings_of self.old) (record { terminal = terminal; text = text.now }) (reply_of result) (world_of S.NodeStore self.old) (world_of S.NodeStore self.new) }
-        ensures writes { S.sound → TransitionWrites (settings_of self.old) (record { terminal = terminal; text = text.now }) (reply_of result) (world_of S.NodeStore self.old) (world_of S.NodeStore self.new) }
-        ensures inside { S.sound → (s : Accounts) → IsClosed (settings_of self.old) s → IsTrue (is_inside s (settings_of self.old) terminal) →
+        ensures transition { IsUndoubted S.NodeStore self.new → Transition (settings_of self.old) (record { terminal = terminal; text = text.now }) (reply_of result) (world_of S.NodeStore self.old) (world_of S.NodeStore self.new) }
+        ensures writes { IsUndoubted S.NodeStore self.new → TransitionWrites (settings_of self.old) (record { terminal = terminal; text = text.now }) (reply_of result) (world_of S.NodeStore self.old) (world_of S.NodeStore self.new) }
+        ensures inside { IsUndoubted S.NodeStore self.new → (s : Accounts) → IsClosed (settings_of self.old) s → IsTrue (is_inside s (settings_of self.old) terminal) →
             TransitionWithin s (settings_of self.old) (record { terminal = terminal; text = text.now }) (reply_of result) (world_of S.NodeStore self.old) (world_of S.NodeStore self.new) }
-        ensures outside { S.sound → (s : Accounts) → IsClosed (settings_of self.old) s → is_inside s (settings_of self.old) terminal ≡ false →
+        ensures outside { IsUndoubted S.NodeStore self.new → (s : Accounts) → IsClosed (settings_of self.old) s → is_inside s (settings_of self.old) terminal ≡ false →
             cut_world s (settings_of self.old) (world_of S.NodeStore self.new) ≡ cut_world s (settings_of self.old) (world_of S.NodeStore self.old) }
         ensures settings { settings_of self.new ≡ settings_of self.old }
-        ensures steady { S.steady → result.ending ≢ Ended.Fault Zstore }
+        ensures doubt { Doubts S.sound (doubt_of S.NodeStore self.old) (doubt_of S.NodeStore self.new) (is_kept_by result.ending) }
+        ensures steady { S.steady → IsTrue (S.has_room self.new.store) → result.ending ≢ Ended.Fault Zstore }
     {
         match admitted(&self.settings, terminal, text) {
             Ok(account) => self.run(terminal, account, text),
@@ -167,6 +175,7 @@ impl<S: NodeStore> World<S> {
     /// Takes back the buffer of a reply for the lines to come, so that they ask for none. Takes no memory.
     pub fn reuse(&mut self, reply: Reply)
         ensures world { world_of S.NodeStore self.new ≡ world_of S.NodeStore self.old }
+        ensures doubt { doubt_of S.NodeStore self.new ≡ doubt_of S.NodeStore self.old }
         ensures settings { settings_of self.new ≡ settings_of self.old }
     {
         self.room = reply.out;
@@ -175,9 +184,10 @@ impl<S: NodeStore> World<S> {
     // Runs a line that passed the checks before its text is parsed. The session stays where it is, and the line changes it there.
     fn run(&mut self, terminal: u32, account: AccountId, text: &[u8]) -> Reply
         requires { Passes (settings_of self.now) (record { terminal = terminal; text = text.now }) account }
-        ensures transition { S.sound → Transition (settings_of self.old) (record { terminal = terminal; text = text.now }) (reply_of result) (world_of S.NodeStore self.old) (world_of S.NodeStore self.new) }
+        ensures transition { IsUndoubted S.NodeStore self.new → Transition (settings_of self.old) (record { terminal = terminal; text = text.now }) (reply_of result) (world_of S.NodeStore self.old) (world_of S.NodeStore self.new) }
         ensures settings { settings_of self.new ≡ settings_of self.old }
-        ensures steady { S.steady → result.ending ≢ Ended.Fault Zstore }
+        ensures doubt { Doubts S.sound (doubt_of S.NodeStore self.old) (doubt_of S.NodeStore self.new) (is_kept_by result.ending) }
+        ensures steady { S.steady → IsTrue (S.has_room self.new.store) → result.ending ≢ Ended.Fault Zstore }
     {
         let Ok(()) = begin_session(self.alloc, &mut self.sessions, terminal) else {
             self.locks.release_all(terminal);

@@ -1,6 +1,6 @@
 -- SPDX-License-Identifier: Apache-2.0
 use Rattle.mwire.proofs.WireWords.{refl, ◌∙◌, arith}
-use Rattle.mwire.proofs.Visits.{each_start, each_on}
+use Rattle.mwire.proofs.Visits.{by_settings, each_start, each_on}
 use Rattle.mwire.proofs.connections.serve_each.Goals as goal
 
 pub loop-number-init : goal.loop-number-init
@@ -9,13 +9,12 @@ loop-number-init g c = record { settings = refl; served = each_start _ _ _ _ _ _
 pub returns-in-Err-clause-served : goal.returns-in-Err-clause-served
 returns-in-Err-clause-served g c =
     let next = c.in-Err.ensures.served in
-    let here = rw c.loop-number.invariant.settings at next in
-    (_, omega (arith, here.1), here.2, each_on _ _ _ _ _ _ _ _ _ _ _ _ _ _ c.loop-number.invariant.served here.3)
+    (_, omega (arith, next.1), next.2, each_on _ _ _ _ _ _ _ _ _ _ _ _ _ _ c.loop-number.invariant.served (by_settings c.loop-number.invariant.settings next.3))
 
 pub loop-number-preserved : goal.loop-number-preserved
 loop-number-preserved g c =
     let next = c.in_default.ensures.served in
     record {
       settings = c.in_default.ensures.settings ∙ c.loop-number.invariant.settings;
-      served = each_on _ _ _ _ _ _ _ _ _ _ _ _ _ _ c.loop-number.invariant.served (rw c.loop-number.invariant.settings at next);
+      served = each_on _ _ _ _ _ _ _ _ _ _ _ _ _ _ c.loop-number.invariant.served (by_settings c.loop-number.invariant.settings next);
     }

@@ -1,7 +1,7 @@
 -- SPDX-License-Identifier: Apache-2.0
 use Rattle.mwire.proofs.WireWords.{false, ap, ◌∙◌, take, rules, arith, ◌||◌}
 use Rattle.mwire.proofs.Ends.{HasServed-start, HasServed-kept, HasServed-more, Serves-read, Serves-end, Serves-piece}
-use Rattle.mwire.proofs.Progresses.{TakesOn-under}
+use Rattle.mwire.proofs.Progresses.{LineSent-under, TakesOn-under}
 use Rattle.mwire.proofs.serving.serve.Goals as goal
 
 pub loop-turn-init : goal.loop-turn-init
@@ -14,7 +14,7 @@ pub returns-in-Ok-eq0-clause-serves : goal.returns-in-Ok-eq0-clause-serves
 returns-in-Ok-eq0-clause-serves g c =
     let sent = c.answer_line.ensures.sent in
     Serves-end _ _ _ _ _ _ _ _ _ _ _ _ _ c.unfinished.result.now c.read.new.buf _ _ c.loop-turn.invariant.served (search rules) c.in-Ok-eq0.ensures.bytes.0
-    (c.in-Ok-eq0.ensures.bytes.1 (search rules) (omega arith)) c.unfinished.ensures (rw c.loop-turn.invariant.settings at sent) c.answer_line.ensures.idle c.answer_line.ensures.fault
+    (c.in-Ok-eq0.ensures.bytes.1 (search rules) (omega arith)) c.unfinished.ensures (LineSent-under c.loop-turn.invariant.settings sent) c.answer_line.ensures.idle c.answer_line.ensures.fault
 
 pub returns-clause-serves : goal.returns-clause-serves
 returns-clause-serves g c = Serves-read _ _ _ _ _ _ _ _ _ c.loop-turn.invariant.served

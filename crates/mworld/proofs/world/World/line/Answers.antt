@@ -2,7 +2,7 @@
 use Rattle.misolation.specs.TransitionLaws.{IsolatedTransition}
 use Rattle.misolation.proofs.Transitions.{transitions_are_isolated}
 use Rattle.misolation.proofs.TransitionsWrite.{transitions_write}
-use Rattle.mworld.proofs.WorldWords.{settings_of, world_of, reply_of}
+use Rattle.mworld.proofs.WorldWords.{undoubted, settings_of, world_of, reply_of}
 use Rattle.mworld.proofs.Checks.{refused_transition}
 use Rattle.mworld.proofs.world.World.line.Goals as goal
 
@@ -15,7 +15,7 @@ pub returns-in-Ok-clause-inside : goal.returns-in-Ok-clause-inside
 returns-in-Ok-clause-inside g c = λ sound s closed.
     let law : IsolatedTransition s _ (record { terminal = c.args.terminal; text = c.args.text.now }) (reply_of c.run.result) (world_of g.S.NodeStore c.args.self.now) (world_of g.S.NodeStore c.run.new.self) =
     transitions_are_isolated _ _ _ _ _ (c.run.ensures.transition sound) s closed in
-    law.inside (c.args.self.now.fit sound)
+    law.inside (c.args.self.now.fit (undoubted c.run.ensures.doubt sound))
 
 pub returns-in-Ok-clause-outside : goal.returns-in-Ok-clause-outside
 returns-in-Ok-clause-outside g c = λ sound s closed.

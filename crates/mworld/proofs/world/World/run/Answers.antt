@@ -1,5 +1,5 @@
 -- SPDX-License-Identifier: Apache-2.0
-use Rattle.mworld.proofs.WorldWords.{◌≡◌, false, refl, sym, ap, subst, ◌∙◌, IsSome, get, insert, Memory, Faulted, lost, is_failure, session_or_new, fault_of, ending_of, world_of, sessions_of, shared, AreFit}
+use Rattle.mworld.proofs.WorldWords.{undoubted, ◌≡◌, false, refl, sym, ap, subst, ◌∙◌, IsSome, get, insert, Memory, Faulted, lost, is_failure, session_or_new, fault_of, ending_of, world_of, sessions_of, shared, AreFit}
 use Rattle.std.specs.Option.{option_copied_mut}
 use Rattle.misolation.proofs.FittingLocks.{released_fits}
 use Rattle.mworld.proofs.Runs.{ran_transition, lost_transition, unrun_transition, ran_fits, is_loss, not_lost, settles, halts}
@@ -79,7 +79,7 @@ invariant_of-self-then-loses_session g c = record {
       subst (AreFit c.args.self.now.settings) (sym c.end_session.ensures.locks)
       (released_fits c.args.self.now.settings c.run_over-reply.new.locks c.args.terminal
       (ran_fits g.S.NodeStore c.args.self.now.settings (record { terminal = c.args.terminal; text = c.args.text.now }) c.args.account c.in-Some.session.now c.run_over-reply.new.session
-      c.args.self.now.store c.run_over-reply.new.store c.args.self.now.locks c.run_over-reply.new.locks c.run_over-reply.result c.requires c.run_over-reply.ensures.ran sound (c.args.self.now.fit sound)));
+      c.args.self.now.store c.run_over-reply.new.store c.args.self.now.locks c.run_over-reply.new.locks c.run_over-reply.result c.requires c.run_over-reply.ensures.ran sound (c.args.self.now.fit (undoubted c.run_over-reply.ensures.ran.doubt sound))));
 }
 
 pub invariant_of-self-in-Halt : goal.invariant_of-self-in-Halt
@@ -88,12 +88,12 @@ invariant_of-self-in-Halt g c = record {
       subst (AreFit c.args.self.now.settings) (sym c.end_session-in-Halt.ensures.locks)
       (released_fits c.args.self.now.settings c.run_over-reply.new.locks c.args.terminal
       (ran_fits g.S.NodeStore c.args.self.now.settings (record { terminal = c.args.terminal; text = c.args.text.now }) c.args.account c.in-Some.session.now c.run_over-reply.new.session
-      c.args.self.now.store c.run_over-reply.new.store c.args.self.now.locks c.run_over-reply.new.locks c.run_over-reply.result c.requires c.run_over-reply.ensures.ran sound (c.args.self.now.fit sound)));
+      c.args.self.now.store c.run_over-reply.new.store c.args.self.now.locks c.run_over-reply.new.locks c.run_over-reply.result c.requires c.run_over-reply.ensures.ran sound (c.args.self.now.fit (undoubted c.run_over-reply.ensures.ran.doubt sound))));
 }
 
 pub invariant_of-self-2 : goal.invariant_of-self-2
 invariant_of-self-2 g c = record {
   fit = λ sound.
       ran_fits g.S.NodeStore c.args.self.now.settings (record { terminal = c.args.terminal; text = c.args.text.now }) c.args.account c.in-Some.session.now c.run_over-reply.new.session
-      c.args.self.now.store c.run_over-reply.new.store c.args.self.now.locks c.run_over-reply.new.locks c.run_over-reply.result c.requires c.run_over-reply.ensures.ran sound (c.args.self.now.fit sound);
+      c.args.self.now.store c.run_over-reply.new.store c.args.self.now.locks c.run_over-reply.new.locks c.run_over-reply.result c.requires c.run_over-reply.ensures.ran sound (c.args.self.now.fit (undoubted c.run_over-reply.ensures.ran.doubt sound));
 }

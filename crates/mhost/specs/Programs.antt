@@ -14,9 +14,8 @@ use Rattle.mjob.specs.declared.jobs.Job.{Job}
 use Rattle.mjob.specs.declared.jobs.Store.{Store}
 use Rattle.mjob.specs.declared.jobs.Store.TheVariants as store
 use Rattle.mnodes.specs.declared.store.NodeStore.{Ghosts}
-use Rattle.mworld.specs.Promises.{IsSound}
 use Rattle.mworld.specs.declared.world.World.{World}
-use Rattle.mworld.specs.View.{settings_of, world_of}
+use Rattle.mworld.specs.View.{settings_of, world_of, doubt_of}
 use Rattle.mwire.specs.declared.watched.Watched.{Watched}
 use Rattle.mhost.specs.Asked.{settings_path, store_named, HasAccount, LacksAccount, IsQuiet, IsTask}
 use Rattle.mhost.specs.Faults.{AreUntouched, IsMemoryFault, IsStoreFault, NoDocument, NoSettings, status_of}
@@ -35,6 +34,13 @@ pub record Around : Type 0 where
 -- surroundings that tell nothing
 abbrev pub untold : Around
 untold = record { document = λ _. None; stored = λ _. None; ports = record { waiting = λ _. None; answered = λ _. [] } }
+
+-- What is known of the two files of the store that is named, whatever their disk does: which globals an opening may find in them; whether each
+-- answer of the disk was true, up to the closing, and they have the two tables of a store and no other; and which globals the closing left.
+pub record OnDisk : Type 1 where
+  pub finds : Globals → Type 0
+  pub clean : Type 0
+  pub leaves : Globals → Type 0
 
 -- whether each of these tells what it holds
 pub record Tellers : Type 1 where
@@ -55,11 +61,12 @@ nothing_told = record { documents = ⊥; files = ⊥; ports = ⊥ }
 module _ {M F I O : Type 0} (memory : Ghosts M) (file : Ghosts F) (left : I → Option Text) (held : O → Option Text) where
   -- ---- the store that the words name
 
-  module _ (files_tell : Type 0) (stored stored' : Text → Option Globals) where
-    -- what it holds as the run begins: nothing in memory, where it is known to be sound; else what the file holds, if that is told
-    abbrev pub Begins : Store → Globals → Type 0
-    Begins store.Memory globals = IsSound memory × (globals ≡ empty)
-    Begins (store.File path) globals = files_tell → IsSound file × (stored (string_bytes path) ≡ Some globals)
+  module _ (files_tell : Type 0) (stored stored' : Text → Option Globals) (disk : OnDisk) where
+    -- What it holds as the run begins, and that there is no doubt of it: nothing in memory, where it is known to be sound; else what the file
+    -- holds, if that is told.
+    abbrev pub Begins : Store → Globals → (doubt : ℕ) → Type 0
+    Begins store.Memory globals doubt = memory.sound × (doubt ≡ 0) × (globals ≡ empty)
+    Begins (store.File path) globals doubt = files_tell → (doubt ≡ 0) × (stored (string_bytes path) ≡ Some globals)
 
     -- and what it holds after it: these globals; and all other files hold what they held
     abbrev pub Leaves : Store → Globals → Type 0
@@ -67,18 +74,35 @@ module _ {M F I O : Type 0} (memory : Ghosts M) (file : Ghosts F) (left : I → 
     Leaves (store.File path) globals = files_tell → (stored' (string_bytes path) ≡ Some globals)
         × ((other : Text) → other ≢ string_bytes path → stored' other ≡ stored other)
 
+    -- of a store in a file, what its files hold
+    abbrev pub Finds : Store → Globals → Type 0
+    Finds store.Memory globals = Unit {0}
+    Finds (store.File path) globals = disk.finds globals
+
+    abbrev pub LeavesBehind : Store → Globals → Type 0
+    LeavesBehind store.Memory globals = Unit {0}
+    LeavesBehind (store.File path) globals = disk.clean → disk.leaves globals
+
+    abbrev pub IsSure : Store → (doubt : ℕ) → Type 0
+    IsSure store.Memory doubt = Unit {0}
+    IsSure (store.File path) doubt = disk.clean → doubt ≡ 0
+
     -- In a world over the store that is named, which begins with the store's globals and by these settings, what is asked for was done, and
-    -- the store has the globals that it left.
+    -- the store has the globals that it left. If there is no doubt of the store, its files held what it begins with. If each answer of their disk
+    -- was true, up to the closing, there is none, and they hold what it left.
     pub record WorksOver {S : Type 0} (g : Ghosts S) (ports_tell : Type 0) (ports ports' : AtPorts) (named : Store) (settings : Settings) (asks : Task)
         (input input' : Watched I) (output output' : Watched O) (result : Result (Unit {0}) RunFault) : Type 0 where
       pub globals : Globals
-      pub begins : Begins named globals
       pub old : World S g
       pub new : World S g
+      pub begins : Begins named globals (doubt_of g old)
+      pub finds : doubt_of g old ≡ 0 → Finds named globals
       pub by : settings_of old ≡ settings
       pub opens : world_of g old ≡ opening globals
       pub does : Does g old new left held ports_tell ports ports' input input' output output' asks result
       pub leaves : Leaves named (world_of g new).shared.globals
+      pub sure : IsSure named (doubt_of g new)
+      pub remains : LeavesBehind named (world_of g new).shared.globals
 
     abbrev pub Works : (ports_tell : Type 0) (ports ports' : AtPorts) (named : Store) → Settings → Task → Watched I → Watched I → Watched O → Watched O → Result (Unit {0}) RunFault → Type 0
     Works ports_tell ports ports' store.Memory settings asks input input' output output' result =
@@ -103,7 +127,7 @@ module _ {M F I O : Type 0} (memory : Ghosts M) (file : Ghosts F) (left : I → 
 
   -- ---- the job
 
-  module _ (tell : Tellers) (around around' : Around) where
+  module _ (tell : Tellers) (around around' : Around) (disk : OnDisk) where
     -- What was found before the store was opened: the fault of the document, that of its settings, or that they lack the account that is named.
     abbrev pub EndsEarly : Job → RunFault → Type 0
     EndsEarly asked fault =
@@ -121,7 +145,7 @@ module _ {M F I O : Type 0} (memory : Ghosts M) (file : Ghosts F) (left : I → 
       pub account : HasAccount asked known.settings
       pub asks : Task
       pub of_job : IsTask asked known.settings asks
-      pub works : InStore tell.files around.stored around'.stored tell.ports around.ports around'.ports (store_named asked) known.settings asks input input' output output' result
+      pub works : InStore tell.files around.stored around'.stored disk tell.ports around.ports around'.ports (store_named asked) known.settings asks input input' output output' result
 
     abbrev pub CarriesOut : Job → Watched I → Watched I → Watched O → Watched O → Result (Unit {0}) RunFault → Type 0
     CarriesOut asked input input' output output' result =
@@ -150,7 +174,7 @@ module _ {M F I O : Type 0} (memory : Ghosts M) (file : Ghosts F) (left : I → 
     Ends written words input input' output output' errors errors' status =
         ((status ≡ 2) × AreUntouched input input' output output') ⊎ FinishesWith written words input input' output output' errors errors' status
 
-  -- the same over the system's files and ports, which tell nothing, but for what is reported
-  abbrev pub EndsOverSystem : List Text → Watched I → Watched I → Watched O → Watched O → ℕ → Type 0
-  EndsOverSystem words input input' output output' status =
-      ((status ≡ 2) × AreUntouched input input' output output') ⊎ Finishes nothing_told untold untold words input input' output output' status
+  -- the same over the system's files and ports, but for what is reported: they tell nothing but what is known of the disk
+  abbrev pub EndsOverSystem : OnDisk → List Text → Watched I → Watched I → Watched O → Watched O → ℕ → Type 0
+  EndsOverSystem disk words input input' output output' status =
+      ((status ≡ 2) × AreUntouched input input' output output') ⊎ Finishes nothing_told untold untold disk words input input' output output' status

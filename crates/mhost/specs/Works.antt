@@ -4,7 +4,7 @@ use Rattle.std.specs.Prelude.{◌≡◌, ℕ, Bool, List, Option, Some, None, Re
 use Rattle.mspec.specs.Act.{Text}
 use Rattle.mnodes.specs.declared.store.NodeStore.{Ghosts}
 use Rattle.mworld.specs.declared.world.World.{World}
-use Rattle.mworld.specs.View.{settings_of, world_of}
+use Rattle.mworld.specs.View.{settings_of, seen_of}
 use Rattle.mwire.specs.Connections.{ServesEach}
 use Rattle.mwire.specs.Only.{ServesOnly}
 use Rattle.mwire.specs.Serves.{Serves}
@@ -30,15 +30,15 @@ pub record ServesAt {S : Type 0} (g : Ghosts S) (old new : World S g) (tells : T
   pub answered' : List Text
   pub came : tells → (ports.waiting number ≡ Some waiting) × (ports.answered number ≡ answered)
   pub went : tells → (ports'.waiting number ≡ Some waiting') × (ports'.answered number ≡ answered')
-  pub serves : ServesEach g (settings_of old) count (world_of g old) (world_of g new) tells waiting waiting' answered answered' result
+  pub serves : ServesEach g (settings_of old) count (seen_of g old) (seen_of g new) tells waiting waiting' answered answered' result
 
 module _ {S : Type 0} (g : Ghosts S) (old new : World S g) where
   -- a stream was answered, to its end or up to a fault of the wire
   abbrev pub Answers : {I O : Type 0} → (I → Option Text) → (O → Option Text) → Watched I → Watched I → Watched O → Watched O → Result (Unit {0}) RunFault → Type 0
   Answers left held input input' output output' (Ok done) =
-      Serves g (settings_of old) (world_of g old) (world_of g new) (left (inner_of input)) (left (inner_of input')) (held (inner_of output)) (held (inner_of output')) (Ok done)
+      Serves g (settings_of old) (seen_of g old) (seen_of g new) (left (inner_of input)) (left (inner_of input')) (held (inner_of output)) (held (inner_of output')) (Ok done)
   Answers left held input input' output output' (Err (early.Wire fault)) =
-      Serves g (settings_of old) (world_of g old) (world_of g new) (left (inner_of input)) (left (inner_of input')) (held (inner_of output)) (held (inner_of output')) (Err fault)
+      Serves g (settings_of old) (seen_of g old) (seen_of g new) (left (inner_of input)) (left (inner_of input')) (held (inner_of output)) (held (inner_of output')) (Err fault)
       × DeviceFailed input input' output output' fault
   Answers left held input input' output output' (Err other) = ⊥
 

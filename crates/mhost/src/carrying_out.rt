@@ -52,6 +52,7 @@ pub fn carry_out<D: Documents, F: StoreFiles, P: Ports, I: Read, O: Write, E: Wr
         (record { documents = D.tells; files = F.tells; ports = P.tells })
         (record { document = D.held host.old.documents; stored = F.held host.old.stores; ports = record { waiting = P.waiting host.old.ports; answered = P.answered host.old.ports } })
         (record { document = D.held host.new.documents; stored = F.held host.new.stores; ports = record { waiting = P.waiting host.new.ports; answered = P.answered host.new.ports } })
+        (record { finds = F.finds host.old.stores; clean = F.clean host.new.stores; leaves = F.leaves host.new.stores })
         job.now input.old input.new output.old output.new result }
     ensures quiet { IsQuiet job.now → errors.new ≡ errors.old }
 {
@@ -95,7 +96,7 @@ fn in_store<F: StoreFiles, P: Ports, I: Read, O: Write, E: Write>(
     requires input_works { failed_of input.old ≡ false }
     requires output_works { failed_of output.old ≡ false }
     ensures works { InStore ⟦<RoutineCache<Cached<Table<Memory>>> as NodeStore>⟧ ⟦<RoutineCache<Cached<F::Store>> as NodeStore>⟧ I.remaining O.contents
-        F.tells (F.held files.old) (F.held files.new) P.tells (record { waiting = P.waiting ports.old; answered = P.answered ports.old })
+        F.tells (F.held files.old) (F.held files.new) (record { finds = F.finds files.old; clean = F.clean files.new; leaves = F.leaves files.new }) P.tells (record { waiting = P.waiting ports.old; answered = P.answered ports.old })
         (record { waiting = P.waiting ports.new; answered = P.answered ports.new }) store.now settings task input.old input.new output.old output.new result }
     ensures quiet { IsQuietTask task → errors.new ≡ errors.old }
 {

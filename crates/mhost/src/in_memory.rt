@@ -87,6 +87,12 @@ impl StoreFiles for MemoryFile {
 
     ghost lent = { λ f path. path ≡ string_bytes f.path };
 
+    ghost finds = { λ _ _. Unit };
+
+    ghost clean = { λ _. Unit };
+
+    ghost leaves = { λ _ _. Unit };
+
     fn open(&mut self, alloc: Global, path: &str) -> Result<Plain, OpenFault> {
         if !is_at(self.path.as_str(), path) {
             return Err(OpenFault::Store);

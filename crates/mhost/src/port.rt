@@ -1,7 +1,7 @@
 // SPDX-License-Identifier: Apache-2.0
 // Connections of a port.
 ghost use Rattle.std.specs.Prelude.{◌≡◌, []};
-ghost use Rattle.mworld.specs.View.{settings_of, world_of};
+ghost use Rattle.mworld.specs.View.{settings_of, seen_of};
 ghost use Rattle.mhost.specs.Connections.{ServesConnections};
 
 use mnodes::NodeStore;
@@ -98,7 +98,7 @@ pub fn serve_connections<H: AllocGlobal, S: NodeStore, E: Write>(
     count: u32,
     errors: &mut E,
 ) -> Result<(), AcceptFault>
-    ensures serves { ServesConnections S.NodeStore (settings_of world.old) (world_of S.NodeStore world.old) (world_of S.NodeStore world.new) count result }
+    ensures serves { ServesConnections S.NodeStore (settings_of world.old) (seen_of S.NodeStore world.old) (seen_of S.NodeStore world.new) count result }
     ensures settings { settings_of world.new ≡ settings_of world.old }
 {
     serve_each(rt.alloc(), world, &mut LentPort(listener), count, errors)

@@ -1,29 +1,31 @@
 // SPDX-License-Identifier: Apache-2.0
-// The files and the ports of the system. They tell nothing: the kit's calls have no clause on what a file holds, or on who connects.
+// The documents and the ports of the system. They tell nothing: the kit's calls have no clause on what a file holds, or on who connects.
 ghost use Rattle.std.specs.Prelude.{[], None};
 
 use crate::documents::{DocumentFault, Documents};
 use crate::host::Host;
 use crate::port::BoundPort;
 use crate::ports::Ports;
-use crate::store_files::StoreFiles;
-use mfile::FileTable;
-use mstore::OpenFault;
+use crate::system_stores::SystemStores;
+use sqlite_disk::Start;
 use std::alloc::Global;
 use std::fs::File;
 use std::io;
 use std::io::{ErrorKind, Read};
 use std::net::{Ipv4Addr, TcpListener};
 
-/// The files and the ports of the system.
+/// The documents and the ports of the system.
 #[derive(Drop)]
 pub struct System<'a>(&'a HostRuntime);
 
-/// What the system has around a program.
-pub fn host_of(rt: &HostRuntime) -> Host<System<'_>, System<'_>, System<'_>> {
+/// What the system has around a program. `start` stands for what the two files of its store hold as they are opened.
+pub fn host_of<S: Start>(
+    rt: &HostRuntime,
+    start: S,
+) -> Host<System<'_>, SystemStores<'_, S>, System<'_>> {
     Host {
         documents: System(rt),
-        stores: System(rt),
+        stores: SystemStores::new(rt, start),
         ports: System(rt),
     }
 }
@@ -57,25 +59,6 @@ fn front_of_file(rt: &HostRuntime, alloc: Global, path: &str, most: u64) -> io::
     let file = File::open(rt, path)?;
     file.take(most).read_to_end(&mut bytes)?;
     Ok(bytes)
-}
-
-impl StoreFiles for System<'_> {
-    type Store = FileTable;
-
-    ghost tells = { ⊥ };
-
-    ghost held = { λ _ _. None };
-
-    ghost lent = { λ _ _. Unit };
-
-    fn open(&mut self, _alloc: Global, path: &str) -> Result<FileTable, OpenFault> {
-        FileTable::open(self.0, path)
-    }
-
-    // A fault of closing is passed over: the log beside the file then has what the file lacks, and the next opening finds it.
-    fn close(&mut self, _path: &str, store: FileTable) {
-        let _ = store.close();
-    }
 }
 
 impl Ports for System<'_> {

@@ -3,7 +3,7 @@
 ghost use Rattle.std.specs.Prelude.{◌≡◌, ◌≢◌, ◌<◌, Some, IfOk, IfErr, OnOk, IfSome};
 ghost use Rattle.std.specs.FinMap.{empty};
 ghost use Rattle.mspec.specs.Act.{Text};
-ghost use Rattle.mworld.specs.Promises.{IsSound};
+ghost use Rattle.mworld.specs.View.{doubt_of};
 ghost use Rattle.mhost.specs.Words.{Globals, cached_store, opening, settings_of, world_of};
 ghost use Rattle.mhost.specs.Faults.{IsMemoryFault, IsStoreFault};
 
@@ -47,6 +47,7 @@ fn world_over<S: NodeStore + Drop>(
 ) -> Result<World<RoutineCache<Cached<S>>>, RunFault>
     ensures settings { IfOk result (λ world. settings_of world ≡ settings) }
     ensures world { IfOk result (λ world. world_of ⟦<RoutineCache<Cached<S>> as NodeStore>⟧ world ≡ opening (S.content store)) }
+    ensures doubt { IfOk result (λ world. doubt_of ⟦<RoutineCache<Cached<S>> as NodeStore>⟧ world ≡ S.doubt store) }
     ensures early { IfErr result (λ fault. fault ≡ RunFault.Store OpenFault.Memory) }
 {
     let Some(kept) = kept_over(alloc, store, ENTRIES) else {
@@ -66,7 +67,9 @@ fn world_over<S: NodeStore + Drop>(
 pub fn memory_world(alloc: Global, settings: Settings) -> Result<MemoryWorld, RunFault>
     ensures settings { IfOk result (λ world. settings_of world ≡ settings) }
     ensures world { IfOk result (λ world. world_of ⟦<RoutineCache<Cached<Table<Memory>>> as NodeStore>⟧ world ≡ opening empty) }
-    ensures sound { IfOk result (λ _. IsSound ⟦<RoutineCache<Cached<Table<Memory>>> as NodeStore>⟧) }
+    ensures sound { IfOk result (λ _. ⟦<RoutineCache<Cached<Table<Memory>>> as NodeStore>⟧.sound) }
+    ensures steady { IfOk result (λ _. ⟦<RoutineCache<Cached<Table<Memory>>> as NodeStore>⟧.steady) }
+    ensures undoubted { IfOk result (λ world. doubt_of ⟦<RoutineCache<Cached<Table<Memory>>> as NodeStore>⟧ world ≡ 0) }
     ensures early { IfErr result IsMemoryFault }
 {
     let table = match Table::open_memory(alloc) {
@@ -92,7 +95,8 @@ pub fn file_world<F: StoreFiles>(
 ) -> Result<World<RoutineCache<Cached<F::Store>>>, RunFault>
     ensures settings { IfOk result (λ world. settings_of world ≡ settings) }
     ensures world { IfOk result (λ world. (globals : Globals) × (world_of ⟦<RoutineCache<Cached<F::Store>> as NodeStore>⟧ world ≡ opening globals)
-        × (F.tells → IsSound ⟦<RoutineCache<Cached<F::Store>> as NodeStore>⟧ × (F.held files.old path.now ≡ Some globals))) }
+        × (F.tells → (doubt_of ⟦<RoutineCache<Cached<F::Store>> as NodeStore>⟧ world ≡ 0) × (F.held files.old path.now ≡ Some globals))
+        × (doubt_of ⟦<RoutineCache<Cached<F::Store>> as NodeStore>⟧ world ≡ 0 → F.finds files.old globals)) }
     ensures lent { F.tells → OnOk result (F.lent files.new path.now) }
     ensures others { F.tells → (other : Text) → other ≢ path.now → F.held files.new other ≡ F.held files.old other }
     ensures early { IfErr result IsStoreFault }

@@ -4,12 +4,15 @@
 //! `mserve run` answers the lines of its standard input on its standard output, `mserve serve` those of connections at a port of 127.0.0.1.
 //!
 //! `main` is one call of `program`, and nothing else. No contract says so, and this has to be read: the words are those of the command line
-//! after the program's name, in their order; the streams are the standard ones; and the status is the process's.
+//! after the program's name, in their order; the streams are the standard ones; and the status is the process's. `program` is proved of a store
+//! in a file for anything that its files hold as they are opened, and `Unknown` stands for that here.
 #![tactic(auto)]
 
+use mhost::host_of;
 use mhost::program::program;
 use mjob::refusal::no_words;
 use mwire::Watched;
+use sqlite_disk::Unknown;
 use std::process::ExitCode;
 use std::{env, io};
 
@@ -23,7 +26,8 @@ fn main(rt: HostRuntime) -> ExitCode {
     let mut output = Watched::new(rt.stdout());
     let status = match words(&rt) {
         Ok(words) => program(
-            &rt,
+            rt.alloc(),
+            &mut host_of(&rt, Unknown),
             words.as_slice(),
             &mut input,
             &mut output,

@@ -1,5 +1,5 @@
 -- SPDX-License-Identifier: Apache-2.0
-use Rattle.mhost.proofs.HostWords.{refl, settings_of, world_of}
+use Rattle.mhost.proofs.HostWords.{refl, settings_of, seen_of}
 use Rattle.mhost.proofs.Ported.{told}
 use Rattle.mhost.proofs.serve_job.serve_job.Goals as goal
 
@@ -9,7 +9,7 @@ returns-in_default-clause-serves g c = (refl, λ t. c.in_default.ensures.taken t
 pub returns-in-Ok-clause-serves : goal.returns-in-Ok-clause-serves
 returns-in-Ok-clause-serves g c =
     let served =
-    told g.S.NodeStore (settings_of c.args.world.now) (world_of g.S.NodeStore c.args.world.now) (world_of g.S.NodeStore c.serve_each-served.new.world) g.P.Port.Listener.tells g.P.Ports.tells
+    told g.S.NodeStore (settings_of c.args.world.now) (seen_of g.S.NodeStore c.args.world.now) (seen_of g.S.NodeStore c.serve_each-served.new.world) g.P.Port.Listener.tells g.P.Ports.tells
     (λ t. c.in-Some.ensures.tells t refl) (g.P.Port.Listener.waiting c.in-Some.listener) (g.P.Port.Listener.waiting c.serve_each-served.new.listener)
     (g.P.Port.Listener.answered c.in-Some.listener) (g.P.Port.Listener.answered c.serve_each-served.new.listener) c.args.connections c.serve_each-served.result
     c.serve_each-served.ensures.served in
@@ -26,7 +26,7 @@ returns-in-Ok-clause-serves g c =
 pub returns-in-Err-clause-serves : goal.returns-in-Err-clause-serves
 returns-in-Err-clause-serves g c =
     let served =
-    told g.S.NodeStore (settings_of c.args.world.now) (world_of g.S.NodeStore c.args.world.now) (world_of g.S.NodeStore c.serve_each-served.new.world) g.P.Port.Listener.tells g.P.Ports.tells
+    told g.S.NodeStore (settings_of c.args.world.now) (seen_of g.S.NodeStore c.args.world.now) (seen_of g.S.NodeStore c.serve_each-served.new.world) g.P.Port.Listener.tells g.P.Ports.tells
     (λ t. c.in-Some.ensures.tells t refl) (g.P.Port.Listener.waiting c.in-Some.listener) (g.P.Port.Listener.waiting c.serve_each-served.new.listener)
     (g.P.Port.Listener.answered c.in-Some.listener) (g.P.Port.Listener.answered c.serve_each-served.new.listener) c.args.connections c.serve_each-served.result
     c.serve_each-served.ensures.served in (

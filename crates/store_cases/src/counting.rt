@@ -1,5 +1,7 @@
 // SPDX-License-Identifier: Apache-2.0
 // A store that counts its reads.
+ghost use Rattle.std.specs.Prelude.{false};
+
 use mkey::NodeKey;
 use mnodes::{NodeStore, Plain, StoreFault};
 use mnum::Bytes7;
@@ -16,9 +18,13 @@ impl NodeStore for Counting {
 
     ghost content = { λ _. empty };
 
+    ghost doubt = { λ _. 2 };
+
     ghost sound = { ⊥ };
 
     ghost steady = { ⊥ };
+
+    ghost has_room = { λ _. false };
 
     fn get(&mut self, key: &NodeKey) -> Result<Option<Bytes7>, StoreFault> {
         self.reads = self.reads.saturating_add(1);
@@ -42,4 +48,6 @@ impl NodeStore for Counting {
     }
 
     ghost steady_is_sound = { λ never. absurd never };
+
+    ghost steady_is_told = { λ never. absurd never };
 }

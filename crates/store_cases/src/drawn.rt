@@ -2,11 +2,12 @@
 // Drawn nodes in two stores, of which each must answer what the other does.
 use crate::stores::{node, put};
 use anyhow::Context;
-use mfile::FileTable;
+use mfile::{close_table, open_table};
 use mkey::NodeKey;
 use mnodes::{NodeStore, Plain};
 use mstore::Table;
 use mtranscript::{play, print_result, remove, text_of, words_of};
+use sqlite_disk::Unknown;
 use std::alloc::Global;
 use std::rt::HostRuntime;
 
@@ -44,9 +45,9 @@ fn compare(rt: &HostRuntime, seed: u64, count: usize, out: &mut Vec<u8>) -> anyh
     print_result(out, told.as_bytes())?;
     remove(rt, FILE, LOG);
     let mut plain = Plain::new(alloc);
-    let mut table = FileTable::open(rt, FILE)?;
+    let mut table = open_table(rt, FILE, Unknown)?;
     let found = differences(&mut plain, &mut table, alloc, seed, count);
-    let closed = table.close();
+    let closed = close_table(table);
     remove(rt, FILE, LOG);
     closed?;
     let found = found?;

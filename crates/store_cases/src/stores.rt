@@ -2,7 +2,7 @@
 // Calls on stores, each over the plain store, a table in memory and a table in a file.
 use crate::globals::{data, lines, order};
 use anyhow::Context;
-use mfile::FileTable;
+use mfile::{close_table, open_table};
 use mkey::{Direction, NodeKey, read};
 use mnodes::{NodeStore, Plain};
 use mnum::Bytes7;
@@ -12,6 +12,7 @@ use mtranscript::{
     key_of, play, print, print_others, print_result, remove, text_of, texts_of, words_of,
 };
 use sqlite::Alter;
+use sqlite_disk::Unknown;
 use std::alloc::Global;
 use std::rt::HostRuntime;
 
@@ -75,9 +76,9 @@ fn in_a_file(rt: &HostRuntime, cases: &[&str]) -> anyhow::Result<Vec<u8>> {
     let mut given = Vec::new(rt.alloc());
     for case in cases {
         if !case.starts_with("# ") {
-            let mut table = FileTable::open(rt, FILE)?;
+            let mut table = open_table(rt, FILE, Unknown)?;
             print(&mut given, &call(&mut table, rt.alloc(), case)?)?;
-            table.close()?;
+            close_table(table)?;
         }
     }
     Ok(given)

@@ -18,7 +18,6 @@ TESTS = Path(__file__).resolve().parent
 sys.path[:0] = [str(TESTS), str(TESTS.parent / "tools")]
 
 import running  # noqa: E402
-from support import IN_MEMORY  # noqa: E402
 
 # The same cases in each run, and no deadline: the machine may be busy. A case is a run of the program, so none is too slow or too large.
 hypothesis.settings.register_profile("tests", deadline=None, derandomize=True, database=None,
@@ -77,9 +76,15 @@ def open_folder() -> Iterator[str]:
 
 
 @pytest.fixture
+def store_in_memory(folder_in_memory: Path) -> str:
+    """The same, in a folder that waits for no disk."""
+    return str(folder_in_memory / "store")
+
+
+@pytest.fixture
 def folder_in_memory() -> Iterator[Path]:
     """A folder for many files, none of which has to outlast the test."""
-    with tempfile.TemporaryDirectory(dir=IN_MEMORY) as folder:
+    with tempfile.TemporaryDirectory(dir=running.IN_MEMORY) as folder:
         yield Path(folder)
 
 
@@ -115,3 +120,5 @@ memory_library = library("refuse_memory.c")
 disk_library = library("stop_disk.c")
 # The power goes at such a call.
 power_library = library("lose_power.c")
+# One read of a file is answered with other bytes.
+lie_library = library("lie_disk.c")

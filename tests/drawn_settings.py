@@ -13,8 +13,8 @@ from random import Random
 
 from hypothesis import given, note, settings
 from hypothesis import strategies as st
-from running import run
-from support import IN_MEMORY, Grant
+from running import IN_MEMORY, run
+from support import Grant
 
 NAMES = ["ALICE", "BOB", "CAROL", "DAVE", "EVE"]
 GLOBALS = ["X", "Y", "ROUTINE"]
@@ -122,15 +122,17 @@ class Runs:
         """Over memory or files, in a folder."""
         self.kind, self.folder, self.numbers = kind, folder, itertools.count(1)
 
-    def answered(self, setting: Setting, lines: list[Line], only: str | None = None) -> list[bytes]:
-        """What is answered, line by line, of lines by settings."""
+    def answered(self, setting: Setting, *parts: list[Line], only: str | None = None) -> list[bytes]:
+        """What is answered, line by line, of lines by settings; of several parts, if each is a run of its own over the store that is left."""
         place = os.path.join(self.folder, str(next(self.numbers)))
         with open(f"{place}.toml", "w", encoding="ascii") as file:
             file.write(setting.document())
-        store = "memory" if self.kind == "memory" else place
-        status, output, told = run(b"".join(line for _, line in lines), f"{place}.toml", store, only)
-        assert (status, told) == (0, b"")
-        return output.splitlines(True)
+        store, answer = "memory" if self.kind == "memory" else place, []
+        for lines in parts:
+            status, output, told = run(b"".join(line for _, line in lines), f"{place}.toml", store, only)
+            assert (status, told) == (0, b"")
+            answer += output.splitlines(True)
+        return answer
 
 
 @contextmanager

@@ -28,8 +28,6 @@ Grant = tuple[str, str, str, str]
 ACCOUNT = '[[account]]\nname = "A{0}"\nterminals = [{0}]\nsteps = {1}\n'
 # Lines of which each leaves its number, in a local variable and in a global.
 COUNTED = [(b"1 S A=%d,^A=A W A\n" % number, b"1-%d\n1.\n" % number) for number in (1, 2, 3)]
-# A folder of files in memory, if the system has one: what a disk takes is not looked for.
-IN_MEMORY = "/dev/shm" if os.path.isdir("/dev/shm") else None
 
 
 def refused(status: int, part: str, fault: str) -> Ended:

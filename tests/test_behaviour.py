@@ -3,6 +3,7 @@
 from __future__ import annotations
 
 import shutil
+import signal
 from collections import Counter
 from pathlib import Path
 
@@ -34,12 +35,14 @@ def top(tmp_path: Path, monkeypatch: pytest.MonkeyPatch) -> Path:
         shutil.copy(real / folder.relative_to(tmp_path).parent / "pytest.ini", folder.parent)
     # A package declares no such option.
     (tmp_path / "packaging" / "tests" / "conftest.py").unlink()
-    for name in ("conftest.py", "support.py"):
-        shutil.copy(real / "tests" / name, tmp_path / "tests")
+    shutil.copy(real / "tests" / "conftest.py", tmp_path / "tests")
     (tmp_path / "tools").symlink_to(real / "tools")
     append(tmp_path / "tests" / "test_all.py", MARKED.format("waits") + MARKED.format("alone"))
     append(tmp_path / "front" / "tests" / "test_some.py", MARKED.format("alone"))
     monkeypatch.setattr(behaviour, "TOP", str(tmp_path))
+    # Two are parts enough for cases to be dealt out; each is a process, whose start is all that it does.
+    monkeypatch.setattr(behaviour.os, "sched_getaffinity", lambda _: {0, 1})
+    monkeypatch.setattr(behaviour, "PARTS", 1)
     return tmp_path
 
 
@@ -54,6 +57,8 @@ def test_each_case_is_run_once(top: Path, capfd: pytest.CaptureFixture[str]) -> 
     assert totals.files == {file: count for file, (count, _) in FILES.items()}, capfd.readouterr()
     assert totals.ended == {"passed": sum(count for count, _ in FILES.values())}
     assert "left out" not in capfd.readouterr().out
+    assert not [path for file in FILES for path in (top / file).parent.rglob("__pycache__")]
+    assert all(part.clock > 0 and part.processor > 0 for part in totals.parts)
 
 
 def test_quick_leaves_out_long_cases_and_a_case_of_two_stages_is_told(top: Path, capfd: pytest.CaptureFixture[str]) -> None:
@@ -65,6 +70,41 @@ def test_quick_leaves_out_long_cases_and_a_case_of_two_stages_is_told(top: Path,
     told = capfd.readouterr().out
     assert "behaviour: tests/test_all.py: pytest finds 5 cases, the stages ran 6: a mark hides some, or puts some into two\n" in told
     assert f"skipped, {sum(long for _, long in FILES.values())} left out\n" in told
+
+
+def at_once(stage: behaviour.Stage) -> list[str]:
+    """The folders of the parts that a stage begins with."""
+    begun: list[behaviour.Part] = []
+    while part := stage.next(begun):
+        stage.parts.remove(part)
+        begun.append(part)
+    return [part.suite for part in begun]
+
+
+@pytest.mark.parametrize(("processors", "front", "others"), [(1, 1, 1), (2, 2, 2), (4, 4, 3), (16, 16, 9)])
+def test_parts_that_run_at_once(monkeypatch: pytest.MonkeyPatch, processors: int, front: int, others: int) -> None:
+    """Those that measure run alone. Of the front's as many run as there are processors, and of the others as many as the other half takes, two of which
+    wait; once the front's have ended, one that computes for each processor."""
+    monkeypatch.setattr(behaviour.os, "sched_getaffinity", lambda _: set(range(processors)))
+    measuring, all_others = behaviour.stages("no folder", True, [])
+    computing = behaviour.Stage([part for part in all_others.parts if part.halves == behaviour.COMPUTES], all_others.halves)
+    assert (len(at_once(measuring)), len(at_once(computing))) == (1, processors)
+    found = Counter(suite == behaviour.FRONT for suite in at_once(all_others))
+    assert (found[True], found[False]) == (front, others)
+
+
+def test_interrupts_reach_what_tests_start(monkeypatch: pytest.MonkeyPatch) -> None:
+    """A job in the background of a shell ignores them, and so would all that it starts."""
+    seen: list[object] = []
+    monkeypatch.setattr(behaviour.sys, "argv", ["behaviour.py"])
+    monkeypatch.setattr(behaviour, "missing", lambda: [])
+    monkeypatch.setattr(behaviour, "run", lambda *_: seen.append(signal.getsignal(signal.SIGINT)) or behaviour.Totals())
+    before = signal.signal(signal.SIGINT, signal.SIG_IGN)
+    try:
+        assert behaviour.main() == 1
+    finally:
+        signal.signal(signal.SIGINT, before)
+    assert seen == [signal.default_int_handler]
 
 
 @pytest.mark.parametrize(("found", "ran", "failed"), [

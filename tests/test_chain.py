@@ -162,10 +162,10 @@ def test_a_kit_of_another_form() -> None:
     known = types.ModuleType("rt")
     for name, parameters in kit.FUNCTIONS.items():
         exec(f"def {name}({', '.join(parameters)}): pass", known.__dict__)
-    assert kit.lacking(known) == []
+    assert kit.lacking(known, kit.FUNCTIONS) == []
     known.in_lanes = lambda tasks, jobs: None
     del known.free
-    assert kit.lacking(known) == ["in_lanes", "free"]
+    assert kit.lacking(known, kit.FUNCTIONS) == ["in_lanes", "free"]
 
 
 def test_a_copy_has_what_is_proved_and_its_edits(tmp_path: Path) -> None:

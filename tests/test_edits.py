@@ -4,10 +4,13 @@
 The kit is not run: its lines are made up, after those that it prints."""
 from __future__ import annotations
 
+import os
 import sys
 from pathlib import Path
+from types import SimpleNamespace
 
 import edits
+import gate_libraries
 import pytest
 import try_edits
 from edits import Row
@@ -210,3 +213,56 @@ def test_one_let_through_and_one_that_was_not_tried(tmp_path: Path, monkeypatch:
         "edits: FAILED: mvalue/bytes_lost.edit: NOT TRIED: its crate, or one below, is not proved",
         "edits: FAILED: mvalue/every_number_is_one.edit: NOT REFUSED: the crate is still proved with this edit",
     ]
+
+
+class OlderKit:
+    """A kit whose `rt ci` keeps nothing: it says of each edit that it was refused, and notes where it was asked."""
+
+    class Crate:
+        cuts_libraries = False
+        allowed: tuple[str, ...] = ()
+
+    def __init__(self) -> None:
+        self.asked: list[tuple[str, list[str], str]] = []
+        crates = [SimpleNamespace(name=name) for name in ("mspec", "mvalue")]
+        self.rtlib = SimpleNamespace(guarded=lambda: [], crates_below=lambda top: crates)
+
+    def stop(self, why: str) -> None:
+        raise AssertionError(why)
+
+    def handles_of(self, root: str) -> tuple[str, ...]:
+        return ("Net",)
+
+    def must_fail_all(self, crate: SimpleNamespace, edits: list[str], flags: list[str]) -> list[tuple[bool, str]]:
+        self.asked.append((crate.name, edits, os.getcwd()))
+        print("rt: chose --jobs 1")
+        return [(True, f"must-fail {crate.name}/{Path(edit).name}: {REFUSED}src/value.rt:1:1") for edit in edits]
+
+
+def test_edits_over_the_gates_libraries(monkeypatch: pytest.MonkeyPatch, capsys: pytest.CaptureFixture[str]) -> None:
+    older, here = OlderKit(), os.getcwd()
+    monkeypatch.setattr(gate_libraries.kit, "load_older", lambda: older)
+    edit = "crates/mvalue/edits/bytes_lost.edit"
+    told = gate_libraries.tried({"mvalue": [edit]})
+    assert told == f"rt: must-fail mvalue/bytes_lost.edit: {REFUSED}src/value.rt:1:1"
+    assert older.asked == [("mspec", [], try_edits.TOP), ("mvalue", [f"{try_edits.TOP}/{edit}"], try_edits.TOP)]
+    assert older.Crate.cuts_libraries and older.Crate.allowed == ("Net",)
+    assert os.getcwd() == here and capsys.readouterr().out == ""
+
+
+def test_the_gates_libraries_are_those_of_the_sources(monkeypatch: pytest.MonkeyPatch, tmp_path: Path) -> None:
+    monkeypatch.setattr(gate_libraries, "TOP", str(tmp_path))
+    monkeypatch.setattr(gate_libraries, "sources_digest", lambda: "now")
+    assert not gate_libraries.are_there()
+    (tmp_path / gate_libraries.NOTE).parent.mkdir(parents=True)
+    gate_libraries.note("before")
+    assert not gate_libraries.are_there()
+    gate_libraries.note("now")
+    assert gate_libraries.are_there()
+
+
+def test_a_turn_without_what_the_gate_proved_fails(monkeypatch: pytest.MonkeyPatch, capsys: pytest.CaptureFixture[str]) -> None:
+    monkeypatch.setattr(try_edits.chain, "is_kept", lambda: False)
+    monkeypatch.setattr(gate_libraries, "are_there", lambda: False)
+    assert try_edits.main(["--turn"]) == 1
+    assert capsys.readouterr().out.endswith("0 passed, 1 failed\n")

@@ -14,8 +14,7 @@ from pathlib import Path
 
 import pytest
 from drawn_settings import REPLY, Case, Line, Setting, for_cases, runs_over, sent_by
-from running import TOP, run
-from support import IN_MEMORY
+from running import IN_MEMORY, TOP, run
 
 sys.path.append(str(Path(TOP) / "clients"))
 

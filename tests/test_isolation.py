@@ -1,6 +1,6 @@
 # SPDX-License-Identifier: Apache-2.0
-"""Drawn settings of three to five accounts and drawn streams of all their lines, hostile ones among them, over a store in memory and over one in a
-file.
+"""Drawn settings of three to five accounts and drawn streams of all their lines, hostile ones among them, over a store in memory, over one in a
+file, and over one in a file by two runs, of which the second has the second half of the lines.
 
 For each account three outputs are equal: the replies at its terminals if all lines are run, the output of `--only` over all lines, and the
 replies at its terminals if there is nothing but the accounts that reach it: the settings cut to them, with their lines alone. An account
@@ -19,37 +19,45 @@ import pytest
 from drawn_settings import LINES, Case, Line, Runs, Setting, for_cases, runs_over, sent_by, told
 from support import reaching
 
-SETTINGS = 100
+# So many settings are drawn, of each kind of store.
+SETTINGS = {"memory": 100, "file": 200, "file, two runs": 50}
 
 
-def judge(runs: Runs, setting: Setting, lines: list[Line]) -> Iterator[str]:
-    """Compares the three outputs of each account; gives a word for each account that depends on a grant, and for each that would on others."""
-    answer = runs.answered(setting, lines)
-    other = runs.answered(setting.with_all_grants(), lines)
+def judge(runs: Runs, setting: Setting, parts: list[list[Line]]) -> Iterator[str]:
+    """Compares the three outputs of each account, of lines in one run or in two; gives a word for each account that nobody else reaches, for each that
+    depends on a grant, and for each that would on others."""
+    def answered(cut: Setting, members: set[str]) -> list[bytes]:
+        return runs.answered(cut, *(sent_by(setting, members, part) for part in parts))
+    answer = runs.answered(setting, *parts)
+    other = runs.answered(setting.with_all_grants(), *parts)
     for account in setting.accounts:
         among_all = told(setting, account, answer)
         members = reaching(account, setting.grants)
+        if members == {account}:
+            yield "reached by nobody"
         alone, own = setting.cut(members), setting.cut({account})
-        assert told(alone, account, runs.answered(alone, sent_by(setting, members, lines))) == among_all, f"{account} alone with {sorted(members)}"
-        assert runs.answered(setting, lines, account) == among_all, f"--only {account}"
-        if told(own, account, runs.answered(own, sent_by(setting, {account}, lines))) != among_all:
+        assert told(alone, account, answered(alone, members)) == among_all, f"{account} alone with {sorted(members)}"
+        assert runs.answered(setting, *parts, only=account) == among_all, f"--only {account}"
+        if told(own, account, answered(own, {account})) != among_all:
             yield "tied"
         if told(setting, account, other) != among_all:
             yield "open to all"
 
 
-@pytest.mark.parametrize("kind", ["memory", pytest.param("file", marks=pytest.mark.long)])
+@pytest.mark.parametrize("kind", [pytest.param(kind, marks=() if kind == "memory" else pytest.mark.long) for kind in SETTINGS])
 def test_each_account_is_shown_the_same(kind: str, count: int) -> None:
     seen: Counter[str] = Counter()
+    draws = count * SETTINGS[kind]
 
-    @for_cases(count * SETTINGS)
+    @for_cases(draws)
     def isolated(case: Case) -> None:
         setting, lines = case
-        with runs_over(kind) as runs:
-            seen.update(judge(runs, setting, lines))
+        half = len(lines) // 2
+        with runs_over(kind.partition(",")[0]) as runs:
+            seen.update(judge(runs, setting, [lines[:half], lines[half:]] if kind.endswith("two runs") else [lines]))
         seen.update({"accounts": len(setting.accounts), "lines": len(lines)})
 
     isolated()
     print(dict(seen))
-    assert seen["tied"] > 0 and seen["open to all"] > 0
-    assert seen["accounts"] >= 3 * count * SETTINGS and seen["lines"] >= 0.8 * count * SETTINGS * LINES
+    assert seen["reached by nobody"] > 0 and seen["tied"] > 0 and seen["open to all"] > 0
+    assert seen["accounts"] >= 3 * draws and seen["lines"] >= 0.8 * draws * LINES

@@ -10,8 +10,8 @@ import tempfile
 from collections.abc import Iterator
 
 import pytest
-from running import STEPS
-from support import IN_MEMORY, replies_of_lines
+from running import IN_MEMORY, STEPS
+from support import replies_of_lines
 
 pytestmark = pytest.mark.together
 LINES = 100_000

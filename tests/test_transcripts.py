@@ -53,8 +53,9 @@ def test_over_memory(block: Block) -> None:
 
 
 @each_block(*SERVED, "only")
-def test_over_a_file(block: Block, store: str) -> None:
+def test_over_a_file(block: Block, store_in_memory: str) -> None:
     """The first run makes the file, and the others open what is there."""
+    store = store_in_memory
     settings, only = by(block)
     assert run(b"", settings, store) == NOTHING
     assert run(block.stream(), settings, store, only) == (0, block.replies(), b"")
@@ -113,10 +114,10 @@ def test_as_the_gate_runs_it() -> None:
 
 
 @each_block("reopened")
-def test_reopened(block: Block, store: str) -> None:
+def test_reopened(block: Block, store_in_memory: str) -> None:
     """Each line is a run of its own over the same file."""
     for case, given in block.cases:
-        assert (case, run(line_bytes(case), ONE_ACCOUNT, store)) == (case, (0, given_bytes(given), b""))
+        assert (case, run(line_bytes(case), ONE_ACCOUNT, store_in_memory)) == (case, (0, given_bytes(given), b""))
 
 
 def put_unclosed(store: str, subscript: str, text: str) -> None:
@@ -169,10 +170,10 @@ def done_to(store: str, words: list[str]) -> list[str]:
 
 
 @each_block("files")
-def test_files(block: Block, store: str) -> None:
+def test_files(block: Block, store_in_memory: str) -> None:
     """What is done to one file, which is not there at first, and what the program makes of it."""
     for case, given in block.cases:
-        assert (case, done_to(store, case.split(" "))) == (case, given)
+        assert (case, done_to(store_in_memory, case.split(" "))) == (case, given)
 
 
 @each_block("steps")

@@ -1,9 +1,10 @@
 #!/usr/bin/env python3
 # SPDX-License-Identifier: Apache-2.0
-"""Runs the tests of behaviour, those of tests/, clients/, front/ and packaging/, over the built program, in stages: first tests that measure a time
-or that others would notice, one after another. Then those of tests/, clients/ and packaging/: one pytest process for those that wait more than they
-compute, one for the package, one for each file of the clients, and two for each processor, of which two more run at once than there are processors.
-Then the front's, a process for each file, as many at once as there are processors: they wait for timers, and fail on a machine that is too busy.
+"""Runs the tests of behaviour, those of tests/, clients/, front/ and packaging/, over the built program, in two stages: first tests that measure a time
+or that others would notice, one after another. Then all others side by side: a pytest process for each file of the front, one for tests of tests/ that
+wait more than they compute, one for the package, one for each file of the clients, and two for each processor. Those of the front wait for timers most of
+their time, and fail on a machine that is too busy: so of them as many run at once as there are processors, each counts as half a processor, and the others
+have the rest.
 
     tools/behaviour.py [--quick] [--count N] [WORD ..]    draws N times as many cases; hands words on to pytest, as `-k isolation`
     tools/behaviour.py --packages                         runs nothing: says whether a package is missing
@@ -12,18 +13,21 @@ Then the front's, a process for each file, as many at once as there are processo
 it into two, is a failure.
 
 It needs Debian's own python3 with python3-pytest and python3-hypothesis; the clients' tests need more packages, and the command that installs
-them is printed if one is missing. At the end stands how many cases each file has and how long they took; the last line is 'N passed, M failed'."""
+them is printed if one is missing. Of each process it says what it took by the clock and of a processor; at the end stands how many cases each file has
+and how long they took; the last line is 'N passed, M failed'."""
 import argparse
 import os
 import re
 import shutil
+import signal
 import subprocess
 import sys
 import tempfile
 import time
 import xml.etree.ElementTree as ElementTree
 from collections import Counter, defaultdict
-from concurrent.futures import ThreadPoolExecutor
+from collections.abc import Collection
+from concurrent.futures import FIRST_COMPLETED, Future, ThreadPoolExecutor, wait
 from dataclasses import dataclass, field
 from pathlib import Path
 
@@ -42,11 +46,11 @@ TESTS, CLIENTS, FRONT, PACKAGING = SUITES = ("tests", "clients/tests", "front/te
 # Those that draw their cases.
 COUNTED = (TESTS, CLIENTS, FRONT)
 # Files that take long begin first, so that none of them is left alone at the end. Nothing rests on that but the time.
-FIRST = {CLIENTS: ("shell", "globals", "routines", "gtm"), FRONT: ("matrix", "table", "standby", "hostile", "page", "machines", "replay")}
+FIRST = {CLIENTS: ("shell", "globals", "routines", "gtm"), FRONT: ("matrix", "table", "standby", "replay", "sign_on", "hostile", "page", "machines")}
 # So many parts the cases of tests/ that compute have for each processor, so that no part is much longer than another.
 PARTS = 2
-# So many more processes than processors run at once where some of them wait.
-MORE = 2
+# Halves of processors that a part takes: one if it waits most of its time.
+WAITS, COMPUTES = 1, 2
 # pytest ends with this status if no case is left by its words.
 NO_CASE = 5
 
@@ -59,12 +63,16 @@ def pytest_words(suite: str) -> list[str]:
 
 @dataclass
 class Part:
-    """A pytest process: its name, the folder of its tests, what it is given, where it writes, and its status once it has ended."""
+    """A pytest process: its name, the folder of its tests, what it is given, where it writes, and how many halves of processors it takes; once it has
+    ended, its status, and the seconds that it took by the clock and, with all that it started and waited for, of a processor."""
     name: str
     suite: str
     words: list[str]
     folder: str
+    halves: int
     status: int = field(default=0, init=False)
+    clock: float = field(default=0, init=False)
+    processor: float = field(default=0, init=False)
 
     def path(self, kind: str) -> str:
         """The path of one of its files."""
@@ -72,24 +80,42 @@ class Part:
 
     def run(self) -> None:
         """Runs it to its end; what it prints goes to a file."""
+        began = time.monotonic()
+        words = [*pytest_words(self.suite), f"--junitxml={self.path('xml')}", *self.words]
         with open(self.path("log"), "wb") as log:
-            words = [*pytest_words(self.suite), f"--junitxml={self.path('xml')}", *self.words]
-            self.status = subprocess.run(words, cwd=TOP, stdin=subprocess.DEVNULL, stdout=log, stderr=subprocess.STDOUT).returncode
+            process = subprocess.Popen(words, cwd=TOP, env=environment(self.folder), stdin=subprocess.DEVNULL, stdout=log, stderr=subprocess.STDOUT)
+            _, status, used = os.wait4(process.pid, 0)
+        process.returncode = self.status = os.waitstatus_to_exitcode(status)
+        self.clock, self.processor = time.monotonic() - began, used.ru_utime + used.ru_stime
+
+
+def environment(folder: str) -> dict[str, str]:
+    """The variables of a pytest process: what it and the commands that it starts import is compiled once for all of them, into this folder, so that
+    nothing is left in the tree, even if the variables had each start compile it again."""
+    kept = {name: value for name, value in os.environ.items() if name != "PYTHONDONTWRITEBYTECODE"}
+    return {"PYTHONPYCACHEPREFIX": os.path.join(folder, "compiled"), **kept}
 
 
 @dataclass
 class Stage:
-    """Parts, of which so many run at once."""
+    """Parts that are yet to run, side by side as far as so many halves of processors go."""
     parts: list[Part]
-    at_once: int
+    halves: int
+
+    def next(self, running: Collection[Part]) -> Part | None:
+        """The part that begins beside those that run, if one does."""
+        free = self.halves - sum(part.halves for part in running)
+        is_full = sum(part.suite == FRONT for part in running) >= self.halves // COMPUTES
+        return next((part for part in self.parts if part.halves <= free and not (is_full and part.suite == FRONT)), None)
 
 
 @dataclass
 class Totals:
-    """What all parts found: how many cases ended in which way, how many each file has, and the seconds of each case by its name."""
+    """What all parts found: how many cases ended in which way, how many each file has, and the seconds of each case by its name; and the parts."""
     ended: Counter[str] = field(default_factory=Counter)
     files: Counter[str] = field(default_factory=Counter)
     seconds: dict[str, float] = field(default_factory=dict)
+    parts: list[Part] = field(default_factory=list)
 
     def read(self, path: str) -> None:
         """Adds the cases that a part wrote down."""
@@ -123,16 +149,16 @@ def stages(folder: str, is_quick: bool, more: list[str]) -> list[Stage]:
     """What runs, stage by stage; further words go to each pytest."""
     processors = len(os.sched_getaffinity(0))
 
-    def part(name: str, suite: str, marks: str, *words: str) -> Part:
-        return Part(name, suite, [*(words or (suite,)), *chosen(marks, is_quick), *more_of(suite, more)], folder)
+    def part(name: str, suite: str, marks: str, halves: int, *words: str) -> Part:
+        return Part(name, suite, [*(words or (suite,)), *chosen(marks, is_quick), *more_of(suite, more)], folder, halves)
 
-    def files(suite: str, marks: str) -> list[Part]:
-        return [part(f"{suite.partition('/')[0]} {name}", suite, marks, f"{suite}/test_{name}.py") for name in names_of(suite)]
-    measuring = [part(f"alone {suite.partition('/')[0]}", suite, "alone") for suite in (TESTS, FRONT)]
+    def files(suite: str, marks: str, halves: int) -> list[Part]:
+        return [part(f"{suite.partition('/')[0]} {name}", suite, marks, halves, f"{suite}/test_{name}.py") for name in names_of(suite)]
+    measuring = [part(f"alone {suite.partition('/')[0]}", suite, "alone", COMPUTES) for suite in (TESTS, FRONT)]
     count = PARTS * processors
-    computing = [part(f"part {number}", TESTS, "not waits and not alone", TESTS, f"--part={number}/{count}") for number in range(1, count + 1)]
-    side_by_side = [part("waiting", TESTS, "waits"), part("packaging", PACKAGING, ""), *files(CLIENTS, ""), *computing]
-    return [Stage(measuring, 1), Stage(side_by_side, processors + MORE), Stage(files(FRONT, "not alone"), processors)]
+    computing = [part(f"part {number}", TESTS, "not waits and not alone", COMPUTES, TESTS, f"--part={number}/{count}") for number in range(1, count + 1)]
+    waiting = [*files(FRONT, "not alone", WAITS), part("waiting", TESTS, "waits", WAITS), part("packaging", PACKAGING, "", WAITS)]
+    return [Stage(measuring, COMPUTES), Stage([*waiting, *files(CLIENTS, "", COMPUTES), *computing], COMPUTES * processors)]
 
 
 def more_of(suite: str, more: list[str]) -> list[str]:
@@ -147,11 +173,12 @@ class Collected:
     left_out: int = 0
 
 
-def collected(is_quick: bool, more: list[str]) -> Collected:
+def collected(folder: str, is_quick: bool, more: list[str]) -> Collected:
     """What pytest finds in all folders of tests, whatever stage it is for."""
     def texts(suite: str) -> str:
         words = [*pytest_words(suite), "--collect-only", suite, *chosen("", is_quick), *more_of(suite, more)]
-        return subprocess.run(words, cwd=TOP, stdin=subprocess.DEVNULL, stdout=subprocess.PIPE, encoding="utf-8", errors="replace").stdout
+        return subprocess.run(words, cwd=TOP, env=environment(folder), stdin=subprocess.DEVNULL, stdout=subprocess.PIPE, encoding="utf-8",
+                              errors="replace").stdout
     found = Collected()
     with ThreadPoolExecutor() as pool:
         for text in pool.map(texts, SUITES):
@@ -165,7 +192,8 @@ def conclude(part: Part, totals: Totals) -> None:
     before = totals.ended["failed"]
     with open(part.path("log"), encoding="utf-8", errors="replace") as log:
         text = re.sub(r"^[.sFE]+ +\[ *\d+%\]\n", "", log.read(), flags=re.MULTILINE)
-    print(f"---- {part.name}\n{text}", end="", flush=True)
+    print(f"---- {part.name}: {part.clock:.1f} s by the clock, {part.processor:.1f} s of a processor\n{text}", end="", flush=True)
+    totals.parts.append(part)
     if os.path.exists(part.path("xml")):
         totals.read(part.path("xml"))
     if part.status not in (0, NO_CASE) and totals.ended["failed"] == before:
@@ -174,14 +202,16 @@ def conclude(part: Part, totals: Totals) -> None:
 
 
 def run_stage(stage: Stage, totals: Totals) -> None:
-    """Runs the parts of a stage, and tells of them in their order as they end."""
-    pool = ThreadPoolExecutor(stage.at_once)
-    try:
-        for part, _ in zip(stage.parts, pool.map(Part.run, stage.parts)):
-            conclude(part, totals)
-    finally:
-        # After an interrupt no further part begins.
-        pool.shutdown(cancel_futures=True)
+    """Runs the parts of a stage, and tells of each as it ends."""
+    running: dict[Future[None], Part] = {}
+    with ThreadPoolExecutor(len(stage.parts)) as pool:
+        while stage.parts or running:
+            while part := stage.next(running.values()):
+                stage.parts.remove(part)
+                running[pool.submit(part.run)] = part
+            for ended in wait(running, return_when=FIRST_COMPLETED).done:
+                ended.result()
+                conclude(running.pop(ended), totals)
 
 
 def compare(found: Collected, totals: Totals) -> None:
@@ -214,14 +244,17 @@ def reader() -> argparse.ArgumentParser:
 
 def run(is_quick: bool, more: list[str]) -> Totals:
     """Runs all stages, and prints what they found."""
-    start, totals, found = time.monotonic(), Totals(), collected(is_quick, more)
-    with tempfile.TemporaryDirectory(prefix="mserve-tests-") as folder:
+    start, totals = time.monotonic(), Totals()
+    # A command that a test left may compile something yet when the folder is removed.
+    with tempfile.TemporaryDirectory(prefix="mserve-tests-", ignore_cleanup_errors=True) as folder:
+        found = collected(folder, is_quick, more)
         for stage in stages(folder, is_quick, more):
             run_stage(stage, totals)
     print_times(totals)
     compare(found, totals)
     left_out = f", {found.left_out} left out" if found.left_out else ""
-    print(f"behaviour: {time.monotonic() - start:.0f} s by the clock, {totals.ended['skipped']} skipped{left_out}")
+    of_processors = sum(part.processor for part in totals.parts)
+    print(f"behaviour: {time.monotonic() - start:.0f} s by the clock, {of_processors:.0f} s of processors, {totals.ended['skipped']} skipped{left_out}")
     return totals
 
 
@@ -233,6 +266,8 @@ def main() -> int:
         return 1
     if given.packages:
         return 0
+    # In the background a shell has interrupts ignored, also by all that the tests start; some of these are interrupted.
+    signal.signal(signal.SIGINT, signal.default_int_handler)
     totals = run(given.quick, [f"--count={given.count}", *more])
     if totals.ended["passed"] == 0:
         totals.ended["failed"] += 1

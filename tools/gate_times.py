@@ -21,7 +21,9 @@ import sys
 import time
 
 import chain
+import gate_libraries
 from processes import Watch
+from sources import sources_digest
 
 TOP = os.path.realpath(os.path.join(os.path.dirname(os.path.abspath(__file__)), ".."))
 PAGE = os.path.join(TOP, "docs", "PERFORMANCE.md")
@@ -130,7 +132,8 @@ def main():
         return 0
     start, watch, last = time.monotonic(), Watch(os.getpid()), ""
     watch.start()
-    if not (words.anew or words.plain) and chain.is_kept():
+    digest, keeps = sources_digest(), chain.is_kept()
+    if not (words.anew or words.plain) and keeps:
         # the verdict is that of `rt ci`, also on what fails here
         subprocess.run([sys.executable, os.path.join(TOP, "tools", "chain.py"), "--edits"], cwd=TOP, stdin=subprocess.DEVNULL)
     with subprocess.Popen(gate_words(words.anew), cwd=TOP, stdout=subprocess.PIPE, stderr=subprocess.STDOUT, text=True, errors="replace") as gate:
@@ -138,6 +141,8 @@ def main():
             print(last, end="", flush=True)
             last = line
     watch.end()
+    if not (gate.returncode or keeps):
+        gate_libraries.note(digest)
     text = table(watch, time.monotonic() - start)
     print(text, end="")
     if words.write:

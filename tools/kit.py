@@ -21,6 +21,12 @@ FUNCTIONS = {
     "processors": (),
     "Kept": ("crates", "anew"),
 }
+# The same of a kit before that, whose `rt ci` keeps nothing.
+OLDER_FUNCTIONS = {
+    "must_fail_all": ("crate", "edits", "flags"),
+    "handles_of": ("root",),
+    "stop": ("why",),
+}
 
 
 def command() -> str:
@@ -37,14 +43,24 @@ def text_of_command() -> str:
     return os.path.join(os.path.dirname(page), "bin", "rt")
 
 
-def lacking(module: ModuleType) -> list[str]:
-    """The functions that the module has not, or with other parameters."""
-    found = {name: getattr(module, name, None) for name in FUNCTIONS}
-    return [name for name, call in found.items() if not callable(call) or tuple(inspect.signature(call).parameters) != FUNCTIONS[name]]
+def lacking(module: ModuleType, wanted: dict[str, tuple[str, ...]]) -> list[str]:
+    """Which of these functions the module has not, or with other parameters."""
+    found = {name: getattr(module, name, None) for name in wanted}
+    return [name for name, call in found.items() if not callable(call) or tuple(inspect.signature(call).parameters) != wanted[name]]
 
 
 def load() -> ModuleType | None:
     """The kit's command as a module; None, and a line that says why, if this kit has another form."""
+    return loaded(FUNCTIONS)
+
+
+def load_older() -> ModuleType | None:
+    """The same for a kit whose `rt ci` keeps nothing."""
+    return loaded(OLDER_FUNCTIONS)
+
+
+def loaded(wanted: dict[str, tuple[str, ...]]) -> ModuleType | None:
+    """The kit's command as a module, if it has these functions."""
     path = text_of_command()
     loader = importlib.machinery.SourceFileLoader("rt", path)
     spec = importlib.util.spec_from_loader("rt", loader)
@@ -52,7 +68,7 @@ def load() -> ModuleType | None:
     sys.modules["rt"] = module
     try:
         loader.exec_module(module)
-        others = lacking(module)
+        others = lacking(module, wanted)
     except (ImportError, SyntaxError, ValueError, AttributeError, OSError) as error:
         others = [str(error)]
     if others:

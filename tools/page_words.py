@@ -41,9 +41,15 @@ def exported() -> dict[str, tuple[str, object]]:
     }
 
 
+def advice_of(advice: str) -> str:
+    """Advice as the page gives it. A browser has no docs/LANGUAGE.md: Help leads to the page that is made of it."""
+    return advice.replace("docs/LANGUAGE.md", "the page of the language, by Help")
+
+
 def cause_words(cause: causes.Cause) -> dict[str, object]:
     """A cause without its example, and without what it leaves open."""
     found = dataclasses.asdict(cause)
+    found["advice"] = advice_of(cause.advice)
     return {name: value for name, value in found.items() if value and name != "example" or name == "advice"}
 
 

@@ -2,9 +2,10 @@
 # SPDX-License-Identifier: Apache-2.0
 """How many nodes a second `mglobal import` sets through a terminal over a store in a file, beside what that store commits by itself: the program runs
 a file of the same lines, each with as many SETs, and waits for nobody. Both take turns, each over a new store; or they run at once by `--together`, so
-that whatever else the disk has to do delays both alike: then the ratio holds on a busy machine too, and the rates do not.
+that whatever else the disk has to do delays both alike: then the ratio holds on a busy machine too, and the rates do not. By `--memory` the stores
+are in memory and not in files.
 
-    clients/import_rate.py [--nodes N] [--passes N] [--together] [--folder FOLDER]
+    clients/import_rate.py [--nodes N] [--passes N] [--together] [--memory | --folder FOLDER]
 
 Status 1 if a node was not set."""
 from __future__ import annotations
@@ -47,21 +48,21 @@ def written(path: Path, entries: list[Entry]) -> Path:
     return path
 
 
-def by_itself(store: Path, job: Path, count: int) -> float:
+def by_itself(store: str, job: Path, count: int) -> float:
     """The seconds in which the program runs the lines of a file."""
     began = time.monotonic()
     with job.open("rb") as stream:
-        done = subprocess.run(running.run_words(store=str(store)), stdin=stream, stdout=subprocess.PIPE, check=True)
+        done = subprocess.run(running.run_words(store=store), stdin=stream, stdout=subprocess.PIPE, check=True)
     seconds = time.monotonic() - began
     if done.stdout != b"%d.\n" % TERMINAL * count:
         sys.exit("import_rate: a line of the job was not run")
     return seconds
 
 
-def by_import(store: Path, extract: Path, count: int) -> float:
+def by_import(store: str, extract: Path, count: int) -> float:
     """The seconds in which an import sets the nodes of an extract, from the start of the command to its end."""
     port = running.free_port()
-    with subprocess.Popen(running.serve_words(port, 2, str(store)), stdin=subprocess.DEVNULL) as server:
+    with subprocess.Popen(running.serve_words(port, 2, store), stdin=subprocess.DEVNULL) as server:
         running.connected(port).close()
         began = time.monotonic()
         done = subprocess.run([sys.executable, CLIENTS / "mglobal", str(port), str(TERMINAL), "import", extract], stdout=subprocess.PIPE, text=True)
@@ -72,8 +73,10 @@ def by_import(store: Path, extract: Path, count: int) -> float:
     return seconds
 
 
-def measured(folder: Path, count: int, passes: int, at_once: int) -> list[tuple[float, float]]:
+def measured(folder: Path, count: int, passes: int, at_once: int, in_memory: bool) -> list[tuple[float, float]]:
     """The nodes a second of both ways, pass by pass."""
+    def store(name: str) -> str:
+        return "memory" if in_memory else str(folder / name)
     entries = nodes(count)
     texts = lines(entries)
     extract, job, rates = written(folder / "nodes.zwr", entries), folder / "job", []
@@ -81,7 +84,7 @@ def measured(folder: Path, count: int, passes: int, at_once: int) -> list[tuple[
     print(f"{count:,} nodes in {len(texts):,} lines, {count / len(texts):.1f} SETs a line")
     for number in range(1, passes + 1):
         with ThreadPoolExecutor(at_once) as ways:
-            begun = ways.submit(by_itself, folder / f"alone{number}", job, len(texts)), ways.submit(by_import, folder / f"taken{number}", extract, count)
+            begun = ways.submit(by_itself, store(f"alone{number}"), job, len(texts)), ways.submit(by_import, store(f"taken{number}"), extract, count)
         alone, taken = (count / way.result() for way in begun)
         print(f"pass {number}: the store by itself {alone:,.0f} nodes a second, the import {taken:,.0f}: {taken / alone:.2f}", flush=True)
         rates.append((alone, taken))
@@ -90,15 +93,16 @@ def measured(folder: Path, count: int, passes: int, at_once: int) -> list[tuple[
 
 def main() -> int:
     """The status of the script."""
-    words = argparse.ArgumentParser(description="Measures an import through a terminal over a store in a file, beside what the store commits by itself.")
+    words = argparse.ArgumentParser(description="Measures an import through a terminal, beside what the store takes by itself.")
     words.add_argument("--nodes", type=int, default=20_000, metavar="N", help="how many nodes (default 20000)")
     words.add_argument("--passes", type=int, default=5, metavar="N", help="how often (default 5)")
     words.add_argument("--together", action="store_true", help="run both ways at once, and not in turns")
+    words.add_argument("--memory", action="store_true", help="stores in memory, and not in files")
     words.add_argument("--folder", type=Path, help="where the stores are, on the disk that is measured (default: a temporary one)")
     options = words.parse_args()
     running.require_program()
     with tempfile.TemporaryDirectory(prefix="mserve-import", dir=options.folder) as name:
-        rates = measured(Path(name), options.nodes, options.passes, 2 if options.together else 1)
+        rates = measured(Path(name), options.nodes, options.passes, 2 if options.together else 1, options.memory)
     alone, taken = (statistics.median(rate) for rate in zip(*rates))
     ratio = statistics.median(taken / alone for alone, taken in rates)
     print(f"median: the store by itself {alone:,.0f} nodes a second, the import {taken:,.0f}; of the ratios {ratio:.2f}")

@@ -126,6 +126,8 @@ def put_commands(root: Path) -> None:
     copied(root, TOP / "front" / "mserve_front", f"{SHARE}/front/mserve_front")
     copied(root, TOP / "front" / "page", f"{SHARE}/front/page")
     copied(root, TOP / "front" / "admin", f"{SHARE}/front/admin")
+    # The front makes the page of the language from it. What stands in DOC may be left out of a machine.
+    put(root, f"{SHARE}/docs/LANGUAGE.md", (TOP / "docs" / "LANGUAGE.md").read_bytes())
     copied(root, TOP / "packaging" / "monitoring", f"{SHARE}/monitoring")
     for name, folder in COMMANDS.items():
         text = (TOP / folder / name).read_bytes()

@@ -10,11 +10,10 @@ from contextlib import contextmanager
 from itertools import groupby, islice
 from typing import IO
 
-from . import extracts, keys, options, settings_file
+from . import extracts, keys, options
 from .extracts import FORMATS, Entry, Form, Problem, Unreadable, shown_node
-from .options import FOUND
+from .options import FOUND, counted
 from .progress import Progress
-from .routine_command import counted
 from .store_file import BadStore, StoreFile
 from .terminal_way import ImportStopped, TerminalWay
 from .walk import Refused
@@ -77,7 +76,7 @@ def run(chosen: argparse.Namespace) -> int:
             os.stat(chosen.file)
         with way(chosen) as found:
             return ACTS[chosen.act](found, chosen)
-    except (NotWanted, BadStore, settings_file.BadSettings, ImportStopped, Refused, extracts.BadExtract) as error:
+    except (NotWanted, BadStore, ImportStopped, Refused, extracts.BadExtract) as error:
         options.tell(NAME, str(error))
         return FOUND
 
@@ -109,8 +108,15 @@ def way(chosen: argparse.Namespace) -> Iterator[Way]:
 
 
 def is_named(chosen: argparse.Namespace) -> bool:
-    """Whether the words or the settings name the account of a store file."""
-    return chosen.new_account or chosen.settings is not None and chosen.who in settings_file.read(chosen.settings).names
+    """Whether the words or the settings name the account of a store file. NotWanted, if mserve refuses the settings."""
+    if chosen.new_account or chosen.settings is None:
+        return chosen.new_account
+    # Most imports and exports have no settings, and start without their reader.
+    from . import settings_file
+    try:
+        return chosen.who in settings_file.read(chosen.settings).names
+    except settings_file.BadSettings as error:
+        raise NotWanted(str(error)) from error
 
 
 def no_account(path: str, name: str, there: list[str]) -> str:

@@ -7,8 +7,7 @@ from pathlib import Path
 
 from . import islands, options
 from .islands import NoIslands, NotSplit, Pair, Part
-from .options import FOUND
-from .routine_command import counted
+from .options import FOUND, counted
 from .settings_file import BadSettings
 from .store_file import BadStore, Digest, Store
 
@@ -59,13 +58,15 @@ def run(chosen: argparse.Namespace) -> int:
 def shown(chosen: argparse.Namespace) -> int:
     """Names the islands."""
     settings, found = islands.read(chosen.settings)
-    parts, strangers = islands.parts_of(settings, found), {}
+    parts, strangers, others = islands.parts_of(settings, found), {}, []
     if chosen.store is not None:
         with Store(str(chosen.store)) as store:
-            strangers = islands.looked_at(settings, parts, store)
+            strangers, others = islands.looked_at(settings, parts, store), store.others()
     for part in parts:
         print(f"{part.name}: {sizes(part, chosen.store is not None)}: {' '.join(part.settings.names)}")
     tell_strangers(strangers)
+    if others:
+        print(f"made by others, which split and join refuse: {', '.join(others)}")
     print(f"{counted(len(parts), 'island')}, {counted(len(settings.accounts), 'account')}")
     return 0
 

@@ -7,9 +7,13 @@ import getpass
 import os
 import sys
 from collections.abc import Callable
+from typing import TYPE_CHECKING, TypeAlias
 
-from .front import FrontConnection, Place
 from .wire import HOST, PATIENCE, ClientError, Connection
+
+if TYPE_CHECKING:
+    # A command that has no front starts without HTTP and TLS, which it would spend a third of its start on.
+    from .front import FrontConnection
 
 # The variable that has a token, if no file is named.
 TOKEN = "MSERVE_TOKEN"
@@ -57,6 +61,7 @@ def add_place(words: argparse.ArgumentParser, arguments: list[str] | None, termi
 
 def front_url(text: str) -> str:
     """The URL of a front."""
+    from .front import Place
     try:
         Place.of(text)
     except ValueError as error:
@@ -103,17 +108,23 @@ def whole(text: str, most: int) -> int:
     return int(text)
 
 
-Line = Connection | FrontConnection
+Line: TypeAlias = "Connection | FrontConnection"
 
 
 def connected(options: argparse.Namespace, known: str | None = None) -> Line:
     """The connection that the words ask for; `known` is the secret, if it was asked for before."""
     if options.front is not None and options.user is None and known is None and options.token is None and TOKEN not in os.environ:
         raise NoSecret(f"--user NAME is missing: who signs on at the front; or --token FILE, or a token in the variable {TOKEN}")
-    made = Connection(options.port, options.terminal, host=options.host, timeout=options.timeout or None) if options.front is None else FrontConnection(
-        options.front, options.user or "", secret(options) if known is None else known, authority=options.ca, timeout=options.timeout or None)
+    made = Connection(options.port, options.terminal, host=options.host, timeout=options.timeout or None) if options.front is None else signed_on(
+        options, secret(options) if known is None else known)
     made.in_utf_8 = made.in_utf_8 or options.text == "utf-8"
     return made
+
+
+def signed_on(options: argparse.Namespace, known: str) -> FrontConnection:
+    """The connection to a front, by a secret."""
+    from .front import FrontConnection
+    return FrontConnection(options.front, options.user or "", known, authority=options.ca, timeout=options.timeout or None)
 
 
 def command(name: str, words: Callable[[list[str] | None], argparse.ArgumentParser], run: Callable[[argparse.Namespace], int]) -> Callable[..., int]:
@@ -140,6 +151,11 @@ def guarded(name: str, act: Callable[[], int]) -> int:
     except KeyboardInterrupt as error:
         tell(name, "; ".join(["interrupted", *getattr(error, "__notes__", [])]))
         return INTERRUPTED
+
+
+def counted(count: int, word: str) -> str:
+    """A count with its word: `1 line`, `2 lines`."""
+    return f"{count:,} {word}" if count == 1 else f"{count:,} {word}s"
 
 
 def tell(name: str, text: str) -> None:

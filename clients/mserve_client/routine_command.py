@@ -9,7 +9,7 @@ import sys
 
 from . import language, options, routines, unit_tests
 from .checking import Finding, Kind, findings
-from .options import FOUND
+from .options import FOUND, counted
 from .routine_files import BadFile, Source, file_name, file_text, refuse_over, sources, stored_source, with_tabs_of
 from .wire import ClientError, Connection
 
@@ -183,11 +183,6 @@ def test(connection: Connection, files: list[Source], _: argparse.Namespace) -> 
     if not report.points:
         options.tell(NAME, "no routine has a test: a label T.. in a routine T..")
     return FOUND if report.failed or not report.points else 0
-
-
-def counted(count: int, word: str) -> str:
-    """A count with its word: `1 line`, `2 lines`."""
-    return f"{count:,} {word}" if count == 1 else f"{count:,} {word}s"
 
 
 ACTS = {"check": check, "load": load, "diff": diff, "list": names, "save": save, "delete": delete, "test": test}

@@ -6,12 +6,7 @@ import os
 import shutil
 import sys
 from collections.abc import Callable, Iterable, Iterator
-
-try:
-    from rich.console import Console
-    from rich.text import Text
-except ImportError:
-    Console = None
+from types import ModuleType
 
 STYLES = {"code": "bold red", "place": "dim", "note": "cyan", "name": "green", "rest": ""}
 Completer = Callable[[str], tuple[int, list[str]]]
@@ -21,19 +16,30 @@ class Screen:
     """Writes to the standard output, in colour if it is wanted and rich is installed."""
 
     def __init__(self, colour: bool) -> None:
-        self._console = Console(highlight=False, soft_wrap=True, markup=False) if colour and Console is not None else None
+        self._rich = rich() if colour else None
+        self._console = self._rich.console.Console(highlight=False, soft_wrap=True, markup=False) if self._rich else None
 
     def show(self, text: str, style: str = "rest") -> None:
         """Writes a line."""
-        if self._console is None or not STYLES[style]:
+        if self._rich is None or not STYLES[style]:
             print(text, flush=True)
         else:
-            self._console.print(Text(text, STYLES[style]))
+            self._console.print(self._rich.text.Text(text, STYLES[style]))
 
     def show_reply(self, lines: Iterable[str]) -> None:
         """Writes the output of a line as it is."""
         for line in lines:
             print(line, flush=True)
+
+
+def rich() -> ModuleType | None:
+    """The module for colours, if it is there. It is read for a person alone, since its start is as long as the shell's."""
+    try:
+        import rich.console
+        import rich.text
+    except ImportError:
+        return None
+    return rich
 
 
 def is_person() -> bool:

@@ -6,8 +6,7 @@ import argparse
 import tomllib
 
 from . import options, settings_check, store_check
-from .options import FOUND
-from .routine_command import counted
+from .options import FOUND, counted
 from .settings_check import Fault
 
 NAME = "msettings"

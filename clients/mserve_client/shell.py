@@ -19,9 +19,9 @@ from types import TracebackType
 from typing import Self
 
 from . import checking, escape, keys, language, mtext, options, reference, routines
-from .codes import in_words, place
-from .options import FOUND, Line
-from .routine_command import counted, write_whole
+from .codes import CODES, in_words, place
+from .options import FOUND, Line, counted
+from .routine_command import write_whole
 from .routine_files import Source, file_name, file_text, refuse_over, sources, stored_source
 from .screen import Screen, history_file, is_person, pages, prompt
 from .walk import Refused, Walker, asked, routine_names
@@ -41,6 +41,10 @@ HINTS = {**dict.fromkeys(("help", "?"), ".help lists what can be typed here; .he
 DEEPEST_RUN = 8
 # Seconds from one attempt to connect to the next.
 PAUSE = 0.5
+# Seconds in which a server answers that is at nobody else's connection.
+AT_ONCE = 0.3
+# The code of a terminal that no account has.
+NOBODYS = "ZTERM"
 _GLOBAL = re.compile(r"\^(?:\|[^|]*\|)?(%?[A-Za-z][A-Za-z0-9]*|%)")
 _CONTROL = re.compile(r"[\x00-\x08\x0a-\x1f\x7f]")
 
@@ -70,6 +74,20 @@ class Shell:
 
     def __exit__(self, kind: type[BaseException] | None, error: BaseException | None, trace: TracebackType | None) -> None:
         self._connection.__exit__(kind, error, trace)
+
+    def has_account(self) -> bool:
+        """Whether the terminal is an account's; that it is not is shown. It asks by a line without a text, which does nothing. A server that is at
+        somebody else's connection answers that later: then True, and the first line is answered as it is."""
+        patience, self._connection.timeout = self._connection.timeout, AT_ONCE
+        try:
+            reply = self._connection.send("")
+        except TimedOut:
+            return True
+        finally:
+            self._connection.timeout = patience
+        if reply.code == NOBODYS:
+            self._complain(f"{self._connection.terminal}: {in_words(NOBODYS)}. {CODES[NOBODYS].advice}")
+        return reply.code != NOBODYS
 
     def obey(self, line: str) -> bool:
         """Does a line: a command of the shell, or a line of M. False if it leaves the shell."""
@@ -394,6 +412,9 @@ def run(chosen: argparse.Namespace) -> int:
     person = is_person() and not chosen.plain
     known = options.secret(chosen) if chosen.front is not None and (chosen.user or chosen.token) else None
     with Shell(options.connected(chosen, known), Screen(person), person, lambda: options.connected(chosen, known)) as shell:
+        # A front gives a terminal of the user's account by itself.
+        if person and chosen.front is None and not shell.has_account():
+            return FOUND
         if person:
             converse(shell, prompt(chosen.history, shell.complete))
             return 0

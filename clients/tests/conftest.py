@@ -6,8 +6,10 @@ from __future__ import annotations
 
 import contextlib
 import os
+import re
 import subprocess
 import sys
+import tempfile
 import time
 from collections.abc import Callable, Iterator
 from dataclasses import dataclass
@@ -84,19 +86,20 @@ def start_at(store: str, port: int) -> subprocess.Popen[bytes]:
     return process
 
 
-def served(kind: str, folder: Path) -> Iterator[Server]:
-    """A server over a new store of a kind, `memory` or `file`."""
-    started = start("memory" if kind == "memory" else str(folder / "store.db"))
-    try:
-        yield started
-    finally:
-        started.stop()
+def served(kind: str) -> Iterator[Server]:
+    """A server over a new store of a kind, `memory` or `file`; the file waits for no disk."""
+    with tempfile.TemporaryDirectory(dir=running.IN_MEMORY) as folder:
+        started = start("memory" if kind == "memory" else os.path.join(folder, "store.db"))
+        try:
+            yield started
+        finally:
+            started.stop()
 
 
 @pytest.fixture(scope="session", params=STORES)
-def lasting_server(request: pytest.FixtureRequest, tmp_path_factory: pytest.TempPathFactory) -> Iterator[Server]:
+def lasting_server(request: pytest.FixtureRequest) -> Iterator[Server]:
     """A server of each kind of store, for all tests."""
-    yield from served(request.param, tmp_path_factory.mktemp("store"))
+    yield from served(request.param)
 
 
 @pytest.fixture
@@ -110,20 +113,24 @@ def server(lasting_server: Server) -> Server:
 
 
 @pytest.fixture(params=STORES)
-def own_server(request: pytest.FixtureRequest, tmp_path: Path) -> Iterator[Server]:
+def own_server(request: pytest.FixtureRequest) -> Iterator[Server]:
     """A server over a store of each kind that a test may end."""
-    yield from served(request.param, tmp_path)
+    yield from served(request.param)
 
 
 @pytest.fixture
-def file_server(tmp_path: Path) -> Iterator[Server]:
+def file_server() -> Iterator[Server]:
     """A server over a new store in a file."""
-    yield from served("file", tmp_path)
+    yield from served("file")
+
+
+# What a command adds to its count if it took more than some seconds, as on a busy machine.
+RATE = re.compile(r", [\d,]+ a second$", re.MULTILINE)
 
 
 @dataclass(frozen=True)
 class Ran:
-    """What a command wrote, and its status."""
+    """What a command wrote, without its rate, and its status."""
 
     status: int
     output: str
@@ -140,7 +147,7 @@ def command(tmp_path: Path) -> Command:
         data = stdin.encode() if isinstance(stdin, str) else stdin
         done = subprocess.run([sys.executable, CLIENTS / name, *map(str, words)], input=data, capture_output=True, timeout=60, cwd=cwd,
                               env={**os.environ, "HOME": str(tmp_path), **more})
-        return Ran(done.returncode, done.stdout.decode("latin1"), done.stderr.decode("latin1"))
+        return Ran(done.returncode, RATE.sub("", done.stdout.decode("latin1")), RATE.sub("", done.stderr.decode("latin1")))
     return ran
 
 

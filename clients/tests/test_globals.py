@@ -14,11 +14,12 @@ import subprocess
 import sys
 import threading
 from pathlib import Path
+from types import SimpleNamespace
 
 import pytest
 import running
 from conftest import ALICE, BOB, CLIENTS, SETTINGS, SHORT, Command, Server, start
-from mserve_client import keys
+from mserve_client import keys, progress
 from mserve_client.extracts import Entry
 from mserve_client.global_command import reading
 from mserve_client.store_file import TABLES
@@ -516,6 +517,18 @@ def shown_to_a_person(words: list[str | Path]) -> bytes:
     os.close(near)
     assert process.wait(60) == 0, shown[-1000:]
     return shown
+
+
+def test_rate_is_told_of_long_work(monkeypatch: pytest.MonkeyPatch) -> None:
+    """Of 600 nodes: none at five seconds, and one after them."""
+    now = 0.0
+    monkeypatch.setattr(progress, "time", SimpleNamespace(monotonic=lambda: now))
+    with progress.Progress("import") as work:
+        work.step(600)
+        now = 5.0
+        assert work.shown_rate == ""
+        now = 6.0
+        assert work.shown_rate == ", 100 a second"
 
 
 def test_part_of_a_file_that_is_read(tmp_path: Path) -> None:

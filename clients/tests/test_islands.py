@@ -291,6 +291,7 @@ def test_what_others_made_in_a_store_is_not_lost_unseen(source: islands.Pair, co
             base.execute(text)
     before = rows(source.store)
     others = ["view shown", "table notes", "index by_text"]
+    assert f"\nmade by others, which split and join refuse: {', '.join(others)}\n" in command("misland", "list", source.settings, source.store).output
     for words in (["split", source.settings, source.store], ["join", tmp_path]):
         ran = command("misland", *words, "--to", "parts")
         assert ran.status == 1 and f"store.db: others have made {', '.join(others)} in it, which no part would have" in ran.told, ran

@@ -237,6 +237,25 @@ def test_waiting_is_told(server: Server, tmp_path: Path) -> None:
             shell.wait("42")
 
 
+def test_terminal_that_nobody_has(server: Server, tmp_path: Path) -> None:
+    """It is said before a prompt comes, and the shell ends; lines from a pipe are answered one by one."""
+    with opened(str(server.port), "77", "--no-history") as shell:
+        shell.wait("77: ZTERM: terminal not in the settings. Use a terminal that the settings give to an account.")
+        assert shell.process.wait(20) == 1 and ">" not in shell.seen
+
+
+def test_terminal_that_nobody_has_while_another_has_the_server(server: Server, tmp_path: Path) -> None:
+    """Nobody waits for the prompt, and the first line is answered as it is."""
+    with server.connection() as other:
+        other.send("S A=1")
+        with opened(str(server.port), "77", "--no-history") as shell:
+            shell.wait(">")
+            shell.type("W 6*7\r")
+            other.close()
+            shell.wait("ZTERM: terminal not in the settings  (docs")
+            shell.leave()
+
+
 def test_server_that_goes_away(own_server: Server) -> None:
     with own_server.connection() as connection:
         shell = Shell(connection, Screen(False), False)

@@ -89,7 +89,7 @@ class Root:
         """The words that run a command of a shell in this root, in the tree's folder."""
         inner = f"cd {shlex.quote(str(TOP))} && {command}"
         place = shlex.quote(str(self.place))
-        return self._words(f"exec env -u PYTHONPATH LC_ALL=C.UTF-8 PATH=/usr/sbin:/usr/bin:/sbin:/bin chroot {place} bash -c {shlex.quote(inner)}")
+        return self._words(f"exec env -u PYTHONPATH -u PYTHONPYCACHEPREFIX LC_ALL=C.UTF-8 PATH=/usr/sbin:/usr/bin:/sbin:/bin chroot {place} bash -c {shlex.quote(inner)}")
 
     def run(self, command: str, told: str = "") -> str:
         """Runs a command of a shell in this root: what it writes. It has to end well."""
@@ -161,7 +161,7 @@ def test_package_has_each_command_its_page_and_the_units(package: Path) -> None:
     names = [page.name.replace("msettings", "mserve-settings") for page in pages]
     assert len(names) >= 9 and all(f" ./usr/share/man/man1/{name}.gz\n" in listed for name in names)
     for path in (*(f"lib/systemd/system/{unit}" for unit in UNITS), "usr/lib/mserve/mserve", "usr/share/bash-completion/completions/mserve", "etc/mserve/front.toml",
-                 "usr/share/mserve/front/page/index.html", "usr/share/doc/mserve/docs/LANGUAGE.md"):
+                 "usr/share/mserve/front/page/index.html", "usr/share/mserve/docs/LANGUAGE.md", "usr/share/doc/mserve/docs/LANGUAGE.md"):
         assert f" ./{path}\n" in listed
     assert "__pycache__" not in listed and "/tests/" not in listed
     assert not re.search(r"^(?!l)\S+ (?!root/root)", listed, re.MULTILINE)

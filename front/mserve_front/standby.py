@@ -220,6 +220,7 @@ class Standby:
             raise Stopped(f"its server ended with status {child.process.returncode}")
         bad = None if self._events else await self._read()
         came = bool(self._events)
+        self._idle = self._idle and not came
         # A stop waits for the lines that are on their way, and for no others: the store is known to stand before them.
         while self._events and not self._stopping.is_set():
             event = self._events.popleft()
@@ -283,7 +284,8 @@ class Standby:
             answered = self._history.at
         behind = max(0, answered - self._stage.at)
         return {"state": "standby", "line": self._stage.at, "behind": behind, "seconds": round(self._stage.behind(), 3), "reported": self._stage.reported,
-                "caught up": self._idle and not self._fault.text and not self._waits.text, "fault": self._fault.text or self._waits.text,
+                # It was idle at its last look, and the journal may have grown since.
+                "caught up": self._idle and not behind and not self._fault.text and not self._waits.text, "fault": self._fault.text or self._waits.text,
                 "differs": self._differs or ""}
 
     async def _promote(self, request: dict[str, object]) -> Answered:

@@ -78,9 +78,26 @@ def takes_over(front: Front) -> str:
 async def caught_up(front: Front, journal: Path | JournalSettings) -> int:
     """Waits until a standby has run all lines of a journal, in a folder or anywhere, and says so."""
     last = last_line(JournalSettings(journal) if isinstance(journal, Path) else journal)
-    while (status := asked(front.folder / "mfront.control", {"ask": "status"}, 30))["line"] < last or not status["caught up"]:
+    # Apart: what leads to the journal may be this test's own.
+    while (status := await asyncio.to_thread(asked, front.folder / "mfront.control", {"ask": "status"}, 30))["line"] < last or not status["caught up"]:
         await asyncio.sleep(0.02)
     return last
+
+
+@in_loop(100)
+async def test_a_standby_has_caught_up_once_it_has_run_all(start, tmp_path: Path) -> None:
+    """What the journal holds when the question comes is run by then, or the answer says that it is not."""
+    leader = leading(start, tmp_path / "journal")
+    second = standby(start, tmp_path / "journal")
+    async with leader.person("ada") as ada:
+        await ada.line("S ^X=1")
+        await caught_up(second, tmp_path / "journal")
+        for _ in range(20):
+            await ada.line("S ^X=^X+1")
+            last = last_line(JournalSettings(tmp_path / "journal"))
+            status = await asyncio.to_thread(asked, second.folder / "mfront.control", {"ask": "status"}, 30)
+            assert status["line"] >= last or not status["caught up"], (status, last)
+        await caught_up(second, tmp_path / "journal")
 
 
 @in_loop(200)

@@ -49,9 +49,11 @@ class User:
         self.answers: list[float] = []
 
     async def sends(self) -> float:
-        """Sends a line, and gives how long its reply took. Raises OSError if the session ends before."""
+        """Sends a line, and gives how long its reply took. Raises OSError if the session ends before, or is about to."""
         began = time.perf_counter()
         record = await self.program.line("S ^N=$G(^N)+1 W ^N")
+        if "refused" in record or "unknown" in record:
+            raise ConnectionResetError(record["why"])
         if int(record.get("rest") or 0) not in (self.count + 1, self.count + 2):
             sys.exit(f"machine_rates: {self.program.name}: after {self.count} came {record}")
         self.count = int(record["rest"])
@@ -227,10 +229,12 @@ async def started_again(trial: Trial) -> None:
     await asyncio.to_thread(trial.gates[1].again)
 
     async def answered(user: User) -> float:
-        user.program.close()
-        await user.program.signed_on()
-        await user.sends()
-        return time.monotonic() - began
+        while True:
+            user.program.close()
+            await user.program.signed_on()
+            with contextlib.suppress(OSError):
+                await user.sends()
+                return time.monotonic() - began
     times = await asyncio.gather(*(answered(user) for user in users))
     print(f"a machine with {len(placed)} islands killed and started: its users are answered after {statistics.median(times):.1f} s in the median, all "
           f"after {max(times):.1f} s", flush=True)

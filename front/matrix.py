@@ -100,6 +100,7 @@ def main() -> int:
     words.add_argument("--part", type=int, default=20, metavar="N", help="combinations of a part (default 20)")
     words.add_argument("--seconds", type=float, default=float("inf"), metavar="S", help="begin no part after so long")
     words.add_argument("--only", choices=COMBINATIONS, metavar="KIND", help=f"one kind: {', '.join(COMBINATIONS)}")
+    words.add_argument("--named", action="append", metavar="PART", help="this part alone, as the record names it; may be given again")
     options = words.parse_args()
     require_program()
     Patience.seconds = PATIENT
@@ -109,7 +110,7 @@ def main() -> int:
     end, status = time.monotonic() + options.seconds, 0
     done = {str(one["part"]) for one in read(options.record) if "failed" not in one}
     for part in parts(options.wanted, options.part):
-        if part.name in done or options.only not in (None, part.kind):
+        if part.name in done or options.only not in (None, part.kind) or options.named and part.name not in options.named:
             continue
         if time.monotonic() > end:
             status = 1

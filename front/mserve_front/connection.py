@@ -16,18 +16,21 @@ from .replies import Answer, ReplyReader
 HOST = "127.0.0.1"
 # Seconds between two attempts to connect: the first and the longest.
 FIRST_PAUSE, LONGEST_PAUSE = 0.005, 0.1
+# Bytes that are read at once. Others have their turn only after what these hold was taken apart, which is some milliseconds where all of it is escapes.
+AT_ONCE = 32_768
 
 
 class NoStart(Exception):
     """The server ended before it served."""
 
 
-class Connection(asyncio.Protocol):
+class Connection(asyncio.BufferedProtocol):
     """A connection. Each reply goes to `_answered` once it is whole; bytes that are none end the connection, and `fault` says why."""
 
     def __init__(self, room: int) -> None:
         """`room` is the most bytes of a reply that are kept."""
         self._reader = ReplyReader(self._turn, room)
+        self._came = bytearray(AT_ONCE)
         self._transport: asyncio.Transport | None = None
         self._socket: socket.socket | None = None
         self.fault: str | None = None
@@ -48,7 +51,16 @@ class Connection(asyncio.Protocol):
         self._transport = transport
         self._socket = transport.get_extra_info("socket")
 
+    def get_buffer(self, sizehint: int) -> bytearray:
+        """Where what comes is put."""
+        return self._came
+
+    def buffer_updated(self, nbytes: int) -> None:
+        """Takes what has come."""
+        self.data_received(bytes(memoryview(self._came)[:nbytes]))
+
     def data_received(self, data: bytes) -> None:
+        """Takes bytes of replies."""
         try:
             self._reader.feed(data, self._answered)
         except BadReply as error:

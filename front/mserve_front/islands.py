@@ -92,7 +92,7 @@ class Islands:
         """Notes where this machine is, and reads the placement once. Raises `LogFault` or `BadUsers`."""
         await asyncio.to_thread(self._placement.make)
         await asyncio.to_thread(self._placement.enter, self._home.machine)
-        self._read_users()
+        await self._read_users()
         await self._look()
 
     async def run(self) -> None:
@@ -126,7 +126,7 @@ class Islands:
         if placed is not self.placed:
             self.placed = placed
             self.of_account = {account: island.name for island in placed.values() for account in island.accounts}
-        self._read_users()
+        await self._read_users()
         for name in [name for name in self._houses if name not in self.placed]:
             await self._ended(name)
 
@@ -164,7 +164,8 @@ class Islands:
         self._houses[island.name] = house
         if follows:
             put_aside(self._folder(island.name) / "store")
-        path = self._written(island, house)
+        # Apart: a disk takes its time, and users of other islands go on.
+        path = await asyncio.to_thread(self._written, island, house)
         words = [*tied(shutil.which("setpriv")), sys.executable, str(COMMAND), "--config", str(path), *(["--follow"] if follows else [])]
         house.process = await asyncio.create_subprocess_exec(*words, stdin=asyncio.subprocess.DEVNULL, start_new_session=True)
 
@@ -233,16 +234,17 @@ class Islands:
         write_whole(folder / "front.toml", text.encode())
         return folder / "front.toml"
 
-    def _read_users(self) -> None:
+    async def _read_users(self) -> None:
         """Reads the users of all islands, if their file has changed, and gives each island its own."""
         changed = self._home.users.stat().st_mtime_ns
         if changed == self._seen:
             return
-        self._users, self._seen = load(self._home.users), changed
+        self._users = await asyncio.to_thread(load, self._home.users)
         self.of_token = {token.hash: name for name, user in self._users.items() for token in user.tokens.values()}
-        for name in self._houses:
-            if name in self.placed:
-                self._write_users(self.placed[name])
+        for island in [self.placed[name] for name in self._houses if name in self.placed]:
+            await asyncio.to_thread(self._write_users, island)
+        # This comes last: what could not be written is written at the next look.
+        self._seen = changed
 
     def _write_users(self, island: Island) -> None:
         with contextlib.suppress(FileNotFoundError):

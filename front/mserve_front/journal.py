@@ -60,8 +60,8 @@ class Log(Protocol):
     def append(self, flush: Flush) -> None:
         """Keeps a flush: it is durable once this returns. Raises `LogFault`, or `LogTaken` if another front has the journal by now."""
 
-    def mend(self) -> bool:
-        """Gets ready to go on after a fault, and says whether the flush that failed was kept all the same. Raises as `append` does."""
+    def mend(self) -> int:
+        """Gets ready to go on after a fault, and gives the number of the last flush that is kept: one that failed may be. Raises as `append` does."""
 
     def close(self) -> None:
         """Gives the journal back."""
@@ -272,14 +272,14 @@ class Journal:
         try:
             while (self._waiting or self.fault is not None) and not self.taken.done():
                 batch, self._waiting = self._waiting, []
+                # Before the first flush that fails: it may have been waited for.
+                began = began or time.monotonic()
                 if await self._flushed(batch):
                     began = 0.0
                     self._mend()
                     for entry in batch:
                         self._done(entry)
                     continue
-                if began == 0.0:
-                    began = time.monotonic()
                 if time.monotonic() - began > HELD:
                     self._give_up()
                 await asyncio.sleep(RETRY)
@@ -291,9 +291,9 @@ class Journal:
         before = self.next, self.answered
         began = time.monotonic()
         try:
-            if self.fault is not None and await self._in_thread(self._log.mend):
-                # Its lines stand there and were not sent: those that get their numbers now take their place.
-                self.sequence += 1
+            if self.fault is not None:
+                # Lines of a flush that is kept all the same were not sent: those that get their numbers now take their place.
+                self.sequence = await self._in_thread(self._log.mend)
             flush = self._packed(batch)
             await self._in_thread(self._log.append, flush)
         except Exception as error:

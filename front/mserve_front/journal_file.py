@@ -76,6 +76,7 @@ class FileLog:
         # The size up to which all is durable, and whether what was written after it is a whole flush.
         self._size = 0
         self._whole = False
+        self._last = 0
 
     def take(self, force: bool = False) -> Tail:
         """Takes the lock of the folder, which is made if it is not there, and finds the end. With `force` the one who has the lock writes no more, and a
@@ -93,6 +94,7 @@ class FileLog:
             self.close()
             raise LogFault(f"{self._folder}: {error.strerror}") from error
         tail = tail_of(self._folder, not force)
+        self._last = tail.sequence
         self._head.reached(Reached(tail.journal, tail.sequence, tail.next, tail.answered, tail.time))
         return tail
 
@@ -109,6 +111,7 @@ class FileLog:
         except OSError as error:
             raise LogFault(f"{self._path}: {error.strerror}") from error
         self._size += len(data)
+        self._last = flush.sequence
         self._head.reached(flush)
         self._hold()
 
@@ -117,17 +120,18 @@ class FileLog:
         if not self._head.is_own(again):
             raise LogTaken(f"{self._folder}: another front has taken this journal")
 
-    def mend(self) -> bool:
-        """Leaves the file in which a flush failed. A part of it is taken back, for there may be no room; a whole one may have been read, and stays."""
+    def mend(self) -> int:
+        """Leaves the file in which a flush failed. A part of it is taken back, for there may be no room; a whole one may have been read, and stays, but
+        counts for nothing."""
         if self._descriptor < 0:
-            return False
+            return self._last
         with contextlib.suppress(OSError):
             if not self._whole and self._size > len(MARK):
                 os.ftruncate(self._descriptor, self._size)
             elif not self._whole:
                 self._path.unlink()
         self._leave()
-        return False
+        return self._last
 
     def close(self) -> None:
         """Gives the lock back."""

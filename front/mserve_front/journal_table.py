@@ -4,14 +4,18 @@ so that no two fronts write; a database with synchronous replication answers onl
 from __future__ import annotations
 
 import contextlib
+import math
 import os
 import secrets
+import select
 import socket
 import time
 import zlib
-from collections.abc import Iterator
+from collections.abc import Generator, Iterator
+from selectors import EVENT_READ, EVENT_WRITE
 
 import psycopg
+from psycopg.conninfo import conninfo_to_dict, make_conninfo
 
 from .faults import TAKEN
 from .journal import LogFault, LogTaken, Tail
@@ -27,8 +31,16 @@ LOCK = 0x6D66726F
 # A database that is away is noticed within so many seconds, and milliseconds; and by the database, a front that is away. The lock of a machine without
 # power would be kept for hours otherwise.
 CONNECTING, SILENT = 2, 5_000
+# Seconds after which a database that has not answered is asked, over another connection, whether it is at the statement: what stands between may keep a
+# connection open whose database is gone; and those for an answer that is on its way then. And those after which a flush is given up whatever the database
+# is at, as one that waits for a replica that is away.
+ANSWER, LAST, LONGEST = 2.0, 0.5, 20.0
 ALIVE = {"tcp_keepalives_idle": 2, "tcp_keepalives_interval": 1, "tcp_keepalives_count": 4, "tcp_user_timeout": SILENT}
-# Who has the lock, and since when that process is there.
+# This connection's process of the database, and since when it is there; and whether such a process is at a statement, as far as the database keeps that
+# (track_activities).
+SELF = "SELECT pid, backend_start FROM pg_stat_activity WHERE pid = pg_backend_pid()"
+WORKS = "SELECT state IN ('active', 'disabled') FROM pg_stat_activity WHERE pid = %s AND backend_start = %s"
+# The same of the one that has the lock.
 HOLDER = """SELECT pid, backend_start FROM pg_locks JOIN pg_stat_activity USING (pid) WHERE locktype = 'advisory' AND granted AND objsubid = 2
     AND classid::bigint = %s AND objid::bigint = %s AND pg_locks.database = (SELECT oid FROM pg_database WHERE datname = current_database())"""
 # Seconds for the database to end a connection, and between two looks.
@@ -37,13 +49,86 @@ ENDING, LOOK = 5.0, 0.05
 ROWS = 256
 
 
-def connected(place: str) -> psycopg.Connection:
+Process = tuple[int, object]
+
+
+class Answered(psycopg.Connection):
+    """A connection whose statements end: one that the database is not at any more is given up."""
+
+    # How it is connected to, and its process of the database; None until that is known.
+    place = ""
+    own: Process | None = None
+    # Seconds after which a statement is given up whatever the database is at.
+    longest = math.inf
+
+    def wait(self, gen: Generator[int, int, object], *_: object, **__: object) -> object:
+        """Runs what `gen` does between two waits for the socket. Raises `psycopg.OperationalError` for what is given up."""
+        began = time.monotonic()
+        try:
+            wanted = next(gen)
+            while True:
+                wanted = gen.send(self._ready(int(wanted), began))
+        except StopIteration as ended:
+            return ended.value
+
+    def _ready(self, wanted: int, began: float) -> int:
+        """Waits for the socket, and says what it is ready for."""
+        poll = select.poll()
+        poll.register(self.pgconn.socket, (select.POLLIN if wanted & EVENT_READ else 0) | (select.POLLOUT if wanted & EVENT_WRITE else 0))
+        idle = 0
+        while not (found := poll.poll(ANSWER * 1000)):
+            waited, works = time.monotonic() - began, self._works()
+            # A database that is busy may not have come to the statement yet, so that counts the second time.
+            idle = 0 if works else idle + 1
+            # What ended while it was asked after has its answer on the way.
+            if waited > self.longest or (works is None or idle > 1) and not poll.poll(LAST * 1000):
+                self.pgconn.finish()
+                raise psycopg.OperationalError(f"no answer within {waited:.0f} s")
+        event = found[0][1]
+        # A socket that is broken is ready for both: what is tried there finds that.
+        return wanted & ((EVENT_READ if event & ~select.POLLOUT else 0) | (EVENT_WRITE if event & ~select.POLLIN else 0))
+
+    def _works(self) -> bool | None:
+        """Whether the database is at this connection's statement, as another connection sees it; None if its process there is gone, or nobody answers."""
+        if self.own is None:
+            return False
+        with contextlib.suppress(psycopg.Error), opened(self.place) as other:
+            found = other.execute(WORKS, self.own).fetchone()
+            return None if found is None else bool(found[0])
+        return None
+
+
+def machines_of(place: str) -> list[str]:
+    """How each of the machines that a place names is connected to: psycopg waits for one that is silent as long as for all, and tries no other."""
+    words = conninfo_to_dict(place)
+    lists = {key: str(words[key]).split(",") for key in ("host", "hostaddr", "port") if words.get(key)}
+    count = max(map(len, lists.values()), default=1)
+    if count == 1:
+        return [place]
+    return [make_conninfo(**words | {key: found[at % len(found)] for key, found in lists.items()}) for at in range(count)]
+
+
+def opened(place: str) -> Answered:
+    """A connection that waits for no statement longer than `ANSWER` seconds. Raises `psycopg.Error`."""
+    faults_of = []
+    for one in machines_of(place):
+        try:
+            base = Answered.connect(one, autocommit=True, connect_timeout=CONNECTING, tcp_user_timeout=SILENT, keepalives_idle=2,
+                                    keepalives_interval=1, keepalives_count=4, application_name="mfront")
+        except psycopg.Error as error:
+            faults_of.append(error)
+            continue
+        base.place = one
+        return base
+    raise psycopg.OperationalError("; ".join(map(str, faults_of)))
+
+
+def connected(place: str) -> Answered:
     """A connection. Raises `LogFault`."""
-    try:
-        return psycopg.connect(place, autocommit=True, connect_timeout=CONNECTING, tcp_user_timeout=SILENT, keepalives_idle=2,
-                               keepalives_interval=1, keepalives_count=4, application_name="mfront")
-    except psycopg.Error as error:
-        raise LogFault(told(error)) from error
+    with faults():
+        base = opened(place)
+        base.own = base.execute(SELF).fetchone()
+        return base
 
 
 def told(error: psycopg.Error) -> str:
@@ -60,7 +145,7 @@ def faults() -> Iterator[None]:
         raise LogFault(told(error)) from error
 
 
-def tail_of(base: psycopg.Connection, name: str) -> Tail:
+def tail_of(base: Answered, name: str) -> Tail:
     """The end of a journal; of an empty one, that of a new journal. Raises `BadJournal` if its last flush is damaged."""
     row = base.execute("SELECT sequence, flush FROM mfront_journal WHERE name = %s ORDER BY sequence DESC LIMIT 1", (name,)).fetchone()
     if row is None:
@@ -86,11 +171,12 @@ class TableLog:
     def __init__(self, place: str, name: str) -> None:
         self._place = place
         self._name = name
-        self._base: psycopg.Connection | None = None
-        self._last = 0
-        self._tried = 0
-        # The process of the database that has the lock for this one.
-        self._own: tuple[int, object] | None = None
+        self._base: Answered | None = None
+        # The last flush that the database said is kept, and the last that was tried; and who wrote the last one.
+        self._kept = self._tried = 0
+        self._writer = 0
+        # The processes of the database that this one was connected to. One may have the lock yet.
+        self._own: set[Process] = set()
 
     def take(self, force: bool = False) -> Tail:
         """Takes the lock, makes the table if it is not there, and finds the end. With `force` the connection of the one who has the lock is ended."""
@@ -103,35 +189,34 @@ class TableLog:
             if self._base.execute("SELECT to_regclass('mfront_journal')").fetchone() == (None,):
                 self._base.execute(TABLE)
             tail = tail_of(self._base, self._name)
-        self._last = self._tried = tail.sequence
+        self._kept = self._tried = tail.sequence
+        self._writer = tail.writer
         return tail
 
     def append(self, flush: Flush) -> None:
         """Writes a row, and returns once the database says that it is kept."""
         if self._base is None:
             raise LogFault("database: not connected")
-        self._tried = flush.sequence
+        self._tried, self._writer = flush.sequence, flush.writer
         with faults():
             self._base.execute(INSERT, (self._name, flush.sequence, flush.next, flush.answered, flush.time, flush.packed()))
-        self._last = flush.sequence
+        self._kept = flush.sequence
 
-    def mend(self) -> bool:
-        """Connects again, takes the lock, and says whether the row that failed is there all the same. `LogTaken` if others wrote meanwhile."""
+    def mend(self) -> int:
+        """Connects again, takes the lock, and gives the last row: one that failed may be there all the same, and gone again if a replica took over that had
+        not got it. `LogTaken` if others wrote meanwhile."""
         self.close()
         self._base = connected(self._place)
         with faults():
             self._refuse_replica()
-            holder = self._holder()
-            if holder is not None and holder == self._own:
-                # The database has not seen the end of the connection before this one.
+            if (holder := self._holder()) in self._own:
+                # The database has not seen the end of a connection before this one.
                 self._end_holder(holder)
             self._lock()
-            found = self._base.execute("SELECT max(sequence) FROM mfront_journal WHERE name = %s", (self._name,)).fetchone()[0] or 0
-        if found not in (self._last, self._tried):
+            tail = tail_of(self._base, self._name)
+        if not self._kept <= tail.sequence <= self._tried or tail.sequence > self._kept and tail.writer != self._writer:
             raise LogTaken("another front has written this journal, or the database has lost a part of it")
-        kept = found > self._last
-        self._last = self._tried = found
-        return kept
+        return tail.sequence
 
     def close(self) -> None:
         """Ends the connection, and the lock with it."""
@@ -153,11 +238,11 @@ class TableLog:
             self.close()
             raise LogFault("database: it is a replica, and read-only: promote it, or connect to the primary (target_session_attrs=read-write)")
 
-    def _holder(self) -> tuple[int, object] | None:
+    def _holder(self) -> Process | None:
         """The process of the database that has the lock, and since when it is there; None if nobody has it."""
         return self._base.execute(HOLDER, (LOCK, key_of(self._name) % (1 << 32))).fetchone()
 
-    def _end_holder(self, holder: tuple[int, object] | None) -> None:
+    def _end_holder(self, holder: Process | None) -> None:
         """Ends the connection that has the lock, and waits until it is over."""
         end = time.monotonic() + ENDING
         while holder is not None and self._holder() == holder and time.monotonic() < end:
@@ -166,10 +251,18 @@ class TableLog:
 
     def _lock(self) -> None:
         """Takes the lock. Commits are to wait for the disk, and for a synchronous replica if there is one."""
-        if not self._base.execute("SELECT pg_try_advisory_lock(%s, %s)", (LOCK, key_of(self._name))).fetchone()[0]:
-            self.close()
-            raise LogTaken(f"{TAKEN} (an advisory lock of the database, for {self._name})")
-        self._own = self._holder()
+        # This comes first: if the answer is lost, it is known who has the lock.
+        self._own.add(self._base.own)
+        self._base.longest = LONGEST
+        while not self._base.execute("SELECT pg_try_advisory_lock(%s, %s)", (LOCK, key_of(self._name))).fetchone()[0]:
+            holder = self._holder()
+            if holder in self._own:
+                self.close()
+                raise LogFault("database: the connection before this one has not ended yet, and has the lock")
+            if holder is not None:
+                self.close()
+                raise LogTaken(f"{TAKEN} (an advisory lock of the database, for {self._name})")
+        self._own = {self._base.own}
         for name, value in ALIVE.items():
             self._base.execute("SELECT set_config(%s, %s, false)", (name, str(value)))
         if self._base.execute("SHOW synchronous_commit").fetchone()[0] in ("off", "local"):
@@ -188,7 +281,7 @@ class TableReader:
         self._place = place
         self._name = name
         self._line = line
-        self._base: psycopg.Connection | None = None
+        self._base: Answered | None = None
         self._expected: int | None = None
 
     def more(self) -> list[Flush]:
@@ -210,7 +303,7 @@ class TableReader:
                 self._base.close()
             self._base = None
 
-    def _rows(self, base: psycopg.Connection) -> list[Flush]:
+    def _rows(self, base: Answered) -> list[Flush]:
         if self._expected is None:
             self._expected = base.execute("SELECT min(sequence) FROM mfront_journal WHERE name = %s AND next >= %s", (self._name, self._line)).fetchone()[0]
         if self._expected is None:

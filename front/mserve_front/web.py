@@ -16,6 +16,7 @@ from aiohttp import web
 from aiohttp.web_protocol import RequestHandler
 
 from .audit import NoAudit
+from .document import language_page
 from .doors import Door, Doors, HttpDoor, Made
 from .http_head import Head
 from .metrics import Metrics
@@ -73,14 +74,16 @@ class Web:
         self._doors = doors
         self._cookie = "__Host-mfront" if settings.tls else "mfront"
         self._of_token: dict[str, asyncio.Task[Session]] = {}
+        self._language = language_page()
 
     def application(self) -> web.Application:
         """The application of aiohttp."""
         made = web.Application(middlewares=[self._guarded], client_max_size=self._settings.limits.body)
         made.add_routes([
-            web.get("/", self._index), web.get("/page/{name}", self._file), web.get("/session", self._session_record), web.get("/ws", self._socket),
-            web.post("/signon", self._sign_on), web.post("/signoff", self._sign_off), web.post("/line", self._line),
-            web.post("/password", self._password), web.get("/health", self._health), web.get("/metrics", self._figures),
+            web.get("/", self._index), web.get("/page/language.html", self._document), web.get("/page/{name}", self._file),
+            web.get("/session", self._session_record), web.get("/ws", self._socket), web.post("/signon", self._sign_on),
+            web.post("/signoff", self._sign_off), web.post("/line", self._line), web.post("/password", self._password),
+            web.get("/health", self._health), web.get("/metrics", self._figures),
         ])
         made.on_response_prepare.append(self._headers)
         return made
@@ -163,6 +166,12 @@ class Web:
 
     async def _file(self, request: web.Request) -> web.StreamResponse:
         return self._page_file(request.match_info["name"])
+
+    async def _document(self, request: web.Request) -> web.StreamResponse:
+        """The page of the language, to which Help leads."""
+        if self._language is None:
+            raise Fault(404, "docs/LANGUAGE.md is not installed")
+        return web.Response(text=self._language, content_type="text/html", headers={"Cache-Control": "no-cache"})
 
     def _page_file(self, name: str) -> web.StreamResponse:
         """A file of the page's folder itself, of a kind that is known."""

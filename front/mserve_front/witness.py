@@ -11,6 +11,7 @@ import json
 import os
 import time
 from collections import deque
+from concurrent.futures import ThreadPoolExecutor
 from datetime import UTC, datetime
 from pathlib import Path
 from typing import NamedTuple, Protocol
@@ -199,6 +200,8 @@ class JournalHead:
         self._inode = 0
         self._epoch = 0
         self._synced = self._looked = 0.0
+        # Has the note on the disk: a flush does not wait for that.
+        self._apart: ThreadPoolExecutor | None = None
 
     def take(self, force: bool) -> None:
         """Takes the journal. With `force` what was there is not believed. Raises OSError."""
@@ -213,11 +216,12 @@ class JournalHead:
         sync_folder(self._path.parent)
 
     def reached(self, reached: Flush | Reached) -> None:
-        """Notes how far the journal went; it is on the disk within a second of work."""
+        """Notes how far the journal went; it is on the disk soon after a second of work."""
         self._note.write(b'{%s, "epoch": %d}' % (_shown(reached), self._epoch))
         if time.monotonic() - self._synced > SYNC:
-            self._note.sync()
             self._synced = time.monotonic()
+            self._apart = self._apart or ThreadPoolExecutor(1, thread_name_prefix="head")
+            self._apart.submit(self._note.sync)
 
     def is_own(self, again: bool = False) -> bool:
         """Whether nobody else has taken the journal; with `again` it is believed for a moment."""
@@ -232,6 +236,9 @@ class JournalHead:
 
     def close(self) -> None:
         """Leaves it."""
+        if self._apart is not None:
+            self._apart.shutdown()
+            self._apart = None
         self._note.sync()
         self._note.close()
 

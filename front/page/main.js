@@ -37,7 +37,8 @@ byId("sign-on").addEventListener("submit", (event) => {
 byId("sign-off").addEventListener("click", leave);
 byId("change-password").addEventListener("click", () => ask(house.record.user).catch((error) => tell(error.message, "fault")));
 byId("help").addEventListener("click", () => shown("The language", [
-  make("p", {}, "Commands and functions, whole or by their short words. docs/LANGUAGE.md has all of it."),
+  make("p", {}, "Commands and functions, whole or by their short words. ",
+    make("a", { id: "language", href: "page/language.html", target: "_blank", rel: "noopener" }, "The whole language"), "."),
   make("pre", { tabindex: "0" }, [...Object.values(COMMANDS), "", ...Object.values(FUNCTIONS)].join("\n")),
 ]));
 tabs.opened("globals", () => globals.opened());

@@ -2,6 +2,7 @@
 """PostgreSQL for these tests: clusters of their own in a folder, reached by a socket there alone."""
 from __future__ import annotations
 
+import asyncio
 import os
 import pwd
 import shutil
@@ -101,3 +102,56 @@ class Cluster:
         """Ends it, and removes its folder."""
         subprocess.run([*_owner(), PROGRAMS[-1] / "pg_ctl", "stop", "-D", self.data, "-m", "immediate"], capture_output=True, timeout=60, cwd="/")
         shutil.rmtree(self.folder, ignore_errors=True)
+
+
+class Wire:
+    """A way over TCP to a database, which can be cut so that the database does not see it."""
+
+    def __init__(self, cluster: Cluster) -> None:
+        self._socket = cluster.folder / ".s.PGSQL.5432"
+        self._server: asyncio.Server | None = None
+        self._near: list[asyncio.StreamWriter] = []
+        # What leads to the database is kept open after a cut.
+        self._far: list[asyncio.StreamWriter] = []
+        self._tasks: set[asyncio.Task[None]] = set()
+        # When each connection was asked for.
+        self.asked: list[float] = []
+        # Whether a connection is kept open though the database is not there.
+        self.keeps = False
+
+    async def begin(self) -> str:
+        """Listens, and gives how the database is connected to."""
+        self._server = await asyncio.start_server(self._carries, "127.0.0.1", 0)
+        return f"host=127.0.0.1 port={self._server.sockets[0].getsockname()[1]} user=postgres dbname=postgres sslmode=disable"
+
+    async def _carries(self, reader: asyncio.StreamReader, writer: asyncio.StreamWriter) -> None:
+        self.asked.append(time.monotonic())
+        try:
+            there, back = await asyncio.open_unix_connection(str(self._socket))
+        except OSError:
+            if not self.keeps:
+                writer.close()
+            self._near.append(writer)
+            return
+        self._near.append(writer)
+        self._far.append(back)
+        for one, other in ((reader, back), (there, writer)):
+            task = asyncio.create_task(self._copies(one, other))
+            self._tasks.add(task)
+
+    async def _copies(self, reader: asyncio.StreamReader, writer: asyncio.StreamWriter) -> None:
+        while data := await reader.read(65_536):
+            writer.write(data)
+
+    def cut(self) -> None:
+        """Ends all connections at their near side."""
+        for writer in self._near:
+            writer.transport.abort()
+        self._near.clear()
+
+    def close(self) -> None:
+        """Ends all of it."""
+        self.cut()
+        for writer in self._far:
+            writer.transport.abort()
+        self._server.close()

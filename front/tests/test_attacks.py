@@ -31,6 +31,10 @@ MEMORY = 300
 RECORD, OTHERS = 300, 200
 
 
+# What an attacker says when its attack begins.
+BEGUN = b"begun\n"
+
+
 @dataclass
 class Watched:
     """What a neighbour met."""
@@ -178,9 +182,11 @@ async def quick_lines(front: Front, seconds: float) -> int:
 
 
 async def attacked(front: Front, attack: Attack, seconds: float) -> asyncio.subprocess.Process:
-    """Has a process of its own attack a front for so long: what it computes takes none of the neighbour's time."""
+    """Has a process of its own attack a front for so long: what it computes takes none of the neighbour's time. It has begun when this returns."""
     words = [attack.__name__, str(seconds), str(front.port), str(front.lines_port), *map(str, front.certificate)]
-    return await asyncio.create_subprocess_exec("nice", "-n", "10", sys.executable, __file__, *words, stdout=asyncio.subprocess.PIPE)
+    process = await asyncio.create_subprocess_exec("nice", "-n", "10", sys.executable, __file__, *words, stdout=asyncio.subprocess.PIPE)
+    assert await process.stdout.readline() == BEGUN
+    return process
 
 
 def target(port: str, lines_port: str, certificate: str, key: str) -> Front:
@@ -193,6 +199,7 @@ def target(port: str, lines_port: str, certificate: str, key: str) -> Front:
 ATTACKS = [pipelines, half_open, malformed, wrong_sign_ons, pings, *(pytest.param(attack, marks=pytest.mark.long) for attack in (refused_lines, quick_lines))]
 
 
+@pytest.mark.alone
 @pytest.mark.parametrize("attack", ATTACKS, ids=lambda attack: attack.__name__)
 @in_loop(300)
 async def test_a_neighbour_is_served_during_an_attack(start, attack: Attack, count: int) -> None:
@@ -244,4 +251,6 @@ async def test_a_flood_of_right_passwords_takes_no_more_than_its_turns(start) ->
 
 
 if __name__ == "__main__":
+    sys.stdout.buffer.write(BEGUN)
+    sys.stdout.flush()
     print(asyncio.run(globals()[sys.argv[1]](target(*sys.argv[3:]), float(sys.argv[2]))))

@@ -231,7 +231,7 @@ def test_deploying_while_users_work(connect: Callable[..., FrontConnection], com
 def test_globals_through_a_front(command: Callable[..., Ran], tmp_path: Path) -> None:
     nodes = "".join(f'^PATIENT({number},"n")="text {number}"\n' for number in range(1, 801)) + '^PATIENT("q\"\"",$C(13))=$C(0,13,10)_"""x"\n'
     (tmp_path / "in.zwr").write_text("title\ndate ZWR\n" + nodes)
-    assert command("mglobal", "import", "in.zwr").stdout == "801 nodes imported\n"
+    assert command("mglobal", "import", "in.zwr").stdout.startswith("801 nodes imported")
     assert command("mglobal", "compare", "in.zwr").stdout == "801 nodes compared: all equal\n"
     assert command("mglobal", "export", "^PATIENT", "--to", "out.zwr").returncode == 0
     assert (tmp_path / "out.zwr").read_text().split("\n", 2)[2] == nodes
@@ -339,7 +339,7 @@ def test_clients_in_utf_8(in_utf_8: Front, tmp_path: Path) -> None:
 
     nodes = "".join(f'^PATIENT("{name}")="{name * 20}"\n' for name in sorted(["Müller", "Łukasz", "Юлія", "陈伟", "~e9;", "~7e;e9;"]))
     (tmp_path / "in.zwr").write_text("title UTF-8\ndate ZWR\n" + nodes)
-    assert ran("mglobal", "import", "in.zwr").stdout == "6 nodes imported\n"
+    assert ran("mglobal", "import", "in.zwr").stdout.startswith("6 nodes imported")
     assert ran("mglobal", "export", "^PATIENT", "--to", "out.zwr").returncode == 0
     assert sorted((tmp_path / "out.zwr").read_text().splitlines()[2:]) == sorted(nodes.splitlines())
     (tmp_path / "GRUSS.m").write_text('GRUSS ; Grüße\n W "Grüß Gott, ",^PATIENT("Müller"),!\n Q\n')

@@ -4,13 +4,19 @@ from __future__ import annotations
 
 import asyncio
 import json
+import os
 import ssl
+import threading
+from pathlib import Path
 from types import SimpleNamespace
 
 import pytest
-from front import PASSWORD, Front, in_loop, until
+from front import PASSWORD, Front, in_loop, until, write_users
+from mserve_front import islands as islands_module
 from mserve_front.doors import Doors
 from mserve_front.gate import Gate
+from mserve_front.islands import Home, House, Islands
+from mserve_front.placement import HERE, Island, LocalPlacement, Machine
 from mserve_front.preamble import new_secret, preamble, told_by
 from mserve_front.settings import Limits
 from running import free_port
@@ -159,3 +165,31 @@ async def test_a_front_takes_connections_of_its_gate_alone(start, tmp_path) -> N
     assert (await asks(front.port, preamble(secret, "192.0.2.7") + figures + f"Authorization: Bearer {token}\r\n\r\n".encode())).startswith(b"HTTP/1.1 200")
     assert json.loads(await asks(front.lines_port, preamble(secret, "192.0.2.8") + f"cleo {PASSWORD}\n".encode()))["user"] == "cleo"
     assert [record["from"] for record in front.audit() if record["event"] == "sign-on"] == ["192.0.2.8"]
+
+
+@in_loop()
+async def test_users_who_change_hold_no_connection_up(tmp_path: Path, monkeypatch: pytest.MonkeyPatch) -> None:
+    """The users' file of each island is written and synced, and no bytes would be carried meanwhile in the gate's own thread. What cannot be written is
+    written later."""
+    machine, folder, threads, sync, save = Machine("one", "localhost", 1), tmp_path / "islands", set(), os.fsync, islands_module.save
+
+    def synced(descriptor: int) -> None:
+        threads.add(threading.get_ident())
+        sync(descriptor)
+
+    def full(path: Path, users: object) -> None:
+        monkeypatch.setattr(islands_module, "save", save)
+        raise OSError(28, "No space left on device")
+    monkeypatch.setattr(os, "fsync", synced)
+    monkeypatch.setattr(islands_module, "save", full)
+    write_users(tmp_path / "users.json", {"ada": "A", "ben": "B"})
+    islands = Islands(Home(machine, folder, tmp_path / "users.json", None, "mserve", ()), LocalPlacement(folder, machine))
+    for name in "AB":
+        (folder / name).mkdir(parents=True)
+        islands.placed[name] = Island(name, "one", None, HERE, (name,), "")
+        islands._houses[name] = House(name, {}, False, "")
+    with pytest.raises(OSError, match="No space left"):
+        await islands._read_users()
+    await islands._read_users()
+    assert threads and threading.get_ident() not in threads
+    assert [list(json.loads((folder / name / "users.json").read_text())["users"]) for name in "AB"] == [["ada"], ["ben"]]

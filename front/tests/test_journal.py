@@ -17,6 +17,7 @@ from pathlib import Path
 import pytest
 from front import COMMAND, Front, in_loop, mjournal, small_disk, until
 from mserve_front import journal as journal_module
+from mserve_front import witness
 from mserve_front.faults import HeldBack, NoJournal
 from mserve_front.history import Began, History
 from mserve_front.journal import Journal, LogFault, LogTaken, Tail
@@ -158,6 +159,25 @@ def test_files_are_rolled_and_read_as_they_grow(tmp_path: Path) -> None:
         read(FileReader(tmp_path))
 
 
+def test_a_flush_waits_for_its_own_file_alone(tmp_path: Path, monkeypatch: pytest.MonkeyPatch) -> None:
+    """How far the journal went is noted beside it, and comes to the disk while the flush is acknowledged."""
+    log, goes, sync = FileLog(tmp_path, 1 << 20), threading.Event(), os.fdatasync
+
+    def slow(descriptor: int) -> None:
+        if Path(os.readlink(f"/proc/self/fd/{descriptor}")).name == "head":
+            goes.wait(60)
+        sync(descriptor)
+    log.take()
+    monkeypatch.setattr(witness, "SYNC", 0.0)
+    monkeypatch.setattr(os, "fdatasync", slow)
+    for flush in flushes(5):
+        log.append(flush)
+    assert tail_of(tmp_path).sequence == 5 and not goes.is_set()
+    goes.set()
+    log.close()
+    assert witness.reached_in(tmp_path).sequence == 5
+
+
 def test_a_flush_that_failed_stands_in_the_next_file(tmp_path: Path) -> None:
     """A reader that has seen it takes the one that took its place."""
     parts, log, reader = flushes(6), FileLog(tmp_path, 1 << 20), FileReader(tmp_path)
@@ -191,7 +211,7 @@ def test_a_flush_that_is_whole_and_may_not_be_durable(tmp_path: Path, monkeypatc
         for _ in range(3):
             with pytest.raises(LogFault, match="Input/output error"):
                 log.append(parts[3])
-            assert log.mend() is False
+            assert log.mend() == 3
     assert read(reader) == parts[:3] + 3 * [parts[3]]
     log.append(parts[3])
     log.append(parts[4])
@@ -265,8 +285,9 @@ class Memory:
             raise self.fails
         self.flushes.append(flush)
 
-    def mend(self) -> None:
+    def mend(self) -> int:
         self.mended += 1
+        return self.flushes[-1].sequence if self.flushes else 0
 
     def close(self) -> None:
         pass

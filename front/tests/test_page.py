@@ -398,6 +398,27 @@ def test_fields_and_targets_of_a_phone(browsers: Opened) -> None:  # noqa: F811
     ben.no()
 
 
+def test_help_leads_to_the_page_of_the_language(browsers: Opened) -> None:  # noqa: F811
+    """It opens beside the terminal, which goes on; each of its links leads somewhere in it, and it fits a phone."""
+    ada = browsers("ada", width=320, height=640)
+    ada.click("#help")
+    ada.click("#language")
+    own, other = ada.until(lambda: len(ada.driver.window_handles) == 2 and ada.driver.window_handles, "the page of the language")
+    ada.driver.switch_to.window(other)
+    ada.shaped(320, 640, "light")
+    ada.one("h1")
+    assert ada.texts("h1") == ["The profile of M"] and ada.all("table")
+    assert ada.run("return [...document.querySelectorAll('a')].filter((one) => !document.getElementById(one.hash.slice(1))).length") == 0
+    assert ada.run("return getComputedStyle(document.querySelector('td')).borderTopStyle") == "solid"
+    ada.picture("320-language")
+    width, wider = ada.run(SIDEWAYS)
+    assert width <= 320 and wider == [] and ada.faults() == []
+    ada.driver.close()
+    ada.driver.switch_to.window(own)
+    ada.yes()
+    assert ada.line("W 7").startswith("7")
+
+
 def fill_passwords(browser: Browser, *texts: str) -> None:
     """Fills in the dialog by which one's own password is changed, and sends it."""
     for name, text in zip(("old", "new", "again"), texts, strict=True):

@@ -20,6 +20,7 @@ from mserve_client.extracts import Entry
 from mserve_client.terminal_way import TerminalWay
 from mserve_client.walk import Walker
 from page_driver import PAGE, Browser, page_front  # noqa: F401
+from page_words import advice_of
 
 TOP = FRONT.parent
 sys.path.append(str(TOP / "clients" / "tests"))
@@ -98,7 +99,7 @@ CHECK = """const [{ check }, { sourceLine }] = [await import("/page/checking.js"
 
 def checked(connection: Connection, text: str) -> list[list]:
     """What the clients say of a line."""
-    return [[found.column, found.message, found.advice] for found in check(connection, [routine_files.source_line(text)])]
+    return [[found.column, found.message, advice_of(found.advice)] for found in check(connection, [routine_files.source_line(text)])]
 
 
 def test_lines_in_the_language(browser: Browser, cases: dict[str, list]) -> None:
@@ -122,7 +123,8 @@ def test_verdicts_and_causes_of_drawn_texts(browser: Browser, request: pytest.Fi
     given = browser.module("""const { fault, pointed } = await import("/page/language.js");
                               return given[0].map((text) => { const found = fault(text); return found && [found, pointed(text, found)]; });""", texts)
     for text, found in zip(texts, given, strict=True):
-        wanted = language.fault(text)
+        if wanted := language.fault(text):
+            wanted = dataclasses.replace(wanted, advice=advice_of(wanted.advice))
         assert found == (wanted and [dataclasses.asdict(wanted), language.pointed(text, wanted)]), text
 
 

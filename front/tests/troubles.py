@@ -33,6 +33,8 @@ THENS = ("go on", "promote", "gone", "in order", "move")
 OF_DATABASE = ("database", *(what for what in WHATS if what != "disk full"))
 COMBINATIONS = {"files": tuple(itertools.product(STEPS, WHATS, THENS)), "database": tuple(itertools.product(STEPS, OF_DATABASE, THENS)),
                 "gates": tuple(itertools.product(STEPS, OF_DATABASE, [then for then in THENS if then != "promote"]))}
+# Seconds between two kills of a server, of which one is to bring a step about.
+BETWEEN = 5.0
 # Troubles by which the process ends in which they come.
 ENDING = ("front", "both", "machine")
 
@@ -61,10 +63,12 @@ class Troubled(ABC):
         made = place.with_suffix(".new")
         made.write_text(json.dumps({"step": step, "what": what, "count": count}))
         made.replace(place)
-        if step in STEPS[-3:]:
-            self.kill_server()
-        end = time.monotonic() + Patience.seconds / 2
-        while place.exists() and time.monotonic() < end:
+        end, due = time.monotonic() + Patience.seconds / 2, 0.0
+        while place.exists() and (now := time.monotonic()) < end:
+            if step in STEPS[-3:] and now > due:
+                # Again and again: a start gives rows only if a line was on its way when the server ended.
+                self.kill_server()
+                due = now + BETWEEN
             await asyncio.sleep(0.02)
         fired = not place.exists()
         self.fired[step] += fired

@@ -98,9 +98,10 @@ def install(place: str) -> None:
             if wanted["count"] > 0:
                 path.write_text(json.dumps(wanted))
                 return
+            # This comes first: with its gate's end this process may end too, before it has come further.
+            path.unlink()
             if wanted["what"] == "machine":
                 kill_machine()
-            path.unlink()
         happens(wanted["what"])
 
     def around(owner: type, name: str, before: Callable[..., str], after: Callable[..., str]) -> None:

@@ -55,7 +55,7 @@ class Player(Connection):
         """The answer of a line, once it comes. It ends by `Lost` if the server does."""
         reply = asyncio.get_running_loop().create_future()
         if self._transport is None or self._transport.is_closing():
-            reply.set_exception(self._lost())
+            self._ends(reply)
             return reply
         self._flying.append((terminal, reply))
         self._transport.write(Line(text).sent_by(terminal))
@@ -70,8 +70,13 @@ class Player(Connection):
         self._transport = None
         for _, reply in self._flying:
             if not reply.done():
-                reply.set_exception(self._lost())
+                self._ends(reply)
         self._flying.clear()
+
+    def _ends(self, reply: asyncio.Future[Answer]) -> None:
+        reply.set_exception(self._lost())
+        # A replay that differs leaves answers that nobody asks for, of which asyncio would tell.
+        reply.exception()
 
     def _lost(self) -> Lost:
         return Lost(self.fault or "the server ended")

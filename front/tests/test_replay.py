@@ -123,7 +123,7 @@ async def test_a_reply_that_differs_stops_a_replay(start, tmp_path: Path) -> Non
     async with front.person("ada") as ada:
         await ada.line("S ^X=1,^Y=1")
         snapshot = await asyncio.to_thread(backup, front, "--end-sessions")
-        for line in ("W ^Y", "S ^Z=^X", "W ^X", "W 1"):
+        for line in ("W ^Y", "S ^Z=^X", "W ^X", *["W 1"] * 50):
             await ada.line(line)
     front.stop()
     number = int(snapshot.name) + 3
@@ -137,6 +137,8 @@ async def test_a_reply_that_differs_stops_a_replay(start, tmp_path: Path) -> Non
     (snapshot / "manifest.json").write_text(json.dumps(manifest))
     status, _, told = replay(front, tmp_path / "new", "--from", snapshot)
     assert status == 1 and f"line {number}, of terminal 1, is answered otherwise than it was, with another output" in told
+    # The answers that were on their way are nobody's.
+    assert "never retrieved" not in told
     assert not (tmp_path / "new.at").exists()
 
 

@@ -206,7 +206,7 @@ def main() -> int:
     words.add_argument("--folder", type=Path, help="where journals and stores are, on the disk that is measured (default: a temporary one)")
     options = words.parse_args()
     require_program()
-    # Whoever ends it has its processes ended too.
+    # What ends it ends its processes too.
     signal.signal(signal.SIGTERM, signal.default_int_handler)
     with tempfile.TemporaryDirectory(prefix="mfront-journal", dir=options.folder) as name:
         for store in options.stores:

@@ -35,7 +35,7 @@ TICKS = os.sysconf("SC_CLK_TCK")
 
 
 def line_of(user: int, number: int) -> tuple[str, str]:
-    """A line of a user, and what its reply has to be: a node is set and the one before it read, and a local counts on. Nodes are set anew after
+    """A line of a user, and what its reply has to be: a node is set and the one before it read, and a local counts on. Nodes are set again after
     fifty, since a store in memory is for some ten thousand of them."""
     before = (number - 1) * 7 + user if number else 0
     line = f'S ^L({user},{number % NODES})={number}*7+{user},A=$G(A)+1 W {user},":",$G(^L({user},{(number - 1) % NODES}),0),":",A'

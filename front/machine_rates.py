@@ -323,7 +323,7 @@ def main() -> int:
     options = words.parse_args()
     require_program()
     required()
-    # Whoever ends it has its processes ended too.
+    # What ends it ends its processes too.
     signal.signal(signal.SIGTERM, signal.default_int_handler)
     with tempfile.TemporaryDirectory(prefix="mgate-rates", dir=options.folder) as name, contextlib.ExitStack() as ends:
         asyncio.run(run(Trial(Path(name), options.islands, options.accounts, ends), options))

@@ -34,7 +34,7 @@ COMMANDS = {"mshell": "clients", "mroutine": "clients", "mglobal": "clients", "m
             "mjournal": "front", "mbackup": "front", "mgate": "front"}
 # Commands that have another name here: one without the program's would say too little.
 NAMES = {"msettings": "mserve-settings"}
-# Documents for whoever uses and runs it; the others are for those who change it.
+# Documents for users and operators; the others are for those who change it.
 DOCUMENTS = ("FORMATS", "GLOSSARY", "GUIDE", "ISOLATION", "LANGUAGE", "OPERATING", "PERFORMANCE")
 CONTROL = """Package: mserve
 Version: {version}

@@ -90,7 +90,7 @@ def folder_in_memory() -> Iterator[Path]:
 
 @pytest.fixture
 def written(tmp_path: Path) -> Callable[[str | bytes], str]:
-    """Writes a file, as one of settings, and gives its path; the next call writes it anew."""
+    """Writes a file, as one of settings, and gives its path; the next call writes it again."""
     def write(content: str | bytes) -> str:
         path = tmp_path / "written"
         path.write_bytes(content.encode("ascii") if isinstance(content, str) else content)

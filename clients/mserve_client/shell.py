@@ -57,7 +57,7 @@ class Shell:
     """Lines and commands of one terminal, and what they show."""
 
     def __init__(self, connection: Line, screen: Screen, person: bool, connect: Callable[[], Line] | None = None) -> None:
-        """`connect` makes a connection anew, once the server that went away is back."""
+        """`connect` makes a connection again, once the server that went away is back."""
         self._connection, self._screen, self._person, self._connect = connection, screen, person, connect
         self._names = {"ROUTINE"}
         self._has_read_routines = False
@@ -115,7 +115,7 @@ class Shell:
             self._come_back(self._connect)
 
     def _come_back(self, connect: Callable[[], Line]) -> None:
-        """Connects anew, as soon as there is a server."""
+        """Connects again, as soon as there is a server."""
         before = self._connection
         before.close()
         self._screen.show("waiting for the server; Ctrl-C leaves", "note")

@@ -1,5 +1,5 @@
 # SPDX-License-Identifier: Apache-2.0
-"""What a journal tells, in order: lines with their replies, and starts, at which all sessions began anew."""
+"""What a journal tells, in order: lines with their replies, and starts, at which all sessions began again."""
 from __future__ import annotations
 
 from collections.abc import Iterable, Iterator
@@ -21,7 +21,7 @@ class Answered:
 
 @dataclass(frozen=True, slots=True)
 class Began:
-    """All sessions began anew, after the line `answered` had its reply, or 0 if no reply was read yet. `unknown` are later lines that may have been run or
+    """All sessions began again, after the line `answered` had its reply, or 0 if no reply was read yet. `unknown` are later lines that may have been run or
     not, `unsent` those that were not. `rows` are the parts of the store that come with the start, if what these lines did is told."""
 
     start: BeginRecord | StartRecord

@@ -120,7 +120,7 @@ class _Rows:
 
 @dataclass(slots=True)
 class _Start:
-    """A start: sessions begin anew."""
+    """A start: sessions begin again."""
 
     held: Held
     base: int
@@ -145,7 +145,7 @@ class Witness(Protocol):
         """A flush is durable."""
 
     def begun(self) -> None:
-        """All sessions have begun anew."""
+        """All sessions have begun again."""
 
 
 class Journal:
@@ -199,7 +199,7 @@ class Journal:
         self.sent = number
 
     async def begin(self, held: Held, base: int, settings: bytes, parts: Iterator[bytes] = iter(())) -> None:
-        """Notes that all sessions begin anew, and what the store holds then: `parts` are its rows, if these are to be given. Raises `NoJournal`."""
+        """Notes that all sessions begin again, and what the store holds then: `parts` are its rows, if these are to be given. Raises `NoJournal`."""
         count = 0
         while (part := await asyncio.to_thread(next, parts, None)) is not None:
             await self._kept(_Rows(count, part, asyncio.get_running_loop().create_future()))
@@ -207,7 +207,7 @@ class Journal:
         await self._kept(_Start(held, base, count, settings, asyncio.get_running_loop().create_future()))
 
     async def renew(self, settings: bytes, rows: Iterator[bytes] | None) -> None:
-        """Notes that all sessions begin anew between two lines, with all rows of the store if these are given. Raises `NoJournal`."""
+        """Notes that all sessions begin again between two lines, with all rows of the store if these are given. Raises `NoJournal`."""
         if rows is None:
             await self.begin(Held.RUN, self.next - 1, settings)
         else:

@@ -1,5 +1,5 @@
 # SPDX-License-Identifier: Apache-2.0
-"""The command `mjournal`: it looks into a journal, and runs it anew."""
+"""The command `mjournal`: it looks into a journal, and runs it again."""
 from __future__ import annotations
 
 import argparse
@@ -38,7 +38,7 @@ POLL = 0.2
 
 def words() -> argparse.ArgumentParser:
     """The reader of the command's words."""
-    parser = argparse.ArgumentParser(prog=NAME, epilog=STATUSES, description="Looks into the journal of a front, and runs it anew. The front may be "
+    parser = argparse.ArgumentParser(prog=NAME, epilog=STATUSES, description="Looks into the journal of a front, and runs it again. The front may be "
                                      "writing it meanwhile. The journal has users' lines, and so their data.")
     place = parser.add_mutually_exclusive_group()
     place.add_argument("--config", type=Path, default=Path(DEFAULT), metavar="FILE", help=f"the settings of the front (default {DEFAULT})")
@@ -243,7 +243,7 @@ _EMPTY = LineRecord(0, 0, 0, "", b"")
 
 
 def act_replay(options: argparse.Namespace) -> int:
-    """Runs a journal anew."""
+    """Runs a journal again."""
     return asyncio.run(_replayed(options))
 
 

@@ -120,7 +120,7 @@ class Stage:
         self.open.clear()
 
     async def take(self, event: Event) -> None:
-        """Runs a line, or begins anew. What differs shows at one of the next events, or at `drained`. Raises `Stopped`."""
+        """Runs a line, or begins again. What differs shows at one of the next events, or at `drained`. Raises `Stopped`."""
         if isinstance(event, Began):
             await self._began(event)
             return
@@ -197,7 +197,7 @@ class Stage:
         await self._halt({event.line.terminal})
 
     async def _began(self, event: Began) -> None:
-        """All sessions begin anew, by settings that may be others, over the store as the leader's was then."""
+        """All sessions begin again, by settings that may be others, over the store as the leader's was then."""
         await self.drained()
         start, held = event.start, event.held
         if isinstance(start, StartRecord):
@@ -226,7 +226,7 @@ class Stage:
             raise Stopped(f"before line {start.number} the leader's store was put back to where it stood after line {start.base}: "
                           f"lines {start.base + 1} to {answered} were undone there, and have been run here")
         if start.fresh and self._store != "memory" and self.at:
-            raise Stopped(f"before line {start.number} the leader's store was made anew: begin there with an empty store")
+            raise Stopped(f"before line {start.number} the leader's store was recreated: begin there with an empty store")
     async def _given(self, event: Began) -> None:
         """Ends the server, and gives the store the rows of a start. Raises `Stopped`."""
         if self._store == "memory":

@@ -71,8 +71,8 @@ class ReplyRecord:
 
 @dataclass(frozen=True, slots=True)
 class StartRecord:
-    """A start of version 1, which is read and no longer written: all sessions began anew before the line of this number. Of the lines before it that have
-    no reply, those up to `sent` may have been run, and those after it were not. `base` is the last line that the store has, where that is known; `fresh` says that the store was made anew; `settings`
+    """A start of version 1, which is read and no longer written: all sessions began again before the line of this number. Of the lines before it that have
+    no reply, those up to `sent` may have been run, and those after it were not. `base` is the last line that the store has, where that is known; `fresh` says that the store was made again; `settings`
     are the server's."""
 
     number: int
@@ -115,7 +115,7 @@ class RowsRecord:
 
 @dataclass(frozen=True, slots=True)
 class BeginRecord:
-    """A start: all sessions began anew before the line of this number. Lines before it that have no reply are void: what they did is in what the store
+    """A start: all sessions began again before the line of this number. Lines before it that have no reply are void: what they did is in what the store
     held. `sent` is the last line that was sent; `base` the last one that the store has run, where `held` is RUN; `parts` says how many records of rows
     come before it."""
 

@@ -79,7 +79,7 @@ class _Ended(Exception):
 
 
 class Server:
-    """The server and the one connection to it. `session` counts how often all terminals' sessions were begun anew; `state` is `starting`, `up`
+    """The server and the one connection to it. `session` counts how often all terminals' sessions were begun again; `state` is `starting`, `up`
     or `down`; `shares` has what each account has used of it."""
 
     def __init__(self, settings: Settings, metrics: Metrics, restarted: Callable[[], Awaitable[None]], journal: Journal | None = None) -> None:
@@ -179,7 +179,7 @@ class Server:
             self._turns.forget(terminal)
 
     def begins(self, began: Callable[[bool, bytes], Awaitable[None]]) -> None:
-        """Has a call note each start in the journal, once the store is there and no session is open: it is told whether the store was made anew, and the
+        """Has a call note each start in the journal, once the store is there and no session is open: it is told whether the store was made again, and the
         server's settings. It raises `NoJournal` or `NoStart`."""
         self._began = began
 
@@ -273,7 +273,7 @@ class Server:
         self.state = "up"
 
     async def _noted(self, turns: Turns) -> None:
-        """Notes in the journal, if there is one, that all sessions begin anew; from now on the connection's lines are in it. Raises `NoJournal`."""
+        """Notes in the journal, if there is one, that all sessions begin again; from now on the connection's lines are in it. Raises `NoJournal`."""
         if self._journal is not None and self._began is not None:
             await self._began(self._fresh, self._text)
             turns.keep(self._journal)

@@ -159,12 +159,12 @@ class Service:
             self._sessions.sweep()
 
     def _reload(self) -> None:
-        """Takes a new certificate, and opens the audit log anew."""
+        """Takes a new certificate, and opens the audit log again."""
         try:
             if self._context is not None:
                 load_certificate(self._context, self.settings)
             self._audit.reopen()
-            tell("certificate and audit log opened anew")
+            tell("certificate and audit log opened again")
         except (BadSettings, OSError) as error:
             tell(f"not reloaded: {error}")
 

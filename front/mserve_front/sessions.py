@@ -311,7 +311,7 @@ class Sessions:
                 self._spawn(session.listener.tell(event))
 
     def sweep(self) -> None:
-        """Signs off who was idle, away or signed on for too long, and whoever is not a user any more, by what they signed on with."""
+        """Signs off who was idle, away or signed on for too long, and those who are no longer users, by what they signed on with."""
         now, limits = time.monotonic(), self._settings.limits
         for session in self:
             if now - session.counted > COUNTED:

@@ -151,7 +151,7 @@ class StoreWitness:
         self._note.write(b'{%s, "seen": %s, "cut": %s}' % (_shown(flush), self._shown, b"true" if self.cut else b"false"))
 
     def begun(self) -> None:
-        """All sessions have begun anew, and what the store held is in the journal."""
+        """All sessions have begun again, and what the store held is in the journal."""
         self.cut = False
 
     def close(self) -> None:

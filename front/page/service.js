@@ -42,7 +42,7 @@ async function asked(name, options = {}) {
   try {
     return await fetch(address(name), { credentials: "same-origin", cache: "no-store", ...options });
   } catch {
-    throw new Trouble("The service cannot be reached. Try again, or ask whoever keeps it running.");
+    throw new Trouble("The service cannot be reached. Try again, or ask its operator.");
   }
 }
 
@@ -105,7 +105,7 @@ function replyOf(message) {
   return { lines: message.output ?? [], rest: message.rest ?? "", code: message.code ?? null, why };
 }
 
-/** A terminal's lines. Whoever runs several that belong together has the terminal alone meanwhile.
+/** A terminal's lines. A caller that runs several that belong together has the terminal alone meanwhile.
  *
  * `told` is called with what happens: ("state", "open" | "waiting" | "closed"), ("event", {..}), and ("again") once a lost connection is there
  * again, with a new session of the terminal. */
@@ -147,7 +147,7 @@ export class Terminal {
     return this.alone(() => this.send(text));
   }
 
-  /** The reply of one line, at once: for whoever has the terminal alone. */
+  /** The reply of one line, at once: for the caller that has the terminal alone. */
   send(text) {
     if (this.#socket.readyState !== WebSocket.OPEN) {
       return Promise.reject(new Trouble("The line was not sent: there is no connection to the service."));

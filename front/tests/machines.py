@@ -109,7 +109,7 @@ class Gate:
 
 
 class Program:
-    """A program of a user at the line port of a gate, or of others if that one is not there. It connects anew where it has to."""
+    """A program of a user at the line port of a gate, or of others if that one is not there. It connects again where it has to."""
 
     def __init__(self, gate: Gate, name: str, others: Sequence[Gate] = ()) -> None:
         self.gate, self.name = gate, name

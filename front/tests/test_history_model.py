@@ -97,7 +97,7 @@ class Leading(RuleBasedStateMachine):
         self.flushes.append(made.packed())
 
     def starts(self, fresh: bool = False) -> None:
-        """All sessions begin anew, and what the store holds is said."""
+        """All sessions begin again, and what the store holds is said."""
         what, base = held(Known(fresh, True, False, self.known, self.sent, self.answered, False, self.answered >= self.before_log))
         rows: dict[bytes, int | None] = {}
         if not self.says:

@@ -70,7 +70,7 @@ def test_the_account_with_most_loses_the_connection_that_waited_longest() -> Non
         assert cut == ["A0"] and OF_ACCOUNT == 8_000_000
         sending.enter_context(unread.sent("C", 8_000_000, lambda: cut.append("C")))
         sending.enter_context(unread.sent("D", 5_000_000, lambda: cut.append("D")))
-        # All have more than may be there: whoever has most loses, and no others.
+        # All have more than may be there: the one that has most loses, and no others.
         assert cut[1:] and set(cut[1:]) <= {"C", *(f"A{n}" for n in range(1, 9))} and "B" not in cut and "D" not in cut
     with unread.sent("B", MOST, lambda: cut.append("late")):
         assert cut[-1] == "late"

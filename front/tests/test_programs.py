@@ -29,7 +29,7 @@ class Program:
         self.writer.close()
 
     async def signed_on(self) -> bool:
-        """Whether it is signed on by now; if it was refused, it tries anew."""
+        """Whether it is signed on by now; if it was refused, it tries again."""
         if "error" in self.record:
             self.writer.close()
             await self.__aenter__()
@@ -246,7 +246,7 @@ async def test_audit_log(start) -> None:
         await ada.sign_on("wrong")
         (front.folder / "audit.log").rename(front.folder / "audit.old")
         front.process.send_signal(signal.SIGHUP)
-        front.hears("certificate and audit log opened anew")
+        front.hears("certificate and audit log opened again")
         await ada.line("W B")
     records = [json.loads(line) for line in (front.folder / "audit.old").read_text().splitlines()]
     assert all(record.pop("time").endswith("+00:00") for record in records)

@@ -63,7 +63,7 @@ async def test_an_account_over_its_quota_of_rows_is_slowed_and_told(start) -> No
         await ada.line("K ^H")
 
         async def is_free() -> bool:
-            # Rows are counted in the store's file, into which the log is copied after some hundred writes, whoever's they are.
+            # Rows are counted in the store's file, into which the log is copied after some hundred writes, of any account.
             await cleo.line('F I=1:1:100 S ^J(I)=$J("",4000)')
             return "quota" not in await ada.line("W 1")
         await until(is_free, "an account within its quota")

@@ -1,5 +1,5 @@
 # SPDX-License-Identifier: Apache-2.0
-"""Replay and snapshots: a store at any moment, made anew from a journal, is the store that was there; and what keeps it from being so is told."""
+"""Replay and snapshots: a store at any moment, made again from a journal, is the store that was there; and what keeps it from being so is told."""
 from __future__ import annotations
 
 import asyncio
@@ -185,7 +185,7 @@ def test_lines_that_were_cut_short_or_have_no_reply(tmp_path: Path) -> None:
     (((begin(fresh=False), line(1, b"W 1"), reply(1, 1, b"1-1\n1.\n")),), "begins over a store that was there before"),
     (((line(1, b"W 1"), reply(1, 1, b"1-1\n1.\n")),), "line 1 comes before a start"),
     (((begin(), line(1, b"W 1"), reply(1, 1, b"1-2\n1.\n")),), "line 1, of terminal 1, is answered otherwise"),
-    (((begin(), line(1, b"W 1"), reply(1, 1, b"1-1\n1.\n")), (begin(2),)), "was made anew"),
+    (((begin(), line(1, b"W 1"), reply(1, 1, b"1-1\n1.\n")), (begin(2),)), "was recreated"),
     (((begin(), line(1, b"W 1"), reply(2, 1, b"")),), "line 2 has a reply before line 1"),
 ])
 def test_journals_that_cannot_be_replayed(tmp_path: Path, groups: tuple[tuple[object, ...], ...], told: str) -> None:

@@ -225,7 +225,7 @@ async def test_removed_users_are_signed_off(start) -> None:
     front = start()
     async with front.person("ada") as ada, front.person("cleo") as cleo:
         write_users(front.folder / "users.json", {"cleo": "LAB"})
-        # The password of all is hashed anew, so that cleo's sign-on does not count any more either.
+        # The password of all is hashed again, so that cleo's sign-on does not count any more either.
         assert await ada.event() == {"event": "signed-off", "why": "removed"}
         assert await cleo.event() == {"event": "signed-off", "why": "removed"}
         assert (await cleo.sign_on())[0] == 200

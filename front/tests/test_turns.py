@@ -69,7 +69,7 @@ async def test_a_terminal_has_one_line_on_its_way_and_comes_last_again() -> None
 
 @in_loop()
 async def test_drawn_orders_are_fair() -> None:
-    """Whoever asks, between two lines of a terminal that waits there is at most one of each other, and each gets its own replies in order."""
+    """Whichever asks, between two lines of a terminal that waits there is at most one of each other, and each gets its own replies in order."""
     rng = random.Random(7)
     for _ in range(50):
         made = turns()

@@ -58,13 +58,25 @@ pub(crate) fn forget(entries: &mut Entries, key: &[u8])
     drop(entries.pop(key));
 }
 
+// Whether the bytes begin with these. Kept keys are often alike but for their ends, and those of whole numbers end in two bytes that are 0, so
+// the byte before these is compared first.
+fn begin_with(bytes: &[u8], front: &[u8]) -> bool
+    ensures { result ≡ starts_with nat_eq bytes.now front.now }
+{
+    if front.len() < 3 || bytes.len() < front.len() {
+        return bytes.starts_with(front);
+    }
+    let place = front.len() - 3;
+    bytes[place] == front[place] && bytes.starts_with(front)
+}
+
 // The keys that begin with this one.
 fn keys_below(alloc: Global, entries: &Entries, key: &[u8]) -> Result<Vec<Vec<u8>>, AllocError>
     ensures { IfOk result (λ keys. AreKeysOf entries.now.entries key.now keys.items) }
 {
     let mut keys = Vec::new(alloc);
     for (bytes, _) in entries.iter() {
-        if bytes.starts_with(key) {
+        if begin_with(bytes, key) {
             keys.push(bytes.to_vec(alloc)?)?;
         }
     }

@@ -19,6 +19,7 @@ pub use Rattle.mscan.specs.declared.fault.ParseFault.TheVariants.{Syntax}
 pub use Rattle.mspec.specs.Node.{Node, Text}
 pub use Rattle.mnodes.proofs.Doubting.{Doubts-same, Doubts-then, undoubted}
 pub use Rattle.mnodes.specs.Doubt.{Doubts}
+pub use Rattle.mnodes.specs.Over.{DoubtsOver}
 pub use Rattle.mnodes.specs.Held.{AreHeld, IsHeld}
 pub use Rattle.mtree.specs.Tree.{line_tree, routine_line_tree}
 pub use Rattle.mcache.specs.Kept.{AreTrees, Entry, IsKept, IsOf, IsWithin, IsWithinOr}

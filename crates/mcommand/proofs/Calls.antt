@@ -1,6 +1,6 @@
 -- SPDX-License-Identifier: Apache-2.0
 -- How the calls of this crate are put together.
-use Rattle.mcommand.proofs.CommandWords.{Doubts, Doubts-same, Doubts-then, undoubted, ◌≡◌, ℕ, ◌+◌, ◌<◌, Bool, true, false, cond, List, [], ◌∷◌, ◌++◌, length, drop, get_or, map, next_item, Result, Ok, Err, refl, sym, ap, ◌∙◌, subst, arith, IsErr, IsErrAnd, into_iter_items, into_iter_steps, Text, Act, Gives, ◌>>=◌, give, write, ExprTree, as_truth, Inside, inside, value, Yields, did_then, did_failed, did_gives, did_lost, residual_is, assoc, Ghosts, fault_of, Code, Zmem, truth, Evaluates, KeepsEval, standing_of, eval_here, inside_at, depth_of, Parts, Does, DoesAt, KeepsLoans, here_of}
+use Rattle.mcommand.proofs.CommandWords.{DoubtsOver, Doubts-same, Doubts-then, undoubted, ◌≡◌, ℕ, ◌+◌, ◌<◌, Bool, true, false, cond, List, [], ◌∷◌, ◌++◌, length, drop, get_or, map, next_item, Result, Ok, Err, refl, sym, ap, ◌∙◌, subst, arith, IsErr, IsErrAnd, into_iter_items, into_iter_steps, Text, Act, Gives, ◌>>=◌, give, write, ExprTree, as_truth, Inside, inside, value, Yields, did_then, did_failed, did_gives, did_lost, residual_is, assoc, Ghosts, fault_of, Code, Zmem, truth, Evaluates, KeepsEval, standing_of, eval_here, inside_at, depth_of, Parts, Does, DoesAt, KeepsLoans, here_of}
 use Rattle.std.specs.Iterator.{Yields as IterYields}
 use Rattle.std.specs.declared.vec.IntoIter.{IntoIter}
 use Rattle.mmeaning.proofs.Yieldings.{yielded}
@@ -25,8 +25,8 @@ keeps_same : {S : Type 0} {a b : Parts S} → b.eval ≡ a.eval → b.locks.ghos
 keeps_same {a = a} same locks out = record { eval = subst (λ e. KeepsEval a.eval e) (sym same) (eval_keeps_itself a.eval); locks = locks; out = out }
 
 -- and so the store
-same_doubt : {S : Type 0} (g : Ghosts S) (a b : Parts S) (is_done : Bool) → b.eval ≡ a.eval → Doubts g.sound (g.doubt a.eval.store.now) (g.doubt b.eval.store.now) is_done
-same_doubt g a b is_done same = subst (λ e. Doubts g.sound (g.doubt a.eval.store.now) (g.doubt e.store.now) is_done) (sym same) (Doubts-same _)
+same_doubt : {S : Type 0} (g : Ghosts S) (a b : Parts S) (is_done : Bool) → b.eval ≡ a.eval → DoubtsOver g a.eval.store.now b.eval.store.now is_done
+same_doubt g a b is_done same = subst (λ e. DoubtsOver g a.eval.store.now e.store.now is_done) (sym same) (Doubts-same _)
 
 -- ---- what they do
 

@@ -25,6 +25,7 @@ pub use Rattle.mspec.specs.Plan.{Answer, Give_back, Op, Release, Take}
 pub use Rattle.mspec.specs.TextFunctions.{set_piece_of}
 pub use Rattle.mnodes.proofs.Doubting.{Doubts-same, Doubts-then, undoubted}
 pub use Rattle.mnodes.specs.Doubt.{Doubts}
+pub use Rattle.mnodes.specs.Over.{DoubtsOver}
 pub use Rattle.mnodes.specs.declared.store.NodeStore.{Ghosts}
 pub use Rattle.mtext.specs.Made.{Answers}
 pub use Rattle.mtree.specs.Tree.{condition_tree, entry_tree, expr_tree, kind_tree, reference_tree, target_tree}

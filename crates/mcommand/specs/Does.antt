@@ -4,7 +4,7 @@ use Rattle.std.specs.Prelude.{◌≡◌, ℕ, Result}
 use Rattle.mspec.specs.Act.{Text, Act}
 use Rattle.mmeaning.specs.Expression.{Inside}
 use Rattle.mmeaning.specs.Calls.{Here, Did}
-use Rattle.mnodes.specs.Doubt.{Doubts}
+use Rattle.mnodes.specs.Over.{DoubtsOver}
 use Rattle.mnodes.specs.Steady.{IsSteady}
 use Rattle.mnodes.specs.declared.store.NodeStore.{Ghosts}
 use Rattle.moperator.specs.Codes.{fault_of}
@@ -24,12 +24,12 @@ pub record KeepsLoans {S : Type 0} (old new : Parts S) : Type 0 where
 -- it does an act
 pub record Does {S A X : Type 0} (g : Ghosts S) (p : Inside → Act A) (f : X → A) (old : Parts S) (r : Result X Code) (new : Parts S) : Type 0 where
   pub at : g.doubt new.eval.store.now ≡ 0 → Did (standing_of old.eval) (IsSteady g new.eval.store.now) fault_of (λ n. p (inside_at old.eval n)) f (here_of g old) r (here_of g new)
-  pub doubt : Doubts g.sound (g.doubt old.eval.store.now) (g.doubt new.eval.store.now) (is_kept r)
+  pub doubt : DoubtsOver g old.eval.store.now new.eval.store.now (is_kept r)
   pub keeps : KeepsLoans old new
   pub depth : new.eval.depth ≡ old.eval.depth
 
 -- the same for an act that is given the account and how many texts it may enter, since it brings its own depth
 pub record DoesAt {S A X : Type 0} (g : Ghosts S) (p : Text → ℕ → Act A) (f : X → A) (old : Parts S) (r : Result X Code) (new : Parts S) : Type 0 where
   pub at : g.doubt new.eval.store.now ≡ 0 → Did (standing_of old.eval) (IsSteady g new.eval.store.now) fault_of (p (standing_of old.eval).account) f (here_of g old) r (here_of g new)
-  pub doubt : Doubts g.sound (g.doubt old.eval.store.now) (g.doubt new.eval.store.now) (is_kept r)
+  pub doubt : DoubtsOver g old.eval.store.now new.eval.store.now (is_kept r)
   pub keeps : KeepsLoans old new

@@ -1,6 +1,6 @@
 -- SPDX-License-Identifier: Apache-2.0
 -- Calls that ask a store, and those that ask or set the session.
-use Rattle.meval.proofs.EvalWords.{Doubts, Doubts-same, ◌≡◌, Bool, [], ◌∷◌, Some, Result, Ok, Err, refl, sym, ap, ◌∙◌, subst, arith, ⊎_elim, ◌&&◌, text_eq, false≢true, and_parts, and_from, or_cases, or_left, or_right, Own, Zgrant, Node, AreSubscripts, IsAccountName, is_account_name, are_subscripts, Locks, Act, ◌>>◌, give, ask, unless, naked_is, set_naked, subscripts_test, Standing, Did, ops_of, Yields, Place, at_local, at_node, replaced, beside, allowed, node_place, resolve, of_local, asked, Ghosts, fault_of, Code, Eval, Evaluates, KeepsEval, own_global, standing_of, eval_here, use_of, IsOpen, true, false, List, Option}
+use Rattle.meval.proofs.EvalWords.{DoubtsOver, Doubts-same, ◌≡◌, Bool, [], ◌∷◌, Some, Result, Ok, Err, refl, sym, ap, ◌∙◌, subst, arith, ⊎_elim, ◌&&◌, text_eq, false≢true, and_parts, and_from, or_cases, or_left, or_right, Own, Zgrant, Node, AreSubscripts, IsAccountName, is_account_name, are_subscripts, Locks, Act, ◌>>◌, give, ask, unless, naked_is, set_naked, subscripts_test, Standing, Did, ops_of, Yields, Place, at_local, at_node, replaced, beside, allowed, node_place, resolve, of_local, asked, Ghosts, fault_of, Code, Eval, Evaluates, KeepsEval, own_global, standing_of, eval_here, use_of, IsOpen, true, false, List, Option}
 use Rattle.std.specs.Cmp.Lexicographic.{bytes_decides}
 use Rattle.std.specs.List.{list_any}
 use Rattle.mspec.proofs.SubscriptTests.{account_name_test}
@@ -24,7 +24,7 @@ shared g e locks = record { globals = g.content e.store.now; locks = locks }
 -- an operation that was carried out
 pub asks : {S X : Type 0} {g : Ghosts S} {e new : Eval S} (op : Op) (f : X → Answer op) (x : X) → KeepsEval e new → new.depth ≡ e.depth
     → ((out : Text) (locks : Locks) → (eval_here g new out locks).0 ≡ (eval_here g e out locks).0)
-    → Doubts g.sound (g.doubt e.store.now) (g.doubt new.store.now) true
+    → DoubtsOver g e.store.now new.store.now true
     → (g.doubt new.store.now ≡ 0 → (locks : Locks) → ops_of (standing_of e) op (shared g e locks) ≡ (f x, shared g new locks)) → Evaluates g (λ i. ask op) f e (Ok x) new
 asks {g = g} {e = e} {new = new} op f x keeps depth state doubt answer = record {
   at = λ sure out locks.

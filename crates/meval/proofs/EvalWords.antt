@@ -36,6 +36,7 @@ pub use Rattle.mspec.specs.Trees.{AreOrderSubscripts, Direction, text_eq}
 pub use Rattle.mspec.specs.Scopes.{is_above, is_value, next_subscript}
 pub use Rattle.mnodes.proofs.Doubting.{Doubts-same, Doubts-then, undoubted}
 pub use Rattle.mnodes.specs.Doubt.{Doubts}
+pub use Rattle.mnodes.specs.Over.{DoubtsOver}
 pub use Rattle.mnodes.specs.declared.store.NodeStore.{Ghosts}
 pub use Rattle.mtree.specs.Tree.{ChoiceTree, atom_tree, binary_tree, choice_layer, choice_tree, expr_layer, expr_tree, operand_layer, operand_tree, primary_layer, primary_tree, reference_layer, reference_tree, referring_layer, referring_tree, sign_tree, tail_layer, tail_tree}
 pub use Rattle.mtree.specs.declared.tree.Choice.{Choice}

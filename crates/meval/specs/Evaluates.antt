@@ -8,7 +8,7 @@ use Rattle.mmeaning.specs.Expression as meaning
 use Rattle.mmeaning.specs.Expression.{Inside, inside}
 use Rattle.mmeaning.specs.Transition.{is_lost}
 use Rattle.mmeaning.specs.Calls.{Standing, Here, Did, point}
-use Rattle.mnodes.specs.Doubt.{Doubts}
+use Rattle.mnodes.specs.Over.{DoubtsOver}
 use Rattle.mnodes.specs.Steady.{IsSteady}
 use Rattle.mnodes.specs.declared.store.NodeStore.{Ghosts}
 use Rattle.moperator.specs.Codes.{fault_of}
@@ -50,7 +50,7 @@ is_kept (Err c) = not (is_lost (fault_of c))
 -- it does an act, whatever the output and the locks
 pub record Evaluates {S A X : Type 0} (g : Ghosts S) (p : Inside → Act A) (f : X → A) (old : Eval S) (r : Result X Code) (new : Eval S) : Type 0 where
   pub at : g.doubt new.store.now ≡ 0 → (out : Text) (locks : Locks) → Did (standing_of old) (IsSteady g new.store.now) fault_of (λ n. p (inside_at old n)) f (eval_here g old out locks) r (eval_here g new out locks)
-  pub doubt : Doubts g.sound (g.doubt old.store.now) (g.doubt new.store.now) (is_kept r)
+  pub doubt : DoubtsOver g old.store.now new.store.now (is_kept r)
   pub keeps : KeepsEval old new
   pub depth : new.depth ≡ old.depth
 

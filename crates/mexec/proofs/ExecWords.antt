@@ -29,6 +29,7 @@ pub use Rattle.mspec.specs.Scopes.{killed_except, newed, newed_except}
 pub use Rattle.mspec.specs.Code.{Zsyntax}
 pub use Rattle.mnodes.proofs.Doubting.{Doubts-same, Doubts-then, undoubted}
 pub use Rattle.mnodes.specs.Doubt.{Doubts}
+pub use Rattle.mnodes.specs.Over.{DoubtsOver}
 pub use Rattle.mnodes.specs.declared.store.NodeStore.{Ghosts}
 pub use Rattle.mtree.specs.Tree.{arg_tree, command_tree, condition_tree, destination_tree, entry_tree, expr_tree, keyword_tree, kind_tree, line_tree, locked_tree, parameter_tree, primary_tree, reference_tree, spaced_tree}
 pub use Rattle.mtree.specs.declared.tree.Arg.{Arg}

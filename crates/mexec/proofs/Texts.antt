@@ -1,6 +1,6 @@
 -- SPDX-License-Identifier: Apache-2.0
 -- A text by its tree.
-use Rattle.mexec.proofs.ExecWords.{true, Doubts, Doubts-same, ◌≡◌, ◌≢◌, ◌≤◌, Option, Some, None, Ok, Err, refl, sym, subst, arith, Act, LineTree, commands_of, run, run_within, Standing, Here, Gave, Ghosts, Code, Zstore, standing_of, Parts, DoesAt, here_of, completion_of, keeps_itself, Completion}
+use Rattle.mexec.proofs.ExecWords.{true, DoubtsOver, Doubts-same, ◌≡◌, ◌≢◌, ◌≤◌, Option, Some, None, Ok, Err, refl, sym, subst, arith, Act, LineTree, commands_of, run, run_within, Standing, Here, Gave, Ghosts, Code, Zstore, standing_of, Parts, DoesAt, here_of, completion_of, keeps_itself, Completion}
 use Rattle.std.specs.Prelude.{IsTrue}
 use Rattle.mmeaning.specs.LineMeaning as meaning
 use Rattle.mnodes.specs.Steady.{IsSteady}
@@ -33,7 +33,7 @@ module _ {S : Type 0} {g : Ghosts S} where
   pub done : (o : Option LineTree) (l : LineTree) (old new : Parts S) (e : Ended) (s : Completion) → o ≡ Some l → ending_of e ≡ transition.ending_of (completion_of s) → DoesAt g (λ a n. run_within a n (commands_of l)) completion_of old (Ok s) new
       → RunsText g o old e new
   done o l old new e s some is d = subst (λ o. RunsText g o old e new) (sym some) (record {
-    doubt = subst (Doubts g.sound (g.doubt old.eval.store.now) (g.doubt new.eval.store.now)) (sym (done_is e s is)) d.doubt;
+    doubt = subst (DoubtsOver g old.eval.store.now new.eval.store.now) (sym (done_is e s is)) d.doubt;
     at = λ sure.
         let b = standing_of old.eval in
         let did = d.at sure in

@@ -11,7 +11,7 @@ use Rattle.mmeaning.specs.Frames.{View, Rests, Lists, Turns, Levels, left, Enoug
 use Rattle.mtree.specs.Tree.{spaced_tree, parameter_tree, arg_tree}
 use Rattle.mtree.specs.declared.tree.Arg.{Arg}
 use Rattle.mtree.specs.declared.tree.Line.{Line}
-use Rattle.mnodes.specs.Doubt.{Doubts}
+use Rattle.mnodes.specs.Over.{DoubtsOver}
 use Rattle.mnodes.specs.Steady.{IsSteady}
 use Rattle.mnodes.specs.declared.store.NodeStore.{Ghosts}
 use Rattle.moperator.specs.Codes.{fault_of}
@@ -103,7 +103,7 @@ resting p (c ∷ cs) fs = Rests p (c ∷ cs) ∷ fs
 pub record Runs {S : Type 0} (g : Ghosts S) (p : Text → ℕ → Act meaning.Completion) (fs : List View) (old : Parts S) (r : Result Completion Code) (fs' : List View) (new : Parts S) : Type 0 where
   pub at : g.doubt new.eval.store.now ≡ 0 → (n : ℕ) (ns : List ℕ) → old.eval.steps ≤ n → Enough old.eval.steps fs ns →
       MovedOn (standing_of old.eval) (IsSteady g new.eval.store.now) fault_of completion_of (p (standing_of old.eval).account n) (left (standing_of old.eval).account fs ns) (here_of g old) r fs' (here_of g new)
-  pub doubt : Doubts g.sound (g.doubt old.eval.store.now) (g.doubt new.eval.store.now) (is_kept r)
+  pub doubt : DoubtsOver g old.eval.store.now new.eval.store.now (is_kept r)
   pub keeps : KeepsLoans old new
 
 -- what the frames have to do with a completion is what is left of an act
@@ -111,5 +111,5 @@ pub record Leads {S : Type 0} (g : Ghosts S) (p : Text → ℕ → Act meaning.C
   pub at : g.doubt new.eval.store.now ≡ 0 → (n : ℕ) → old.eval.steps ≤ n →
       (ns : List ℕ) × Enough new.eval.steps fs ns ×
       Follows (standing_of old.eval) (p (standing_of old.eval).account n) (here_of g old) (left (standing_of old.eval).account fs ns s) (here_of g new)
-  pub doubt : Doubts g.sound (g.doubt old.eval.store.now) (g.doubt new.eval.store.now) true
+  pub doubt : DoubtsOver g old.eval.store.now new.eval.store.now true
   pub keeps : KeepsLoans old new

@@ -7,7 +7,7 @@ use Rattle.mmeaning.specs.LineMeaning.{Completion}
 use Rattle.mmeaning.specs.Transition as transition
 use Rattle.mmeaning.specs.Transition.{Ending, is_lost, Finished, Halted, Faulted, text_run}
 use Rattle.mmeaning.specs.Calls.{Standing, Here, Gave, FailedBy}
-use Rattle.mnodes.specs.Doubt.{Doubts}
+use Rattle.mnodes.specs.Over.{DoubtsOver}
 use Rattle.mnodes.specs.Steady.{IsSteady}
 use Rattle.mnodes.specs.declared.store.NodeStore.{Ghosts}
 use Rattle.moperator.specs.Codes.{fault_of}
@@ -39,5 +39,5 @@ EndsBy b steady p h (ended.Fault c) h' = FailedBy b steady p h (fault_of c) h'
 -- the text with this tree is carried out: the call ends as it does
 pub record RunsText {S : Type 0} (g : Ghosts S) (tree : Option LineTree) (old : Parts S) (ended : Ended) (new : Parts S) : Type 0 where
   pub at : g.doubt new.eval.store.now ≡ 0 → EndsBy (standing_of old.eval) (IsSteady g new.eval.store.now) (text_run (standing_of old.eval).account tree) (here_of g old) ended (here_of g new)
-  pub doubt : Doubts g.sound (g.doubt old.eval.store.now) (g.doubt new.eval.store.now) (is_kept_by ended)
+  pub doubt : DoubtsOver g old.eval.store.now new.eval.store.now (is_kept_by ended)
   pub keeps : KeepsLoans old new

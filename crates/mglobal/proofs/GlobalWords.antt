@@ -30,6 +30,7 @@ pub use Rattle.mspec.specs.Number.{significant_digits}
 pub use Rattle.mspec.specs.Trees.{Backward, Direction, Forward, child_of, children_in, front, is_before, is_below, is_empty, is_within, last, text_eq}
 pub use Rattle.mnodes.proofs.Doubting.{Doubts-same, Doubts-then, undoubted}
 pub use Rattle.mnodes.specs.Doubt.{Doubts}
+pub use Rattle.mnodes.specs.Over.{DoubtsOver}
 pub use Rattle.mnodes.specs.Held.{AreHeld, IsHeld}
 pub use Rattle.mglobal.specs.Copies.{AreCopiesIn, IsApart}
 pub use Rattle.mglobal.specs.Lines.{is_line, is_line_behind, line_at, line_in, lines_behind, routine_at, texts_behind}

@@ -1,7 +1,7 @@
 // SPDX-License-Identifier: Apache-2.0
 //! What $DATA and $ORDER ask of a node.
 ghost use Rattle.std.specs.Prelude.{◌≡◌, ◌≢◌, IfOk, IfSome, OnOk, Err, IsTrue, is_ok, option_map};
-ghost use Rattle.mnodes.specs.Doubt.{Doubts};
+ghost use Rattle.mnodes.specs.Over.{DoubtsOver};
 ghost use Rattle.mglobal.specs.Next.{nearest_key};
 ghost use Rattle.mglobal.specs.Words.{AreHeld, AreOrderSubscripts, IsAccountName, IsName, IsSub, order_at, status, way};
 
@@ -21,7 +21,7 @@ pub fn status<S: NodeStore>(store: &mut S, alloc: Global, key: &NodeKey) -> Resu
     ensures value { S.doubt store.new ≡ 0 → IfOk result (λ found. found.value ≡ (status (S.content store.old) key.now).0) }
     ensures descendants { S.doubt store.new ≡ 0 → IfOk result (λ found. found.descendants ≡ (status (S.content store.old) key.now).1) }
     ensures same { S.doubt store.new ≡ 0 → S.content store.new ≡ S.content store.old }
-    ensures doubt { Doubts S.sound (S.doubt store.old) (S.doubt store.new) (is_ok result) }
+    ensures doubt { DoubtsOver S.NodeStore store.old store.new (is_ok result) }
     ensures store { S.steady → IsTrue (S.has_room store.new) → result ≢ Err StoreFault.Store }
 {
     let value = store.get(key)?.is_some();
@@ -40,7 +40,7 @@ fn nearest<S: NodeStore>(
     ensures found { S.doubt store.new ≡ 0 → IfOk result (λ key. option_map (λ bytes. bytes.items) key ≡ nearest_key (way direction) (S.content store.old) low.now high.now) }
     ensures held { S.doubt store.new ≡ 0 → AreHeld (S.content store.old) }
     ensures same { S.doubt store.new ≡ 0 → S.content store.new ≡ S.content store.old }
-    ensures doubt { Doubts S.sound (S.doubt store.old) (S.doubt store.new) (is_ok result) }
+    ensures doubt { DoubtsOver S.NodeStore store.old store.new (is_ok result) }
     ensures store { S.steady → IsTrue (S.has_room store.new) → result ≢ Err StoreFault.Store }
 {
     match direction {
@@ -71,7 +71,7 @@ pub fn neighbour<S: NodeStore>(
     ensures held { S.doubt store.new ≡ 0 → OnOk result (AreHeld (S.content store.old)) }
     ensures sub { IfOk result (λ next. IfSome next IsSub) }
     ensures same { S.doubt store.new ≡ 0 → S.content store.new ≡ S.content store.old }
-    ensures doubt { Doubts S.sound (S.doubt store.old) (S.doubt store.new) (is_ok result) }
+    ensures doubt { DoubtsOver S.NodeStore store.old store.new (is_ok result) }
     ensures store { S.steady → IsTrue (S.has_room store.new) → result ≢ Err StoreFault.Store }
 {
     let above = key_of(alloc, account, name, front(subs))?;

@@ -2,7 +2,7 @@
 //! The lines of a routine.
 ghost use Rattle.std.specs.Prelude.{◌≡◌, ◌≢◌, ◌≤◌, length, true, IfOk, IfSome, OnOk, Err, IsTrue, is_ok, [], ◌∷◌, ◌++◌, codes};
 ghost use Rattle.std.specs.Option.{option_to_list};
-ghost use Rattle.mnodes.specs.Doubt.{Doubts};
+ghost use Rattle.mnodes.specs.Over.{DoubtsOver};
 ghost use Rattle.mglobal.specs.Lines.{line_at, line_in};
 ghost use Rattle.mglobal.specs.Words.{AreHeld, Forward, IsAccountName, IsName, IsSub, IsSubscript, is_before, lines_of, order_at};
 
@@ -43,7 +43,7 @@ fn next_place<S: NodeStore>(
     ensures sub { IfOk result (λ next. IfSome next IsSub) }
     ensures behind { IfOk result (λ next. IfSome next (λ there. is_before place.now there ≡ true)) }
     ensures same { S.doubt store.new ≡ 0 → S.content store.new ≡ S.content store.old }
-    ensures doubt { Doubts S.sound (S.doubt store.old) (S.doubt store.new) (is_ok result) }
+    ensures doubt { DoubtsOver S.NodeStore store.old store.new (is_ok result) }
     ensures store { S.steady → IsTrue (S.has_room store.new) → result ≢ Err StoreFault.Store }
 {
     let subs = subs_of(alloc, name, place)?;
@@ -82,7 +82,7 @@ fn line_text<S: NodeStore>(
     requires place { IsSubscript place.now }
     ensures text { S.doubt store.new ≡ 0 → IfOk result (λ text. option_to_list text ≡ line_in (S.content store.old) account.now name.now place.now) }
     ensures same { S.doubt store.new ≡ 0 → S.content store.new ≡ S.content store.old }
-    ensures doubt { Doubts S.sound (S.doubt store.old) (S.doubt store.new) (is_ok result) }
+    ensures doubt { DoubtsOver S.NodeStore store.old store.new (is_ok result) }
     ensures store { S.steady → IsTrue (S.has_room store.new) → result ≢ Err StoreFault.Store }
 {
     if !is_numeric(place) {
@@ -120,7 +120,7 @@ pub fn routine<S: NodeStore>(
     requires name { IsName name.now }
     ensures lines { S.doubt store.new ≡ 0 → IfOk result (λ lines. lines.items ≡ lines_of (S.content store.old) account.now name.now) }
     ensures same { S.doubt store.new ≡ 0 → S.content store.new ≡ S.content store.old }
-    ensures doubt { Doubts S.sound (S.doubt store.old) (S.doubt store.new) (is_ok result) }
+    ensures doubt { DoubtsOver S.NodeStore store.old store.new (is_ok result) }
     ensures store { S.steady → IsTrue (S.has_room store.new) → result ≢ Err StoreFault.Store }
 {
     let global = Bytes7::from_slice(alloc, b"ROUTINE")?;
@@ -150,7 +150,7 @@ pub fn shared_routine<S: NodeStore>(
     requires name { IsName name.now }
     ensures lines { S.doubt store.new ≡ 0 → IfOk result (λ lines. lines.value.items ≡ lines_of (S.content store.old) account.now name.now) }
     ensures same { S.doubt store.new ≡ 0 → S.content store.new ≡ S.content store.old }
-    ensures doubt { Doubts S.sound (S.doubt store.old) (S.doubt store.new) (is_ok result) }
+    ensures doubt { DoubtsOver S.NodeStore store.old store.new (is_ok result) }
     ensures store { S.steady → IsTrue (S.has_room store.new) → result ≢ Err StoreFault.Store }
 {
     if let Some(lines) = store.kept_routine(account, name) {

@@ -4,3 +4,4 @@ pub mod Entries
 pub mod Held
 pub mod Doubt
 pub mod Steady
+pub mod Over

@@ -6,7 +6,3 @@ use Rattle.mnodes.specs.declared.store.NodeStore.{Ghosts}
 -- the type is steady, and this store of it has room
 abbrev pub IsSteady : {S : Type 0} → Ghosts S → S → Type 0
 IsSteady g s = g.steady × IsTrue (g.has_room s)
-
--- the type is steady, and each store of it has room
-abbrev pub NeverRefuses : {S : Type 0} → Ghosts S → Type 0
-NeverRefuses {S} g = g.steady × ((s : S) → IsTrue (g.has_room s))

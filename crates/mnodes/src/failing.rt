@@ -5,7 +5,7 @@ ghost use Rattle.std.specs.Prelude.{IsTrue, IfOk, OnOk, OnErr, Err, is_ok, if◌
 ghost use Rattle.std.specs.FinMap.{get, insert};
 ghost use Rattle.mspec.specs.Globals.{without_subtree, next_key, previous_key};
 ghost use Rattle.mspec.specs.TextFunctions.{max_text};
-ghost use Rattle.mnodes.specs.Doubt.{Doubts};
+ghost use Rattle.mnodes.specs.Over.{DoubtsOver};
 ghost use Rattle.mnodes.specs.Failures.{IsDue, Counts};
 ghost use Rattle.mnodes.specs.Held.{AreHeld};
 
@@ -97,7 +97,7 @@ impl<S: NodeStore> NodeStore for Failing<S> {
         ensures found { S.doubt self.new.store ≡ 0 → IfOk result (λ text. text ≡ get (S.content self.old.store) key.now) }
         ensures held { S.doubt self.new.store ≡ 0 → AreHeld (S.content self.old.store) }
         ensures same { S.doubt self.new.store ≡ 0 → S.content self.new.store ≡ S.content self.old.store }
-        ensures doubt { Doubts S.sound (S.doubt self.old.store) (S.doubt self.new.store) (is_ok result) }
+        ensures doubt { DoubtsOver S.NodeStore self.old.store self.new.store (is_ok result) }
         ensures store { ⊥ → IsTrue (S.has_room self.new.store) → result ≢ Err StoreFault.Store }
         ensures due { IsDue self.old.call self.old.left StoreCall.Get → result ≡ Err StoreFault.Store }
         ensures alone { S.steady → IsTrue (S.has_room self.new.store) → result ≡ Err StoreFault.Store → IsDue self.old.call self.old.left StoreCall.Get }
@@ -116,7 +116,7 @@ impl<S: NodeStore> NodeStore for Failing<S> {
         ensures put { S.doubt self.new.store ≡ 0 → OnOk result (S.content self.new.store ≡ insert (S.content self.old.store) key.now text.now) }
         ensures held { S.doubt self.new.store ≡ 0 → OnOk result (AreHeld (S.content self.old.store)) }
         ensures fault { S.doubt self.new.store ≡ 0 → OnErr result (S.content self.new.store ≡ S.content self.old.store) }
-        ensures doubt { Doubts S.sound (S.doubt self.old.store) (S.doubt self.new.store) (is_ok result) }
+        ensures doubt { DoubtsOver S.NodeStore self.old.store self.new.store (is_ok result) }
         ensures store { ⊥ → IsTrue (S.has_room self.new.store) → result ≢ Err StoreFault.Store }
         ensures due { IsDue self.old.call self.old.left StoreCall.Put → result ≡ Err StoreFault.Store }
         ensures alone { S.steady → IsTrue (S.has_room self.new.store) → result ≡ Err StoreFault.Store → IsDue self.old.call self.old.left StoreCall.Put }
@@ -132,7 +132,7 @@ impl<S: NodeStore> NodeStore for Failing<S> {
     fn kill(&mut self, key: &NodeKey) -> Result<(), StoreFault>
         ensures killed { S.doubt self.new.store ≡ 0 → OnOk result (S.content self.new.store ≡ without_subtree (S.content self.old.store) key.now) }
         ensures fault { S.doubt self.new.store ≡ 0 → OnErr result (S.content self.new.store ≡ S.content self.old.store) }
-        ensures doubt { Doubts S.sound (S.doubt self.old.store) (S.doubt self.new.store) (is_ok result) }
+        ensures doubt { DoubtsOver S.NodeStore self.old.store self.new.store (is_ok result) }
         ensures store { ⊥ → IsTrue (S.has_room self.new.store) → result ≢ Err StoreFault.Store }
         ensures due { IsDue self.old.call self.old.left StoreCall.Kill → result ≡ Err StoreFault.Store }
         ensures alone { S.steady → IsTrue (S.has_room self.new.store) → result ≡ Err StoreFault.Store → IsDue self.old.call self.old.left StoreCall.Kill }
@@ -149,7 +149,7 @@ impl<S: NodeStore> NodeStore for Failing<S> {
         ensures found { S.doubt self.new.store ≡ 0 → IfOk result (λ key. option_map (λ bytes. bytes.items) key ≡ next_key (S.content self.old.store) low.now high.now) }
         ensures held { S.doubt self.new.store ≡ 0 → AreHeld (S.content self.old.store) }
         ensures same { S.doubt self.new.store ≡ 0 → S.content self.new.store ≡ S.content self.old.store }
-        ensures doubt { Doubts S.sound (S.doubt self.old.store) (S.doubt self.new.store) (is_ok result) }
+        ensures doubt { DoubtsOver S.NodeStore self.old.store self.new.store (is_ok result) }
         ensures store { ⊥ → IsTrue (S.has_room self.new.store) → result ≢ Err StoreFault.Store }
         ensures due { IsDue self.old.call self.old.left StoreCall.Next → result ≡ Err StoreFault.Store }
         ensures alone { S.steady → IsTrue (S.has_room self.new.store) → result ≡ Err StoreFault.Store → IsDue self.old.call self.old.left StoreCall.Next }
@@ -167,7 +167,7 @@ impl<S: NodeStore> NodeStore for Failing<S> {
         ensures found { S.doubt self.new.store ≡ 0 → IfOk result (λ key. option_map (λ bytes. bytes.items) key ≡ previous_key (S.content self.old.store) low.now high.now) }
         ensures held { S.doubt self.new.store ≡ 0 → AreHeld (S.content self.old.store) }
         ensures same { S.doubt self.new.store ≡ 0 → S.content self.new.store ≡ S.content self.old.store }
-        ensures doubt { Doubts S.sound (S.doubt self.old.store) (S.doubt self.new.store) (is_ok result) }
+        ensures doubt { DoubtsOver S.NodeStore self.old.store self.new.store (is_ok result) }
         ensures store { ⊥ → IsTrue (S.has_room self.new.store) → result ≢ Err StoreFault.Store }
         ensures due { IsDue self.old.call self.old.left StoreCall.Prev → result ≡ Err StoreFault.Store }
         ensures alone { S.steady → IsTrue (S.has_room self.new.store) → result ≡ Err StoreFault.Store → IsDue self.old.call self.old.left StoreCall.Prev }

@@ -36,7 +36,7 @@ impl From<AllocError> for StoreFault {
 ///
 /// Contracts alone see what is known of a store besides what it holds:
 /// - its `doubt`, a number that no call lowers. What a call says of the content, it says if the doubt is 0 after it;
-/// - whether it `has_room`: one more row can be put;
+/// - whether it `has_room`: one more row can be put. No call gives room back, so a store with room had it all along;
 /// - two facts of its type. If it is `sound`, no call raises the doubt. If it is `steady`, a call answers `Store` only if the store
 ///   has no room then. A steady type is sound.
 ///
@@ -63,7 +63,7 @@ pub trait NodeStore {
         ensures found { doubt self.new ≡ 0 → IfOk result (λ text. text ≡ get (content self.old) key.now) }
         ensures held { doubt self.new ≡ 0 → AreHeld (content self.old) }
         ensures same { doubt self.new ≡ 0 → content self.new ≡ content self.old }
-        ensures doubt { Doubts sound (doubt self.old) (doubt self.new) (is_ok result) }
+        ensures doubt { Doubts sound (doubt self.old) (doubt self.new) (has_room self.old) (has_room self.new) (is_ok result) }
         ensures store { steady → IsTrue (has_room self.new) → result ≢ Err StoreFault.Store };
 
     /// Gives a node a text, and keeps what is below it.
@@ -72,14 +72,14 @@ pub trait NodeStore {
         ensures put { doubt self.new ≡ 0 → OnOk result (content self.new ≡ insert (content self.old) key.now text.now) }
         ensures held { doubt self.new ≡ 0 → OnOk result (AreHeld (content self.old)) }
         ensures fault { doubt self.new ≡ 0 → OnErr result (content self.new ≡ content self.old) }
-        ensures doubt { Doubts sound (doubt self.old) (doubt self.new) (is_ok result) }
+        ensures doubt { Doubts sound (doubt self.old) (doubt self.new) (has_room self.old) (has_room self.new) (is_ok result) }
         ensures store { steady → IsTrue (has_room self.new) → result ≢ Err StoreFault.Store };
 
     /// Removes a node, with all that is below it.
     fn kill(&mut self, key: &NodeKey) -> Result<(), StoreFault>
         ensures killed { doubt self.new ≡ 0 → OnOk result (content self.new ≡ without_subtree (content self.old) key.now) }
         ensures fault { doubt self.new ≡ 0 → OnErr result (content self.new ≡ content self.old) }
-        ensures doubt { Doubts sound (doubt self.old) (doubt self.new) (is_ok result) }
+        ensures doubt { Doubts sound (doubt self.old) (doubt self.new) (has_room self.old) (has_room self.new) (is_ok result) }
         ensures store { steady → IsTrue (has_room self.new) → result ≢ Err StoreFault.Store };
 
     /// The bytes of the first key from `low` on and before `high`, if there is one.
@@ -87,7 +87,7 @@ pub trait NodeStore {
         ensures found { doubt self.new ≡ 0 → IfOk result (λ key. option_map (λ bytes. bytes.items) key ≡ next_key (content self.old) low.now high.now) }
         ensures held { doubt self.new ≡ 0 → AreHeld (content self.old) }
         ensures same { doubt self.new ≡ 0 → content self.new ≡ content self.old }
-        ensures doubt { Doubts sound (doubt self.old) (doubt self.new) (is_ok result) }
+        ensures doubt { Doubts sound (doubt self.old) (doubt self.new) (has_room self.old) (has_room self.new) (is_ok result) }
         ensures store { steady → IsTrue (has_room self.new) → result ≢ Err StoreFault.Store };
 
     /// The bytes of the last key from `low` on and before `high`, if there is one.
@@ -95,7 +95,7 @@ pub trait NodeStore {
         ensures found { doubt self.new ≡ 0 → IfOk result (λ key. option_map (λ bytes. bytes.items) key ≡ previous_key (content self.old) low.now high.now) }
         ensures held { doubt self.new ≡ 0 → AreHeld (content self.old) }
         ensures same { doubt self.new ≡ 0 → content self.new ≡ content self.old }
-        ensures doubt { Doubts sound (doubt self.old) (doubt self.new) (is_ok result) }
+        ensures doubt { Doubts sound (doubt self.old) (doubt self.new) (has_room self.old) (has_room self.new) (is_ok result) }
         ensures store { steady → IsTrue (has_room self.new) → result ≢ Err StoreFault.Store };
 
     /// The lines of an account's routine, if the store keeps a copy of them. A store that has no method of its own keeps none.
@@ -103,6 +103,7 @@ pub trait NodeStore {
         ensures lines { doubt self.new ≡ 0 → IfSome result (λ lines. lines.value.items ≡ lines_of (content self.old) account.now name.now) }
         ensures same { doubt self.new ≡ 0 → content self.new ≡ content self.old }
         ensures doubt { doubt self.new ≡ doubt self.old }
+        ensures room { has_room self.new ≡ has_room self.old }
     {
         None
     }
@@ -114,6 +115,7 @@ pub trait NodeStore {
         requires lines { doubt self.old ≡ 0 → lines.now.value.items ≡ lines_of (content self.old) account.now name.now }
         ensures same { doubt self.new ≡ 0 → content self.new ≡ content self.old }
         ensures doubt { doubt self.new ≡ doubt self.old }
+        ensures room { has_room self.new ≡ has_room self.old }
     {}
 
     ghost steady_is_sound: { steady → sound };

@@ -1,6 +1,6 @@
 -- SPDX-License-Identifier: Apache-2.0
 -- What a statement does to the doubt of a connection.
-use Rattle.mstore.proofs.Words.{arith, ◌≡◌, ◌≤◌, ℕ, Bool, true, false, if◌then◌else◌, List, [], Option, Some, None, Result, Ok, Err, OnOk, IfOk, IfErr, IsTrue, refl, sym, subst, inl, inr, cases_Bool, is_ok, no_doubt, Ghosts, Held, state, Row, Command, Error, State, HasCleanDisk, IsUnchanged, IsRolledBack, FailsToShow, Executes, ExecutesInside, RunsCommand, Shows, ShowsRows, shows_rows, IsPlain, understood, IsNotRun, FailsToQuery, QueriesRow, ExecutesIn, Shown, Gives, FailsToCommit, IsMemory, IsStore, TableOver, Doubts, DoubtsStore, doubt_as, doubt_in, doubt_of, table_doubt}
+use Rattle.mstore.proofs.Words.{◌&&◌, arith, ◌≡◌, ◌≤◌, ℕ, Bool, true, false, if◌then◌else◌, List, [], Option, Some, None, Result, Ok, Err, OnOk, IfOk, IfErr, IsTrue, refl, sym, subst, inl, inr, cases_Bool, is_ok, no_doubt, Ghosts, Held, state, Row, Command, Error, State, HasCleanDisk, IsUnchanged, IsRolledBack, FailsToShow, Executes, ExecutesInside, RunsCommand, Shows, ShowsRows, shows_rows, IsPlain, understood, IsNotRun, FailsToQuery, QueriesRow, ExecutesIn, Shown, Gives, FailsToCommit, IsMemory, IsStore, TableOver, Doubts, DoubtsStore, doubt_as, doubt_in, doubt_of, table_doubt}
 use Rattle.sqlite.specs.Command.TheVariants.{Select, Insert, InsertOr, Update, Delete, CreateTable, CreateIndex, DropTable, DropIndex, Begin, Commit, Rollback, Savepoint as Save, Release, RollbackTo, Nothing, CreateView, DropView, Rows}
 use Rattle.sqlite_schema.specs.declared.command.Returning.{Returning}
 use Rattle.sqlite_trees.specs.View.{doubt}
@@ -226,13 +226,13 @@ alone_sure false n h = absurd (omega (arith, h))
 pub sure_table : {S : Type 0} (g : Ghosts S) (t : TableOver S) → table_doubt g t ≡ 0 → IsTrue t.is_alone × (doubt_of g t.conn ≡ 0)
 sure_table g t h = alone_sure t.is_alone (doubt_of g t.conn) h
 
-doubts_if : (is_alone : Bool) (sound : Type 0) (old new : ℕ) (is_done : Bool) → old ≤ new → (IsTrue is_alone → old ≡ 0 → new ≡ 1 → is_done ≡ false) → (sound → new ≡ 0)
-    → Doubts sound (if is_alone then old else 2) (if is_alone then new else 2) is_done
-doubts_if true sound old new is_done order failed stays = record { order = order; failed = failed refl; stays = λ s. omega (arith, stays s) }
-doubts_if false sound old new is_done order failed stays = record { order = omega arith; failed = λ e f. absurd (omega (arith, e)); stays = λ s. omega arith }
+doubts_if : (is_alone : Bool) (sound : Type 0) (old new : ℕ) (had_more has_more is_done : Bool) → old ≤ new → (IsTrue is_alone → old ≡ 0 → new ≡ 1 → is_done ≡ false) → (sound → new ≡ 0) → (IsTrue has_more → IsTrue had_more)
+    → Doubts sound (if is_alone then old else 2) (if is_alone then new else 2) (is_alone && had_more) (is_alone && has_more) is_done
+doubts_if true sound old new had_more has_more is_done order failed stays room = record { order = order; failed = failed refl; stays = λ s. omega (arith, stays s); room = room }
+doubts_if false sound old new had_more has_more is_done order failed stays room = record { order = omega arith; failed = λ e f. absurd (omega (arith, e)); stays = λ s. omega arith; room = λ r. r }
 
 -- what a statement does to the doubt of the connection, it does to that of the table
-pub table_doubts : {S : Type 0} (g : Ghosts S) (old new : Held S) (is_alone is_done : Bool) → (IsTrue is_alone → doubt_of g old ≡ 0 → IsStore (state g old)) → DoubtsStore g old new is_done
-    → Doubts (IsMemory g) (table_doubt g (record { conn = old; is_alone = is_alone })) (table_doubt g (record { conn = new; is_alone = is_alone })) is_done
-table_doubts g old new is_alone is_done was d =
-    doubts_if is_alone (IsMemory g) (doubt_of g old) (doubt_of g new) is_done d.order (λ alone e f. d.failed (was alone e) f) (λ quiet. memory_is_sure g new quiet)
+pub table_doubts : {S : Type 0} (g : Ghosts S) (old new : Held S) (is_alone had_more has_more is_done : Bool) → (IsTrue is_alone → doubt_of g old ≡ 0 → IsStore (state g old)) → DoubtsStore g old new is_done → (IsTrue has_more → IsTrue had_more)
+    → Doubts (IsMemory g) (if is_alone then doubt_of g old else 2) (if is_alone then doubt_of g new else 2) (is_alone && had_more) (is_alone && has_more) is_done
+table_doubts g old new is_alone had_more has_more is_done was d room =
+    doubts_if is_alone (IsMemory g) (doubt_of g old) (doubt_of g new) had_more has_more is_done d.order (λ alone e f. d.failed (was alone e) f) (λ quiet. memory_is_sure g new quiet) room

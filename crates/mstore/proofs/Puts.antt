@@ -14,6 +14,10 @@ use Rattle.mstore.proofs.Writes.{went, same_value, inserted, idle_after, task}
 abbrev pub row_of : ℤ → List ℕ → List ℕ → Row
 row_of id k v = Int id ∷ Blob k ∷ Blob v ∷ []
 
+-- a number that a row has, or the next one
+abbrev pub IsNumbered : List Row → ℤ → Type 0
+IsNumbered rows id = (id ≡ next_rowid rows) ⊎ ((r : Row) × Has rows r × (id ≡ id_in (rowid r)))
+
 -- the next rows are those that stay, and the new one
 pub record IsPut (rows next : List Row) (k v : List ℕ) : Type 0 where
   pub id : ℤ
@@ -21,6 +25,7 @@ pub record IsPut (rows next : List Row) (k v : List ℕ) : Type 0 where
   pub from : (r : Row) → Has next r → (r ≡ row_of id k v) ⊎ (Has rows r × (key_of r ≢ k))
   pub stays : (r : Row) → Has rows r → key_of r ≢ k → Has next r
   pub free : (r : Row) → Has rows r → key_of r ≢ k → rowid r ≢ Int id
+  pub numbered : IsNumbered rows id
 
 pub put_nodes : {F : List ℕ → List ℕ → Type 0} (rows next : List Row) (k v : List ℕ) → F k v → AreRows F rows → IsPut rows next k v → AreRows F next
 put_nodes {F} rows next k v right nodes put = record {
@@ -52,7 +57,7 @@ not_at k r other = false_from_ne_true (is_at k r) (λ h. other (same_bytes (key_
 
 -- the new rows are copies of one, put where the others are left
 module _ (rows left news next : List Row) (k v : List ℕ) (id : ℤ) (kept : IsLeft rows left (is_at k)) (is : next ≡ put_all left news) (free : are_fresh left news ≡ true)
-    (copies : (x : Row) → Has news x → x ≡ row_of id k v) (some : Has news (row_of id k v)) where
+    (copies : (x : Row) → Has news x → x ≡ row_of id k v) (some : Has news (row_of id k v)) (numbered : IsNumbered rows id) where
   untaken : (all : List Row) → are_fresh left all ≡ true → ((x : Row) → Has all x → x ≡ row_of id k v) → Has all (row_of id k v) → is_taken left (row_of id k v) ≡ false
   untaken [] ok each h = absurd h
   untaken (n ∷ more) ok each h = subst (λ r. is_taken left r ≡ false) (each n (inl refl)) (not-true _ (and_parts _ _ ok).0)
@@ -67,6 +72,7 @@ module _ (rows left news next : List Row) (k v : List ℕ) (id : ℤ) (kept : Is
     ];
     stays = λ r h other. subst (λ l. Has l r) (sym is) (put_all_keeps news left r free (kept.stays r h (not_at k r other)));
     free = λ r h other same. true≢false (sym (taken_own left r (row_of id k v) (kept.stays r h (not_at k r other)) same) ∙ untaken news free copies some);
+    numbered = numbered;
   }
 
 pub int_same : (m n : ℤ) → int_eq m n ≡ true → m ≡ n
@@ -111,7 +117,7 @@ module _ {F : List ℕ → List ℕ → Type 0} (old : State) (has_schema : old.
       let kept : IsLeft rows rows (is_at k) = record { was = λ r here. (here, not_at k r (none r here)); stays = λ r here _. here } in
       let version : one.trees 2 ≡ old.now.trees 2 = ap (λ (it : Written). it.trees 2) (same_value made.2) ∙ step.tables.1.0 meta_apart in (
         put_is_made rows rows (fresh ∷ []) (one.trees 0) k v (next_rowid rows) kept (trees ∙ step.rows ∙ ap (put_all rows) news) (subst (λ l. are_fresh rows l ≡ true) news step.fresh)
-            (λ x here. elim here [ inl same ↦ same | inr never ↦ absurd never ]) (inl refl),
+            (λ x here. elim here [ inl same ↦ same | inr never ↦ absurd never ]) (inl refl) (inl refl),
         version,
       )
 
@@ -166,7 +172,7 @@ module _ {F : List ℕ → List ℕ → Type 0} (old : State) (has_schema : old.
         let version : one.trees 2 ≡ old.now.trees 2 = ap (λ (it : Written). it.trees 2) (same_value made.2) ∙ step.tables.1.0 meta_apart in (
           put_is_made rows left (map cast_of asked.0) (one.trees 0) k v number kept (trees ∙ step.rows ∙ ap (put_all left) news) (subst (λ l. are_fresh left l ≡ true) news step.fresh)
               (λ x here. let s = has_mapped cast_of asked.0 x here in s.2 ∙ ap cast_of (asked_from asked.0 a s.0 s.1) ∙ cast_full)
-              (subst (Has (map cast_of asked.0)) cast_full (mapped_has cast_of asked.0 full (asked_to asked.0 a))),
+              (subst (Has (map cast_of asked.0)) cast_full (mapped_has cast_of asked.0 full (asked_to asked.0 a))) (inr (r, has, refl)),
           version,
         )
 

@@ -1,6 +1,7 @@
 -- SPDX-License-Identifier: Apache-2.0
 -- From what a call says to what it leaves of a store, where no doubt is left.
 use Rattle.mstore.proofs.Words.{◌≡◌, ℕ, List, [], ◌∷◌, Result, Ok, Err, IsTrue, sym, subst, schema, Ghosts, Row, Error, Held, state, Executes, IsPlain, Blob, QueriesRow, understood, IsIdle, IsStore, Stays, stored, PutsAt, RemovesWithin, IsInForm, Put, Kill, sql, OnErr, OnOk, is_ok, holds, runs_as, doubt_of, Database, HasVersion, this_version, AreNodes, globals_by, key_of, value_of, ap}
+use Rattle.mstore.specs.Database.{node_rows}
 use Rattle.mstore.proofs.Doubting.{open_if}
 use Rattle.mstore.proofs.States.{stays_calm, same_version, query_row_stays, failed_execute_stays, came}
 use Rattle.mstore.proofs.Texts.{put_is, put_command, kill_is, kill_command}
@@ -24,7 +25,7 @@ module _ {S : Type 0} (g : Ghosts S) (old new : Held S) (was : IsStore (state g 
   abbrev idle : IsIdle (state g old)
   idle = was.calm.idle
 
-  kept_sound : Stays (state g old) (state g new) → IsStore (state g new) × (stored g new ≡ stored g old)
+  kept_sound : Stays (state g old) (state g new) → IsStore (state g new) × (stored g new ≡ stored g old) × (node_rows g new ≡ node_rows g old)
   kept_sound k = (
     record {
       calm = stays_calm (state g old) (state g new) was.calm k;
@@ -32,14 +33,15 @@ module _ {S : Type 0} (g : Ghosts S) (old new : Held S) (was : IsStore (state g 
       nodes = subst (λ (d : Database). AreNodes (d.trees 0)) (sym k.same) was.nodes;
     },
     ap (λ (d : Database). globals_by key_of value_of (d.trees 0)) k.same,
+    ap (λ (d : Database). d.trees 0) k.same,
   )
 
-  pub query_keeps : (sql : List ℕ) (params : Row) (r : Result Row Error) → IsPlain (understood schema sql) → QueriesRow sql params (state g old) (state g new) r → IsStore (state g new) × (stored g new ≡ stored g old)
+  pub query_keeps : (sql : List ℕ) (params : Row) (r : Result Row Error) → IsPlain (understood schema sql) → QueriesRow sql params (state g old) (state g new) r → IsStore (state g new) × (stored g new ≡ stored g old) × (node_rows g new ≡ node_rows g old)
   query_keeps sql params r plain h =
       kept_sound (query_row_stays (state g old) (state g new) idle is_open sql params r (subst (λ s. IsPlain (understood s sql)) (sym was.calm.schema_is) plain) h)
 
   failed_execute : (sql : List ℕ) (params : Row) (e : Error) → Executes sql params (state g old) (state g new) (Err e) → IsStore (state g new) × (stored g new ≡ stored g old)
-  failed_execute sql params e h = kept_sound (failed_execute_stays (state g old) (state g new) idle is_open sql params e h)
+  failed_execute sql params e h = let it = kept_sound (failed_execute_stays (state g old) (state g new) idle is_open sql params e h) in (it.0, it.1)
 
   put_done : (k v : List ℕ) (count : ℕ) → IsInForm k v → Executes (sql Put) (Blob k ∷ Blob v ∷ []) (state g old) (state g new) (Ok count) → IsStore (state g new) × PutsAt (holds g old) (holds g new) k v
   put_done k v count right h =

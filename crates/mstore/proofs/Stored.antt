@@ -8,7 +8,7 @@ use Rattle.mstore.proofs.Answer.{passes, one}
 use Rattle.mstore.proofs.Edits.{IsLeft, left_is, left_from}
 use Rattle.mstore.proofs.Maps.{at_itself}
 use Rattle.mstore.proofs.Writes.{task}
-use Rattle.mstore.proofs.Puts.{row_of, put_is_made, put_nodes, not_at, int_same, int_itself, IsPut, own, passes_is, cast_full, none_at, conflict_is}
+use Rattle.mstore.proofs.Puts.{IsNumbered, row_of, put_is_made, put_nodes, not_at, int_same, int_itself, IsPut, own, passes_is, cast_full, none_at, conflict_is}
 use Rattle.mstore.proofs.Changes.{Wants, same_stop, edit_stops, refusal_is, unique_in, never_oversized}
 use Rattle.mstore.proofs.Causes.{IsLack, change_is, reads_all}
 use Rattle.mstore.proofs.Accepts.{IsTyped, put_takes, put_changes, put_typed, put_terms, no_overflow}
@@ -111,7 +111,7 @@ module _ (old : State) (has : old.now.schema ≡ schema) (nodes : AreRows IsInFo
 
   -- an edit that leaves some rows and puts one
   module _ (edit : Edit) (left : List Row) (id : ℤ) (is : edit ≡ record { table = node; gone = edit.gone; news = row_of id k v ∷ [] }) (left_is : without_all rows edit.gone ≡ left) (kept : IsLeft rows left (is_at k))
-      (free : is_taken left (row_of id k v) ≡ false) (fits : fits_i64 id ≡ false → Full) where
+      (free : is_taken left (row_of id k v) ≡ false) (numbered : IsNumbered rows id) (fits : fits_i64 id ≡ false → Full) where
     abbrev edit_is : Edit
     edit_is = record { table = node; gone = edit.gone; news = row_of id k v ∷ [] }
 
@@ -120,7 +120,7 @@ module _ (old : State) (has : old.now.schema ≡ schema) (nodes : AreRows IsInFo
         let copies : (x : Row) → Has (row_of id k v ∷ []) x → x ≡ row_of id k v = λ x here. elim here [ inl same ↦ same | inr never ↦ absurd never ] in
         let next = put_all (without_all rows edit.gone) (row_of id k v ∷ []) in
         let fresh_is : are_fresh left (row_of id k v ∷ []) ≡ true = ap (λ b. not b && true) free in
-        let made : IsPut rows next k v = put_is_made rows left (row_of id k v ∷ []) next k v id kept (ap (λ l. put_all l (row_of id k v ∷ [])) left_is) fresh_is copies (inl refl) in
+        let made : IsPut rows next k v = put_is_made rows left (row_of id k v ∷ []) next k v id kept (ap (λ l. put_all l (row_of id k v ∷ [])) left_is) fresh_is copies (inl refl) numbered in
         let unique = unique_in next (put_nodes rows next k v right nodes made) old.now.trees (with_tree old.now.trees 0 next) refl refl listed in
         edit_stops Full old.now.trees edit_is refl
         (refusal_is Full old.now.trees edit_is refl id k v copies (subst (λ l. are_fresh l (row_of id k v ∷ []) ≡ true) (sym left_is) fresh_is) unique fits)
@@ -134,7 +134,7 @@ module _ (old : State) (has : old.now.schema ≡ schema) (nodes : AreRows IsInFo
       let is : edit ≡ record { table = node; gone = []; news = fresh ∷ [] } = ap (λ i. record { table = node; gone = []; news = (i ∷ Blob k ∷ Blob v ∷ []) ∷ [] }) (cast_int (next_rowid rows)) in
       let kept : IsLeft rows rows (is_at k) = record { was = λ r here. (here, not_at k r (none r here)); stays = λ r here _. here } in
       subst (Wants Full) (sym (same_stop same))
-      (one_stops edit rows (next_rowid rows) is refl kept (next_is_free Chosen rows (Blob k ∷ Blob v ∷ []) up numbers) (next_unfit rows) why edited)
+      (one_stops edit rows (next_rowid rows) is refl kept (next_is_free Chosen rows (Blob k ∷ Blob v ∷ []) up numbers) (inl refl) (next_unfit rows) why edited)
   puts_stop none s (inr (next, edited, gives)) = absurd cc
 
   -- a key that is there
@@ -189,7 +189,7 @@ module _ (old : State) (has : old.now.schema ≡ schema) (nodes : AreRows IsInFo
         let is : edit ≡ record { table = node; gone = number ∷ []; news = row_of number k v ∷ [] } =
         ap (λ x. record { table = node; gone = number ∷ []; news = x ∷ [] }) (cast_full old has nodes k v r here same_key other) in
         subst (Wants Full) (sym (same_stop same))
-        (one_stops edit (without_all rows (number ∷ [])) number is refl kept_is free_again (λ unfit. some_from (λ q. not (has_next q)) rows r here (own_unfit r unfit)) why
+        (one_stops edit (without_all rows (number ∷ [])) number is refl kept_is free_again (inr (r, here, refl)) (λ unfit. some_from (λ q. not (has_next q)) rows r here (own_unfit r unfit)) why
         (subst (λ a. Edited schema Enforced old.now.trees (edit_of old.now.trees node (ids_of a) Given 1 a) (Err why)) one edited))
     updates_stop s (inr (asked, answer, inr (next, edited, gives))) = absurd cc
 

@@ -85,6 +85,7 @@ pub use Rattle.sqlite_value.specs.declared.keys.Key.{Key}
 pub use Rattle.mstore.specs.Database.{AllGive, DoubtsStore, GivesVersion, HasVersion, IsBare, IsBlank, IsCalm, IsIdle, IsMemory, IsMigrated, IsOneVersion, IsStore, IsUntouched, OnlyGives, ShowsAll, ShowsNodes, ShowsNodesBy, ShowsVersion, Stays, TableOver, content, doubt_as, doubt_in, doubt_of, globals_in, holds, old_version, stored, table_doubt, this_version, version_name}
 pub use Rattle.mnodes.proofs.Doubting.{Doubts-same, Doubts-then, undoubted}
 pub use Rattle.mnodes.specs.Doubt.{Doubts, shut}
+pub use Rattle.mnodes.specs.Over.{DoubtsOver}
 pub use Rattle.mnodes.specs.Entries.{AreEntries, IsAt, IsGapFor, IsPlaceOf, bytes_of, entries_of, entry_of, held, is_before, key_within}
 pub use Rattle.mnodes.specs.Held.{AreHeld, IsHeld}
 pub use Rattle.mstore.specs.InMemory.{over_memory}

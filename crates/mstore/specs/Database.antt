@@ -1,7 +1,7 @@
 -- SPDX-License-Identifier: Apache-2.0
 -- What a connection holds if its database is that of a table, and what a call leaves of it.
 use Rattle.std.specs.Prelude.{◌≡◌, ◌≢◌, ◌⊎◌, ◌||◌, ◌≤◌, ℕ, ℤ, pos, Bool, if◌then◌else◌, List, ◌∷◌, [], codes, false, Option, Some, None, IsTrue, refl}
-use Rattle.std.specs.Coded.{Coded, code_by, coded×, coded_bool}
+use Rattle.std.specs.Coded.{Coded, code_by, coded×, coded_bool, coded_ℕ}
 use Rattle.sqlite_schema.specs.declared.schema.Schema.{Schema}
 use Rattle.sqlite_value.specs.declared.value.Value.{Value}
 use Rattle.sqlite_value.specs.declared.value.Value.TheVariants.{Int, Text}
@@ -102,9 +102,11 @@ pub record TableOver (S : Type 0) : Type 0 where
   pub conn : Held S
   -- the database has the two tables and no other
   pub is_alone : Bool
+  -- how many numbers its rows may have got
+  pub numbers : ℕ
 
 abbrev pub table_code : {S : Type 0} → Coded S → Coded (TableOver S)
-table_code {S} store = code_by (Held S × Bool) (coded× (held_code store) coded_bool) (λ t. (t.conn, t.is_alone)) (λ p. record { conn = p.0; is_alone = p.1 }) (λ _. refl)
+table_code {S} store = code_by (Held S × (Bool × ℕ)) (coded× (held_code store) (coded× coded_bool coded_ℕ)) (λ t. (t.conn, (t.is_alone, t.numbers))) (λ p. record { conn = p.0; is_alone = p.1.0; numbers = p.1.1 }) (λ _. refl)
 
 -- nothing is said yet of a table beside others
 abbrev pub table_doubt : {S : Type 0} → Ghosts S → TableOver S → ℕ
@@ -122,9 +124,13 @@ pub record DoubtsStore {S : Type 0} (g : Ghosts S) (old new : Held S) (is_done :
   pub order : doubt_of g old ≤ doubt_of g new
   pub failed : IsStore (state g old) → doubt_of g new ≡ shut → is_done ≡ false
 
+-- the rows of the nodes
+abbrev pub node_rows : {S : Type 0} → Ghosts S → Held S → List Row
+node_rows g h = (state g h).now.trees 0
+
 -- and a table is still one
 abbrev pub IsKept : {S : Type 0} → Ghosts S → Held S → Held S → Type 0
-IsKept g old new = IsStore (state g old) → doubt_of g new ≡ 0 → IsStore (state g new) × (stored g new ≡ stored g old)
+IsKept g old new = IsStore (state g old) → doubt_of g new ≡ 0 → IsStore (state g new) × (stored g new ≡ stored g old) × (node_rows g new ≡ node_rows g old)
 
 -- all that the database holds, what is committed and whether a transaction is open is as it was
 pub record IsUntouched (old new : State) : Type 0 where

@@ -1,6 +1,6 @@
 -- SPDX-License-Identifier: Apache-2.0
 -- When a table has no number for one more row, and the stores beneath over which nothing else refuses a call.
-use Rattle.std.specs.Prelude.{◌≡◌, ℕ, pos, ◌+ℤ◌, Bool, true, false, IsTrue, refl, not, ◌&&◌, if◌then◌else◌, List}
+use Rattle.std.specs.Prelude.{◌≡◌, ◌≤◌, ◌-◌, ◌^◌, ℕ, pos, ◌+ℤ◌, Bool, true, false, IsTrue, refl, not, ◌&&◌, nat_lt, if◌then◌else◌, List}
 use Rattle.std.specs.List.{list_any}
 use Rattle.sqlite_value.specs.Order.{Row}
 use Rattle.sqlite_trees.specs.Tree.{rowid}
@@ -9,8 +9,8 @@ use Rattle.sqlite_trees.specs.Objects.{catalog_tree, IsListed}
 use Rattle.sqlite_trees.specs.declared.store.Store.{Ghosts}
 use Rattle.sqlite_sql.specs.Ops.{fits_i64}
 use Rattle.sqlite_rules.specs.Edit.{id_in}
+use Rattle.sqlite_rules.specs.Lists.{Has}
 use Rattle.sqlite_trees.proofs.Doubt.{clean_of}
-use Rattle.sqlite.specs.Held.{state}
 use Rattle.mstore.specs.Database.{IsMemory, TableOver, doubt_as, table_doubt}
 
 -- the number of the row is one that a row may have, and so is the next
@@ -28,9 +28,22 @@ pub record IsFaultless {S : Type 0} (g : Ghosts S) : Type 0 where
   pub ordered : (s : S) → IsOrdered (g.view s).shape (g.view s).trees
   pub listed : (s : S) → IsListed ((g.view s).trees catalog_tree) (g.view s).shape (g.view s).reals
 
--- nothing is said of a table beside others; one alone has room unless it is full
+-- the last number that a row may have
+abbrev pub last_number : ℕ
+last_number = 2 ^ 63 - 1
+
+-- no row has a greater number
+abbrev pub AreUpTo : ℕ → List Row → Type 0
+AreUpTo n rows = (r : Row) → Has rows r → (m : ℕ) × (id_in (rowid r) ≡ pos m) × (m ≤ n)
+
+-- As many numbers were given at most, unless the count has come to the last one: then nothing is said.
+abbrev pub AreCounted : ℕ → List Row → Type 0
+AreCounted n rows = IsTrue (nat_lt n last_number) → AreUpTo n rows
+
+-- Nothing is said of a table beside others. One alone has room as long as its count is below the last number: a row that is removed may
+-- give its number back, but not to the count, so room that is gone does not come back.
 abbrev pub has_room : {S : Type 0} → Ghosts S → TableOver S → Bool
-has_room g t = t.is_alone && not (is_full ((state g t.conn).now.trees 0))
+has_room g t = t.is_alone && nat_lt t.numbers last_number
 
 -- ---- such a table is in no doubt
 
@@ -52,4 +65,4 @@ alone_is false has_room n h e = absurd (let clash = h in cc)
 pub told_of : {S : Type 0} {g : Ghosts S} → IsFaultless g → (t : TableOver S) → IsTrue (has_room g t) → table_doubt g t ≡ 0
 told_of {g = g} beneath t room =
     let v = g.view t.conn.store in
-    alone_is t.is_alone (not (is_full ((state g t.conn).now.trees 0))) _ room (sure_as v.is_clean v.is_open (clean_of v.is_clean (beneath.memory.clean t.conn.store)) (beneath.memory.is_open t.conn.store))
+    alone_is t.is_alone (nat_lt t.numbers last_number) _ room (sure_as v.is_clean v.is_open (clean_of v.is_clean (beneath.memory.clean t.conn.store)) (beneath.memory.is_open t.conn.store))

@@ -1,12 +1,12 @@
 // SPDX-License-Identifier: Apache-2.0
 // The statements, each alone.
 
-ghost use Rattle.std.specs.Prelude.{◌≡◌, ◌≢◌, ◌↔◌, IfOk, OnOk, OnErr, is_ok, true, Ok, Err, None};
+ghost use Rattle.std.specs.Prelude.{◌≡◌, ◌≢◌, ◌↔◌, ◌+◌, ℕ, IfOk, OnOk, OnErr, is_ok, true, Ok, Err, None};
 ghost use Rattle.sqlite.specs.Held.{state};
-ghost use Rattle.mstore.specs.Database.{DoubtsStore, IsKept, IsStore, doubt_of, holds, stored};
+ghost use Rattle.mstore.specs.Database.{DoubtsStore, IsKept, IsStore, doubt_of, holds, node_rows, stored};
 ghost use Rattle.mstore.specs.Map.{PutsAt, RemovesWithin, is_down};
 ghost use Rattle.mstore.specs.Rows.{IsInForm, ShowsValue, ShowsKey};
-ghost use Rattle.mstore.specs.Room.{IsFaultless, is_full};
+ghost use Rattle.mstore.specs.Room.{AreUpTo, IsFaultless, is_full};
 ghost use Rattle.mstore.specs.Statements.{Gives, IsRefusal, Step, sql};
 
 use mkey::Direction;
@@ -113,7 +113,8 @@ pub(crate) fn store_value<S: Alter>(
     ensures store { IsStore (state S.Store conn.old) → doubt_of S.Store conn.new ≡ 0 → IsStore (state S.Store conn.new) }
     ensures put { IsStore (state S.Store conn.old) → doubt_of S.Store conn.new ≡ 0 → OnOk result (PutsAt (holds S.Store conn.old) (holds S.Store conn.new) key.now value.now) }
     ensures fault { IsStore (state S.Store conn.old) → doubt_of S.Store conn.new ≡ 0 → OnErr result (stored S.Store conn.new ≡ stored S.Store conn.old) }
-    ensures full { IsFaultless S.Store → IsStore (state S.Store conn.old) → conn.old.step_limit ≡ None → result ≡ Err StoreFault.Store → is_full ((state S.Store conn.new).now.trees 0) ≡ true }
+    ensures numbers { IsStore (state S.Store conn.old) → doubt_of S.Store conn.new ≡ 0 → (n : ℕ) → AreUpTo n (node_rows S.Store conn.old) → AreUpTo (n + 1) (node_rows S.Store conn.new) }
+    ensures full { IsFaultless S.Store → IsStore (state S.Store conn.old) → conn.old.step_limit ≡ None → result ≡ Err StoreFault.Store → is_full (node_rows S.Store conn.new) ≡ true }
 {
     // The contract of `schema` says that the database obeys its schema.
     conn.schema();
@@ -131,6 +132,7 @@ pub(crate) fn remove_range<S: Alter>(
     ensures store { IsStore (state S.Store conn.old) → doubt_of S.Store conn.new ≡ 0 → IsStore (state S.Store conn.new) }
     ensures removed { IsStore (state S.Store conn.old) → doubt_of S.Store conn.new ≡ 0 → OnOk result (RemovesWithin (holds S.Store conn.old) (holds S.Store conn.new) low.now high.now) }
     ensures fault { IsStore (state S.Store conn.old) → doubt_of S.Store conn.new ≡ 0 → OnErr result (stored S.Store conn.new ≡ stored S.Store conn.old) }
+    ensures numbers { IsStore (state S.Store conn.old) → doubt_of S.Store conn.new ≡ 0 → (n : ℕ) → AreUpTo n (node_rows S.Store conn.old) → AreUpTo n (node_rows S.Store conn.new) }
     ensures refused { IsFaultless S.Store → IsStore (state S.Store conn.old) → conn.old.step_limit ≡ None → result ≢ Err StoreFault.Store }
 {
     // The contract of `schema` says that the database obeys its schema.

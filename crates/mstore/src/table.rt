@@ -1,6 +1,6 @@
 // SPDX-License-Identifier: Apache-2.0
 // A table over a connection.
-ghost use Rattle.std.specs.Prelude.{◌≡◌, ◌≢◌, ◌≤◌, ◌⊎◌, length, option_map, IfOk, IfErr, List, [], ◌∷◌, ℕ, None, Err, is_ok, IsTrue};
+ghost use Rattle.std.specs.Prelude.{◌≡◌, ◌≢◌, ◌≤◌, ◌+◌, ◌⊎◌, length, option_map, IfOk, IfErr, List, [], ◌∷◌, ℕ, nat_lt, None, Err, is_ok, IsTrue};
 ghost use Rattle.sqlite.specs.Order.{column};
 ghost use Rattle.sqlite.specs.declared.types.Value.TheVariants.{Blob};
 ghost use Rattle.mspec.specs.TextFunctions.{max_text};
@@ -8,7 +8,7 @@ ghost use Rattle.sqlite.specs.Held.{state};
 ghost use Rattle.mstore.specs.Database.{DoubtsStore, IsKept, IsStore, doubt_of, stored};
 ghost use Rattle.mstore.specs.Layout.{no_schema, schema};
 ghost use Rattle.mstore.specs.Map.{is_down, step_key};
-ghost use Rattle.mstore.specs.Room.{IsFaultless};
+ghost use Rattle.mstore.specs.Room.{IsFaultless, last_number};
 ghost use Rattle.mstore.specs.Rows.{IsValue};
 
 use crate::create::make_tables;
@@ -27,11 +27,17 @@ use sqlite_store::FileStore;
 use std::alloc::Global;
 use std::marker::Model;
 
+// The last number that a row may have.
+const LAST_NUMBER: u64 = 9_223_372_036_854_775_807;
+
 /// A store in the table `node` of a database. What is said of its content holds while its doubt is 0.
 pub struct Table<S: Alter> {
     conn: Connection<S>,
     // The database has the two tables and no other. What is said of statements is said of such a one.
     alone: bool,
+    // How many numbers its rows may have got: none has a greater one, as long as this is below the last number of all. What was opened
+    // with rows in it begins there.
+    numbers: u64,
     alloc: Global,
 }
 
@@ -41,6 +47,7 @@ impl<S: Alter + Drop> Drop for Table<S> {
         let Table {
             conn: _,
             alone: _,
+            numbers: _,
             alloc: _,
         } = self;
     }
@@ -49,15 +56,17 @@ impl<S: Alter + Drop> Drop for Table<S> {
 impl<S: Alter> Model for Table<S> {
     ghost use Rattle.std.specs.Prelude.{◌≡◌, IsTrue, None};
     ghost use Rattle.sqlite.specs.Held.{state};
-    ghost use Rattle.mstore.specs.Database.{TableOver, table_code, doubt_of, IsStore};
+    ghost use Rattle.mstore.specs.Database.{TableOver, table_code, doubt_of, node_rows, IsStore};
+    ghost use Rattle.mstore.specs.Room.{AreCounted};
 
     ghost Value = { TableOver S };
 
     ghost coded = { table_code S.code };
 
-    ghost view = { λ t. record { conn = t.conn; is_alone = t.alone } };
+    ghost view = { λ t. record { conn = t.conn; is_alone = t.alone; numbers = t.numbers } };
 
-    ghost invariant = { λ t. (IsTrue t.alone → doubt_of S.Store t.conn ≡ 0 → IsStore (state S.Store t.conn)) × (t.conn.step_limit ≡ None) };
+    ghost invariant = { λ t. (IsTrue t.alone → doubt_of S.Store t.conn ≡ 0 → IsStore (state S.Store t.conn)) × (t.conn.step_limit ≡ None)
+        × (IsTrue t.alone → doubt_of S.Store t.conn ≡ 0 → AreCounted t.numbers (node_rows S.Store t.conn)) };
 }
 
 impl Table<Memory> {
@@ -77,6 +86,7 @@ impl Table<Memory> {
         ensures sure { IfOk result (λ t. table_doubt over_memory t ≡ 0) }
         ensures sound { IfOk result (λ _. IsMemory over_memory) }
         ensures steady { IfOk result (λ _. IsFaultless over_memory) }
+        ensures room { IfOk result (λ t. t.numbers ≡ 0) }
         ensures key { result ≢ Err OpenFault.BadKey }
         ensures other_version { result ≢ Err OpenFault.BadVersion }
     {
@@ -92,6 +102,7 @@ impl Table<Memory> {
         Ok(Table {
             conn,
             alone: true,
+            numbers: 0,
             alloc,
         })
     }
@@ -122,7 +133,12 @@ impl<D: Disk> Table<FileStore<D>> {
         match open_beside(alloc, &mut conn) {
             Ok(alone) => {
                 conn.set_step_limit(None);
-                Ok(Table { conn, alone, alloc })
+                Ok(Table {
+                    conn,
+                    alone,
+                    numbers: LAST_NUMBER,
+                    alloc,
+                })
             }
             Err(fault) => Err((fault, conn)),
         }
@@ -163,6 +179,7 @@ impl<S: Alter> Table<S> {
                 Ok(Table {
                     conn,
                     alone: true,
+                    numbers: LAST_NUMBER,
                     alloc,
                 })
             }
@@ -185,9 +202,21 @@ impl<S: Alter> Table<S> {
         let Table {
             conn,
             alone: _,
+            numbers: _,
             alloc: _,
         } = self;
         conn
+    }
+}
+
+// The count of numbers after a row more. It stays at the last number of all.
+fn one_more(numbers: u64) -> u64
+    ensures { IsTrue (nat_lt result last_number) → IsTrue (nat_lt numbers last_number) × (result ≡ numbers + 1) }
+{
+    if numbers < LAST_NUMBER {
+        numbers + 1
+    } else {
+        numbers
     }
 }
 
@@ -261,6 +290,7 @@ impl<S: Alter> NodeStore for Table<S> {
     }
 
     fn put(&mut self, key: &NodeKey, text: &Bytes7) -> Result<(), StoreFault> {
+        self.numbers = one_more(self.numbers);
         store_value(&mut self.conn, key.as_bytes(), text.as_bytes())
     }
 

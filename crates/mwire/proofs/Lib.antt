@@ -14,7 +14,6 @@ pub mod Outputs
 pub mod Gathers
 pub mod Results
 pub mod ServedLines
-pub mod StoreFaults
 pub mod Sends
 pub mod RepliesSent
 pub mod Visits

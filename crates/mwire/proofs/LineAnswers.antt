@@ -1,12 +1,11 @@
 -- SPDX-License-Identifier: Apache-2.0
 -- How lines are answered, one after another.
-use Rattle.mwire.proofs.WireWords.{not, is_failure, Doubts, arith, LineSent, Option, Bool, ◌≡◌, ◌≢◌, ◌++◌, List, [], ◌∷◌, refl, sym, ◌∙◌, ap, subst, append_assoc, append-nil, Text, Settings, Seen, Event, Reply, Transition, Ghosts, Zstore, Ended, Fault, reply_of, WireLine, Ignored, TooLong, Unreadable, Runs, classify, before_events, events_of, too_long_text, unreadable_text, reply_text, line_text, replies_behind, answer_text, LinesAnswered, RunAnswered, WireLineAnswered, LineAnswered, EachAnswered, AnswersCutShort, map}
+use Rattle.mwire.proofs.WireWords.{not, IsTrue, is_failure, Doubts, arith, LineSent, Option, Bool, ◌≡◌, ◌≢◌, ◌++◌, List, [], ◌∷◌, refl, sym, ◌∙◌, ap, subst, append_assoc, append-nil, Text, Settings, Seen, Event, Reply, Transition, Ghosts, Zstore, Ended, Fault, reply_of, WireLine, Ignored, TooLong, Unreadable, Runs, classify, before_events, events_of, too_long_text, unreadable_text, reply_text, line_text, replies_behind, answer_text, LinesAnswered, RunAnswered, WireLineAnswered, LineAnswered, EachAnswered, AnswersCutShort, map}
 use Rattle.mworld.specs.declared.reply.Reply.{Reply as CodeReply}
-use Rattle.mnodes.specs.Steady.{NeverRefuses}
 use Rattle.mexec.specs.Runs.{ending_of, is_kept_by}
 use Rattle.mexec.specs.declared.text.Ended.TheVariants.{Done, Halt}
 use Rattle.mwire.proofs.StepsTaken.{steps_none, steps_one, steps_on}
-use Rattle.mwire.proofs.StoreFaults.{store_sufficed}
+use Rattle.mworld.proofs.StoreFaults.{store_sufficed}
 
 pub LineAnswered-at : {S : Type 0} (g : Ghosts S) (settings : Settings) (old : Seen) (line answer : Text) (new : Seen) (wire_line : WireLine)
     → classify line ≡ wire_line → WireLineAnswered g settings old wire_line answer new → LineAnswered g settings old line answer new
@@ -20,9 +19,9 @@ kept_is (Fault c) = refl
 
 -- a line that was run, and its reply
 pub replied : {S : Type 0} {g : Ghosts S} {settings : Settings} {old new : Seen} {e : Event} (answer : Text) (reply : CodeReply)
-    → answer ≡ reply_text e.terminal (reply_of reply) → (new.doubt ≡ 0 → Transition settings e (reply_of reply) old.world new.world) → Doubts g.sound old.doubt new.doubt (is_kept_by reply.ending) → (NeverRefuses g → ◌≢◌ {A = Ended} reply.ending (Fault Zstore))
+    → answer ≡ reply_text e.terminal (reply_of reply) → (new.doubt ≡ 0 → Transition settings e (reply_of reply) old.world new.world) → Doubts g.sound old.doubt new.doubt old.has_room new.has_room (is_kept_by reply.ending) → (g.steady → IsTrue new.has_room → ◌≢◌ {A = Ended} reply.ending (Fault Zstore))
     → RunAnswered g settings old e answer new
-replied {g = g} {old = old} {new = new} answer reply shown transition doubt steady = record { reply = reply_of reply; text = shown; transition = transition; doubt = subst (Doubts g.sound old.doubt new.doubt) (kept_is reply.ending) doubt; steady = λ holds. store_sufficed reply.ending (steady holds) }
+replied {g = g} {old = old} {new = new} answer reply shown transition doubt sufficed = record { reply = reply_of reply; text = shown; transition = transition; doubt = subst (Doubts g.sound old.doubt new.doubt old.has_room new.has_room) (kept_is reply.ending) doubt; sufficed = λ steady room. store_sufficed reply.ending (sufficed steady room) }
 
 -- lines of one wire_line are answered alike
 pub LineAnswered-same : {S : Type 0} (g : Ghosts S) (settings : Settings) (old : Seen) (line line' answer : Text) (new : Seen)
@@ -63,12 +62,11 @@ LinesAnswered-line g settings old line more (Runs event) answer mid rest new e h
   text =
       ap (λ t. t ++ rest) h.text
       ∙ (ap (λ t. reply_text event.terminal h.reply ++ t) a.text ∙ ap (λ f. both_texts more f (h.reply ∷ map (λ x. x.1) a.trace)) (sym e));
-  steps = steps_on ((event, h.reply) ∷ []) a.trace (steps_one event h.reply h.transition h.doubt) a.steps;
-  steady = λ steady. (h.steady steady, a.steady steady);
+  steps = steps_on ((event, h.reply) ∷ []) a.trace (steps_one event h.reply h.transition h.doubt h.sufficed) a.steps;
 }
 
 pub LinesAnswered-each : {S : Type 0} (g : Ghosts S) (settings : Settings) (old : Seen) (lines : List Text) (text : Text) (new : Seen) → EachAnswered g settings old lines text new → LinesAnswered g settings old lines text new
-LinesAnswered-each g settings old [] text new h = record { trace = []; events = refl; text = h.0; steps = steps_none h.1; steady = λ steady. tt }
+LinesAnswered-each g settings old [] text new h = record { trace = []; events = refl; text = h.0; steps = steps_none h.1 }
 LinesAnswered-each g settings old (line ∷ more) text new h =
     let P : Text → Type 0 = λ t. LinesAnswered g settings old (line ∷ more) t new in
     subst P (sym h.5) (LinesAnswered-line g settings old line more (classify line) h.0 h.1 h.2 new refl h.3.by_wire_line (LinesAnswered-each g settings h.1 more h.2 new h.4))

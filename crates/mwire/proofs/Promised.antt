@@ -14,7 +14,7 @@ module _ {S : Type 0} (g : Ghosts S) (settings : Settings) where
   last_steps world Ignored bytes after answered = steps_none answered.1
   last_steps world TooLong bytes after answered = steps_none answered.1
   last_steps world Unreadable bytes after answered = steps_none answered.1
-  last_steps world (Runs e) bytes after answered = steps_one e answered.reply answered.transition answered.doubt
+  last_steps world (Runs e) bytes after answered = steps_one e answered.reply answered.transition answered.doubt answered.sufficed
 
   short_steps : (world : Seen) (all : List Text) (sent : Text) (after : Seen) (short : AnswersCutShort g settings world all sent after)
       → AreSteps g settings world (ran_short g settings world all sent after short) after

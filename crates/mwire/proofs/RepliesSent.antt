@@ -1,6 +1,7 @@
 -- SPDX-License-Identifier: Apache-2.0
 -- The replies that one account is told, sent one after another.
-use Rattle.mwire.proofs.WireWords.{doubt_of, Doubts, Doubts-same, false, arith, ◌≡◌, ℕ, ◌+◌, ◌<◌, Bool, true, List, [], ◌∷◌, ◌++◌, Option, map, take, drop, length, get_or, refl, sym, ap, ◌∙◌, subst, append_assoc, inl, map-append, take-append-drop, Appends-trans, Appends-nil, Appends, Consumes, IsAtEnd, lines, Text, Event, Ghosts, settings_of, world_of, IsTold, IsEquallyTold, IsToldEach, IsToldUntilShut, RanFirst, RanUntilShut, events_of, reply_text, told_text, RanOnly, ServeOnlyCutShort, ServesOnly, FrontSent, WireFault, Read, Write, Memory, ◌≢◌, Ok, Err}
+use Rattle.mworld.specs.Sufficed.{StoreSufficedForTold}
+use Rattle.mwire.proofs.WireWords.{IsTrue, doubt_of, DoubtsOver, Doubts-same, false, arith, ◌≡◌, ℕ, ◌+◌, ◌<◌, Bool, true, List, [], ◌∷◌, ◌++◌, Option, map, take, drop, length, get_or, refl, sym, ap, ◌∙◌, subst, append_assoc, inl, map-append, take-append-drop, Appends-trans, Appends-nil, Appends, Consumes, IsAtEnd, lines, Text, Event, Ghosts, settings_of, world_of, IsTold, IsEquallyTold, IsToldEach, IsToldUntilShut, RanFirst, RanUntilShut, events_of, reply_text, told_text, RanOnly, ServeOnlyCutShort, ServesOnly, FrontSent, WireFault, Read, Write, Memory, ◌≢◌, Ok, Err}
 use Rattle.std.proofs.lemmas.List.{append-nil}
 use Rattle.std.proofs.lemmas.Grind.{flat_map-append}
 use Rattle.mspec.specs.Access.{name_at}
@@ -60,7 +61,7 @@ module _ {S : Type 0} (g : Ghosts S) (old new : World S g) (account : ℕ) (left
     consumed = consumed;
     sent = [];
     appended = subst (λ h. Appends held h []) (sym kept) (Appends-nil held);
-    doubt = subst (λ w. Doubts g.sound (doubt_of g old) (doubt_of g w) false) (sym same) (Doubts-same _);
+    doubt = subst (λ w. DoubtsOver g old.store w.store false) (sym same) (Doubts-same _);
     outcome = broke fault other;
   }
     where
@@ -76,7 +77,7 @@ module _ {S : Type 0} (g : Ghosts S) (old new : World S g) (account : ℕ) (left
   -- out of memory for what is told
   pub untold : (es : List Event) → es ≡ events_of (lines read) → (doubt_of g new ≡ 0 → RanFirst (settings_of old) (world_of g old) es (world_of g new))
       → (doubt_of g old ≡ 0 → doubt_of g new ≡ 1 → RanUntilShut (settings_of old) (world_of g old) es)
-      → Doubts g.sound (doubt_of g old) (doubt_of g new) false → held' ≡ held → ServesOnly g old account left left' held held' (Err Memory) new
+      → DoubtsOver g old.store new.store false → held' ≡ held → ServesOnly g old account left left' held held' (Err Memory) new
   untold es same first until_shut doubt kept = record {
     read = read;
     consumed = consumed;
@@ -90,7 +91,7 @@ module _ {S : Type 0} (g : Ghosts S) (old new : World S g) (account : ℕ) (left
     );
   }
 
-  module _ (at_end : IsAtEnd left') (bytes : Text) (whole : Bool) (ran : RanOnly g old account (events_of (lines read)) bytes whole new) (doubt : Doubts g.sound (doubt_of g old) (doubt_of g new) false) where
+  module _ (at_end : IsAtEnd left') (bytes : Text) (whole : Bool) (ran : RanOnly g old account (events_of (lines read)) bytes whole new) (doubt : DoubtsOver g old.store new.store false) where
     -- a fault of the writing
     pub unwritten : (fault : WireFault) → fault ≢ Read → (b : Bool) → FrontSent bytes held held' b → ServesOnly g old account left left' held held' (Err fault) new
     unwritten fault other b s = grind arith
@@ -104,5 +105,6 @@ pub ran_only : {S : Type 0} (g : Ghosts S) (old new : World S g) (account : ℕ)
     → (doubt_of g new ≡ 0 → IsTold g old account es replies whole new)
     → (doubt_of g new ≡ 0 → IsEquallyTold g old account es replies whole)
     → (doubt_of g old ≡ 0 → doubt_of g new ≡ 1 → IsToldUntilShut (name_at (settings_of old) account) (settings_of old) (world_of g old) es replies whole)
+    → (g.steady → IsTrue (g.has_room new.store) → StoreSufficedForTold replies)
     → RanOnly g old account es' bytes whole new
-ran_only g old new account es es' same replies bytes whole text each told alone until_shut = grind arith
+ran_only g old new account es es' same replies bytes whole text each told alone until_shut sufficed = grind arith

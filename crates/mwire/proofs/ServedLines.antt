@@ -24,8 +24,8 @@ normal_answers_are_served settings before after all bytes answers sure none =
     )
 
 pub normal_streams_are_served : {S : Type 0} {g : Ghosts S} → NormalStreamsAreServed g
-normal_streams_are_served settings globals doubt after stream bytes answers sure none =
-    (normal_answers_are_served settings (record { world = opening globals; doubt = doubt }) after (lines stream) bytes answers sure none).0
+normal_streams_are_served settings globals doubt has_room after stream bytes answers sure none =
+    (normal_answers_are_served settings (record { world = opening globals; doubt = doubt; has_room = has_room }) after (lines stream) bytes answers sure none).0
 
 events_of_answered : (settings : Settings) (world : World) (es : List Event) → map (λ e. e.0) (answered settings world es) ≡ es
 events_of_answered settings world [] = refl
@@ -45,7 +45,7 @@ store_sufficed settings world (e ∷ es) =
     (sufficed_by (normal settings e world).0 (normal_never_fails settings e world), store_sufficed settings (normal settings e world).1 es)
 
 pub lines_have_answers : {S : Type 0} {g : Ghosts S} → LinesHaveAnswers g
-lines_have_answers settings world doubt all = record {
+lines_have_answers settings world doubt has_room all = record {
   trace = answered settings world (events_of all);
   events = events_of_answered settings world (events_of all);
   text = sym (lines_are_served settings world all) ∙ ap (answer_text all) (sym (replies_of_answered settings world (events_of all)));
@@ -53,6 +53,6 @@ lines_have_answers settings world doubt all = record {
     history = λ sure. normal_transitions_are_history settings world (events_of all);
     doubt = Doubts-same _;
     until_shut = λ before now. absurd (omega (arith, before, now));
+    sufficed = λ steady room. store_sufficed settings world (events_of all);
   };
-  steady = λ steady. store_sufficed settings world (events_of all);
 }

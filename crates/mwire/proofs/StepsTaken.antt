@@ -1,6 +1,6 @@
 -- SPDX-License-Identifier: Apache-2.0
 -- Lines that are steps, one after another.
-use Rattle.mwire.proofs.WireWords.{◌≡◌, ◌++◌, ℕ, zero, suc, Bool, false, not, List, [], ◌∷◌, refl, sym, ap, ◌∙◌, subst, arith, append_assoc, IsTrue, Settings, World, Event, Reply, Transition, History, is_failure, Ghosts, Doubts, Doubts-on, Doubts-same, undoubted, Seen, AreSteps, StepsUntilShut}
+use Rattle.mwire.proofs.WireWords.{◌≡◌, ◌++◌, ℕ, zero, suc, Bool, false, not, List, [], ◌∷◌, refl, sym, ap, ◌∙◌, subst, arith, append_assoc, IsTrue, Settings, World, Event, Reply, Transition, History, is_failure, Ghosts, Doubts, Doubts-on, Doubts-same, undoubted, Seen, AreSteps, StepsUntilShut, StoreSufficed, StoreSufficedForEach}
 use Rattle.misolation.proofs.RunsTold.{history_on}
 
 -- a fault shut the store at a later line
@@ -27,6 +27,10 @@ until_first settings world first rest u = record {
   failed = u.failed;
 }
 
+sufficed_on : (first rest : List (Event × Reply)) → StoreSufficedForEach first → StoreSufficedForEach rest → StoreSufficedForEach (first ++ rest)
+sufficed_on [] rest a b = b
+sufficed_on (e ∷ es) rest a b = (a.0, sufficed_on es rest a.1 b)
+
 not_false : (b : Bool) → not b ≡ false → IsTrue b
 not_false b e = grind arith
 
@@ -37,15 +41,17 @@ module _ {S : Type 0} {g : Ghosts S} {settings : Settings} where
     history = λ sure. refl;
     doubt = Doubts-same _;
     until_shut = λ before now. absurd (omega (arith, before, now));
+    sufficed = λ steady room. tt;
   })
 
   -- one line
   pub steps_one : {world after : Seen} (e : Event) (reply : Reply) → (after.doubt ≡ 0 → Transition settings e reply world.world after.world)
-      → Doubts g.sound world.doubt after.doubt (not (is_failure reply.ending)) → AreSteps g settings world ((e, reply) ∷ []) after
-  steps_one {world = world} {after = after} e reply transition doubt = record {
+      → Doubts g.sound world.doubt after.doubt world.has_room after.has_room (not (is_failure reply.ending)) → (g.steady → IsTrue after.has_room → StoreSufficed reply) → AreSteps g settings world ((e, reply) ∷ []) after
+  steps_one {world = world} {after = after} e reply transition doubt sufficed = record {
     history = λ sure. (after.world, transition sure, refl);
     doubt = Doubts-on doubt (Doubts-same {is_done = false} _);
     until_shut = λ before now. record { done = []; last = (e, reply); others = []; of_lines = refl; between = world.world; history = refl; failed = not_false _ (doubt.failed before now) };
+    sufficed = λ steady room. (sufficed steady room, tt);
   }
 
   -- some, and then others
@@ -54,6 +60,7 @@ module _ {S : Type 0} {g : Ghosts S} {settings : Settings} where
     history = λ sure. history_on settings world.world between.world after.world first rest (a.history (undoubted b.doubt sure)) (b.history sure);
     doubt = Doubts-on a.doubt b.doubt;
     until_shut = λ before now. go between.doubt refl before now;
+    sufficed = λ steady room. sufficed_on first rest (a.sufficed steady (b.doubt.room room)) (b.sufficed steady room);
   }
     where
       go : (d : ℕ) → between.doubt ≡ d → world.doubt ≡ 0 → after.doubt ≡ 1 → StepsUntilShut settings world.world (first ++ rest)

@@ -27,13 +27,15 @@ pub use Rattle.mnodes.specs.declared.store.NodeStore.{Ghosts}
 pub use Rattle.mworld.specs.Isolated.{IsEquallyTold, IsTold, IsToldEach, IsToldUntilShut, RanFirst, RanUntilShut, replies_of, told_of}
 pub use Rattle.mnodes.proofs.Doubting.{Doubts-same, undoubted}
 pub use Rattle.mnodes.specs.Doubt.{Doubts}
+pub use Rattle.mnodes.specs.Over.{DoubtsOver}
 pub use Rattle.mworld.proofs.Doubted.{Doubts-on}
 pub use Rattle.mworld.specs.View.{Seen, doubt_of, event_of, reply_of, seen_of, settings_of, world_of}
-pub use Rattle.mwire.specs.Answers.{AnswersCutShort, LineAnswered, LinesAnswered, RunAnswered, StoreSufficed, StoreSufficedForEach, WireLineAnswered, answer_text, line_text, replies_behind}
+pub use Rattle.mwire.specs.Answers.{AnswersCutShort, LineAnswered, LinesAnswered, RunAnswered, WireLineAnswered, answer_text, line_text, replies_behind}
 pub use Rattle.mwire.specs.Connections.{AreOfPeers, AreServed, HasServedEach, ServesEach, Visit}
 pub use Rattle.mwire.specs.Only.{RanOnly, RepliesCutShort, ServeOnlyCutShort, ServesOnly, told_text}
 pub use Rattle.mwire.specs.Progress.{AreOpen, EachAnswered, FrontSent, Gathered, HasGathered, HasServed, IsCut, IsOpen, LineSent, SentUpTo, Stands, TakesOn}
-pub use Rattle.mwire.specs.Steps.{AreSteps, StepsUntilShut}
+pub use Rattle.mwire.specs.Steps.{AreSteps, StepsUntilShut, StoreSufficedForEach}
+pub use Rattle.mworld.specs.Sufficed.{StoreSufficed}
 pub use Rattle.mwire.specs.Serves.{EndsBy, Outcome, ServeCutShort, Serves}
 pub use Rattle.mwire.specs.Watched.{calls_of, counted_on, failed_of, inner_of, stalls_of}
 pub use Rattle.mwire.specs.Wire.{Ignored, Runs, TooLong, Unreadable, WireLine, before_events, but_last, classify, events_of, finished_lines, is_escaped, is_event, is_line_end, is_space, is_terminal, line_served, lines_served, output_text, parts_of, reply_text, shown, shown_character, stream_served, too_long_text, unreadable_text}

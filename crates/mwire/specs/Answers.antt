@@ -1,14 +1,13 @@
 -- SPDX-License-Identifier: Apache-2.0
 -- What answers the lines of a stream: the bytes, and a history of the lines' events, over a store of some type. That the lines
--- are steps is said as long as there is no doubt of the store; that no reply says that the store failed, if its type is steady and has room
--- in each store.
-use Rattle.std.specs.Prelude.{◌≡◌, ◌≢◌, not, List, [], ◌∷◌, ◌++◌, map}
+-- are steps is said as long as there is no doubt of the store; that no reply says that the store failed, if its type is steady and it has
+-- room at the end.
+use Rattle.std.specs.Prelude.{◌≡◌, not, IsTrue, List, [], ◌∷◌, ◌++◌, map}
 use Rattle.mspec.specs.Act.{Text}
-use Rattle.mspec.specs.Code.{Lost, Store}
-use Rattle.mmeaning.specs.Transition.{Settings, Event, Faulted, Reply, Transition, is_failure}
+use Rattle.mmeaning.specs.Transition.{Settings, Event, Reply, Transition, is_failure}
 use Rattle.mnodes.specs.declared.store.NodeStore.{Ghosts}
 use Rattle.mnodes.specs.Doubt.{Doubts}
-use Rattle.mnodes.specs.Steady.{NeverRefuses}
+use Rattle.mworld.specs.Sufficed.{StoreSufficed}
 use Rattle.mworld.specs.View.{Seen}
 use Rattle.mwire.specs.Steps.{AreSteps}
 use Rattle.mwire.specs.Wire.{WireLine, Ignored, TooLong, Unreadable, Runs, classify, reply_text, too_long_text, unreadable_text, events_of}
@@ -34,29 +33,20 @@ abbrev pub answer_text : List Text → List Reply → Text
 answer_text [] replies = []
 answer_text (line ∷ more) replies = line_text (classify line) replies ++ answer_text more (replies_behind (classify line) replies)
 
--- the reply does not say that the store failed
-abbrev pub StoreSufficed : Reply → Type 0
-StoreSufficed reply = reply.ending ≢ Faulted (Lost Store)
-
-abbrev pub StoreSufficedForEach : List (Event × Reply) → Type 0
-StoreSufficedForEach [] = Unit {0}
-StoreSufficedForEach (e ∷ es) = StoreSufficed e.1 × StoreSufficedForEach es
-
 -- the lines are answered by these bytes, which a history of their events gives
 pub record LinesAnswered {S : Type 0} (g : Ghosts S) (settings : Settings) (world : Seen) (all : List Text) (bytes : Text) (after : Seen) : Type 0 where
   pub trace : List (Event × Reply)
   pub events : map (λ e. e.0) trace ≡ events_of all
   pub text : bytes ≡ answer_text all (map (λ e. e.1) trace)
   pub steps : AreSteps g settings world trace after
-  pub steady : NeverRefuses g → StoreSufficedForEach trace
 
 -- a line that is run is answered by these bytes: those of a reply, by a transition
 pub record RunAnswered {S : Type 0} (g : Ghosts S) (settings : Settings) (world : Seen) (e : Event) (bytes : Text) (after : Seen) : Type 0 where
   pub reply : Reply
   pub text : bytes ≡ reply_text e.terminal reply
   pub transition : after.doubt ≡ 0 → Transition settings e reply world.world after.world
-  pub doubt : Doubts g.sound world.doubt after.doubt (not (is_failure reply.ending))
-  pub steady : NeverRefuses g → StoreSufficed reply
+  pub doubt : Doubts g.sound world.doubt after.doubt world.has_room after.has_room (not (is_failure reply.ending))
+  pub sufficed : g.steady → IsTrue after.has_room → StoreSufficed reply
 
 -- a line of this wire_line is answered by these bytes
 abbrev pub WireLineAnswered : {S : Type 0} → Ghosts S → Settings → Seen → WireLine → Text → Seen → Type 0

@@ -1,6 +1,6 @@
 -- SPDX-License-Identifier: Apache-2.0
 -- What `serve_only` does: a stream is read to its end, its events are run, and one account is told of its replies.
-use Rattle.std.specs.Prelude.{◌≡◌, ◌⊎◌, ℕ, Bool, false, List, [], ◌++◌, MatchResult, Result, Option}
+use Rattle.std.specs.Prelude.{◌≡◌, ◌⊎◌, ℕ, Bool, false, IsTrue, List, [], ◌++◌, MatchResult, Result, Option}
 use Rattle.std.specs.List.{flat_map}
 use Rattle.std.specs.Io.KnownBytes.{Appends, Consumes, IsAtEnd}
 use Rattle.std.specs.Str.Lines.{lines}
@@ -8,9 +8,11 @@ use Rattle.mspec.specs.Act.{Text}
 use Rattle.mspec.specs.Access.{name_at}
 use Rattle.mmeaning.specs.Transition.{Event}
 use Rattle.misolation.specs.Telling.{Told}
-use Rattle.mnodes.specs.Doubt.{Doubts, shut}
+use Rattle.mnodes.specs.Doubt.{shut}
+use Rattle.mnodes.specs.Over.{DoubtsOver}
 use Rattle.mnodes.specs.declared.store.NodeStore.{Ghosts}
 use Rattle.mworld.specs.declared.world.World.{World}
+use Rattle.mworld.specs.Sufficed.{StoreSufficedForTold}
 use Rattle.mworld.specs.View.{settings_of, world_of, doubt_of}
 use Rattle.mworld.specs.Isolated.{IsTold, IsEquallyTold, IsToldEach, IsToldUntilShut, RanFirst, RanUntilShut}
 use Rattle.mwire.specs.Wire.{events_of, reply_text}
@@ -23,7 +25,8 @@ told_text ts = flat_map (λ t. reply_text t.terminal t.reply) ts
 
 -- The events were run, and the account was told these bytes, or a front of them: those of replies to its events, one each. If there is no
 -- doubt of the store at the end, they are as they are for every closed set that has it, and, if they are whole, as the definitional
--- interpreter gives them to the reaching accounts alone. If a fault shut it on the way, so are those of the events before that.
+-- interpreter gives them to the reaching accounts alone. If a fault shut it on the way, so are those of the events before that. If the
+-- store's type is steady and it has room at the end, none says that the store failed.
 pub record RanOnly {S : Type 0} (g : Ghosts S) (old : World S g) (account : ℕ) (events : List Event) (bytes : Text) (whole : Bool) (new : World S g) : Type 0 where
   pub replies : List Told
   pub text : bytes ≡ told_text replies
@@ -31,6 +34,7 @@ pub record RanOnly {S : Type 0} (g : Ghosts S) (old : World S g) (account : ℕ)
   pub told : doubt_of g new ≡ 0 → IsTold g old account events replies whole new
   pub alone : doubt_of g new ≡ 0 → IsEquallyTold g old account events replies whole
   pub until_shut : doubt_of g old ≡ 0 → doubt_of g new ≡ shut → IsToldUntilShut (name_at (settings_of old) account) (settings_of old) (world_of g old) events replies whole
+  pub sufficed : g.steady → IsTrue (g.has_room new.store) → StoreSufficedForTold replies
 
 -- all events were run, and a front of the bytes was sent
 pub record RepliesCutShort {S : Type 0} (g : Ghosts S) (old : World S g) (account : ℕ) (events : List Event) (sent : Text) (new : World S g) : Type 0 where
@@ -58,5 +62,5 @@ pub record ServesOnly {S : Type 0} (g : Ghosts S) (old : World S g) (account : �
   pub consumed : Consumes left left' read
   pub sent : Text
   pub appended : Appends held held' sent
-  pub doubt : Doubts g.sound (doubt_of g old) (doubt_of g new) false
+  pub doubt : DoubtsOver g old.store new.store false
   pub outcome : MatchResult result (λ whole. IsAtEnd left' × RanOnly g old account (events_of (lines read)) sent whole new) (ServeOnlyCutShort g old account left' (events_of (lines read)) sent new)

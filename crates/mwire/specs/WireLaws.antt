@@ -1,6 +1,6 @@
 -- SPDX-License-Identifier: Apache-2.0
 -- The laws of the wire form.
-use Rattle.std.specs.Prelude.{◌≡◌, ◌<◌, ◌≤◌, ℕ, List, [], ◌∷◌, ◌++◌, length}
+use Rattle.std.specs.Prelude.{◌≡◌, ◌<◌, ◌≤◌, ℕ, Bool, List, [], ◌∷◌, ◌++◌, length}
 use Rattle.std.specs.List.{All, flat_map}
 use Rattle.std.specs.Fmt.{decimal}
 use Rattle.std.specs.Str.Lines.{lines, strip_carriage_return}
@@ -40,10 +40,11 @@ NormalAnswersAreServed g = (settings : Settings) (world after : Seen) (all : Lis
 
 -- so what answers a whole stream, from an opening world, is determined by the settings, the globals and the stream alone
 abbrev pub NormalStreamsAreServed : {S : Type 0} → Ghosts S → Type 0
-NormalStreamsAreServed g = (settings : Settings) (globals : Globals) (doubt : ℕ) (after : Seen) (stream bytes : Text)
-    (answers : LinesAnswered g settings (record { world = opening globals; doubt = doubt }) (lines stream) bytes after) → after.doubt ≡ 0 → NoneFailed answers.trace → bytes ≡ stream_served settings globals stream
+NormalStreamsAreServed g = (settings : Settings) (globals : Globals) (doubt : ℕ) (has_room : Bool) (after : Seen) (stream bytes : Text)
+    (answers : LinesAnswered g settings (record { world = opening globals; doubt = doubt; has_room = has_room }) (lines stream) bytes after) → after.doubt ≡ 0 → NoneFailed answers.trace → bytes ≡ stream_served settings globals stream
 
 -- and any lines have an answer, by normal steps, over a store of any type
 abbrev pub LinesHaveAnswers : {S : Type 0} → Ghosts S → Type 0
-LinesHaveAnswers g = (settings : Settings) (world : World) (doubt : ℕ) (all : List Text)
-    → LinesAnswered g settings (record { world = world; doubt = doubt }) all (lines_served settings world all) (record { world = world_after settings world (events_of all); doubt = doubt })
+LinesHaveAnswers g = (settings : Settings) (world : World) (doubt : ℕ) (has_room : Bool) (all : List Text)
+    → LinesAnswered g settings (record { world = world; doubt = doubt; has_room = has_room }) all (lines_served settings world all)
+    (record { world = world_after settings world (events_of all); doubt = doubt; has_room = has_room })

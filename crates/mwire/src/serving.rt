@@ -18,8 +18,8 @@ use std::alloc::Global;
 use std::io::{Read, Write};
 
 /// Runs the lines of a stream, to its end, and writes their replies: each one whole before the next line is run. If the store is
-/// sound, each line is a transition of the definitions, by the world's settings; over a steady store that always has room no
-/// line is answered ZSTORE.
+/// sound, each line is a transition of the definitions, by the world's settings; over a steady store that has room at the end
+/// no line is answered ZSTORE.
 ///
 /// The faults:
 /// - `Read`: a read failed, or there were 1,000,000,000 reads. The lines that a line feed ended are run and answered, and no other.

@@ -7,3 +7,4 @@ mod Sessions
 pub mod Tellings
 pub mod Promised
 pub mod Shuts
+pub mod StoreFaults

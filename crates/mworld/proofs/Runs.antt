@@ -1,6 +1,6 @@
 -- SPDX-License-Identifier: Apache-2.0
 -- A line's transition, from the run of its text.
-use Rattle.mworld.proofs.WorldWords.{Doubts, Doubts-same, is_kept_by, ◌≡◌, ℕ, [], true, false, Vec, Global, refl, sym, ap, subst, ◌∙◌, nat_cmp, FinMap, get, insert, remove, Own, Lost, Memory, Store, Settings, name_at, steps_at, Act, State, Gives, Fails, level_begun, Shared, Event, World, Transition, FailedTransition, lost, TransitionBy, normal, begun, kept, ended, settled, session_or_new, text_run, is_failure, is_lost, Ending, Finished, Halted, Faulted, act, AreFit, fault_of, Code, Session, session_of, RunsText, EndsBy, GaveEnding, ending_of, reply_of, shared, Passes}
+use Rattle.mworld.proofs.WorldWords.{DoubtsOver, Doubts-same, is_kept_by, ◌≡◌, ℕ, [], true, false, Vec, Global, refl, sym, ap, subst, ◌∙◌, nat_cmp, FinMap, get, insert, remove, Own, Lost, Memory, Store, Settings, name_at, steps_at, Act, State, Gives, Fails, level_begun, Shared, Event, World, Transition, FailedTransition, lost, TransitionBy, normal, begun, kept, ended, settled, session_or_new, text_run, is_failure, is_lost, Ending, Finished, Halted, Faulted, act, AreFit, fault_of, Code, Session, session_of, RunsText, EndsBy, GaveEnding, ending_of, reply_of, shared, Passes}
 use Rattle.mspec.specs.Code as spec
 use Rattle.mspec.specs.Plan.{perform, cut_short}
 use Rattle.mspec.specs.LockConflict.{Locks, released}
@@ -164,7 +164,7 @@ pub ran_over : {S : Type 0} {g : Ghosts S} {text : Text} {old new : Parts S} {en
     → Ran g old.eval.settings.now old.eval.terminal old.eval.account text session old.eval.store.now old.locks.now (record { out = out; ending = ended }) session' store' locks'
 ran_over {S = S} {g = g} {text = text} {old = old} {new = new} {ended = ended} runs steps first begun s u l o = record {
   left = new.eval.steps;
-  doubt = subst (λ u. Doubts g.sound (g.doubt old.eval.store.now) (g.doubt u) (is_kept_by ended)) (sym u) runs.doubt;
+  doubt = subst (λ u. DoubtsOver g old.eval.store.now u (is_kept_by ended)) (sym u) runs.doubt;
   at = λ sure.
       subst (λ (q : Here × Here × S). EndsBy (standing_of old.eval) (IsSteady g q.2) (text_run (standing_of old.eval).account (line_at text)) q.0 ended q.1)
       (λ i. (
@@ -180,7 +180,7 @@ pub not_run : {S : Type 0} {g : Ghosts S} {settings : Settings} {terminal place 
     → Ran g settings terminal place text session store locks reply session' store' locks'
 not_run {g = g} {settings = settings} {terminal = terminal} {place = place} {text = text} {session = session} {session' = session'} {store = store} {store' = store'} {locks = locks} {locks' = locks'} {reply = reply} is same unlocked = record {
   left = 0;
-  doubt = subst (λ u. Doubts g.sound (g.doubt store) (g.doubt u) (is_kept_by reply.ending)) (sym same) (Doubts-same _);
+  doubt = subst (λ u. DoubtsOver g store u (is_kept_by reply.ending)) (sym same) (Doubts-same _);
   at = λ sure.
       subst (λ (ending : Ended). EndsBy (record { settings = settings; terminal = terminal; account = name_at settings place }) (IsSteady g store') (text_run (name_at settings place) (line_at text))
       (point (level_begun session.locals) session.naked session.test [] (steps_at settings place) (shared g store locks)) ending

@@ -24,7 +24,7 @@ fails Halt e = cc
 fails (Fault c) e = is_so (is_lost (fault_of c)) e
 
 -- its reply is a failure
-pub shut_by : {sound : Type 0} {old new : ℕ} (ending : Ended) → Doubts sound old new (is_kept_by ending) → old ≡ 0 → new ≡ 1 → IsTrue (is_failure (ending_of ending))
+pub shut_by : {sound : Type 0} {old new : ℕ} {had_room has_room : Bool} (ending : Ended) → Doubts sound old new had_room has_room (is_kept_by ending) → old ≡ 0 → new ≡ 1 → IsTrue (is_failure (ending_of ending))
 shut_by ending d before now = fails ending (d.failed before now)
 
 module _ (a : Text) (settings : Settings) (world : World) (fit : IsFit settings world.shared) where
@@ -91,14 +91,14 @@ module _ (a : Text) (settings : Settings) (world : World) (fit : IsFit settings 
       abbrev Before : ℕ → Type 0
       Before mid = (mid ≡ 0 → Tells a settings world events told whole between) × (mid ≡ 1 → IsToldUntilShut a settings world events told whole)
 
-      pub shut_on : {sound : Type 0} {is_done : Bool} {told' : List Told} {whole' : Bool} (mid new : ℕ) → Doubts sound mid new is_done → new ≡ 1 → Before mid → (mid ≡ 0 → new ≡ 1 → IsTrue (is_failure reply.ending))
+      pub shut_on : {sound : Type 0} {had_room has_room is_done : Bool} {told' : List Told} {whole' : Bool} (mid new : ℕ) → Doubts sound mid new had_room has_room is_done → new ≡ 1 → Before mid → (mid ≡ 0 → new ≡ 1 → IsTrue (is_failure reply.ending))
           → TellsOne a settings e reply told whole told' whole' → IsToldUntilShut a settings world (events ++ e ∷ []) told' whole'
       shut_on zero new d now before failed one = now_shut one between (before.0 refl) (failed refl now)
       shut_on (suc zero) new d now before failed one = still_shut one (before.1 refl)
       shut_on (suc (suc n)) new d now before failed one = absurd (omega (arith, d.order, now))
 
       -- if the run ends early
-      pub shut_early : {sound : Type 0} {is_done : Bool} (rest : List Event) (mid new : ℕ) → Doubts sound mid new is_done → new ≡ 1 → Before mid → (mid ≡ 0 → new ≡ 1 → IsTrue (is_failure reply.ending)) → RanUntilShut settings world (events ++ e ∷ rest)
+      pub shut_early : {sound : Type 0} {had_room has_room is_done : Bool} (rest : List Event) (mid new : ℕ) → Doubts sound mid new had_room has_room is_done → new ≡ 1 → Before mid → (mid ≡ 0 → new ≡ 1 → IsTrue (is_failure reply.ending)) → RanUntilShut settings world (events ++ e ∷ rest)
       shut_early rest zero new d now before failed = let run = before.0 refl in record {
         done = run.lines;
         last = (e, reply);

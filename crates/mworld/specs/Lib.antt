@@ -2,5 +2,6 @@
 pub mod View
 pub mod Admits
 pub mod Ran
+pub mod Sufficed
 pub mod Promises
 pub mod Isolated

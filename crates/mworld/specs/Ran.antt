@@ -7,7 +7,7 @@ use Rattle.mspec.specs.Act.{Text, level_begun}
 use Rattle.mgrammar.specs.Reading.{line_at}
 use Rattle.mmeaning.specs.Transition.{text_run}
 use Rattle.mmeaning.specs.Calls.{point}
-use Rattle.mnodes.specs.Doubt.{Doubts}
+use Rattle.mnodes.specs.Over.{DoubtsOver}
 use Rattle.mnodes.specs.Steady.{IsSteady}
 use Rattle.mnodes.specs.declared.store.NodeStore.{Ghosts}
 use Rattle.meval.specs.declared.session.Session.{Session}
@@ -18,7 +18,7 @@ use Rattle.mworld.specs.View.{shared}
 -- the reply is that of the text, as a level of its own, with the steps of the account at this place
 pub record Ran {S : Type 0} (g : Ghosts S) (settings : Settings) (terminal place : ℕ) (text : Text) (session : Session) (store : S) (locks : Locks) (reply : Reply) (session' : Session) (store' : S) (locks' : Locks) : Type 0 where
   pub left : ℕ
-  pub doubt : Doubts g.sound (g.doubt store) (g.doubt store') (is_kept_by reply.ending)
+  pub doubt : DoubtsOver g store store' (is_kept_by reply.ending)
   pub at :
       g.doubt store' ≡ 0 →
       EndsBy (record { settings = settings; terminal = terminal; account = name_at settings place }) (IsSteady g store') (text_run (name_at settings place) (line_at text))

@@ -1,6 +1,6 @@
 -- SPDX-License-Identifier: Apache-2.0
 -- A world and a reply of the program as those of the definitions.
-use Rattle.std.specs.Prelude.{ℕ}
+use Rattle.std.specs.Prelude.{ℕ, Bool}
 use Rattle.std.specs.Ordering.{nat_cmp}
 use Rattle.std.specs.HashMap.{HashMap}
 use Rattle.std.specs.FinMap.{FinMap}
@@ -33,13 +33,14 @@ world_of g w = record { shared = shared g w.store w.locks; sessions = sessions_o
 abbrev pub doubt_of : {S : Type 0} (g : Ghosts S) → World S g → ℕ
 doubt_of g w = g.doubt w.store
 
--- a world as calls say what they did to it: with that doubt
+-- a world as calls say what they did to it: with that doubt, and whether its store has room
 pub record Seen : Type 0 where
   pub world : transition.World
   pub doubt : ℕ
+  pub has_room : Bool
 
 abbrev pub seen_of : {S : Type 0} (g : Ghosts S) → World S g → Seen
-seen_of g w = record { world = world_of g w; doubt = doubt_of g w }
+seen_of g w = record { world = world_of g w; doubt = doubt_of g w; has_room = g.has_room w.store }
 
 abbrev pub reply_of : Reply → transition.Reply
 reply_of r = record { out = r.out.items; ending = ending_of r.ending }

@@ -6,10 +6,12 @@ ghost use Rattle.mspec.specs.Trees.{text_eq};
 ghost use Rattle.mmeaning.specs.Transition as transition;
 ghost use Rattle.mmeaning.specs.Transition.{Transition, is_failure};
 ghost use Rattle.misolation.specs.Telling.{Tells};
-ghost use Rattle.mnodes.specs.Doubt.{Doubts, shut};
+ghost use Rattle.mnodes.specs.Doubt.{shut};
+ghost use Rattle.mnodes.specs.Over.{DoubtsOver};
 ghost use Rattle.mworld.specs.View.{settings_of, world_of, doubt_of, reply_of, event_of};
 ghost use Rattle.mworld.specs.Isolated.{replies_of, IsTold, IsEquallyTold, IsToldEach, IsToldUntilShut, IsUnseen, RanFirst, RanUntilShut, TellsOne};
 ghost use Rattle.mworld.specs.Promises.{IsUndoubted};
+ghost use Rattle.mworld.specs.Sufficed.{StoreSufficedForTold};
 
 use crate::reply::{Event, Reply};
 use crate::world::World;
@@ -62,7 +64,8 @@ impl Drop for Isolated {
 /// any other world that agrees on what reaches this account gives it the same replies.
 ///
 /// All this is said if there is no doubt of the store after the run. If a fault shut it on the way, it is said of the events before the one
-/// whose line shut it, and that line failed. Over any store they are replies to the account's events, one each and in their order.
+/// whose line shut it, and that line failed. Over any store they are replies to the account's events, one each and in their order; over a
+/// steady store that has room at the end none of them says `Zstore`.
 ///
 /// An id that names no account of the world's settings is told nothing.
 ///
@@ -80,7 +83,8 @@ pub fn isolated_replies<S: NodeStore>(
     ensures each { IfOk result (λ isolated. IsToldEach (name_at (settings_of world.old) account) (settings_of world.old) (map event_of events.now) (replies_of isolated)) }
     ensures first { IsUndoubted S.NodeStore world.new → IfErr result (λ _. RanFirst (settings_of world.old) (world_of S.NodeStore world.old) (map event_of events.now) (world_of S.NodeStore world.new)) }
     ensures settings { settings_of world.new ≡ settings_of world.old }
-    ensures doubt { Doubts S.sound (doubt_of S.NodeStore world.old) (doubt_of S.NodeStore world.new) false }
+    ensures doubt { DoubtsOver S.NodeStore world.old.store world.new.store false }
+    ensures sufficed { S.steady → IsTrue (S.has_room world.new.store) → IfOk result (λ isolated. StoreSufficedForTold (replies_of isolated)) }
 
     // A fault shut the store on the way.
     ensures told_until_shut { IsUndoubted S.NodeStore world.old → doubt_of S.NodeStore world.new ≡ shut → IfOk result (λ isolated.
@@ -116,7 +120,8 @@ fn tell<S: NodeStore>(
         × OnOk result (TellsOne (name_at (settings_of world.old) account) (settings_of world.old) (event_of event.now) reply (replies_of isolated.old) isolated.old.whole (replies_of isolated.new) isolated.new.whole) }
     ensures transition { IsUndoubted S.NodeStore world.new → (reply : transition.Reply) × Transition (settings_of world.old) (event_of event.now) reply (world_of S.NodeStore world.old) (world_of S.NodeStore world.new) }
     ensures settings { settings_of world.new ≡ settings_of world.old }
-    ensures doubt { Doubts S.sound (doubt_of S.NodeStore world.old) (doubt_of S.NodeStore world.new) false }
+    ensures doubt { DoubtsOver S.NodeStore world.old.store world.new.store false }
+    ensures sufficed { S.steady → IsTrue (S.has_room world.new.store) → OnOk result (StoreSufficedForTold (replies_of isolated.old) → StoreSufficedForTold (replies_of isolated.new)) }
 {
     let reply = world.line(event.terminal, &event.text);
     let Some(sender) = world.settings().account_of(event.terminal) else {

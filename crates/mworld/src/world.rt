@@ -62,7 +62,7 @@ impl<S: NodeStore> World<S> {
     ghost use Rattle.misolation.specs.Reach.{Accounts, IsClosed};
     ghost use Rattle.misolation.specs.Cut.{is_inside, cut_world};
     ghost use Rattle.misolation.specs.TransitionLaws.{TransitionWrites, TransitionWithin};
-    ghost use Rattle.mnodes.specs.Doubt.{Doubts};
+    ghost use Rattle.mnodes.specs.Over.{DoubtsOver};
     ghost use Rattle.mexec.specs.Runs.{is_kept_by};
     ghost use Rattle.mworld.specs.Promises.{IsUndoubted};
     ghost use Rattle.mworld.specs.View.{settings_of, world_of, doubt_of, reply_of};
@@ -156,7 +156,7 @@ impl<S: NodeStore> World<S> {
         ensures outside { IsUndoubted S.NodeStore self.new → (s : Accounts) → IsClosed (settings_of self.old) s → is_inside s (settings_of self.old) terminal ≡ false →
             cut_world s (settings_of self.old) (world_of S.NodeStore self.new) ≡ cut_world s (settings_of self.old) (world_of S.NodeStore self.old) }
         ensures settings { settings_of self.new ≡ settings_of self.old }
-        ensures doubt { Doubts S.sound (doubt_of S.NodeStore self.old) (doubt_of S.NodeStore self.new) (is_kept_by result.ending) }
+        ensures doubt { DoubtsOver S.NodeStore self.old.store self.new.store (is_kept_by result.ending) }
         ensures steady { S.steady → IsTrue (S.has_room self.new.store) → result.ending ≢ Ended.Fault Zstore }
     {
         match admitted(&self.settings, terminal, text) {
@@ -176,6 +176,7 @@ impl<S: NodeStore> World<S> {
     pub fn reuse(&mut self, reply: Reply)
         ensures world { world_of S.NodeStore self.new ≡ world_of S.NodeStore self.old }
         ensures doubt { doubt_of S.NodeStore self.new ≡ doubt_of S.NodeStore self.old }
+        ensures room { S.has_room self.new.store ≡ S.has_room self.old.store }
         ensures settings { settings_of self.new ≡ settings_of self.old }
     {
         self.room = reply.out;
@@ -186,7 +187,7 @@ impl<S: NodeStore> World<S> {
         requires { Passes (settings_of self.now) (record { terminal = terminal; text = text.now }) account }
         ensures transition { IsUndoubted S.NodeStore self.new → Transition (settings_of self.old) (record { terminal = terminal; text = text.now }) (reply_of result) (world_of S.NodeStore self.old) (world_of S.NodeStore self.new) }
         ensures settings { settings_of self.new ≡ settings_of self.old }
-        ensures doubt { Doubts S.sound (doubt_of S.NodeStore self.old) (doubt_of S.NodeStore self.new) (is_kept_by result.ending) }
+        ensures doubt { DoubtsOver S.NodeStore self.old.store self.new.store (is_kept_by result.ending) }
         ensures steady { S.steady → IsTrue (S.has_room self.new.store) → result.ending ≢ Ended.Fault Zstore }
     {
         let Ok(()) = begin_session(self.alloc, &mut self.sessions, terminal) else {

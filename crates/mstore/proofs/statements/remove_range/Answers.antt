@@ -1,8 +1,9 @@
 -- SPDX-License-Identifier: Apache-2.0
 use Rattle.mstore.proofs.Words.{◌≡◌, [], ◌∷◌, subst, Blob, Row, OnOk, OnErr, Executes, RemovesWithin, state, stored, IsStore, doubt_of, holds, Kill, sql}
-use Rattle.mstore.proofs.Doubting.{clean_if, clean_if_shut, shut_if, order, execute_open, done_fails}
+use Rattle.mstore.proofs.Doubting.{open_if, clean_if, clean_if_shut, shut_if, order, execute_open, done_fails}
 use Rattle.mstore.proofs.Sound.{kill_after, kill_open}
 use Rattle.mstore.proofs.Asked.{quiet}
+use Rattle.mstore.proofs.Numbers.{kill_counts}
 use Rattle.mstore.proofs.Killed.{kill_causes, undone}
 use Rattle.mstore.proofs.statements.remove_range.Goals as goal
 
@@ -26,6 +27,8 @@ returns g c =
       store = λ was sure. (after was sure).0;
       removed = λ was sure. (after was sure).1;
       fault = λ was sure. (after was sure).2;
+      numbers = λ was sure n up.
+          kill_counts (state g.S.Store old) (state g.S.Store new) was (open_if (state g.S.Store new) sure) n up c.args.low.now c.args.high.now c.execute.result (ran (clean_if (state g.S.Store new) sure));
       refused = λ beneath was unlimited.
           undone c.execute.result c.done.result
           (λ e is. kill_causes (state g.S.Store old) was.calm.schema_is was.nodes (c.schema.ensures.live (beneath.memory.is_open old.store)).0 unlimited c.args.low.now c.args.high.now (state g.S.Store new) (beneath.memory.is_open old.store)

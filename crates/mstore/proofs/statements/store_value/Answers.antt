@@ -1,9 +1,10 @@
 -- SPDX-License-Identifier: Apache-2.0
 use Rattle.mstore.proofs.Words.{◌≡◌, subst, true, [], ◌∷◌, Blob, Row, OnOk, OnErr, Executes, PutsAt, state, stored, IsStore, doubt_of, holds, Put, sql}
-use Rattle.mstore.proofs.Doubting.{clean_if, clean_if_shut, shut_if, order, execute_open, done_fails}
+use Rattle.mstore.proofs.Doubting.{open_if, clean_if, clean_if_shut, shut_if, order, execute_open, done_fails}
 use Rattle.mstore.specs.Room.{is_full}
 use Rattle.mstore.proofs.Sound.{put_after, put_open}
 use Rattle.mstore.proofs.Asked.{quiet}
+use Rattle.mstore.proofs.Numbers.{put_counts}
 use Rattle.mstore.proofs.Changes.{in_order}
 use Rattle.mstore.proofs.KeyLengths.{key_is_short}
 use Rattle.mstore.proofs.Stored.{put_causes, unless_full}
@@ -29,6 +30,8 @@ returns g c =
       store = λ was sure. (after was sure).0;
       put = λ was sure. (after was sure).1;
       fault = λ was sure. (after was sure).2;
+      numbers = λ was sure n up.
+          put_counts (state g.S.Store old) (state g.S.Store new) was (open_if (state g.S.Store new) sure) n up c.args.key.now c.args.value.now c.execute.result (ran (clean_if (state g.S.Store new) sure));
       full = λ beneath was unlimited.
           let live = (c.schema.ensures.live (beneath.memory.is_open old.store)).0 in
           let up = in_order g.S.Store old beneath was.calm.schema_is live in

@@ -21,7 +21,7 @@ returns-in-Ok-write_replies-clause-serves g c =
     let law = c.in-Ok-isolated_replies.ensures in
     written _ _ _ _ _ _ _ _ reads.read reads.consumed reads.outcome.0 _ _
     (ran_only _ _ _ _ _ _ (ap (map event_of) c.deref.ensures.value ∙ reads.outcome.1) (replies_of c.in-Ok-isolated_replies.isolated) _ _
-    (ap (λ (ts : _). told_text (map told_of ts)) c.deref-2.ensures.value) law.each law.told law.alone law.told_until_shut)
+    (ap (λ (ts : _). told_text (map told_of ts)) c.deref-2.ensures.value) law.each law.told law.alone law.told_until_shut law.sufficed)
     law.doubt c.in-Ok-write_replies.ensures.sent
 
 pub returns-clause-serves : goal.returns-clause-serves
@@ -30,5 +30,5 @@ returns-clause-serves g c =
     let law = c.in-Ok-isolated_replies.ensures in
     unwritten _ _ _ _ _ _ _ _ reads.read reads.consumed reads.outcome.0 _ _
     (ran_only _ _ _ _ _ _ (ap (map event_of) c.deref.ensures.value ∙ reads.outcome.1) (replies_of c.in-Ok-isolated_replies.isolated) _ _
-    (ap (λ (ts : _). told_text (map told_of ts)) c.deref-2.ensures.value) law.each law.told law.alone law.told_until_shut)
+    (ap (λ (ts : _). told_text (map told_of ts)) c.deref-2.ensures.value) law.each law.told law.alone law.told_until_shut law.sufficed)
     law.doubt c.in-Err-write_replies.fault c.in-Err-write_replies.ensures.fault.0 _ c.in-Err-write_replies.ensures.sent

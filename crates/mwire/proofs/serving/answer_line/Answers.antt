@@ -10,7 +10,7 @@ returns-in_err-show_reply-in-Runs-clause-sent g c =
     let is = sym c.classify.ensures ∙ ap wire_line_in c.in-Runs.is in
     record {
       answer = _;
-      answered = LineAnswered-at _ _ _ _ _ _ _ is (replied _ c.line-reply.result refl c.line-reply.ensures.transition c.line-reply.ensures.doubt (λ never. c.line-reply.ensures.steady never.0 (never.1 _)));
+      answered = LineAnswered-at _ _ _ _ _ _ _ is (replied _ c.line-reply.result refl c.line-reply.ensures.transition c.line-reply.ensures.doubt c.line-reply.ensures.steady);
       sent = FrontSent-none _ _ _ (not_ok _ c.from_residual.ensures.0);
     }
 
@@ -33,8 +33,8 @@ pub returns-in_ok-show_reply-in-Runs-clause-sent : goal.returns-in_ok-show_reply
 returns-in_ok-show_reply-in-Runs-clause-sent g c =
     let is = sym c.classify.ensures ∙ ap wire_line_in c.in-Runs.is in
     let same = c.deref.ensures.value ∙ c.in_ok-show_reply-in-Runs.ensures.ok in
-    rw (c.reuse.ensures.world, c.reuse.ensures.doubt) (record {
+    rw (c.reuse.ensures.world, c.reuse.ensures.doubt, c.reuse.ensures.room) (record {
       answer = c.deref.result.now;
-      answered = LineAnswered-at _ _ _ _ _ _ _ is (replied _ c.line-reply.result same c.line-reply.ensures.transition c.line-reply.ensures.doubt (λ never. c.line-reply.ensures.steady never.0 (never.1 _)));
+      answered = LineAnswered-at _ _ _ _ _ _ _ is (replied _ c.line-reply.result same c.line-reply.ensures.transition c.line-reply.ensures.doubt c.line-reply.ensures.steady);
       sent = c.write_whole-in-Runs.ensures.sent;
     })

@@ -37,6 +37,7 @@ loop-event-preserved g c =
       each =
           rw (take_on event_of c.args.events.now c.loop-event.event-index c.event-item.result c.loop-event-test.true c.event-item.is)
           (each _ c.loop-event.invariant.each);
+      sufficed = λ steady room. c.in_ok-tell.ensures.sufficed steady room (i.sufficed steady (c.tell.ensures.doubt.room room));
     }
 
 pub returns-clause-each : goal.returns-clause-each

@@ -2,6 +2,7 @@
 use Rattle.mworld.proofs.WorldWords.{◌≡◌, ℕ, List, ◌++◌, ◌∷◌, [], refl, sym, ap, ◌∙◌, subst, map, map-append, name_at, Event, Transition, Tells, settings_of, world_of, reply_of, event_of, told_of}
 use Rattle.mworld.proofs.Tellings.{nobody_told, other_told, own_told, tells_more, each_more, no_ok}
 use Rattle.mworld.proofs.Shuts.{shut_by}
+use Rattle.mworld.proofs.StoreFaults.{store_sufficed, told_more}
 use Rattle.mworld.proofs.isolated.tell.Goals as goal
 
 -- ---- the event was run
@@ -72,3 +73,15 @@ returns-then-not-is_same-clause-each g c = λ events h. each_more (returns-then-
 pub returns-clause-each : goal.returns-clause-each
 unfolding returns-clause-ran
 returns-clause-each g c = λ events h. each_more (returns-clause-ran g c).2 events h
+
+pub returns-then-not-is_same-clause-transition : goal.returns-then-not-is_same-clause-transition
+returns-then-not-is_same-clause-transition g c = λ sure.
+    let transition = rw c.deref.ensures.value at (c.line-reply.ensures.transition (sym c.reuse-then-not-is_same.ensures.doubt ∙ sure)) in
+    (reply_of c.line-reply.result, rw c.reuse-then-not-is_same.ensures.world transition)
+
+-- ---- and no reply says that the store failed
+
+pub returns-clause-sufficed : goal.returns-clause-sufficed
+returns-clause-sufficed g c = λ steady room before.
+    let told = ap (map told_of) c.in_ok-push.ensures.items ∙ map-append told_of c.args.isolated.now.replies.items (record { terminal = c.args.event.now.terminal; reply = c.line-reply.result } ∷ []) in
+    rw told (told_more _ _ (store_sufficed c.line-reply.result.ending (c.line-reply.ensures.steady steady room)) before)

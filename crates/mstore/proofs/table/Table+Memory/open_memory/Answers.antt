@@ -1,5 +1,6 @@
 -- SPDX-License-Identifier: Apache-2.0
 use Rattle.mstore.proofs.Words.{IsTrue, true, refl, sym, ap, subst, ◌∙◌, rules, state, no_doubt, over_memory, IsBlank, IsBare}
+use Rattle.mstore.specs.Room.{AreUpTo}
 use Rattle.mstore.proofs.Doubting.{memory_is_sure}
 use Rattle.mstore.proofs.Makes.{bare_is_empty, blank_from, memory_is, memory_is_faultless}
 use Rattle.mstore.proofs.Rooms.{unlimited_store}
@@ -11,6 +12,9 @@ invariant_of-result c =
     let blank : IsBlank (state over_memory c.in-Ok.conn) = blank_from _ (c.in-Ok.ensures.opens (no_doubt true refl)).0 (sym c.schema.ensures.value ∙ c.is_blank.ensures.0 no_tables) in (
       λ alone sure. unlimited_store over_memory c.make_tables.new.conn c.set_step_limit.new.self c.set_step_limit.ensures (λ sure. c.in_ok-make_tables.ensures.store sure blank) sure,
       ap (λ h. h.step_limit) c.set_step_limit.ensures,
+      λ alone sure less.
+          let made : IsBare (state over_memory c.make_tables.new.conn).now = c.in_ok-make_tables.ensures.made (memory_is_sure over_memory c.make_tables.new.conn memory_is) blank in
+          subst (AreUpTo 0) (sym (subst (λ h. IsBare (state over_memory h).now) (sym c.set_step_limit.ensures) made).empty) (λ r h. absurd h),
     )
 
 pub returns-clause-empty : goal.returns-clause-empty

@@ -1,5 +1,6 @@
 -- SPDX-License-Identifier: Apache-2.0
 use Rattle.mstore.proofs.Words.{ap, Err, state}
+use Rattle.mstore.proofs.Numbers.{none_counted}
 use Rattle.mstore.proofs.Rooms.{unlimited_store, unlimited_opened}
 use Rattle.mstore.proofs.table.Table.adopt.Goals as goal
 
@@ -7,6 +8,7 @@ pub invariant_of-result : goal.invariant_of-result
 invariant_of-result g c = (
   λ alone sure. unlimited_store g.S.Store c.open_tables.new.conn c.set_step_limit.new.self c.set_step_limit.ensures (λ sure. c.in-Ok.ensures.store sure) sure,
   ap (λ h. h.step_limit) c.set_step_limit.ensures,
+  λ alone sure. none_counted _,
 )
 
 pub returns-in-Ok-clause-store : goal.returns-in-Ok-clause-store

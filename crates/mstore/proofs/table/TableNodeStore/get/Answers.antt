@@ -2,14 +2,15 @@
 use Rattle.mstore.proofs.Words.{◌≡◌, ◌∙◌, rules, None, Some, TableOver, subst, get, stored}
 use Rattle.mstore.proofs.Tied.{gets_none, gets_text}
 use Rattle.mstore.proofs.Doubting.{memory_is_sure}
-use Rattle.mstore.proofs.Rooms.{store_is, value_is}
-use Rattle.mstore.proofs.Tables.{known, still_store, doubts_seen, doubts_failed, same_seen, held_seen}
+use Rattle.mstore.proofs.Rooms.{room_parts, store_is, value_is}
+use Rattle.mstore.proofs.Tables.{known, kept_counted, still_store, doubts_seen, doubts_failed, same_seen, held_seen}
 use Rattle.mstore.proofs.table.TableNodeStore.get.Goals as goal
 
 pub invariant_of-self : goal.invariant_of-self
 invariant_of-self g c = (
   still_store g.S.Store c.self.inside.conn c.find_value.new.conn c.self.inside.alone c.self.invariant.0 c.find_value.ensures.doubt.order (λ was sure. (c.find_value.ensures.kept was sure).0),
   c.find_value.ensures.limit ∙ c.self.invariant.1,
+  kept_counted g.S.Store c.self.inside.conn c.find_value.new.conn c.self.inside.alone c.self.invariant.0 c.find_value.ensures.doubt.order c.self.invariant.2 c.find_value.ensures.kept,
 )
 
 pub returns-in_default-clause-found : goal.returns-in_default-clause-found
@@ -65,8 +66,8 @@ returns-in_err-text-clause-doubt g c =
 
 pub returns-in_err-text-clause-store : goal.returns-in_err-text-clause-store
 returns-in_err-text-clause-store g c beneath room =
-    let was = store_is g.S.Store beneath c.self.inside.conn c.find_value.new.conn c.self.inside.alone c.self.invariant room in
+    let was = store_is g.S.Store beneath c.self.inside.conn c.find_value.new.conn c.self.inside.alone c.self.invariant (room_parts _ _ room).0 in
     let shows = rw c.in-Some.is at c.in_ok-row.ensures.found was (memory_is_sure g.S.Store c.find_value.new.conn beneath.memory) in
-    let value = value_is g.S.Store beneath c.self.inside.conn c.find_value.new.conn c.self.inside.alone c.self.invariant room _ c.in-Some.row shows in
+    let value = value_is g.S.Store beneath c.self.inside.conn c.find_value.new.conn c.self.inside.alone c.self.invariant (room_parts _ _ room).0 _ c.in-Some.row shows in
     let told = c.text_in.ensures.told value.0 value.1 value.2 in
     search rules

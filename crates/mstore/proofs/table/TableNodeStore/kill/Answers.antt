@@ -1,14 +1,16 @@
 -- SPDX-License-Identifier: Apache-2.0
 use Rattle.mstore.proofs.Words.{◌≡◌, ◌∙◌, OnOk, OnErr, TableOver, subst, without_subtree, stored}
 use Rattle.mstore.proofs.Tied.{kill_is, on_ok}
-use Rattle.mstore.proofs.Tables.{known, still_store, doubts_seen}
-use Rattle.mstore.proofs.Rooms.{store_is}
+use Rattle.mstore.proofs.Tables.{known, still_counted, still_store, doubts_seen}
+use Rattle.mstore.proofs.Rooms.{room_parts, store_is}
 use Rattle.mstore.proofs.table.TableNodeStore.kill.Goals as goal
 
 pub invariant_of-self : goal.invariant_of-self
 invariant_of-self g c = (
   still_store g.S.Store c.self.inside.conn c.remove_range.new.conn c.self.inside.alone c.self.invariant.0 c.remove_range.ensures.doubt.order c.remove_range.ensures.store,
   c.remove_range.ensures.limit ∙ c.self.invariant.1,
+  still_counted g.S.Store c.self.inside.conn c.remove_range.new.conn c.self.inside.alone c.self.invariant.0 c.remove_range.ensures.doubt.order c.self.invariant.2
+      (λ was sure less. (less, c.remove_range.ensures.numbers was sure c.self.inside.numbers)),
 )
 
 pub returns : goal.returns
@@ -27,5 +29,5 @@ returns g c =
           subst (λ (t : TableOver _). OnErr c.remove_range.result (stored g.S.Store new ≡ stored g.S.Store t.conn)) c.self.view_is (c.remove_range.ensures.fault it.0 it.1);
       doubt = doubts_seen g.S.Store old new c.self.inside.alone c.self.invariant.0 _ c.self.view_is _ d;
       store = λ beneath room.
-          c.remove_range.ensures.refused beneath (store_is g.S.Store beneath old new c.self.inside.alone c.self.invariant room) c.self.invariant.1;
+          c.remove_range.ensures.refused beneath (store_is g.S.Store beneath old new c.self.inside.alone c.self.invariant (room_parts _ _ room).0) c.self.invariant.1;
     }

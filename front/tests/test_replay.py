@@ -18,7 +18,7 @@ from pathlib import Path
 import pytest
 from front import FRONT, SETTINGS, Front, Person, Ran, in_loop, mjournal, small_disk, tool
 from mserve_front.journal_file import FileLog, files_of
-from mserve_front.places import last_line
+from mserve_front.places import end_of
 from mserve_front.records import Flush, LineRecord, ReplyRecord, StartRecord
 from mserve_front.replies import new_digest
 from mserve_front.settings import JournalSettings
@@ -94,7 +94,7 @@ async def test_replay_to_a_moment(start, tmp_path: Path) -> None:
     front.stop()
     assert replay(front, tmp_path / "then", "--to", moment)[0] == 0
     assert held(tmp_path / "then")["CLINIC"].nodes == 1 and held(front.folder / "store.db") == {}
-    number, last = json.loads((tmp_path / "then.at").read_text())["number"], last_line(JournalSettings(front.folder / "journal"))
+    number, last = json.loads((tmp_path / "then.at").read_text())["number"], end_of(JournalSettings(front.folder / "journal")).answered
     assert f"{number} " in mjournal(front.folder / "journal")("grep", r"S \^X=1")[1] and number < last
     # What is there is not written over, and no time before the snapshot is taken.
     assert "is there already" in replay(front, tmp_path / "then")[2]

@@ -1,9 +1,9 @@
 -- SPDX-License-Identifier: Apache-2.0
 -- What statements do to the numbers of rows: a put gives at most one more, and nothing else gives any.
-use Rattle.mstore.proofs.Words.{arith, ◌≡◌, ◌∙◌, ◌≤◌, ◌<◌, ◌+◌, ℕ, ℤ, pos, Bool, true, false, not, ◌&&◌, ◌||◌, List, [], ◌∷◌, Result, Ok, Err, IsTrue, refl, sym, ap, subst, inl, inr, true≢false, Row, Blob, Error, Database, State, Executes, IsStore, Has, id_in, rowid, next_rowid, Kill, Put, sql}
-use Rattle.std.proofs.Common.{fold, ◌+ℤ◌, ◌^◌, nat_lt}
+use Rattle.mstore.proofs.Words.{arith, ◌≡◌, ◌∙◌, ◌≤◌, ◌<◌, ◌+◌, ℕ, ℤ, pos, Bool, true, false, not, ◌&&◌, ◌||◌, List, [], ◌∷◌, Result, Ok, Err, IsTrue, refl, sym, ap, subst, inl, inr, true≢false, cases_Bool, Row, Blob, Error, Database, State, Executes, IsStore, Has, id_in, rowid, next_rowid, Kill, Put, sql}
+use Rattle.std.proofs.Common.{fold, ◌+ℤ◌, ◌^◌, nat_lt, if◌then◌else◌}
 use Rattle.sqlite_sql.specs.Ops.{fits_i64}
-use Rattle.mstore.specs.Room.{AreCounted, AreUpTo, has_next, is_full, last_number}
+use Rattle.mstore.specs.Room.{AreCounted, AreUpTo, counted_on, has_next, is_full, last_number}
 use Rattle.mstore.proofs.Edits.{IsLeft}
 use Rattle.mstore.proofs.Puts.{IsPut, puts}
 use Rattle.mstore.proofs.Kills.{kills}
@@ -50,6 +50,13 @@ module _ (old new : State) (was : IsStore old) (is_open : IsTrue new.is_open) (n
   kill_counts low high (Err e) h = failed (sql Kill) (Blob low ∷ Blob high ∷ []) e h
 
 -- ---- a count below the last number leaves room
+
+-- a count below it is one more than the count before
+pub counted_less : (n m : ℕ) → m ≡ counted_on n → IsTrue (nat_lt m last_number) → IsTrue (nat_lt n last_number) × (m ≡ n + 1)
+counted_less n m is less = elim (cases_Bool (nat_lt n last_number)) [
+  | inl below ↦ (below, is ∙ ap (λ b. if b then n + 1 else n) below)
+  | inr past ↦ absurd (true≢false (sym less ∙ ap (λ k. nat_lt k last_number) (is ∙ ap (λ b. if b then n + 1 else n) past) ∙ past))
+]
 
 -- of one that is not nothing is said
 pub none_counted : (rows : List Row) → AreCounted last_number rows

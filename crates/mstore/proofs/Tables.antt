@@ -49,6 +49,9 @@ module _ {S : Type 0} (g : Ghosts S) (old new : Held S) (is_alone : Bool) (was :
     pub doubts_seen : (is_done : Bool) → DoubtsStore g old new is_done → Doubts (IsMemory g) (table_doubt g t) doubt_after (has_room g t) (is_alone && nat_lt numbers last_number) is_done
     doubts_seen is_done d = doubts_counted numbers is_done d (λ less. less)
 
+    pub count_seen : numbers ≡ t.numbers
+    count_seen = ap (λ (t : TableOver S). t.numbers) is
+
     pub same_seen : doubt_of g old ≤ doubt_of g new → IsKept g old new → doubt_after ≡ 0 → stored g new ≡ stored g t.conn
     same_seen order kept sure = let it = known order sure in (kept it.0 it.1).1 ∙ ap (λ (t : TableOver S). stored g t.conn) is
 

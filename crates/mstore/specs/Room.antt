@@ -1,6 +1,6 @@
 -- SPDX-License-Identifier: Apache-2.0
 -- When a table has no number for one more row, and the stores beneath over which nothing else refuses a call.
-use Rattle.std.specs.Prelude.{◌≡◌, ◌≤◌, ◌-◌, ◌^◌, ℕ, pos, ◌+ℤ◌, Bool, true, false, IsTrue, refl, not, ◌&&◌, nat_lt, if◌then◌else◌, List}
+use Rattle.std.specs.Prelude.{◌≡◌, ◌≤◌, ◌+◌, ◌-◌, ◌^◌, ℕ, pos, ◌+ℤ◌, Bool, true, false, IsTrue, refl, not, ◌&&◌, nat_lt, if◌then◌else◌, List}
 use Rattle.std.specs.List.{list_any}
 use Rattle.sqlite_value.specs.Order.{Row}
 use Rattle.sqlite_trees.specs.Tree.{rowid}
@@ -11,6 +11,7 @@ use Rattle.sqlite_sql.specs.Ops.{fits_i64}
 use Rattle.sqlite_rules.specs.Edit.{id_in}
 use Rattle.sqlite_rules.specs.Lists.{Has}
 use Rattle.sqlite_trees.proofs.Doubt.{clean_of}
+use Rattle.mnodes.specs.Doubt.{Doubts}
 use Rattle.mstore.specs.Database.{IsMemory, TableOver, doubt_as, table_doubt}
 
 -- the number of the row is one that a row may have, and so is the next
@@ -40,10 +41,18 @@ AreUpTo n rows = (r : Row) → Has rows r → (m : ℕ) × (id_in (rowid r) ≡ 
 abbrev pub AreCounted : ℕ → List Row → Type 0
 AreCounted n rows = IsTrue (nat_lt n last_number) → AreUpTo n rows
 
+-- the count after a row more: the next number, or the last one again
+abbrev pub counted_on : ℕ → ℕ
+counted_on n = if nat_lt n last_number then n + 1 else n
+
 -- Nothing is said of a table beside others. One alone has room as long as its count is below the last number: a row that is removed may
 -- give its number back, but not to the count, so room that is gone does not come back.
 abbrev pub has_room : {S : Type 0} → Ghosts S → TableOver S → Bool
 has_room g t = t.is_alone && nat_lt t.numbers last_number
+
+-- what a call does to a table's doubt and room
+abbrev pub DoubtsTable : {S : Type 0} → Ghosts S → TableOver S → TableOver S → Bool → Type 0
+DoubtsTable g old new is_done = Doubts (IsMemory g) (table_doubt g old) (table_doubt g new) (has_room g old) (has_room g new) is_done
 
 -- ---- such a table is in no doubt
 

@@ -1,14 +1,17 @@
 // SPDX-License-Identifier: Apache-2.0
 // A table over a connection.
-ghost use Rattle.std.specs.Prelude.{◌≡◌, ◌≢◌, ◌≤◌, ◌+◌, ◌⊎◌, length, option_map, IfOk, IfErr, List, [], ◌∷◌, ℕ, nat_lt, None, Err, is_ok, IsTrue};
+ghost use Rattle.std.specs.Prelude.{◌≡◌, ◌≢◌, ◌≤◌, ◌⊎◌, length, option_map, IfOk, IfErr, OnOk, OnErr, List, [], ◌∷◌, ℕ, None, Err, is_ok, IsTrue};
+ghost use Rattle.std.specs.FinMap.{get, insert};
 ghost use Rattle.sqlite.specs.Order.{column};
 ghost use Rattle.sqlite.specs.declared.types.Value.TheVariants.{Blob};
+ghost use Rattle.mspec.specs.Globals.{next_key, previous_key, without_subtree};
 ghost use Rattle.mspec.specs.TextFunctions.{max_text};
+ghost use Rattle.mnodes.specs.Held.{AreHeld};
 ghost use Rattle.sqlite.specs.Held.{state};
 ghost use Rattle.mstore.specs.Database.{DoubtsStore, IsKept, IsStore, doubt_of, stored};
 ghost use Rattle.mstore.specs.Layout.{no_schema, schema};
 ghost use Rattle.mstore.specs.Map.{is_down, step_key};
-ghost use Rattle.mstore.specs.Room.{IsFaultless, last_number};
+ghost use Rattle.mstore.specs.Room.{counted_on, IsFaultless};
 ghost use Rattle.mstore.specs.Rows.{IsValue};
 
 use crate::create::make_tables;
@@ -211,7 +214,7 @@ impl<S: Alter> Table<S> {
 
 // The count of numbers after a row more. It stays at the last number of all.
 fn one_more(numbers: u64) -> u64
-    ensures { IsTrue (nat_lt result last_number) → IsTrue (nat_lt numbers last_number) × (result ≡ numbers + 1) }
+    ensures { result ≡ counted_on numbers }
 {
     if numbers < LAST_NUMBER {
         numbers + 1
@@ -269,7 +272,7 @@ fn key_within<S: Alter>(
 
 impl<S: Alter> NodeStore for Table<S> {
     ghost use Rattle.mstore.specs.Database.{IsMemory, stored, table_doubt};
-    ghost use Rattle.mstore.specs.Room.{has_room, told_of};
+    ghost use Rattle.mstore.specs.Room.{DoubtsTable, has_room, told_of};
 
     ghost content = { λ t. stored S.Store t.conn };
 
@@ -281,7 +284,14 @@ impl<S: Alter> NodeStore for Table<S> {
 
     ghost has_room = { has_room S.Store };
 
-    fn get(&mut self, key: &NodeKey) -> Result<Option<Bytes7>, StoreFault> {
+    fn get(&mut self, key: &NodeKey) -> Result<Option<Bytes7>, StoreFault>
+        ensures found { table_doubt S.Store self.new ≡ 0 → IfOk result (λ text. text ≡ get (stored S.Store self.old.conn) key.now) }
+        ensures held { table_doubt S.Store self.new ≡ 0 → AreHeld (stored S.Store self.old.conn) }
+        ensures same { table_doubt S.Store self.new ≡ 0 → stored S.Store self.new.conn ≡ stored S.Store self.old.conn }
+        ensures doubt { DoubtsTable S.Store self.old self.new (is_ok result) }
+        ensures store { IsFaultless S.Store → IsTrue (has_room S.Store self.new) → result ≢ Err StoreFault.Store }
+        ensures counts { self.new.numbers ≡ self.old.numbers }
+    {
         let Some(row) = find_value(&mut self.conn, key.as_bytes())? else {
             return Ok(None);
         };
@@ -289,21 +299,49 @@ impl<S: Alter> NodeStore for Table<S> {
         Ok(Some(text))
     }
 
-    fn put(&mut self, key: &NodeKey, text: &Bytes7) -> Result<(), StoreFault> {
+    fn put(&mut self, key: &NodeKey, text: &Bytes7) -> Result<(), StoreFault>
+        requires { length text.now ≤ max_text }
+        ensures put { table_doubt S.Store self.new ≡ 0 → OnOk result (stored S.Store self.new.conn ≡ insert (stored S.Store self.old.conn) key.now text.now) }
+        ensures held { table_doubt S.Store self.new ≡ 0 → OnOk result (AreHeld (stored S.Store self.old.conn)) }
+        ensures fault { table_doubt S.Store self.new ≡ 0 → OnErr result (stored S.Store self.new.conn ≡ stored S.Store self.old.conn) }
+        ensures doubt { DoubtsTable S.Store self.old self.new (is_ok result) }
+        ensures store { IsFaultless S.Store → IsTrue (has_room S.Store self.new) → result ≢ Err StoreFault.Store }
+        ensures counts { self.new.numbers ≡ counted_on self.old.numbers }
+    {
         self.numbers = one_more(self.numbers);
         store_value(&mut self.conn, key.as_bytes(), text.as_bytes())
     }
 
-    fn kill(&mut self, key: &NodeKey) -> Result<(), StoreFault> {
+    fn kill(&mut self, key: &NodeKey) -> Result<(), StoreFault>
+        ensures killed { table_doubt S.Store self.new ≡ 0 → OnOk result (stored S.Store self.new.conn ≡ without_subtree (stored S.Store self.old.conn) key.now) }
+        ensures fault { table_doubt S.Store self.new ≡ 0 → OnErr result (stored S.Store self.new.conn ≡ stored S.Store self.old.conn) }
+        ensures doubt { DoubtsTable S.Store self.old self.new (is_ok result) }
+        ensures store { IsFaultless S.Store → IsTrue (has_room S.Store self.new) → result ≢ Err StoreFault.Store }
+        ensures counts { self.new.numbers ≡ self.old.numbers }
+    {
         let end = key.after_subtree(self.alloc)?;
         remove_range(&mut self.conn, key.as_bytes(), end.as_slice())
     }
 
-    fn next(&mut self, low: &[u8], high: &[u8]) -> Result<Option<Vec<u8>>, StoreFault> {
+    fn next(&mut self, low: &[u8], high: &[u8]) -> Result<Option<Vec<u8>>, StoreFault>
+        ensures found { table_doubt S.Store self.new ≡ 0 → IfOk result (λ key. option_map (λ bytes. bytes.items) key ≡ next_key (stored S.Store self.old.conn) low.now high.now) }
+        ensures held { table_doubt S.Store self.new ≡ 0 → AreHeld (stored S.Store self.old.conn) }
+        ensures same { table_doubt S.Store self.new ≡ 0 → stored S.Store self.new.conn ≡ stored S.Store self.old.conn }
+        ensures doubt { DoubtsTable S.Store self.old self.new (is_ok result) }
+        ensures store { IsFaultless S.Store → IsTrue (has_room S.Store self.new) → result ≢ Err StoreFault.Store }
+        ensures counts { self.new.numbers ≡ self.old.numbers }
+    {
         key_within(&mut self.conn, Direction::Forward, low, high)
     }
 
-    fn prev(&mut self, low: &[u8], high: &[u8]) -> Result<Option<Vec<u8>>, StoreFault> {
+    fn prev(&mut self, low: &[u8], high: &[u8]) -> Result<Option<Vec<u8>>, StoreFault>
+        ensures found { table_doubt S.Store self.new ≡ 0 → IfOk result (λ key. option_map (λ bytes. bytes.items) key ≡ previous_key (stored S.Store self.old.conn) low.now high.now) }
+        ensures held { table_doubt S.Store self.new ≡ 0 → AreHeld (stored S.Store self.old.conn) }
+        ensures same { table_doubt S.Store self.new ≡ 0 → stored S.Store self.new.conn ≡ stored S.Store self.old.conn }
+        ensures doubt { DoubtsTable S.Store self.old self.new (is_ok result) }
+        ensures store { IsFaultless S.Store → IsTrue (has_room S.Store self.new) → result ≢ Err StoreFault.Store }
+        ensures counts { self.new.numbers ≡ self.old.numbers }
+    {
         key_within(&mut self.conn, Direction::Backward, low, high)
     }
 

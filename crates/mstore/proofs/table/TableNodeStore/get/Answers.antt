@@ -3,7 +3,7 @@ use Rattle.mstore.proofs.Words.{◌≡◌, ◌∙◌, rules, None, Some, TableOv
 use Rattle.mstore.proofs.Tied.{gets_none, gets_text}
 use Rattle.mstore.proofs.Doubting.{memory_is_sure}
 use Rattle.mstore.proofs.Rooms.{room_parts, store_is, value_is}
-use Rattle.mstore.proofs.Tables.{known, kept_counted, still_store, doubts_seen, doubts_failed, same_seen, held_seen}
+use Rattle.mstore.proofs.Tables.{count_seen, known, kept_counted, still_store, doubts_seen, doubts_failed, same_seen, held_seen}
 use Rattle.mstore.proofs.table.TableNodeStore.get.Goals as goal
 
 pub invariant_of-self : goal.invariant_of-self
@@ -71,3 +71,15 @@ returns-in_err-text-clause-store g c beneath room =
     let value = value_is g.S.Store beneath c.self.inside.conn c.find_value.new.conn c.self.inside.alone c.self.invariant (room_parts _ _ room).0 _ c.in-Some.row shows in
     let told = c.text_in.ensures.told value.0 value.1 value.2 in
     search rules
+
+pub returns-in_default-clause-counts : goal.returns-in_default-clause-counts
+returns-in_default-clause-counts g c = count_seen g.S.Store c.self.inside.conn c.find_value.new.conn c.self.inside.alone c.self.invariant.0 _ c.self.view_is
+
+pub returns-clause-counts : goal.returns-clause-counts
+returns-clause-counts g c = count_seen g.S.Store c.self.inside.conn c.find_value.new.conn c.self.inside.alone c.self.invariant.0 _ c.self.view_is
+
+pub returns-in_err-row-clause-counts : goal.returns-in_err-row-clause-counts
+returns-in_err-row-clause-counts g c = count_seen g.S.Store c.self.inside.conn c.find_value.new.conn c.self.inside.alone c.self.invariant.0 _ c.self.view_is
+
+pub returns-in_err-text-clause-counts : goal.returns-in_err-text-clause-counts
+returns-in_err-text-clause-counts g c = count_seen g.S.Store c.self.inside.conn c.find_value.new.conn c.self.inside.alone c.self.invariant.0 _ c.self.view_is

@@ -1,7 +1,7 @@
 -- SPDX-License-Identifier: Apache-2.0
 use Rattle.mstore.proofs.Words.{◌≡◌, ◌∙◌, OnOk, OnErr, TableOver, subst, without_subtree, stored}
 use Rattle.mstore.proofs.Tied.{kill_is, on_ok}
-use Rattle.mstore.proofs.Tables.{known, still_counted, still_store, doubts_seen}
+use Rattle.mstore.proofs.Tables.{count_seen, known, still_counted, still_store, doubts_seen}
 use Rattle.mstore.proofs.Rooms.{room_parts, store_is}
 use Rattle.mstore.proofs.table.TableNodeStore.kill.Goals as goal
 
@@ -30,4 +30,5 @@ returns g c =
       doubt = doubts_seen g.S.Store old new c.self.inside.alone c.self.invariant.0 _ c.self.view_is _ d;
       store = λ beneath room.
           c.remove_range.ensures.refused beneath (store_is g.S.Store beneath old new c.self.inside.alone c.self.invariant (room_parts _ _ room).0) c.self.invariant.1;
+      counts = count_seen g.S.Store old new c.self.inside.alone c.self.invariant.0 _ c.self.view_is;
     }

@@ -1,6 +1,6 @@
 -- SPDX-License-Identifier: Apache-2.0
 use Rattle.mstore.proofs.Words.{◌≡◌, ◌∙◌, IfOk, TableOver, option_map, subst, previous_key, stored}
-use Rattle.mstore.proofs.Tables.{known, kept_counted, still_store, doubts_seen, same_seen, held_seen}
+use Rattle.mstore.proofs.Tables.{count_seen, known, kept_counted, still_store, doubts_seen, same_seen, held_seen}
 use Rattle.mstore.proofs.Rooms.{room_parts, store_is}
 use Rattle.mstore.proofs.table.TableNodeStore.prev.Goals as goal
 
@@ -24,4 +24,5 @@ returns g c =
       same = λ sure. same_seen g.S.Store old new c.self.inside.alone c.self.invariant.0 _ c.self.view_is d.order c.key_within.ensures.kept sure;
       doubt = doubts_seen g.S.Store old new c.self.inside.alone c.self.invariant.0 _ c.self.view_is _ d;
       store = λ beneath room. c.key_within.ensures.store beneath (store_is g.S.Store beneath old new c.self.inside.alone c.self.invariant (room_parts _ _ room).0) c.self.invariant.1;
+      counts = count_seen g.S.Store old new c.self.inside.alone c.self.invariant.0 _ c.self.view_is;
     }

@@ -2,7 +2,8 @@
 use Rattle.mstore.proofs.Words.{◌≡◌, ◌∙◌, sym, OnOk, OnErr, TableOver, subst, stored, insert}
 use Rattle.mstore.proofs.Tied.{put_is, on_ok}
 use Rattle.mstore.specs.Database.{node_rows}
-use Rattle.mstore.specs.Room.{AreUpTo}
+use Rattle.mstore.specs.Room.{AreUpTo, counted_on}
+use Rattle.mstore.proofs.Numbers.{counted_less}
 use Rattle.mstore.proofs.Tables.{known, still_counted, still_store, doubts_counted, held_seen}
 use Rattle.mstore.proofs.Doubting.{memory_is_sure}
 use Rattle.mstore.proofs.Rooms.{room_parts, store_is, not_full}
@@ -14,7 +15,7 @@ invariant_of-self g c = (
   c.store_value.ensures.limit ∙ c.self.invariant.1,
   still_counted g.S.Store c.self.inside.conn c.store_value.new.conn c.self.inside.alone c.self.invariant.0 c.store_value.ensures.doubt.order c.self.invariant.2
       (λ was sure less.
-      let more = c.one_more-self-inside.ensures less in
+      let more = counted_less _ _ c.one_more-self-inside.ensures less in
       (more.0, λ up. subst (λ n. AreUpTo n (node_rows g.S.Store c.store_value.new.conn)) (sym more.1) (c.store_value.ensures.numbers was sure c.self.inside.numbers up))),
 )
 
@@ -35,9 +36,10 @@ returns g c =
       fault = λ sure.
           let it = known g.S.Store old new c.self.inside.alone c.self.invariant.0 d.order sure in
           subst (λ (t : TableOver _). OnErr c.store_value.result (stored g.S.Store new ≡ stored g.S.Store t.conn)) c.self.view_is (c.store_value.ensures.fault it.0 it.1);
-      doubt = doubts_counted g.S.Store old new c.self.inside.alone c.self.invariant.0 _ c.self.view_is c.one_more-self-inside.result _ d (λ less. (c.one_more-self-inside.ensures less).0);
+      doubt = doubts_counted g.S.Store old new c.self.inside.alone c.self.invariant.0 _ c.self.view_is c.one_more-self-inside.result _ d (λ less. (counted_less _ _ c.one_more-self-inside.ensures less).0);
       store = λ beneath room refused.
-          not_full g.S.Store beneath old new c.self.inside.alone c.self.invariant (room_parts _ _ room).0 c.one_more-self-inside.result (room_parts _ _ room).1 c.one_more-self-inside.ensures
+          not_full g.S.Store beneath old new c.self.inside.alone c.self.invariant (room_parts _ _ room).0 c.one_more-self-inside.result (room_parts _ _ room).1 (counted_less _ _ c.one_more-self-inside.ensures)
           (λ n up. c.store_value.ensures.numbers (store_is g.S.Store beneath old new c.self.inside.alone c.self.invariant (room_parts _ _ room).0) (memory_is_sure g.S.Store new beneath.memory) n up)
           (c.store_value.ensures.full beneath (store_is g.S.Store beneath old new c.self.inside.alone c.self.invariant (room_parts _ _ room).0) c.self.invariant.1 refused);
+      counts = subst (λ (t : TableOver _). c.one_more-self-inside.result ≡ counted_on t.numbers) c.self.view_is c.one_more-self-inside.ensures;
     }

@@ -3,14 +3,15 @@
 ghost use Rattle.std.specs.Prelude.{◌≡◌, ◌↔◌, ◌+◌, ◌<◌, ◌≤◌, IsTrue, length, IfOk, Err, Some, None};
 ghost use Rattle.mgrammar.specs.Reading.{line_at};
 ghost use Rattle.mgrammar.specs.RoutineLine.{routine_line_at};
-ghost use Rattle.mtree.specs.Tree.{line_tree, routine_line_tree};
+ghost use Rattle.mgrammar.specs.Languages.{line_in, routine_line_in};
+ghost use Rattle.mtree.specs.Tree.{line_tree, routine_line_tree, IsCounted, IsBodyCounted};
 ghost use Rattle.mcache.specs.Kept.{IsWithin};
 
 use crate::doorkeeper::Doorkeeper;
 use crate::tree_cache::{TreeCache, find, keep, let_go};
 use lru::LruCache;
 use mparse::{ParseFault, parse_line, parse_routine_line};
-use mtree::{Line, RoutineLine};
+use mtree::{Line, RoutineLine, since_routine_line};
 use std::alloc::{AllocError, Global};
 use std::marker::Model;
 use std::rc::Rc;
@@ -112,14 +113,10 @@ impl Trees {
         self.lines.len() + self.routine_lines.len()
     }
 
-    /// The tree of a line, which is the one that `parse_line` gives. A tree that is kept is found by its text, without a copy of either.
-    /// A tree that there is no memory to keep is returned all the same.
-    ///
-    /// # Errors
-    ///
-    /// `Syntax` only if no tree of the grammar has the text; `Memory` if memory runs out.
-    pub fn line(&mut self, alloc: Global, text: &[u8]) -> Result<Rc<Line>, ParseFault>
+    // The tree of a line, whatever language it needs, which is the one that `parse_line` gives.
+    fn any_line(&mut self, alloc: Global, text: &[u8]) -> Result<Rc<Line>, ParseFault>
         ensures tree { IfOk result (λ line. line_at text.now ≡ Some (line_tree line.value)) }
+        ensures counted { IfOk result (λ line. IsCounted line.value) }
         ensures syntax { result ≡ Err ParseFault.Syntax → line_at text.now ≡ None }
         ensures same { self.new ≡ self.old }
     {
@@ -136,17 +133,14 @@ impl Trees {
         Ok(line)
     }
 
-    /// The tree of a routine's line, which is the one that `parse_routine_line` gives; otherwise as `line`.
-    ///
-    /// # Errors
-    ///
-    /// `Syntax` only if no tree of the grammar has the text; `Memory` if memory runs out.
-    pub fn routine_line(
+    // The same of a routine's line, which `parse_routine_line` gives.
+    fn any_routine_line(
         &mut self,
         alloc: Global,
         text: &[u8],
     ) -> Result<Rc<RoutineLine>, ParseFault>
         ensures tree { IfOk result (λ line. routine_line_at text.now ≡ Some (routine_line_tree line.value)) }
+        ensures counted { IfOk result (λ line. IsBodyCounted line.value.body) }
         ensures syntax { result ≡ Err ParseFault.Syntax → routine_line_at text.now ≡ None }
         ensures same { self.new ≡ self.old }
     {
@@ -160,6 +154,53 @@ impl Trees {
         }
         make_room(&mut self.lines, &mut self.routine_lines, self.entries);
         keep(alloc, &mut self.routine_lines, text, &line);
+        Ok(line)
+    }
+
+    /// The tree of a line that is read in this language. A tree that is kept is found by its text, without a copy of either; trees of
+    /// all languages are kept alike. A tree that there is no memory to keep is returned all the same.
+    ///
+    /// # Errors
+    ///
+    /// `Syntax` only if no tree of the grammar has the text, or if its tree needs a later language; `Memory` if memory runs out.
+    #[tactic(auto, using(mtree::proofs::InLanguages::no_line))]
+    pub fn line(
+        &mut self,
+        alloc: Global,
+        language: u32,
+        text: &[u8],
+    ) -> Result<Rc<Line>, ParseFault>
+        ensures tree { IfOk result (λ line. line_in language text.now ≡ Some (line_tree line.value)) }
+        ensures syntax { result ≡ Err ParseFault.Syntax → line_in language text.now ≡ None }
+        ensures same { self.new ≡ self.old }
+    {
+        let line = self.any_line(alloc, text)?;
+        if line.since > language {
+            return Err(ParseFault::Syntax);
+        }
+        Ok(line)
+    }
+
+    /// The tree of a routine's line; otherwise as `line`.
+    ///
+    /// # Errors
+    ///
+    /// As `line`.
+    #[tactic(auto, using(mtree::proofs::InLanguages::no_routine_line))]
+    pub fn routine_line(
+        &mut self,
+        alloc: Global,
+        language: u32,
+        text: &[u8],
+    ) -> Result<Rc<RoutineLine>, ParseFault>
+        ensures tree { IfOk result (λ line. routine_line_in language text.now ≡ Some (routine_line_tree line.value)) }
+        ensures syntax { result ≡ Err ParseFault.Syntax → routine_line_in language text.now ≡ None }
+        ensures same { self.new ≡ self.old }
+    {
+        let line = self.any_routine_line(alloc, text)?;
+        if since_routine_line(&line) > language {
+            return Err(ParseFault::Syntax);
+        }
         Ok(line)
     }
 }

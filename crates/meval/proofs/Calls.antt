@@ -1,6 +1,6 @@
 -- SPDX-License-Identifier: Apache-2.0
 -- How the calls of this crate are put together.
-use Rattle.meval.proofs.EvalWords.{Doubts-same, Doubts-then, undoubted, ◌≡◌, ◌≢◌, ℕ, [], Result, Ok, Err, refl, sym, ap, ◌∙◌, subst, arith, IsErr, IsErrAnd, Own, Act, Gives, Fails, ◌>>=◌, Locals, value_of, of_locals, give, fail, give_some, Place, at_local, at_node, read_at, found_at, Inside, inside, Standing, Here, Did, Ends, FailedBy, Yields, assoc, did_then, did_failed, did_gives, did_lost, residual_is, yielded, Ghosts, fault_of, Code, Zmem, Zstore, Depth, Eval, undefined_at, Evaluates, KeepsEval, standing_of, eval_here, depth_of, Text}
+use Rattle.meval.proofs.EvalWords.{Doubts-same, Doubts-then, undoubted, ◌≡◌, ◌≢◌, ℕ, [], Result, Ok, Err, refl, sym, ap, ◌∙◌, subst, arith, IsErr, IsErrAnd, Own, Act, Gives, Fails, ◌>>=◌, Locals, value_of, of_locals, give, fail, give_some, Place, at_local, at_node, read_at, found_at, Inside, inside, Standing, Here, Did, Ends, FailedBy, Yields, assoc, did_then, did_failed, did_gives, did_lost, residual_is, yielded, Ghosts, fault_of, Code, Zmem, Zstore, Depth, Eval, undefined_at, Evaluates, KeepsEval, standing_of, eval_here, depth_of, Text, yielded_so, read_so, Option}
 use Rattle.std.specs.FinMap.{empty}
 use Rattle.std.specs.Prelude.{IsTrue}
 use Rattle.mnodes.specs.Steady.{IsSteady}
@@ -102,6 +102,16 @@ evaluates_whole (Err e) d = evaluates_failed (λ i. give) d
 pub evaluates_yielded : {S A X : Type 0} {g : Ghosts S} {e : Eval S} {p : Act A} {f : X → A} {r : Result X Code} → Yields fault_of p f r → Evaluates g (λ i. p) f e r e
 evaluates_yielded {g = g} {e = e} y = record {
   at = λ sure out locks. yielded (eval_here g e out locks) y;
+  doubt = Doubts-same _;
+  keeps = keeps_itself _;
+  depth = refl;
+}
+
+-- a call that reads a text in the language of the line
+pub evaluates_read : {S A X : Type 0} {g : Ghosts S} {e : Eval S} (c : spec.Code) (read : ℕ → Option A) {f : X → A} {r : Result X Code}
+    → Yields fault_of (give_some c (read (standing_of e).given.language)) f r → Evaluates g (λ i. read_so c read) f e r e
+evaluates_read {g = g} {e = e} c read y = record {
+  at = λ sure out locks. yielded_so c read (eval_here g e out locks) y;
   doubt = Doubts-same _;
   keeps = keeps_itself _;
   depth = refl;

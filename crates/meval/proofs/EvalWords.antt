@@ -6,10 +6,11 @@ pub use Rattle.std.proofs.lemmas.Bool.Decides.{nat_tests}
 pub use Rattle.std.proofs.lemmas.List.{append-nil, append_assoc, nil_from_length}
 pub use Rattle.std.specs.Prelude.{IsSome, IsTrue, List, Option, cond, false, pos, slice_get, true, unwrap_or, ℤ, ◌&&◌, ◌==◌, ◌↔◌}
 pub use Rattle.std.specs.Result.{IsErr, IsErrAnd}
-pub use Rattle.mgrammar.specs.Grammar.{ExprTree, ExprsTree, OperandTree, PrimaryTree, ReferenceTree, TailTree, apply, bracket, call, choices_of, expr, exprs, exprs_of, extended, global, indirect, local, naked, no_exprs, no_tails, number, operand, refer, reference, select, special, special_of, tail, tails_of, text}
+pub use Rattle.mgrammar.specs.Grammar.{ExprTree, ExprsTree, OperandTree, PrimaryTree, ReferenceTree, TailTree, apply, bracket, call, choices_of, expr, exprs, exprs_of, extended, global, indirect, local, naked, no_exprs, no_tails, number, operand, refer, reference, select, special, tail, tails_of, text}
+pub use Rattle.mgrammar.specs.Specials.{special_of}
 pub use Rattle.mgrammar.specs.Functions.{VariableFunctionTree, data_function, function_of, get_function, order_function}
 pub use Rattle.mmeaning.proofs.Calls.{asked, assoc, did_failed, did_gives, did_lost, did_spent, did_then, residual_is}
-pub use Rattle.mmeaning.proofs.Yieldings.{yielded, yields_gives}
+pub use Rattle.mmeaning.proofs.Yieldings.{yielded, yielded_so, yields_gives}
 pub use Rattle.mmeaning.specs.Calls.{Did, Ends, FailedBy, Here, Standing, ops_of}
 pub use Rattle.mmeaning.specs.Expression.{Inside, an_indirection_free, chosen, evaluated, indirected, inside, is_indirection_free, named_by, operand_value, primary_value, tail_value, tails_value, through, value, values}
 unfoldable pub use Rattle.mmeaning.specs.Expression.{finds}
@@ -23,7 +24,7 @@ pub use Rattle.moperator.specs.Codes.{fault_of}
 pub use Rattle.moperator.specs.declared.code.Code.{Code}
 pub use Rattle.moperator.specs.declared.code.Code.TheVariants.{M4, Zmem, Zstore, Zsub}
 pub use Rattle.mspec.proofs.SubscriptTests.{decides_account_name, decides_order_subscripts, decides_subscripts, order_subscripts_test, subscripts_test}
-pub use Rattle.mspec.specs.Act.{Act, Fails, Gives, Locals, Text, ask, charge, fail, get_local, give, give_some, naked_is, of_locals, set_naked, unless, ◌>>=◌, ◌>>◌}
+pub use Rattle.mspec.specs.Act.{Act, Fails, Gives, Locals, Text, ask, charge, fail, get_local, give, give_some, naked_is, of_locals, set_naked, unless, ◌>>=◌, ◌>>◌, read_so}
 unfoldable pub use Rattle.mspec.specs.Act.{no_locals, value_of}
 pub use Rattle.mspec.specs.Code.{Lost, M15, M6, Own, Zgrant, Zover}
 pub use Rattle.mspec.specs.KeyBytes.{AreSubscripts, IsAccountName}

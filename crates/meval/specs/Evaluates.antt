@@ -1,9 +1,9 @@
 -- SPDX-License-Identifier: Apache-2.0
 -- What a call that evaluates says: it does an act that is given where it stands.
 use Rattle.std.specs.Prelude.{◌≡◌, ◌≤◌, ℕ, Bool, true, not, List, Result, Ok, Err}
-use Rattle.mspec.specs.Access.{name_at}
+use Rattle.mspec.specs.Access.{name_at, language_at}
 use Rattle.mspec.specs.LockConflict.{Locks}
-use Rattle.mspec.specs.Act.{Text, Node, Act}
+use Rattle.mspec.specs.Act.{Text, Node, Act, given_language}
 use Rattle.mmeaning.specs.Expression as meaning
 use Rattle.mmeaning.specs.Expression.{Inside, inside}
 use Rattle.mmeaning.specs.Transition.{is_lost}
@@ -20,7 +20,12 @@ abbrev pub depth_of : Depth → meaning.Depth
 depth_of d = record { levels = d.levels; indirections = d.indirections }
 
 abbrev pub standing_of : {S : Type 0} → Eval S → Standing
-standing_of e = record { settings = e.settings.now; terminal = e.terminal; account = name_at e.settings.now e.account }
+standing_of e = record {
+  settings = e.settings.now;
+  terminal = e.terminal;
+  account = name_at e.settings.now e.account;
+  given = given_language (language_at e.settings.now e.account);
+}
 
 -- a node of the account's own global
 abbrev pub own_global : {S : Type 0} → Eval S → Text → List Text → Node
@@ -29,7 +34,7 @@ own_global e name xs = record { account = (standing_of e).account; name = name; 
 -- where an evaluation is, with what it does not see: the output and the locks
 abbrev pub eval_here : {S : Type 0} → Ghosts S → Eval S → Text → Locks → Here
 eval_here g e out locks =
-    point e.session.now.locals e.session.now.naked e.session.now.test out e.steps (record { globals = g.content e.store.now; locks = locks })
+    point e.session.now.locals e.session.now.naked e.session.now.test out e.steps (standing_of e).given (record { globals = g.content e.store.now; locks = locks })
 
 -- where the expressions of its line stand, with `n` texts that may be entered
 abbrev pub inside_at : {S : Type 0} → Eval S → ℕ → Inside

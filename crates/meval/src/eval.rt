@@ -9,7 +9,7 @@ ghost use Rattle.mspec.specs.Act.{Text, charge};
 ghost use Rattle.mspec.specs.NumberText.{number_text};
 ghost use Rattle.mtree.specs.Tree.{expr_tree, tail_tree, operand_tree, primary_tree, reference_tree, choice_tree};
 ghost use Rattle.moperator.specs.declared.code.Code.TheVariants.{Zsteps, Zstore};
-ghost use Rattle.meval.specs.Evaluates.{Evaluates, KeepsEval, Leads};
+ghost use Rattle.meval.specs.Evaluates.{Evaluates, KeepsEval, Leads, standing_of};
 ghost use Rattle.meval.specs.Acts as acts;
 ghost use Rattle.meval.specs.Places.{pending_view};
 
@@ -72,6 +72,13 @@ impl<'a, S: NodeStore> Eval<'a, S> {
         }
         self.steps -= 1;
         Ok(())
+    }
+
+    /// The language that the texts of its line are read in. Takes no memory.
+    pub fn language(&self) -> u32
+        ensures { result ≡ (standing_of self.now).given.language }
+    {
+        self.settings.language_of(self.account)
     }
 
     /// The value of a primary. It costs a step, even if it then fails.
@@ -220,7 +227,7 @@ impl<'a, S: NodeStore> Eval<'a, S> {
             return Err(Code::Zdepth);
         };
         let text = value.into_text(alloc)?;
-        let reference = read_reference(alloc, text)?;
+        let reference = read_reference(alloc, self.language(), text)?;
         self.depth = deeper;
         let result = self.through_given(alloc, reference, subscripts);
         self.depth = depth;

@@ -1,7 +1,7 @@
 // SPDX-License-Identifier: Apache-2.0
 // What commands ask of the session of an evaluation, and change in it.
 ghost use Rattle.std.specs.Prelude.{◌≡◌, [], ◌∷◌, Ok, IfOk};
-ghost use Rattle.mgrammar.specs.Grammar.{special_of};
+ghost use Rattle.mgrammar.specs.Specials.{special_of};
 ghost use Rattle.mspec.specs.Act.{with_locals, test_is, set_test};
 ghost use Rattle.mspec.specs.Scopes.{killed_except, newed, newed_except};
 ghost use Rattle.mmeaning.specs.Variables as variables;

@@ -10,8 +10,8 @@ pub use Rattle.mcommand.specs.declared.parts.Parts.{Parts}
 pub use Rattle.meval.specs.Evaluates.{Evaluates, depth_of, standing_of}
 pub use Rattle.mgrammar.specs.Commands.{form_of}
 pub use Rattle.mgrammar.specs.Grammar.{ArgTree, CommandTree, ExprTree, FormTree, KeywordTree, LineTree, ParameterTree, PrimaryTree, do_one, do_word, executed, for_word, indirect_args, loop, once, onward, until}
-pub use Rattle.mgrammar.specs.Reading.{line_at}
-pub use Rattle.mgrammar.specs.RoutineLine.{BodyTree, RoutineLineTree, dots_of, routine_line_at, short, spaced_out}
+pub use Rattle.mgrammar.specs.Languages.{args_in, line_in, routine_line_in}
+pub use Rattle.mgrammar.specs.RoutineLine.{BodyTree, RoutineLineTree, dots_of, short, spaced_out}
 pub use Rattle.mmeaning.proofs.Calls.{assoc, did_failed, did_gives, did_then, ended, failed_after, follows_itself, follows_on, residual_is, then_failed, then_follows}
 pub use Rattle.mmeaning.specs.Calls.{Did, FailedBy, Follows, Gave, Here, Standing}
 pub use Rattle.mmeaning.specs.Expression.{Depth, Inside, an_indirection_free, indirected, inside, primary_value, value}
@@ -24,7 +24,7 @@ pub use Rattle.moperator.specs.Codes.{fault_of}
 pub use Rattle.moperator.specs.declared.code.Code.{Code}
 pub use Rattle.moperator.specs.declared.code.Code.TheVariants.{Zmem, Zstore}
 pub use Rattle.mspec.proofs.ListPlaces.{next_item, none_left}
-pub use Rattle.mspec.specs.Act.{Act, Text, ask, charge, give, give_some, set_test, test_is, with_locals, write, ◌>>=◌, ◌>>◌}
+pub use Rattle.mspec.specs.Act.{Act, Text, ask, charge, give, give_some, set_test, test_is, with_locals, write, ◌>>=◌, ◌>>◌, read_so}
 pub use Rattle.mspec.specs.Scopes.{killed_except, newed, newed_except}
 pub use Rattle.mspec.specs.Code.{Zsyntax}
 pub use Rattle.mnodes.proofs.Doubting.{Doubts-same, Doubts-then, undoubted}

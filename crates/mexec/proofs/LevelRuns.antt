@@ -1,9 +1,10 @@
 -- SPDX-License-Identifier: Apache-2.0
 -- Lines and texts that are entered, frame by frame.
-use Rattle.mexec.proofs.ExecWords.{Doubts-same, ◌≡◌, ℕ, zero, suc, ◌<◌, ◌≤◌, ◌+◌, Bool, true, false, cond, List, [], ◌∷◌, Option, Some, None, Result, Ok, Err, length, drop, get_or, slice_get, refl, sym, ap, ◌∙◌, subst, eqb-true, le-ltb, lt-ltb, arith, drop-drop, get_or-drop, IsErr, IsErrAnd, Text, Act, ◌>>=◌, ◌>>◌, give, give_some, charge, ArgTree, CommandTree, BodyTree, short, spaced_out, RoutineLineTree, dots_of, routine_line_at, indirected, Level, Closing, leaves, deeper, within_indirection, has_dots, commands_of, commands_in, Context, Go_on, texts, context, commands, lines_reached, lines_from, lines_next, line_entered, after_level, closed, View, Rests, Lists, Levels, frame, assoc, Ghosts, fault_of, Code, Zmem, Evaluates, Parts, Does, DoesAt, here_of, Runs, reached, next_reached, entering, so_deep, at_next, text_position, on_body, next_item, Zsyntax, Depth, Yields}
+use Rattle.mexec.proofs.ExecWords.{Doubts-same, ◌≡◌, ℕ, zero, suc, ◌<◌, ◌≤◌, ◌+◌, Bool, true, false, cond, List, [], ◌∷◌, Option, Some, None, Result, Ok, Err, length, drop, get_or, slice_get, refl, sym, ap, ◌∙◌, subst, eqb-true, le-ltb, lt-ltb, arith, drop-drop, get_or-drop, IsErr, IsErrAnd, Text, Act, ◌>>=◌, ◌>>◌, give, give_some, charge, ArgTree, CommandTree, BodyTree, short, spaced_out, RoutineLineTree, dots_of, indirected, Level, Closing, leaves, deeper, within_indirection, has_dots, commands_of, commands_in, Context, Go_on, texts, context, commands, lines_reached, lines_from, lines_next, line_entered, after_level, closed, View, Rests, Lists, Levels, frame, assoc, Ghosts, fault_of, Code, Zmem, Evaluates, Parts, Does, DoesAt, here_of, Runs, reached, next_reached, entering, so_deep, at_next, text_position, on_body, next_item, Zsyntax, Depth, Yields, read_so, routine_line_in, standing_of}
 use Rattle.std.specs.Prelude.{nat_lt, ◌==◌}
 use Rattle.mmeaning.specs.LineMeaning.{Position, Completion}
-use Rattle.mmeaning.proofs.Yieldings.{yielded}
+use Rattle.mspec.specs.Code as spec
+use Rattle.mmeaning.proofs.Yieldings.{yielded, yielded_so}
 use Rattle.meval.specs.declared.eval.Eval.{Eval}
 use Rattle.mexec.specs.declared.completion.Completion as completions
 use Rattle.mexec.specs.declared.completion.Completion.TheVariants as completion
@@ -96,8 +97,8 @@ module _ (p : Position) (c : Closing) (k : ℕ) (text : Text) where
   abbrev line_read : Text → ℕ → RoutineLineTree → Act Completion
   line_read a n l = (context a n p).texts.enter (at_next p (k + 1)) (commands_in l.body) >>= closed c
 
-  read_is : (a : Text) (n : ℕ) → ◌≡◌ {A = Act Completion} (step_spent a n) (give_some Zsyntax (routine_line_at text) >>= line_read a n)
-  read_is a n = assoc (give_some Zsyntax (routine_line_at text)) (λ l. (context a n p).texts.enter (at_next p (k + 1)) (commands_in l.body)) (closed c)
+  read_is : (a : Text) (n : ℕ) → ◌≡◌ {A = Act Completion} (step_spent a n) (read_so Zsyntax (λ l. routine_line_in l text) >>= line_read a n)
+  read_is a n = assoc (read_so Zsyntax (λ l. routine_line_in l text)) (λ l. (context a n p).texts.enter (at_next p (k + 1)) (commands_in l.body)) (closed c)
 
 -- ---- calls
 
@@ -106,6 +107,15 @@ module _ {S : Type 0} {g : Ghosts S} where
   pub at_yielded : {A X : Type 0} {p : Act A} {f : X → A} {parts : Parts S} {r : Result X Code} → Yields fault_of p f r → DoesAt g (λ a n. p) f parts r parts
   at_yielded {parts = parts} y = record {
     at = λ sure. yielded (here_of g parts) y;
+    doubt = Doubts-same _;
+    keeps = keeps_itself _;
+  }
+
+  -- a call that reads a text in the language of the line
+  pub at_read : {A X : Type 0} (c : spec.Code) (read : ℕ → Option A) {f : X → A} {parts : Parts S} {r : Result X Code}
+      → Yields fault_of (give_some c (read (standing_of parts.eval).given.language)) f r → DoesAt g (λ a n. read_so c read) f parts r parts
+  at_read c read {parts = parts} y = record {
+    at = λ sure. yielded_so c read (here_of g parts) y;
     doubt = Doubts-same _;
     keeps = keeps_itself _;
   }
@@ -151,15 +161,15 @@ module _ {S : Type 0} {g : Ghosts S} where
       step_lost r h = runs_then (λ a n _. step_spent p c k text a n) d (runs_wanting (λ a n. step_spent p c k text a n) r h)
 
       -- it has no tree
-      pub line_refused : {Y : Type 0} {view : Y → RoutineLineTree} {e : Code} {fs' : List View} {r : Result completions.Completion Code} → Yields fault_of (give_some Zsyntax (routine_line_at text)) view (Err e) → IsErr r × IsErrAnd r (λ x. x ≡ e)
+      pub line_refused : {Y : Type 0} {view : Y → RoutineLineTree} {e : Code} {fs' : List View} {r : Result completions.Completion Code} → Yields fault_of (give_some Zsyntax (routine_line_in (standing_of mid.eval).given.language text)) view (Err e) → IsErr r × IsErrAnd r (λ x. x ≡ e)
           → Runs g (λ a n. entering (context a n p) c k text) fs old r fs' mid
-      line_refused y h = runs_then (λ a n _. step_spent p c k text a n) d (runs_as (λ a n. read_is p c k text a n) (runs_stopped (λ a n. line_read p c k text a n) (at_yielded y) h))
+      line_refused y h = runs_then (λ a n _. step_spent p c k text a n) d (runs_as (λ a n. read_is p c k text a n) (runs_stopped (λ a n. line_read p c k text a n) (at_read Zsyntax (λ l. routine_line_in l text) y) h))
 
-      pub line_runs : {Y : Type 0} {view : Y → RoutineLineTree} {l : Y} → Yields fault_of (give_some Zsyntax (routine_line_at text)) view (Ok l)
+      pub line_runs : {Y : Type 0} {view : Y → RoutineLineTree} {l : Y} → Yields fault_of (give_some Zsyntax (routine_line_in (standing_of mid.eval).given.language text)) view (Ok l)
           → Runs g (λ a n. entering (context a n p) c k text) fs old (Ok completion.GoOn) (on_body (at_next p (k + 1)) c (view l).body fs) mid
       line_runs {view = view} {l = l} y =
           runs_spent (λ a n _. step_spent p c k text a n) d less
-          (runs_as (λ a n. read_is p c k text a (suc n)) (runs_then (λ a n. line_read p c k text a (suc n)) (at_yielded y) (body_runs (at_next p (k + 1)) c (view l).body)))
+          (runs_as (λ a n. read_is p c k text a (suc n)) (runs_then (λ a n. line_read p c k text a (suc n)) (at_read Zsyntax (λ l. routine_line_in l text) y) (body_runs (at_next p (k + 1)) c (view l).body)))
 
   -- ---- levels that are opened
 

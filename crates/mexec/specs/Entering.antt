@@ -2,9 +2,9 @@
 -- Lines and texts that are entered, as the code does it: the place of a line first, then its step, then its commands.
 use Rattle.std.specs.Prelude.{ℕ, ◌+◌, cond, nat_lt, ◌==◌, List, [], ◌∷◌, drop, Option, Some, None}
 use Rattle.mspec.specs.Code.{Zsyntax}
-use Rattle.mspec.specs.Act.{Text, Act, ◌>>=◌, ◌>>◌, give, give_some, charge}
+use Rattle.mspec.specs.Act.{Text, Act, ◌>>=◌, ◌>>◌, give, read_so, charge}
 use Rattle.mgrammar.specs.Grammar.{LineTree}
-use Rattle.mgrammar.specs.Reading.{line_at}
+use Rattle.mgrammar.specs.Languages.{line_in}
 use Rattle.mgrammar.specs.RoutineLine.{BodyTree, short, spaced_out, dots_of}
 use Rattle.mmeaning.specs.Expression.{Depth}
 use Rattle.mmeaning.specs.Levels.{Position, Target, Closing, leaves, commands_of}
@@ -47,7 +47,7 @@ tree_entered x l = in_level x (record { copy = x.position.level.copy; next = Non
 
 -- a text of XECUTE is read and entered
 abbrev pub text_entered : Context → Text → Act Completion
-text_entered x text = give_some Zsyntax (line_at text) >>= tree_entered x
+text_entered x text = read_so Zsyntax (λ l. line_in l text) >>= tree_entered x
 
 -- what comes after a label, on top of its level
 abbrev pub on_body : Position → Closing → BodyTree → List View → List View

@@ -3,9 +3,7 @@
 pub use Rattle.mspec.specs.Act.{give_some}
 pub use Rattle.mspec.specs.Code.{Zsyntax}
 pub use Rattle.mgrammar.specs.Commands.{form_of}
-pub use Rattle.mgrammar.specs.IndirectTexts.{args_of}
-pub use Rattle.mgrammar.specs.Reading.{line_at}
-pub use Rattle.mgrammar.specs.RoutineLine.{routine_line_at}
+pub use Rattle.mgrammar.specs.Languages.{args_in, line_in, routine_line_in}
 pub use Rattle.mmeaning.specs.Expression.{an_indirection_free, indirected, inside}
 pub use Rattle.mmeaning.specs.Frames.{Levels, Lists, frame}
 pub use Rattle.mmeaning.specs.Levels.{commands_of, stays}

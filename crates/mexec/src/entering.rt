@@ -119,7 +119,8 @@ fn enter_text<S: NodeStore>(
     ensures falls { IfOk result (λ _. 6 * parts.new.eval.steps + length scratch.new.frames.items ≤ 6 * parts.old.eval.steps + length scratch.old.frames.items + 2) }
     ensures does { Runs S.NodeStore (λ a n. text_entered (context a (suc n) (position_of position.now)) text.now) (stack scratch.old.frames.items) parts.old result (stack scratch.new.frames.items) parts.new }
 {
-    let line = read_line(alloc, &mut scratch.trees, text.as_bytes())?;
+    let language = parts.eval.language();
+    let line = read_line(alloc, &mut scratch.trees, language, text.as_bytes())?;
     parts.eval.open_level()?;
     leave_text(alloc, depth, position, line, scratch)?;
     Ok(Completion::GoOn)

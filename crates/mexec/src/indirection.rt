@@ -70,7 +70,8 @@ pub(crate) fn giving<S: NodeStore>(
     let text = parts.eval.primary(alloc, operand)?;
     let depth = one_indirection_deeper(position.depth)?;
     let text = text.into_text(alloc)?;
-    let args = read_arguments(alloc, keyword, text.as_bytes())?;
+    let language = parts.eval.language();
+    let args = read_arguments(alloc, language, keyword, text.as_bytes())?;
     leave_given(alloc, depth, position, args, scratch)?;
     Ok(Completion::GoOn)
 }

@@ -166,7 +166,8 @@ pub(crate) fn enter_line<S: NodeStore>(
 {
     parts.eval.charge()?;
     let text = position.level.copy[at].as_bytes();
-    let line = read_routine_line(alloc, &mut scratch.trees, text)?;
+    let language = parts.eval.language();
+    let line = read_routine_line(alloc, &mut scratch.trees, language, text)?;
     enter_body(alloc, position, at + 1, closing, &line.body, scratch)?;
     Ok(Completion::GoOn)
 }

@@ -1,20 +1,25 @@
 // SPDX-License-Identifier: Apache-2.0
-// Texts by their trees.
+// Texts by their trees, in a language.
 ghost use Rattle.std.specs.Prelude.{map};
-ghost use Rattle.mexec.specs.Words.{Yields, Zsyntax, arg_tree, args_of, fault_of, form_of, give_some, keyword_tree, line_at, line_tree, routine_line_at, routine_line_tree};
+ghost use Rattle.mexec.specs.Words.{Yields, Zsyntax, arg_tree, args_in, fault_of, form_of, give_some, keyword_tree, line_in, line_tree, routine_line_in, routine_line_tree};
 
 use mcache::Trees;
 use moperator::Code;
 use mparse::{ParseFault, parse_args};
-use mtree::{Arg, Keyword, Line, RoutineLine};
+use mtree::{Arg, Keyword, Line, RoutineLine, since_args};
 use std::alloc::Global;
 use std::rc::Rc;
 
 // The tree of a text of XECUTE.
-pub(crate) fn read_line(alloc: Global, trees: &mut Trees, text: &[u8]) -> Result<Rc<Line>, Code>
-    ensures { Yields fault_of (give_some Zsyntax (line_at text.now)) (λ line. line_tree line.value) result }
+pub(crate) fn read_line(
+    alloc: Global,
+    trees: &mut Trees,
+    language: u32,
+    text: &[u8],
+) -> Result<Rc<Line>, Code>
+    ensures { Yields fault_of (give_some Zsyntax (line_in language text.now)) (λ line. line_tree line.value) result }
 {
-    match trees.line(alloc, text) {
+    match trees.line(alloc, language, text) {
         Ok(line) => Ok(line),
         Err(ParseFault::Syntax) => Err(Code::Zsyntax),
         Err(ParseFault::Memory) => Err(Code::Zmem),
@@ -25,11 +30,12 @@ pub(crate) fn read_line(alloc: Global, trees: &mut Trees, text: &[u8]) -> Result
 pub(crate) fn read_routine_line(
     alloc: Global,
     trees: &mut Trees,
+    language: u32,
     text: &[u8],
 ) -> Result<Rc<RoutineLine>, Code>
-    ensures { Yields fault_of (give_some Zsyntax (routine_line_at text.now)) (λ line. routine_line_tree line.value) result }
+    ensures { Yields fault_of (give_some Zsyntax (routine_line_in language text.now)) (λ line. routine_line_tree line.value) result }
 {
-    match trees.routine_line(alloc, text) {
+    match trees.routine_line(alloc, language, text) {
         Ok(line) => Ok(line),
         Err(ParseFault::Syntax) => Err(Code::Zsyntax),
         Err(ParseFault::Memory) => Err(Code::Zmem),
@@ -37,11 +43,21 @@ pub(crate) fn read_routine_line(
 }
 
 // The text of an indirection as arguments of a command with this word.
-pub(crate) fn read_arguments(alloc: Global, keyword: Keyword, text: &[u8]) -> Result<Vec<Arg>, Code>
-    ensures { Yields fault_of (give_some Zsyntax (args_of (form_of (keyword_tree keyword)) text.now)) (λ args. map arg_tree args.items) result }
+#[tactic(auto, using(mtree::proofs::InLanguages::args_kept, mtree::proofs::InLanguages::args_left_out, mtree::proofs::InLanguages::no_args))]
+pub(crate) fn read_arguments(
+    alloc: Global,
+    language: u32,
+    keyword: Keyword,
+    text: &[u8],
+) -> Result<Vec<Arg>, Code>
+    ensures { Yields fault_of (give_some Zsyntax (args_in (form_of (keyword_tree keyword)) language text.now)) (λ args. map arg_tree args.items) result }
 {
     match parse_args(alloc, keyword, text) {
-        Ok(args) => Ok(args),
+        Ok(args) => if since_args(&args) > language {
+            Err(Code::Zsyntax)
+        } else {
+            Ok(args)
+        },
         Err(ParseFault::Syntax) => Err(Code::Zsyntax),
         Err(ParseFault::Memory) => Err(Code::Zmem),
     }

@@ -2,7 +2,8 @@
 // A text, carried out.
 ghost use Rattle.std.specs.Prelude.{◌≡◌, ◌≢◌, IsTrue};
 ghost use Rattle.mmeaning.specs.Transition as meaning;
-ghost use Rattle.mgrammar.specs.Reading.{line_at};
+ghost use Rattle.mgrammar.specs.Languages.{line_in};
+ghost use Rattle.meval.specs.Evaluates.{standing_of};
 ghost use Rattle.moperator.specs.declared.code.Code.TheVariants.{Zstore};
 ghost use Rattle.mexec.specs.Frames.{completion_of};
 ghost use Rattle.mexec.specs.Runs.{RunsText, ending_of};
@@ -39,7 +40,7 @@ fn ending(completion: Completion) -> Ended
 
 /// Carries out a text. What the scratch kept before plays no part.
 ///
-/// Returns `Fault` with `Zsyntax`, and has done nothing, if the text has no tree; otherwise what was done before a code
+/// Returns `Fault` with `Zsyntax`, and has done nothing, if the text has no tree in the language of the account; otherwise what was done before a code
 /// remains. After `Zmem` or `Zstore` the session and the output may be any that the text could have had on its way.
 pub fn run_text<S: NodeStore>(
     alloc: Global,
@@ -47,10 +48,10 @@ pub fn run_text<S: NodeStore>(
     scratch: &mut Scratch,
     text: &[u8],
 ) -> Ended
-    ensures does { RunsText S.NodeStore (line_at text.now) parts.old result parts.new }
+    ensures does { RunsText S.NodeStore (line_in (standing_of parts.old.eval).given.language text.now) parts.old result parts.new }
     ensures steady { S.steady → IsTrue (S.has_room parts.new.eval.store.now) → result ≢ Ended.Fault Zstore }
 {
-    match scratch.trees.line(alloc, text) {
+    match scratch.trees.line(alloc, parts.eval.language(), text) {
         Err(ParseFault::Syntax) => Ended::Fault(Code::Zsyntax),
         Err(ParseFault::Memory) => Ended::Fault(Code::Zmem),
         Ok(line) => match run_line(alloc, parts, line, scratch) {

@@ -27,3 +27,5 @@ pub mod Matchings
 pub mod RoutineExamples
 pub mod IndirectionExamples
 pub mod LockExamples
+pub mod ReadingLanguages
+pub mod LanguageExamples

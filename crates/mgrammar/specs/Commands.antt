@@ -1,8 +1,8 @@
 -- SPDX-License-Identifier: Apache-2.0
--- The commands, one row each: the word, its first letter, the form of its arguments, how many there may be at least and at most, and
--- whether a `postcond` may follow the word.
+-- The commands, one row each: the word, its first letter, the form of its arguments, how many there may be at least and at most, whether
+-- a `postcond` may follow the word, and the first language that has the command.
 --
--- Restates "Command definitions" of ISO/IEC 11756:1999, of those that the language has.
+-- Restates "Command definitions" of ISO/IEC 11756:1999, of those that some language has.
 use Rattle.std.specs.Prelude.{ℕ, Bool, true, false, ◌&&◌, nat_le, if◌then◌else◌, Option, Some, None, List, [], ◌∷◌, codes}
 use Rattle.mgrammar.specs.Grammar.{is_at_most, is_either, KeywordTree, set_word, kill_word, new_word, if_word, else_word, for_word, quit_word, write_word, do_word, goto_word, execute_word, lock_word, halt_word}
 use Rattle.mgrammar.specs.Grammar.{FormTree, set_argument, kill_argument, new_argument, if_argument, for_argument, write_argument, do_argument, goto_argument, xecute_argument, lock_argument, no_argument}
@@ -14,24 +14,26 @@ pub record CommandRow : Type 0 where
   pub least : ℕ
   pub most : Option ℕ
   pub is_conditioned : Bool
+  pub since : ℕ
 
-abbrev row : List ℕ → List ℕ → FormTree → ℕ → Option ℕ → Bool → CommandRow
-row short whole form least most is_conditioned = record { short = short; whole = whole; form = form; least = least; most = most; is_conditioned = is_conditioned }
+abbrev row : List ℕ → List ℕ → FormTree → ℕ → Option ℕ → Bool → ℕ → CommandRow
+row short whole form least most is_conditioned since =
+    record { short = short; whole = whole; form = form; least = least; most = most; is_conditioned = is_conditioned; since = since }
 
 abbrev pub command_row : KeywordTree → CommandRow
-command_row set_word = row (codes "s") (codes "set") set_argument 1 None true
-command_row kill_word = row (codes "k") (codes "kill") kill_argument 0 None true
-command_row new_word = row (codes "n") (codes "new") new_argument 0 None true
-command_row if_word = row (codes "i") (codes "if") if_argument 0 None false
-command_row else_word = row (codes "e") (codes "else") no_argument 0 (Some 0) false
-command_row for_word = row (codes "f") (codes "for") for_argument 0 (Some 1) false
-command_row quit_word = row (codes "q") (codes "quit") no_argument 0 (Some 0) true
-command_row write_word = row (codes "w") (codes "write") write_argument 1 None true
-command_row do_word = row (codes "d") (codes "do") do_argument 0 None true
-command_row goto_word = row (codes "g") (codes "goto") goto_argument 1 None true
-command_row execute_word = row (codes "x") (codes "xecute") xecute_argument 1 None true
-command_row lock_word = row (codes "l") (codes "lock") lock_argument 0 None true
-command_row halt_word = row (codes "h") (codes "halt") no_argument 0 (Some 0) true
+command_row set_word = row (codes "s") (codes "set") set_argument 1 None true 0
+command_row kill_word = row (codes "k") (codes "kill") kill_argument 0 None true 0
+command_row new_word = row (codes "n") (codes "new") new_argument 0 None true 0
+command_row if_word = row (codes "i") (codes "if") if_argument 0 None false 0
+command_row else_word = row (codes "e") (codes "else") no_argument 0 (Some 0) false 0
+command_row for_word = row (codes "f") (codes "for") for_argument 0 (Some 1) false 0
+command_row quit_word = row (codes "q") (codes "quit") no_argument 0 (Some 0) true 0
+command_row write_word = row (codes "w") (codes "write") write_argument 1 None true 0
+command_row do_word = row (codes "d") (codes "do") do_argument 0 None true 0
+command_row goto_word = row (codes "g") (codes "goto") goto_argument 1 None true 0
+command_row execute_word = row (codes "x") (codes "xecute") xecute_argument 1 None true 0
+command_row lock_word = row (codes "l") (codes "lock") lock_argument 0 None true 0
+command_row halt_word = row (codes "h") (codes "halt") no_argument 0 (Some 0) true 0
 
 -- those that there are
 abbrev pub keywords : List KeywordTree
@@ -56,3 +58,7 @@ takes_args k n = nat_le (command_row k).least n && is_at_most (command_row k).mo
 -- whether a `postcond` may follow its word
 abbrev pub takes_condition : KeywordTree → Bool
 takes_condition k = (command_row k).is_conditioned
+
+-- the first language that has the command
+abbrev pub since_keyword : KeywordTree → ℕ
+since_keyword k = (command_row k).since

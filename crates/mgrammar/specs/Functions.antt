@@ -1,7 +1,7 @@
 -- SPDX-License-Identifier: Apache-2.0
--- The functions, one row each: the word, its abbreviation, and what stands in its brackets.
+-- The functions, one row each: the word, its abbreviation, what stands in its brackets, and the first language that has it.
 --
--- Restates "Intrinsic functions" of ISO/IEC 11756:1999, of those that the language has.
+-- Restates "Intrinsic functions" of ISO/IEC 11756:1999, of those that some language has.
 use Rattle.std.specs.Prelude.{ℕ, Bool, ◌&&◌, nat_le, if◌then◌else◌, Option, Some, None, List, [], ◌∷◌, codes}
 use Rattle.mgrammar.specs.Grammar.{is_at_most, is_either}
 
@@ -14,6 +14,7 @@ pub data ValueFunctionTree : Type 0 where
   justify_function : ValueFunctionTree
   length_function : ValueFunctionTree
   piece_function : ValueFunctionTree
+  reverse_function : ValueFunctionTree
   translate_function : ValueFunctionTree
 
 -- those of a variable
@@ -32,24 +33,26 @@ pub record FunctionRow : Type 0 where
   pub short : List ℕ
   pub whole : List ℕ
   pub function : FunctionTree
+  pub since : ℕ
 
-abbrev pub row : List ℕ → List ℕ → FunctionTree → FunctionRow
-row short whole function = record { short = short; whole = whole; function = function }
+abbrev pub row : List ℕ → List ℕ → FunctionTree → ℕ → FunctionRow
+row short whole function since = record { short = short; whole = whole; function = function; since = since }
 
 abbrev pub function_rows : List FunctionRow
 function_rows =
-    row (codes "a") (codes "ascii") (of_values ascii_function 1 (Some 2))
-    ∷ row (codes "c") (codes "char") (of_values char_function 1 None)
-    ∷ row (codes "d") (codes "data") (of_variable data_function 0)
-    ∷ row (codes "e") (codes "extract") (of_values extract_function 1 (Some 3))
-    ∷ row (codes "f") (codes "find") (of_values find_function 2 (Some 3))
-    ∷ row (codes "g") (codes "get") (of_variable get_function 1)
-    ∷ row (codes "j") (codes "justify") (of_values justify_function 2 (Some 2))
-    ∷ row (codes "l") (codes "length") (of_values length_function 1 (Some 2))
-    ∷ row (codes "o") (codes "order") (of_variable order_function 1)
-    ∷ row (codes "p") (codes "piece") (of_values piece_function 2 (Some 4))
-    ∷ row (codes "s") (codes "select") of_choices
-    ∷ row (codes "tr") (codes "translate") (of_values translate_function 2 (Some 3))
+    row (codes "a") (codes "ascii") (of_values ascii_function 1 (Some 2)) 0
+    ∷ row (codes "c") (codes "char") (of_values char_function 1 None) 0
+    ∷ row (codes "d") (codes "data") (of_variable data_function 0) 0
+    ∷ row (codes "e") (codes "extract") (of_values extract_function 1 (Some 3)) 0
+    ∷ row (codes "f") (codes "find") (of_values find_function 2 (Some 3)) 0
+    ∷ row (codes "g") (codes "get") (of_variable get_function 1) 0
+    ∷ row (codes "j") (codes "justify") (of_values justify_function 2 (Some 3)) 0
+    ∷ row (codes "l") (codes "length") (of_values length_function 1 (Some 2)) 0
+    ∷ row (codes "o") (codes "order") (of_variable order_function 1) 0
+    ∷ row (codes "p") (codes "piece") (of_values piece_function 2 (Some 4)) 0
+    ∷ row (codes "re") (codes "reverse") (of_values reverse_function 1 (Some 1)) 1
+    ∷ row (codes "s") (codes "select") of_choices 0
+    ∷ row (codes "tr") (codes "translate") (of_values translate_function 2 (Some 3)) 0
     ∷ []
 
 abbrev pub row_named : List ℕ → List FunctionRow → Option FunctionTree
@@ -59,6 +62,18 @@ row_named w (r ∷ rs) = if is_either r.short r.whole w then Some r.function els
 -- the name of a `function`: the whole word or its abbreviation
 unfoldable pub function_of : List ℕ → Option FunctionTree
 function_of w = row_named w function_rows
+
+-- the first language that has the function of a word; 0 if none has it
+abbrev pub since_named : List ℕ → List FunctionRow → ℕ
+since_named w [] = 0
+since_named w (r ∷ rs) = if is_either r.short r.whole w then r.since else since_named w rs
+
+unfoldable pub since_function : List ℕ → ℕ
+since_function w = since_named w function_rows
+
+-- the first language in which the function of a word takes so many values, if that is later: $JUSTIFY takes a third one
+abbrev pub since_values : List ℕ → ℕ → ℕ
+since_values w n = if is_either (codes "j") (codes "justify") w && nat_le 3 n then 1 else 0
 
 -- whether n values may stand in brackets that take from `least` to `most`: at least one
 abbrev pub takes : ℕ → Option ℕ → ℕ → Bool

@@ -445,13 +445,6 @@ may_be_indirect xecute_argument = true
 may_be_indirect lock_argument = true
 may_be_indirect no_argument = false
 
-pub data SpecialTree : Type 0 where
-  test_special : SpecialTree
-
--- the name of an `svn`: the whole word or its abbreviation
-unfoldable pub special_of : List ℕ → Option SpecialTree
-special_of w = if is_either (codes "t") (codes "test") w then Some test_special else None
-
 -- `patcode`, in either case of letters
 abbrev pub is_pattern_letter : ℕ → Bool
 is_pattern_letter c = list_any (λ letter. letter == upper_case c) (codes "ACELNPU")

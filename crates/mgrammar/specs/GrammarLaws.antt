@@ -1,11 +1,12 @@
 -- SPDX-License-Identifier: Apache-2.0
 -- The laws of the grammar. The functions of src/ named after them carry them.
-use Rattle.std.specs.Prelude.{◌≡◌, ◌↔◌, ℕ, true, List, Some}
+use Rattle.std.specs.Prelude.{◌≡◌, ◌≤◌, ◌↔◌, ℕ, true, List, Some}
 use Rattle.mgrammar.specs.Grammar.{ReferenceTree, ArgTree, FormTree, may_be_indirect, LineTree, spell_reference, spell_list, spell_arg, spell}
 use Rattle.mgrammar.specs.WellFormed.{max_depth, WellReference, WellList, WellArg, well}
 use Rattle.mgrammar.specs.Reading.{line_at}
 use Rattle.mgrammar.specs.IndirectTexts.{ref_at, args_of}
 use Rattle.mgrammar.specs.RoutineLine.{RoutineLineTree, spell_routine_line, well_routine_line, routine_line_at, label_of, dots_of, dots_of_body}
+use Rattle.mgrammar.specs.Languages.{since_line, since_routine_line, since_reference, since_args, line_in, routine_line_in, ref_in, args_in}
 
 -- no text has two trees
 abbrev pub OneTree : Type 0
@@ -50,3 +51,26 @@ abbrev pub ReadsItsArguments : Type 0
 ReadsItsArguments =
     (f : FormTree) → may_be_indirect f ≡ true → (text : List ℕ) (args : List ArgTree) →
     (args_of f text ≡ Some args) ↔ ((spell_list spell_arg args ≡ text) × WellList (WellArg f) args)
+
+-- in a language a text is read as a tree exactly when that is the well-formed tree that spells it, and the language has all its forms
+abbrev pub ReadsItsTreeIn : Type 0
+ReadsItsTreeIn = (n : ℕ) (text : List ℕ) (l : LineTree) → (line_in n text ≡ Some l) ↔ ((spell l ≡ text) × well l × (since_line l ≤ n))
+
+abbrev pub ReadsItsRoutineTreeIn : Type 0
+ReadsItsRoutineTreeIn =
+    (n : ℕ) (text : List ℕ) (l : RoutineLineTree) →
+    (routine_line_in n text ≡ Some l) ↔ ((spell_routine_line l ≡ text) × well_routine_line l × (since_routine_line l ≤ n))
+
+abbrev pub ReadsItsReferenceIn : Type 0
+ReadsItsReferenceIn =
+    (n : ℕ) (text : List ℕ) (v : ReferenceTree) →
+    (ref_in n text ≡ Some v) ↔ ((spell_reference v ≡ text) × WellReference max_depth v × (since_reference v ≤ n))
+
+abbrev pub ReadsItsArgumentsIn : Type 0
+ReadsItsArgumentsIn =
+    (f : FormTree) → may_be_indirect f ≡ true → (n : ℕ) (text : List ℕ) (args : List ArgTree) →
+    (args_in f n text ≡ Some args) ↔ ((spell_list spell_arg args ≡ text) × WellList (WellArg f) args × (since_args args ≤ n))
+
+-- what one language reads a text as, each later one does
+abbrev pub LaterLanguagesRead : Type 0
+LaterLanguagesRead = (n m : ℕ) → n ≤ m → (text : List ℕ) (l : LineTree) → line_in n text ≡ Some l → line_in m text ≡ Some l

@@ -2,12 +2,14 @@
 pub mod Grammar
 pub mod Functions
 pub mod Commands
+pub mod Specials
 pub mod WellFormed
 pub mod Reading
 pub mod ReadingExpressions
 pub mod ReadingWords
 pub mod IndirectTexts
 pub mod RoutineLine
+pub mod Languages
 pub mod GrammarLaws
 pub mod Matching
 pub mod PatternLaws

@@ -2,7 +2,8 @@
 -- How expressions are read: references, calls, brackets and what operators tie.
 use Rattle.std.specs.Prelude.{ℕ, zero, suc, false, ◌==◌, nat_le, if◌then◌else◌, List, [], ◌∷◌, length, Option, Some, None}
 use Rattle.mspec.specs.Names.{is_letter}
-use Rattle.mgrammar.specs.Grammar.{ExprTree, expr, TailTree, apply, matches, matches_not, tails_of, OperandTree, operand, PrimaryTree, number, text, special, reference, bracket, call, select, refer, ReferenceTree, local, global, naked, indirect, extended, ExprsTree, no_exprs, exprs_of, choices_of, SpecialTree, special_of}
+use Rattle.mgrammar.specs.Grammar.{ExprTree, expr, TailTree, apply, matches, matches_not, tails_of, OperandTree, operand, PrimaryTree, number, text, special, reference, bracket, call, select, refer, ReferenceTree, local, global, naked, indirect, extended, ExprsTree, no_exprs, exprs_of, choices_of}
+use Rattle.mgrammar.specs.Specials.{SpecialTree, special_of}
 use Rattle.mgrammar.specs.Functions.{FunctionTree, of_values, of_variable, of_choices, function_of, takes}
 use Rattle.mgrammar.specs.ReadingWords.{Read, ◌>>=◌, run_of, after_run, is_digit_or_point, number_at, name_at, text_from, past, many, after_comma, list_at, pattern_at, signs_of, after_signs, OperatorTree, operator_at, between, matching, matching_not}
 

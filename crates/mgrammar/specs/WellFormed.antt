@@ -5,7 +5,8 @@ use Rattle.std.specs.Prelude.{◌≡◌, ℕ, suc, ◌-◌, ◌<◌, ◌≤◌, 
 pub use Rattle.mspec.specs.Limits.{max_depth}
 use Rattle.mspec.specs.Literal.{is_digit, Literal, IsLiteral, spell_literal}
 use Rattle.mspec.specs.Names.{is_letter, is_character, AllAre, IsName}
-use Rattle.mgrammar.specs.Grammar.{RepeatedTree, classes, copies, AtomTree, ExprTree, expr, TailsTree, no_tails, tail, TailTree, apply, matches, matches_not, OperandTree, operand, PrimaryTree, number, text, special, reference, bracket, call, select, refer, ReferenceTree, local, global, naked, indirect, extended, ExprsTree, no_exprs, exprs, ChoicesTree, no_choices, choice, TargetTree, variable, piece, DestinationTree, one, several, ParameterTree, once, onward, until, EntryTree, at_label, at_label_in, at_routine, ArgTree, assign, breaks, shown, kill_one, kill_others, new_one, new_others, tested, loop, do_one, go_to, executed, locked, indirect_args, LockedTree, lock_one, lock_several, anew, adding, giving_back, KeywordTree, CommandTree, SpacedTree, LineTree, FormTree, set_argument, kill_argument, new_argument, if_argument, for_argument, write_argument, do_argument, goto_argument, xecute_argument, lock_argument, may_be_indirect, SpecialTree, special_of, is_pattern_letter}
+use Rattle.mgrammar.specs.Grammar.{RepeatedTree, classes, copies, AtomTree, ExprTree, expr, TailsTree, no_tails, tail, TailTree, apply, matches, matches_not, OperandTree, operand, PrimaryTree, number, text, special, reference, bracket, call, select, refer, ReferenceTree, local, global, naked, indirect, extended, ExprsTree, no_exprs, exprs, ChoicesTree, no_choices, choice, TargetTree, variable, piece, DestinationTree, one, several, ParameterTree, once, onward, until, EntryTree, at_label, at_label_in, at_routine, ArgTree, assign, breaks, shown, kill_one, kill_others, new_one, new_others, tested, loop, do_one, go_to, executed, locked, indirect_args, LockedTree, lock_one, lock_several, anew, adding, giving_back, KeywordTree, CommandTree, SpacedTree, LineTree, FormTree, set_argument, kill_argument, new_argument, if_argument, for_argument, write_argument, do_argument, goto_argument, xecute_argument, lock_argument, may_be_indirect, is_pattern_letter}
+use Rattle.mgrammar.specs.Specials.{SpecialTree, special_of}
 use Rattle.mgrammar.specs.Commands.{keyword_of, form_of, takes_args, takes_condition}
 use Rattle.mgrammar.specs.Functions.{ValueFunctionTree, VariableFunctionTree, of_values, of_variable, of_choices, function_of, takes, is_piece}
 

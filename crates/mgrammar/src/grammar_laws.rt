@@ -1,6 +1,6 @@
 // SPDX-License-Identifier: Apache-2.0
 // The laws of the grammar. Each function's contract is the law, and its body is empty: the code never calls them.
-ghost use Rattle.mgrammar.specs.GrammarLaws.{OneTree, ReadsItsTree, OneRoutineTree, ReadsItsRoutineTree, ToldOfItsTree, OneReference, ReadsItsReference, OneArgumentList, ReadsItsArguments};
+ghost use Rattle.mgrammar.specs.GrammarLaws.{OneTree, ReadsItsTree, OneRoutineTree, ReadsItsRoutineTree, ToldOfItsTree, OneReference, ReadsItsReference, OneArgumentList, ReadsItsArguments, ReadsItsTreeIn, ReadsItsRoutineTreeIn, ReadsItsReferenceIn, ReadsItsArgumentsIn, LaterLanguagesRead};
 
 /// No text has two trees.
 #[tactic(auto, using(crate::proofs::ReadingLines::one_tree))]
@@ -51,4 +51,30 @@ pub fn one_argument_list()
 /// A text is read as that of an argument indirection exactly when the trees that are read are the well-formed ones that spell it.
 pub fn reads_its_arguments()
     ensures { ReadsItsArguments }
+{}
+
+/// In a language, a text is read as a tree exactly when the tree is the well-formed one that spells it, and the language has all
+/// its forms. So each language has trees of the one grammar alone, and which these are is told by the tree.
+pub fn reads_its_tree_in()
+    ensures { ReadsItsTreeIn }
+{}
+
+/// The same of the lines of routines.
+pub fn reads_its_routine_tree_in()
+    ensures { ReadsItsRoutineTreeIn }
+{}
+
+/// The same of the texts of name indirections.
+pub fn reads_its_reference_in()
+    ensures { ReadsItsReferenceIn }
+{}
+
+/// The same of the texts of argument indirections.
+pub fn reads_its_arguments_in()
+    ensures { ReadsItsArgumentsIn }
+{}
+
+/// What a language reads a text as, each later language does.
+pub fn later_languages_read()
+    ensures { LaterLanguagesRead }
 {}

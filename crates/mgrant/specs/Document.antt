@@ -30,6 +30,7 @@ pub record WrittenAccount : Type 0 where
   pub name : Text
   pub terminals : List ℤ
   pub steps : ℤ
+  pub language : ℕ
 
 pub record WrittenGrant : Type 0 where
   pub from : Text
@@ -60,8 +61,19 @@ integer_at key ms = option_and_then as_integer (get_member key ms)
 abbrev pub integers_at : Text → Members → Option (List ℤ)
 integers_at key ms = option_and_then (each_read as_integer) (option_and_then as_array (get_member key ms))
 
+-- the language of an account: 0 or 1, and 0 if it is absent
+abbrev pub language_of : ℤ → Option ℕ
+language_of z = if int_eq z (pos 0) then Some 0 else (if int_eq z (pos 1) then Some 1 else None)
+
+abbrev pub language_said : Option Data → Option ℕ
+language_said None = Some 0
+language_said (Some d) = option_and_then language_of (as_integer d)
+
+abbrev pub language_at : Members → Option ℕ
+language_at ms = language_said (get_member (codes "language") ms)
+
 abbrev pub account_keys : List Text
-account_keys = codes "name" ∷ codes "terminals" ∷ codes "steps" ∷ []
+account_keys = codes "name" ∷ codes "terminals" ∷ codes "steps" ∷ codes "language" ∷ []
 
 abbrev pub grant_keys : List Text
 grant_keys = codes "from" ∷ codes "to" ∷ codes "global" ∷ codes "mode" ∷ []
@@ -69,9 +81,9 @@ grant_keys = codes "from" ∷ codes "to" ∷ codes "global" ∷ codes "mode" ∷
 abbrev pub document_keys : List Text
 document_keys = codes "account" ∷ codes "grant" ∷ []
 
-abbrev pub account_with : Option Text → Option (List ℤ) → Option ℤ → Option WrittenAccount
-account_with (Some name) (Some terminals) (Some steps) = Some (record { name = name; terminals = terminals; steps = steps })
-account_with _ _ _ = None
+abbrev pub account_with : Option Text → Option (List ℤ) → Option ℤ → Option ℕ → Option WrittenAccount
+account_with (Some name) (Some terminals) (Some steps) (Some language) = Some (record { name = name; terminals = terminals; steps = steps; language = language })
+account_with _ _ _ _ = None
 
 abbrev pub grant_with : Option Text → Option Text → Option Text → Option Text → Option WrittenGrant
 grant_with (Some from) (Some to) (Some global) (Some mode) = Some (record { from = from; to = to; global = global; mode = mode })
@@ -79,7 +91,7 @@ grant_with _ _ _ _ = None
 
 abbrev pub account_in : Members → Option WrittenAccount
 account_in ms =
-    if has_only account_keys ms then account_with (text_at (codes "name") ms) (integers_at (codes "terminals") ms) (integer_at (codes "steps") ms)
+    if has_only account_keys ms then account_with (text_at (codes "name") ms) (integers_at (codes "terminals") ms) (integer_at (codes "steps") ms) (language_at ms)
     else None
 
 abbrev pub grant_in : Members → Option WrittenGrant
@@ -182,7 +194,7 @@ first_fault doc = fault_in (written doc)
 -- ---- the settings
 
 abbrev pub account_of : WrittenAccount → Account
-account_of a = record { name = a.name; steps = unsigned_abs a.steps }
+account_of a = record { name = a.name; steps = unsigned_abs a.steps; language = a.language }
 
 abbrev pub grant_of : WrittenGrant → Grant
 grant_of g = record { from = g.from; to = g.to; global = g.global; mode = unwrap_or (mode_named g.mode) Read }

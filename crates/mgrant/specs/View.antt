@@ -13,7 +13,7 @@ use Rattle.mgrant.specs.declared.document.AccountEntry.{AccountEntry}
 
 -- an entry of the list of accounts, as the code reads it
 abbrev pub account_view : AccountEntry → WrittenAccount
-account_view e = record { name = e.name.items; terminals = e.terminals.items; steps = e.steps }
+account_view e = record { name = e.name.items; terminals = e.terminals.items; steps = e.steps; language = e.language }
 
 abbrev pub names_in : List Account → List Text
 names_in accounts = map (λ a. a.name) accounts
@@ -50,7 +50,7 @@ pub record AreSettings (accounts : List Account) (terminals : List (Option ℕ))
 
 -- codes, by which a proof tells values apart
 abbrev pub coded_account : Coded Account
-coded_account = code_by (Text × ℕ) (coded× (coded_list coded_ℕ) coded_ℕ) (λ a. (a.name, a.steps)) (λ p. record { name = p.0; steps = p.1 }) (λ _. refl)
+coded_account = code_by (Text × (ℕ × ℕ)) (coded× (coded_list coded_ℕ) (coded× coded_ℕ coded_ℕ)) (λ a. (a.name, (a.steps, a.language))) (λ p. record { name = p.0; steps = p.1.0; language = p.1.1 }) (λ _. refl)
 
 abbrev is_write : Mode → Bool
 is_write Read = false

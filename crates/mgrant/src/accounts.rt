@@ -15,11 +15,12 @@ use mspec::limits::MAX_STEPS;
 use std::alloc::{AllocError, Global};
 use std::marker::Model;
 
-// An account, and the steps that each of its lines may use.
+// An account, the steps that each of its lines may use, and their language.
 #[derive(Drop)]
 pub(crate) struct Account {
     name: Vec<u8>,
     steps: u32,
+    language: u32,
 }
 
 impl Model for Account {
@@ -27,7 +28,7 @@ impl Model for Account {
 
     ghost Value = { access.Account };
 
-    ghost view = { λ account. record { name = account.name.items; steps = account.steps } };
+    ghost view = { λ account. record { name = account.name.items; steps = account.steps; language = account.language } };
 }
 
 impl Account {
@@ -39,7 +40,11 @@ impl Account {
             return Ok(None);
         };
         let name = Vec::from_slice(alloc, &entry.name)?;
-        Ok(Some(Account { name, steps }))
+        Ok(Some(Account {
+            name,
+            steps,
+            language: entry.language,
+        }))
     }
 
     pub fn name(&self) -> &[u8]
@@ -52,6 +57,12 @@ impl Account {
         ensures { result ≡ self.now.steps }
     {
         self.steps
+    }
+
+    pub fn language(&self) -> u32
+        ensures { result ≡ self.now.language }
+    {
+        self.language
     }
 }
 

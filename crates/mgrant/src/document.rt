@@ -5,7 +5,7 @@ ghost use Rattle.std.specs.List.{list_any};
 ghost use Rattle.mspec.specs.Trees.{text_eq};
 ghost use Rattle.toml.specs.Data.{Members, get_member, as_str, as_integer};
 ghost use Rattle.toml.specs.View.{view, table_view, array_view};
-ghost use Rattle.mgrant.specs.Document.{WrittenAccount, WrittenGrant, has_only, text_at, integer_at, integers_at, each_read, account_in, grant_in, written_by, entries_of, entries_in, written, max_entries};
+ghost use Rattle.mgrant.specs.Document.{WrittenAccount, WrittenGrant, has_only, text_at, integer_at, integers_at, language_at, each_read, account_in, grant_in, written_by, entries_of, entries_in, written, max_entries};
 ghost use Rattle.mgrant.specs.Reading.{grant_view, entries_view, keys_view};
 ghost use Rattle.mgrant.specs.View.{account_view};
 
@@ -19,6 +19,7 @@ pub(crate) struct AccountEntry {
     pub name: Vec<u8>,
     pub terminals: Vec<i64>,
     pub steps: i64,
+    pub language: u32,
 }
 
 // An entry of the list of grants, as it is written.
@@ -87,6 +88,20 @@ fn integer_at(table: &Table, key: &str) -> Option<i64>
     }
 }
 
+// The language at its key, 0 if it is absent.
+fn language_at(table: &Table) -> Option<u32>
+    ensures { result ≡ language_at (table_view table.now) }
+{
+    let Some(value) = value_at(table, "language") else {
+        return Some(0);
+    };
+    match value.as_integer() {
+        Some(0) => Some(0),
+        Some(1) => Some(1),
+        _ => None,
+    }
+}
+
 // The whole numbers of a list, if all that is in it are.
 #[tactic(auto, using(crate::proofs::EachRead::none_read))]
 fn integers(alloc: Global, values: &Vec<Value>) -> Result<Option<Vec<i64>>, AllocError>
@@ -136,7 +151,7 @@ impl Entry for AccountEntry {
     ghost written = { account_in };
 
     fn read(alloc: Global, table: &Table) -> Result<Option<AccountEntry>, AllocError> {
-        if !has_only(table, &["name", "terminals", "steps"]) {
+        if !has_only(table, &["name", "terminals", "steps", "language"]) {
             return Ok(None);
         }
         let Some(name) = text_at(alloc, table, "name")? else {
@@ -145,11 +160,15 @@ impl Entry for AccountEntry {
         let Some(terminals) = integers_at(alloc, table, "terminals")? else {
             return Ok(None);
         };
-        match integer_at(table, "steps") {
-            Some(steps) => Ok(Some(AccountEntry {
+        let Some(steps) = integer_at(table, "steps") else {
+            return Ok(None);
+        };
+        match language_at(table) {
+            Some(language) => Ok(Some(AccountEntry {
                 name,
                 terminals,
                 steps,
+                language,
             })),
             None => Ok(None),
         }

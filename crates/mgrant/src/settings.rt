@@ -174,6 +174,16 @@ impl Settings {
         }
     }
 
+    /// The language of an account's lines, 0 or 1; 0 for an id that names none here. Takes no memory.
+    pub fn language_of(&self, id: AccountId) -> u32
+        ensures { result ≡ access.language_at self.now id }
+    {
+        match self.accounts.at(id.place()) {
+            Some(account) => account.language(),
+            None => 0,
+        }
+    }
+
     /// Whether an account may use a global of the owner in this mode: the owner is the account itself, or has granted it. A name
     /// that no account has is treated as an account that grants nothing. Takes no memory.
     pub fn may(&self, me: AccountId, owner_name: &[u8], global: &[u8], mode: Mode) -> bool

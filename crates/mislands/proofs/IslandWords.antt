@@ -7,7 +7,7 @@ pub use Rattle.std.proofs.lemmas.List.Folds.{list_any-append, list_any_at}
 pub use Rattle.std.proofs.lemmas.Option.{IfSome_then, none-some, same_Some}
 pub use Rattle.std.specs.Cmp.Lexicographic.{bytes_decides}
 pub use Rattle.std.specs.List.{filter, find, flat_map, list_any, range_with_len}
-pub use Rattle.mgrant.specs.Document.{Written, WrittenAccount, WrittenGrant, account_in, account_keys, account_with, count_items, document_keys, each_read, entries_in, entries_of, max_entries, has_only, integer_at, integers_at, settings_of, text_at, written, written_account, written_grant, written_with}
+pub use Rattle.mgrant.specs.Document.{Written, WrittenAccount, WrittenGrant, account_in, account_keys, account_with, count_items, document_keys, each_read, entries_in, entries_of, max_entries, has_only, integer_at, integers_at, language_at, settings_of, text_at, written, written_account, written_grant, written_with}
 pub use Rattle.mgrant.specs.Islands.{IsIslandAt, IsIslandOf}
 pub use Rattle.mgrant.specs.Words.{Bytes, texts_of}
 pub use Rattle.mspec.specs.Access.{Account, Settings, account_at, account_named, name_at}

@@ -1,6 +1,6 @@
 -- SPDX-License-Identifier: Apache-2.0
 -- The names that are read from a document are those of the accounts that it gives.
-use Rattle.mislands.proofs.IslandWords.{◌≡◌, ℤ, Bool, true, false, cond, List, [], ◌∷◌, map, Option, Some, None, codes, refl, ap, ◌∙◌, option_map, option_and_then, nat_le, none-some, same_Some, Data, Members, Items, no_items, item, get_member, as_array, as_table, Text, has_only, account_keys, document_keys, text_at, integers_at, integer_at, account_with, account_in, written_account, written_grant, each_read, entries_of, entries_in, max_entries, count_items, WrittenAccount, WrittenGrant, Written, written, written_with, settings_of, names_of, written_name, written_names}
+use Rattle.mislands.proofs.IslandWords.{◌≡◌, ℕ, ℤ, Bool, true, false, cond, List, [], ◌∷◌, map, Option, Some, None, codes, refl, ap, ◌∙◌, option_map, option_and_then, nat_le, none-some, same_Some, Data, Members, Items, no_items, item, get_member, as_array, as_table, Text, has_only, account_keys, document_keys, text_at, integers_at, integer_at, account_with, account_in, written_account, written_grant, each_read, entries_of, entries_in, max_entries, count_items, WrittenAccount, WrittenGrant, Written, written, written_with, settings_of, names_of, written_name, written_names, language_at}
 use Rattle.mislands.specs.Written.{names_at}
 
 -- what a choice gives, if that is something
@@ -8,17 +8,18 @@ some_chosen : {X : Type 0} (b : Bool) (o : Option X) (x : X) → cond b o None �
 some_chosen true o x e = e
 some_chosen false o x e = absurd (none-some x e)
 
-account_name : (name : Option Text) (terminals : Option (List ℤ)) (steps : Option ℤ) (a : WrittenAccount) → account_with name terminals steps ≡ Some a → name ≡ Some a.name
-account_name (Some name) (Some terminals) (Some steps) a e = ap Some (ap (λ b. b.name) (same_Some _ a e))
-account_name (Some name) (Some terminals) None a e = absurd (none-some a e)
-account_name (Some name) None steps a e = absurd (none-some a e)
-account_name None terminals steps a e = absurd (none-some a e)
+account_name : (name : Option Text) (terminals : Option (List ℤ)) (steps : Option ℤ) (language : Option ℕ) (a : WrittenAccount) → account_with name terminals steps language ≡ Some a → name ≡ Some a.name
+account_name (Some name) (Some terminals) (Some steps) (Some language) a e = ap Some (ap (λ b. b.name) (same_Some _ a e))
+account_name (Some name) (Some terminals) (Some steps) None a e = absurd (none-some a e)
+account_name (Some name) (Some terminals) None language a e = absurd (none-some a e)
+account_name (Some name) None steps language a e = absurd (none-some a e)
+account_name None terminals steps language a e = absurd (none-some a e)
 
 table_name : (o : Option Members) (a : WrittenAccount) → option_and_then account_in o ≡ Some a → option_and_then (text_at (codes "name")) o ≡ Some a.name
 table_name None a e = absurd (none-some a e)
 table_name (Some ms) a e =
-    account_name (text_at (codes "name") ms) (integers_at (codes "terminals") ms) (integer_at (codes "steps") ms) a
-    (some_chosen (has_only account_keys ms) (account_with (text_at (codes "name") ms) (integers_at (codes "terminals") ms) (integer_at (codes "steps") ms)) a e)
+    account_name (text_at (codes "name") ms) (integers_at (codes "terminals") ms) (integer_at (codes "steps") ms) (language_at ms) a
+    (some_chosen (has_only account_keys ms) (account_with (text_at (codes "name") ms) (integers_at (codes "terminals") ms) (integer_at (codes "steps") ms) (language_at ms)) a e)
 
 abbrev named : List WrittenAccount → List Text
 named accounts = map (λ a. a.name) accounts

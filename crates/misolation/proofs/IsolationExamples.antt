@@ -13,7 +13,7 @@ use Rattle.misolation.proofs.EntriesAlike.{same_entries_agree}
 use Rattle.misolation.proofs.PartsAlone.{part_is_history, opening_is_fit, agreeing_replies}
 
 abbrev pub account : Text → Account
-account name = record { name = name; steps = 2000 }
+account name = record { name = name; steps = 2000; language = 0 }
 
 abbrev pub clinic : Text
 clinic = codes "CLINIC"

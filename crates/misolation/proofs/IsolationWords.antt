@@ -28,7 +28,7 @@ pub use Rattle.mspec.specs.Node.{Node, Text}
 pub use Rattle.mspec.specs.Number.{significant_digits}
 pub use Rattle.mspec.specs.Plan.{Ask, Done, Give_back, Kill, May, Neighbour, Op, Ops, Plan, Put, Release, Routine, Status, Take, Value, cut_short, perform}
 pub use Rattle.mspec.specs.Trees.{Direction, children_in, front, is_below, last, neighbour, text_eq}
-unfoldable pub use Rattle.mgrammar.specs.Reading.{line_at}
+unfoldable pub use Rattle.mgrammar.specs.Languages.{line_in}
 pub use Rattle.mmeaning.proofs.Histories.{history_is_normal, normal_never_fails, normal_transitions_are_history}
 pub use Rattle.mmeaning.specs.History.{History, NoneFailed, answered, opening, replies, world_after}
 pub use Rattle.mmeaning.specs.LineMeaning.{Completion}

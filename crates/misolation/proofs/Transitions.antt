@@ -1,6 +1,6 @@
 -- SPDX-License-Identifier: Apache-2.0
 -- The two laws for transitions.
-use Rattle.misolation.proofs.IsolationWords.{◌≡◌, ℕ, Bool, true, false, Option, Some, None, refl, sym, ap, ◌∙◌, subst, not, ◌||◌, List, [], ◌∷◌, if◌then◌else◌, FinMap, get, retain_keys, nat_cmp-IsAntisymmetric, nat_cmp, nat_cmp_total, Text, Account, Settings, Write, Outcome, Op, Put, Kill, Plan, perform, cut_short, line_at, Completion, act, Accounts, IsClosed, is_member, is_inside, cut_settings, cut_locks, cut_shared, cut_world, AreFit, IsFit, flat_map, Session, session_or_new, World, Event, Reply, plan_of, ended, is_too_long, is_ascii, at_tree, checked, at_account, normal, FailedTransition, is_failure, TransitionBy, Exchange, exchanges, Actor, ops_of, cut_ops, InsidePlan, OutsidePlan, GlobalWrite, Puts, Kills, write_of, writes, exchanges_by, line_exchanges, writes_by, line_writes, InsideTransition, InsideTransitions, OutsideTransition, OutsideTransitions, TransitionsKeepFit, TransitionsAreIsolated}
+use Rattle.misolation.proofs.IsolationWords.{◌≡◌, ℕ, Bool, true, false, Option, Some, None, refl, sym, ap, ◌∙◌, subst, not, ◌||◌, List, [], ◌∷◌, if◌then◌else◌, FinMap, get, retain_keys, nat_cmp-IsAntisymmetric, nat_cmp, nat_cmp_total, Text, Account, Settings, Write, Outcome, Op, Put, Kill, Plan, perform, cut_short, line_in, Completion, act, Accounts, IsClosed, is_member, is_inside, cut_settings, cut_locks, cut_shared, cut_world, AreFit, IsFit, flat_map, Session, session_or_new, World, Event, Reply, plan_of, ended, is_too_long, is_ascii, at_tree, checked, at_account, normal, FailedTransition, is_failure, TransitionBy, Exchange, exchanges, Actor, ops_of, cut_ops, InsidePlan, OutsidePlan, GlobalWrite, Puts, Kills, write_of, writes, exchanges_by, line_exchanges, writes_by, line_writes, InsideTransition, InsideTransitions, OutsideTransition, OutsideTransitions, TransitionsKeepFit, TransitionsAreIsolated}
 use Rattle.misolation.proofs.Access.{may_cut}
 use Rattle.misolation.proofs.TransitionsWrite.{transitions_write}
 use Rattle.misolation.proofs.CutMaps.{get_kept}
@@ -11,7 +11,7 @@ use Rattle.misolation.proofs.Endings.{gone_inside, gone_outside, ended_inside, e
 
 -- the plan of a line, in the session that its terminal has or in a new one
 abbrev plan_in : Event → Account → Option Session → Plan (Outcome Completion)
-plan_in e account session = plan_of account (session_or_new session) (line_at e.text)
+plan_in e account session = plan_of account (session_or_new session) (line_in account.language e.text)
 
 -- who sends a line
 abbrev sender : (settings : Settings) (e : Event) (account : Account) → get settings.terminals e.terminal ≡ Some account → Actor

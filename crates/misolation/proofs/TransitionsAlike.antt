@@ -1,6 +1,6 @@
 -- SPDX-License-Identifier: Apache-2.0
 -- What a normal transition cannot tell apart.
-use Rattle.misolation.proofs.IsolationWords.{◌≡◌, ℕ, Bool, true, false, cond, List, [], ◌∷◌, Option, Some, None, refl, sym, ap, ◌∙◌, subst, get, insert, remove, get-insert, get-remove, nat_cmp, eq_by_cmp, list_all, nat_cmp_total, Text, text_eq, Account, Settings, Read, Write, LockName, taken, Op, May, Value, Status, Neighbour, Routine, Put, Kill, Take, Give_back, Release, Ops, perform, State, Outcome, line_at, Completion, Shared, act, guarded, may_lock, took, answered, world_after, status, order_at, without_subtree, Session, session_or_new, World, Event, Reply, Ending, Finished, Halted, Faulted, kept, plan_of, reply_of, state_of, settled, ended, is_too_long, is_ascii, at_tree, checked, at_account, normal, AlikeSettings, AlikeWorlds, AlikeTransitions, TransitionsByAllowed, TransitionsBySessions}
+use Rattle.misolation.proofs.IsolationWords.{◌≡◌, ℕ, Bool, true, false, cond, List, [], ◌∷◌, Option, Some, None, refl, sym, ap, ◌∙◌, subst, get, insert, remove, get-insert, get-remove, nat_cmp, eq_by_cmp, list_all, nat_cmp_total, Text, text_eq, Account, Settings, Read, Write, LockName, taken, Op, May, Value, Status, Neighbour, Routine, Put, Kill, Take, Give_back, Release, Ops, perform, State, Outcome, line_in, Completion, Shared, act, guarded, may_lock, took, answered, world_after, status, order_at, without_subtree, Session, session_or_new, World, Event, Reply, Ending, Finished, Halted, Faulted, kept, plan_of, reply_of, state_of, settled, ended, is_too_long, is_ascii, at_tree, checked, at_account, normal, AlikeSettings, AlikeWorlds, AlikeTransitions, TransitionsByAllowed, TransitionsBySessions}
 
 -- ---- settings that allow the same
 
@@ -25,7 +25,7 @@ module _ (one two : Settings) (alike : AlikeSettings one two) where
 
   same_tree : (e : Event) (world : World) (account : Account) → at_tree one e world account ≡ at_tree two e world account
   same_tree e world account =
-      ap (λ (ops : Ops Shared). ended e.terminal world (perform ops (plan_of account (session_or_new (get world.sessions e.terminal)) (line_at e.text)) world.shared))
+      ap (λ (ops : Ops Shared). ended e.terminal world (perform ops (plan_of account (session_or_new (get world.sessions e.terminal)) (line_in account.language e.text)) world.shared))
       (same_operations e.terminal account.name)
 
   same_checked : (long ascii : Bool) (e : Event) (world : World) (account : Account) → checked long ascii one e world account ≡ checked long ascii two e world account
@@ -77,7 +77,7 @@ module _ (one two : World) (alike : AlikeWorlds one two) where
 
   module _ (settings : Settings) (e : Event) where
     abbrev run_of : Account → Session → Shared → Outcome Completion × Shared
-    run_of account session w = perform (act settings e.terminal account.name) (plan_of account session (line_at e.text)) w
+    run_of account session w = perform (act settings e.terminal account.name) (plan_of account session (line_in account.language e.text)) w
 
     tree_alike : (account : Account) → AlikeTransitions (at_tree settings e one account) (at_tree settings e two account)
     tree_alike account =

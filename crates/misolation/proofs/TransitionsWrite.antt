@@ -1,6 +1,6 @@
 -- SPDX-License-Identifier: Apache-2.0
 -- What plans and transitions leave of globals, by their writes.
-use Rattle.misolation.proofs.IsolationWords.{◌≡◌, ℕ, zero, suc, Bool, true, false, List, [], ◌∷◌, ◌++◌, Option, Some, None, refl, sym, ap, ◌∙◌, append_assoc, not, ◌||◌, if◌then◌else◌, get, insert, list_all, Text, Node, Account, Settings, State, Outcome, Locks, taken, line_at, Completion, session_or_new, World, Event, Reply, Ending, Halted, reply_of, state_of, settled, plan_of, is_too_long, is_ascii, checked, at_account, FailedTransition, is_failure, TransitionBy, append-nil, Globals, without_subtree, Op, Value, Status, Neighbour, Put, Kill, Take, Plan, Done, Ask, Ops, perform, cut_short, Shared, act, guarded, may_read, may_write, may_lock, took, Exchange, exchanges, GlobalWrite, Puts, Kills, written_by, written, write_of, writes, line_writes, writes_by, TransitionWrites, TransitionsWrite}
+use Rattle.misolation.proofs.IsolationWords.{◌≡◌, ℕ, zero, suc, Bool, true, false, List, [], ◌∷◌, ◌++◌, Option, Some, None, refl, sym, ap, ◌∙◌, append_assoc, not, ◌||◌, if◌then◌else◌, get, insert, list_all, Text, Node, Account, Settings, State, Outcome, Locks, taken, line_in, Completion, session_or_new, World, Event, Reply, Ending, Halted, reply_of, state_of, settled, plan_of, is_too_long, is_ascii, checked, at_account, FailedTransition, is_failure, TransitionBy, append-nil, Globals, without_subtree, Op, Value, Status, Neighbour, Put, Kill, Take, Plan, Done, Ask, Ops, perform, cut_short, Shared, act, guarded, may_read, may_write, may_lock, took, Exchange, exchanges, GlobalWrite, Puts, Kills, written_by, written, write_of, writes, line_writes, writes_by, TransitionWrites, TransitionsWrite}
 
 -- writes one after another
 written-append : (xs ys : List GlobalWrite) (globals : Globals) → written (xs ++ ys) globals ≡ written ys (written xs globals)
@@ -72,7 +72,7 @@ settled_globals terminal world ending s w = refl
 module _ (settings : Settings) (e : Event) (world : World) where
   -- the plan of a line, and what it comes to
   abbrev line_plan : Account → Plan (Outcome Completion)
-  line_plan account = plan_of account (session_or_new (get world.sessions e.terminal)) (line_at e.text)
+  line_plan account = plan_of account (session_or_new (get world.sessions e.terminal)) (line_in account.language e.text)
 
   abbrev plan_exchanges : Account → List Exchange
   plan_exchanges account = exchanges (act settings e.terminal account.name) (line_plan account) world.shared

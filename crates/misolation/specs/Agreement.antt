@@ -14,7 +14,7 @@ pub record Run : Type 0 where
   pub world : World
   pub events : List Event
 
--- The same accounts reach `a`. For these both have the same terminals and steps, and allow the same between them; the same globals and
+-- The same accounts reach `a`. For these both have the same terminals, steps and languages, and allow the same between them; the same globals and
 -- locks; the same sessions, where one that is as new counts as none; and the same lines. All else may differ.
 pub record Agree (a : Text) (one two : Run) : Type 0 where
   pub reaching : (x : Text) → reachers one.settings a x ≡ reachers two.settings a x

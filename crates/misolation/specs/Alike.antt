@@ -7,7 +7,7 @@ use Rattle.mspec.specs.Node.{Text}
 use Rattle.mspec.specs.Access.{Mode, Grant, Settings, lets, may}
 use Rattle.mmeaning.specs.Transition.{World, Reply, session_or_new}
 
--- The same accounts at the same terminals with the same steps, and who may do what is the same.
+-- The same accounts at the same terminals with the same steps and languages, and who may do what is the same.
 pub record AlikeSettings (one two : Settings) : Type 0 where
   pub terminals : (t : ℕ) → get one.terminals t ≡ get two.terminals t
   pub allowed : (me owner name : Text) (mode : Mode) → may one me owner name mode ≡ may two me owner name mode
@@ -28,7 +28,7 @@ pub record AlikeTransitions (one two : Reply × World) : Type 0 where
 abbrev pub AllowsAll : List Grant → List Grant → Type 0
 AllowsAll gs hs = IsTrue (list_all (λ g. list_any (lets g.to g.from g.global g.mode) hs) gs)
 
--- The same accounts at the same terminals with the same steps, and the same grants: in whatever order, however often each is
+-- The same accounts at the same terminals with the same steps and languages, and the same grants: in whatever order, however often each is
 -- listed, and with or without one to read beside one to write. The order of the accounts does not matter.
 pub record SameEntries (one two : Settings) : Type 0 where
   pub terminals : (t : ℕ) → get one.terminals t ≡ get two.terminals t

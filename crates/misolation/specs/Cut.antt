@@ -25,7 +25,7 @@ is_inside s settings terminal = is_member s (get settings.terminals terminal)
 abbrev pub is_between : Accounts → Grant → Bool
 is_between s g = s g.from && s g.to
 
--- the members with their steps and terminals, and the grants between them
+-- the members with their steps, languages and terminals, and the grants between them
 abbrev pub cut_settings : Accounts → Settings → Settings
 cut_settings s settings = record {
   accounts = filter (λ a. s a.name) settings.accounts;

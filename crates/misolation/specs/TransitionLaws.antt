@@ -3,7 +3,7 @@
 use Rattle.std.specs.Prelude.{◌≡◌, false, not, ◌||◌, IsTrue, List, [], ◌++◌, Option, Some, None, if◌then◌else◌}
 use Rattle.std.specs.FinMap.{get}
 use Rattle.mspec.specs.Access.{Account, Settings}
-use Rattle.mgrammar.specs.Reading.{line_at}
+use Rattle.mgrammar.specs.Languages.{line_in}
 use Rattle.mmeaning.specs.Shared.{act}
 use Rattle.mmeaning.specs.Transition.{World, Event, Reply, session_or_new, plan_of, is_too_long, is_ascii, normal, FailedTransition, is_failure, Transition}
 use Rattle.misolation.specs.Reach.{Accounts, IsClosed}
@@ -16,7 +16,7 @@ abbrev pub exchanges_by : Settings → Event → World → Option Account → Li
 exchanges_by settings e world None = []
 exchanges_by settings e world (Some account) =
     if is_too_long e.text || not (is_ascii e.text) then []
-    else exchanges (act settings e.terminal account.name) (plan_of account (session_or_new (get world.sessions e.terminal)) (line_at e.text)) world.shared
+    else exchanges (act settings e.terminal account.name) (plan_of account (session_or_new (get world.sessions e.terminal)) (line_in account.language e.text)) world.shared
 
 abbrev pub line_exchanges : Settings → Event → World → List Exchange
 line_exchanges settings e world = exchanges_by settings e world (get settings.terminals e.terminal)

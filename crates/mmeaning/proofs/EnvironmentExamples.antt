@@ -4,6 +4,7 @@ use Rattle.mmeaning.proofs.MeaningWords.{◌≡◌, ℕ, suc, Bool, [], ◌∷�
 use Rattle.mgrammar.specs.Functions.{function_of}
 use Rattle.mmeaning.proofs.LineTrees.{only, with_operator}
 use Rattle.mmeaning.proofs.LockRuns.{hers, his, her_line, his_line}
+use Rattle.mmeaning.proofs.ExampleAccount.{of_profile}
 
 -- of ALICE's, and of what is no account
 abbrev of_alice : Text → ExprsTree → ReferenceTree
@@ -23,7 +24,7 @@ next_of r = only (refer (codes "O") r no_exprs)
 
 module _ (w : Shared) (last : Option Node) (test : Bool) (out : Text) (locals : Locals) (steps : ℕ) where
   abbrev state : Option Node → ℕ → State
-  state at n = record { locals = locals; naked = at; test = test; out = out; steps = n }
+  state at n = record { locals = locals; naked = at; test = test; out = out; steps = n; given = of_profile }
 
   -- ---- what is granted
 

@@ -1,14 +1,19 @@
 -- SPDX-License-Identifier: Apache-2.0
 -- The accounts of the examples, and replies to their lines.
-use Rattle.mmeaning.proofs.MeaningWords.{ℕ, [], ◌∷◌, codes, empty, insert, Code, Own, Text, Account, Settings, Reply, Finished, Faulted}
+use Rattle.mmeaning.proofs.MeaningWords.{ℕ, [], ◌∷◌, codes, empty, insert, Code, Own, Text, Given, Account, Settings, Reply, Finished, Faulted}
+use Rattle.mspec.specs.Act.{given_language}
 
--- an account of this name, with 2,000 steps a line
+-- what a line is given whose account has the profile
+abbrev pub of_profile : Given
+of_profile = given_language 0
+
+-- an account of this name, with 2,000 steps a line and the profile
 abbrev pub account_named : Text → Account
-account_named name = record { name = name; steps = 2000 }
+account_named name = record { name = name; steps = 2000; language = 0 }
 
 -- ALICE with this many steps a line
 abbrev pub with_steps : ℕ → Account
-with_steps n = record { name = codes "ALICE"; steps = n }
+with_steps n = record { name = codes "ALICE"; steps = n; language = 0 }
 
 abbrev pub account : Account
 account = with_steps 2000

@@ -1,8 +1,8 @@
 -- SPDX-License-Identifier: Apache-2.0
 -- Globals on examples, as proved equations. What a line asks of the world is followed one operation after another.
-use Rattle.mmeaning.proofs.MeaningWords.{Bool, cond, Option, ap, ◌∙◌, eq_by_cmp, nat_cmp, get, insert, retain_keys, get-insert, get-empty, Op, Answer, Plan, Done, Ask, Ops, perform, Outcome, Fails, State, LineTree, line_at, Completion, Reply, World, Session, normal, kept, ended, begun, is_too_long, is_ascii, not, option_map, get_cut, node_cmp_total, node_cmp_exact, computes, Code, M1, M7, Zsub, node_cmp, significant_digits, is_node_within, status, Shared, act, Text, Node}
+use Rattle.mmeaning.proofs.MeaningWords.{Bool, cond, Option, ap, ◌∙◌, eq_by_cmp, nat_cmp, get, insert, retain_keys, get-insert, get-empty, Op, Answer, Plan, Done, Ask, Ops, perform, Outcome, Fails, State, LineTree, line_in, Completion, Reply, World, Session, normal, kept, ended, begun, is_too_long, is_ascii, not, option_map, get_cut, node_cmp_total, node_cmp_exact, computes, Code, M1, M7, Zsub, node_cmp, significant_digits, is_node_within, status, Shared, act, Text, Node}
 use Rattle.mmeaning.proofs.ExampleAccount.{alice}
-use Rattle.mmeaning.proofs.LineRuns.{event, shut, shut_run, shut_step, step_is_shut}
+use Rattle.mmeaning.proofs.LineRuns.{event, shut, shut_run, shut_step, line_is}
 use Rattle.mmeaning.proofs.Running.{◌≡◌, List, [], ◌∷◌, Some, None, true, false, refl, codes, empty, gets, Globals, new_session, opening, account, done, failed, AreAnswered, at_last, Anywhere, runs}
 
 -- ---- operations, one after another
@@ -28,7 +28,7 @@ opened : (g : Globals) (t : Text) (l : Option LineTree) → is_too_long t ≡ fa
 opened g t l short ascii = simp (gets, short, ascii)
 
 -- a line over these globals, by what its operations do
-answers : {g : Globals} {t : Text} {r : Outcome Completion × Shared} (l : Option LineTree) → line_at t ≡ l → is_too_long t ≡ false → is_ascii t ≡ true
+answers : {g : Globals} {t : Text} {r : Outcome Completion × Shared} (l : Option LineTree) → line_in 0 t ≡ l → is_too_long t ≡ false → is_ascii t ≡ true
     → Comes (shut_run (codes "ALICE") l (begun account new_session)) (opening g).shared r → AreAnswered account (opening g) (t ∷ []) ((ended 1 (opening g) r).0 ∷ [])
 answers {g = g} {t = t} l tree short ascii run = at_last l tree (ap (λ x. x.0) (opened g t l short ascii) ∙ ap (λ r. (ended 1 (opening g) r).0) run.is)
 
@@ -39,12 +39,12 @@ record Refers (g : Globals) (t : Text) (last : Option Node) : Type 0 where
 kept_session : (s : Session) → get (insert (empty {X = Session} {R = nat_cmp}) 1 s) 1 ≡ Some s
 kept_session s = simp gets
 
-refers : {g : Globals} {t : Text} {c : Code} {s : State} {w : Shared} (l : Option LineTree) → line_at t ≡ l → is_too_long t ≡ false → is_ascii t ≡ true
+refers : {g : Globals} {t : Text} {c : Code} {s : State} {w : Shared} (l : Option LineTree) → line_in 0 t ≡ l → is_too_long t ≡ false → is_ascii t ≡ true
     → Comes (shut_run (codes "ALICE") l (begun account new_session)) (opening g).shared (Fails c s, w) → Refers g t s.naked
 refers {g = g} {t = t} {s = s} l tree short ascii run = record {
   is =
       ap (λ (x : Reply × World). option_map (λ (s : Session). s.naked) (get x.1.sessions 1))
-      (step_is_shut alice (event t) (opening g) ∙ ap (λ l. shut_step alice (event t) l (opening g)) tree ∙ opened g t l short ascii ∙ ap (ended 1 (opening g)) run.is)
+      (line_is account (opening g) t l tree ∙ opened g t l short ascii ∙ ap (ended 1 (opening g)) run.is)
       ∙ ap (option_map (λ (s : Session). s.naked)) (kept_session (kept s));
 }
 

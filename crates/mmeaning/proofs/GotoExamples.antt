@@ -1,8 +1,8 @@
 -- SPDX-License-Identifier: Apache-2.0
 -- GOTO on examples, as proved equations: a loop of six turns, each in an equation of its own.
-use Rattle.mmeaning.proofs.MeaningWords.{sym, zero, ◌*◌, ℕ, ◌^◌, suc, ap, ◌∙◌, insert, Plan, then_plan, perform, Gives, give, Locals, State, Outcome, Act, on_gives, Completion, Go_on, Position, digits, canonical_value, size_text, no_locals, level_begun, value_of, assigned_to, name_at, line_at, label_at, routine_line_at, tree_none, tree_put, tree_again, text_none, text_put, text_again, value_some, round_pos, text_1, text_2, text_3, text_4, text_8, text_16, bottom, multiply, loop, until, for_word, is, less, number, text, reference, at_label, at_label_in, shown, do_one, go_to, set_word, quit_word, write_word, do_word, goto_word, CommandTree, LineTree, SpacedTree, RoutineLineTree, spaced_out, reads, Shared, act, commands_in}
+use Rattle.mmeaning.proofs.MeaningWords.{sym, zero, ◌*◌, ℕ, ◌^◌, suc, ap, ◌∙◌, insert, Plan, then_plan, perform, Gives, give, Locals, State, Outcome, Act, on_gives, Completion, Go_on, Position, digits, canonical_value, size_text, no_locals, level_begun, value_of, assigned_to, name_at, line_in, label_at, routine_line_in, tree_none, tree_put, tree_again, text_none, text_put, text_again, value_some, round_pos, text_1, text_2, text_3, text_4, text_8, text_16, bottom, multiply, loop, until, for_word, is, less, number, text, reference, at_label, at_label_in, shown, do_one, go_to, set_word, quit_word, write_word, do_word, goto_word, CommandTree, LineTree, SpacedTree, RoutineLineTree, spaced_out, reads_in, Shared, act, commands_in}
 use Rattle.mmeaning.proofs.Calls.{assoc_plan, then_give}
-use Rattle.mmeaning.proofs.ExampleAccount.{alice}
+use Rattle.mmeaning.proofs.ExampleAccount.{alice, of_profile}
 use Rattle.mmeaning.proofs.LineRuns.{shut, entered, opened, text_opened}
 use Rattle.mmeaning.proofs.LineTrees.{only, with_operator, named, set_to, command, command_if, line}
 use Rattle.mmeaning.proofs.Running.{◌≡◌, List, [], ◌∷◌, Some, None, false, refl, codes, empty, gets, Globals, Text, opening, account, done, AreAnswered, at_first, at_last, lines_in, asked, serving_in}
@@ -42,16 +42,16 @@ doubling_3 = record {
   body = spaced_out [] (line ((command write_word 87 (shown (only (reference (named (codes "N")))) ∷ []), 1) ∷ (command quit_word 81 [], 0) ∷ []));
 }
 
-doubling_1_read : routine_line_at (codes "A S N=1") ≡ Some doubling_1
-unfolding reads
+doubling_1_read : routine_line_in 0 (codes "A S N=1") ≡ Some doubling_1
+unfolding reads_in
 doubling_1_read = refl
 
-doubling_2_read : routine_line_at (codes "B S N=N*2 G:N<50 B") ≡ Some doubling_2
-unfolding reads
+doubling_2_read : routine_line_in 0 (codes "B S N=N*2 G:N<50 B") ≡ Some doubling_2
+unfolding reads_in
 doubling_2_read = refl
 
-doubling_3_read : routine_line_at (codes " W N Q") ≡ Some doubling_3
-unfolding reads
+doubling_3_read : routine_line_in 0 (codes " W N Q") ≡ Some doubling_3
+unfolding reads_in
 doubling_3_read = refl
 
 -- D A^G W "."
@@ -59,8 +59,8 @@ abbrev goto_line : LineTree
 goto_line =
     line ((command do_word 68 (do_one (at_label_in (codes "A") (codes "G")) None ∷ []), 1) ∷ (command write_word 87 (shown (only (text (codes "."))) ∷ []), 0) ∷ [])
 
-goto_read : line_at (codes "D A^G W \".\"") ≡ Some goto_line
-unfolding reads
+goto_read : line_in 0 (codes "D A^G W \".\"") ≡ Some goto_line
+unfolding reads_in
 goto_read = refl
 
 ruleset variables = (tree_none, tree_put, tree_again, text_none, text_put, text_again)
@@ -87,7 +87,7 @@ module _ (levels : ℕ) (locals : Text → Locals) (have : HaveNumber locals) wh
   in_store p w = perform (act alice 1 (codes "ALICE")) p w
 
   abbrev at_number : ℕ → Text → Text → State
-  at_number steps x out = record { locals = locals x; naked = None; test = false; out = out; steps = steps }
+  at_number steps x out = record { locals = locals x; naked = None; test = false; out = out; steps = steps; given = of_profile }
 
   -- where the second line stands
   abbrev second : Position
@@ -104,7 +104,7 @@ module _ (levels : ℕ) (locals : Text → Locals) (have : HaveNumber locals) wh
   Turn x y = (n steps : ℕ) (f : Completion → Act Completion) (w : Shared) → entered_at (suc n) (and_seven steps) x f w ≡ shut_at n steps y f w
 
   reopened : (n steps : ℕ) (x : Text) (f : Completion → Act Completion) (w : Shared) → shut_at n steps x f w ≡ entered_at n steps x f w
-  reopened n steps x f w = ap (λ p. in_store (then_plan p (on_gives f)) w) (text_opened (codes "ALICE") n second looping (locals x) None false [] steps)
+  reopened n steps x f w = ap (λ p. in_store (then_plan p (on_gives f)) w) (text_opened (codes "ALICE") n second looping (locals x) None false [] steps of_profile)
 
   record Turns : Type 0 where
     from_1 : Turn (codes "1") (codes "2")
@@ -166,16 +166,16 @@ for_line =
     line ((command for_word 70 (loop (codes "I") (until (only (number (codes "1"))) (only (number (codes "1"))) (only (number (codes "3"))) ∷ []) ∷ []), 1) ∷
     (command goto_word 71 (go_to (at_label_in (codes "A") (codes "G")) None ∷ []), 0) ∷ [])
 
-for_read : line_at (codes "F I=1:1:3 G A^G") ≡ Some for_line
-unfolding reads
+for_read : line_in 0 (codes "F I=1:1:3 G A^G") ≡ Some for_line
+unfolding reads_in
 for_read = refl
 
 -- W I
 abbrev index_line : LineTree
 index_line = line ((command write_word 87 (shown (only (reference (named (codes "I")))) ∷ []), 0) ∷ [])
 
-index_read : line_at (codes "W I") ≡ Some index_line
-unfolding reads
+index_read : line_in 0 (codes "W I") ≡ Some index_line
+unfolding reads_in
 index_read = refl
 
 -- the variables that stay, and in the level of the line

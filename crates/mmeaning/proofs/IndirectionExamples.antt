@@ -1,6 +1,6 @@
 -- SPDX-License-Identifier: Apache-2.0
 -- Indirection on examples, as proved equations. What is read of the texts that stand for an `@` is beside the lines.
-use Rattle.mmeaning.proofs.MeaningWords.{ℕ, ◌++◌, rules, replicate, M6, M9, Zsteps, Zsyntax, Zdepth, no_locals, assigned_to, divide, ExprTree, number, text, reference, local, exprs, no_exprs, set_argument, kill_argument, new_argument, if_argument, write_argument, xecute_argument, breaks, shown, kill_one, new_one, tested, executed, indirect_args, ref_at, args_of, reads, line_end}
+use Rattle.mmeaning.proofs.MeaningWords.{ℕ, ◌++◌, rules, replicate, M6, M9, Zsteps, Zsyntax, Zdepth, no_locals, assigned_to, divide, ExprTree, number, text, reference, local, exprs, no_exprs, set_argument, kill_argument, new_argument, if_argument, write_argument, xecute_argument, breaks, shown, kill_one, new_one, tested, executed, indirect_args, ref_in, args_in, reads_in, line_end}
 use Rattle.mmeaning.proofs.LineTrees.{only, with_operator, named, set_to}
 use Rattle.mmeaning.proofs.Running.{◌≡◌, List, [], ◌∷◌, Some, None, true, false, refl, codes, empty, Text, opening, with_steps, done, failed, AreAnswered, Answered, serving, holding, at_first, at_last, Each, at_case, no_more, runs, running}
 
@@ -13,28 +13,28 @@ abbrev variable : List ℕ → ExprTree
 variable name = only (reference (named name))
 
 record TextsRead : Type 0 where
-  name_a : ref_at (codes "A") ≡ Some (named (codes "A"))
-  name_b : ref_at (codes "B") ≡ Some (named (codes "B"))
-  name_c : ref_at (codes "C") ≡ Some (named (codes "C"))
-  indexed_b : ref_at (codes "B(C)") ≡ Some (local (codes "B") (exprs (variable (codes "C")) no_exprs))
-  indexed_a : ref_at (codes "A(1)") ≡ Some (local (codes "A") (exprs (digit (codes "1")) no_exprs))
-  two_names : ref_at (codes "B C") ≡ None
-  two_strings : ref_at (codes "\"W 5\",\"W 6\"") ≡ None
-  shown_b : args_of write_argument (codes "B") ≡ Some (shown (variable (codes "B")) ∷ [])
-  shown_i : args_of write_argument (codes "I") ≡ Some (shown (variable (codes "I")) ∷ [])
-  shown_1 : args_of write_argument (codes "1") ≡ Some (shown (digit (codes "1")) ∷ [])
-  shown_a : args_of write_argument (codes "A") ≡ Some (shown (variable (codes "A")) ∷ [])
-  nothing_shown : args_of write_argument [] ≡ None
-  shown_until_error : args_of write_argument (codes "1,!,2,1/0") ≡ Some (shown (digit (codes "1")) ∷ breaks 1 ∷ shown (digit (codes "2")) ∷ shown (with_operator (number (codes "1")) divide (number (codes "0"))) ∷ [])
-  two_assignments : args_of set_argument (codes "B=4,C=5") ≡ Some (set_to (named (codes "B")) (digit (codes "4")) ∷ set_to (named (codes "C")) (digit (codes "5")) ∷ [])
-  two_texts : args_of xecute_argument (codes "\"W 5\",\"W 6\"") ≡ Some (executed (only (text (codes "W 5"))) None ∷ executed (only (text (codes "W 6"))) None ∷ [])
-  two_removals : args_of kill_argument (codes "A,B") ≡ Some (kill_one (named (codes "A")) ∷ kill_one (named (codes "B")) ∷ [])
-  hidden_a : args_of new_argument (codes "A") ≡ Some (new_one (codes "A") ∷ [])
-  two_conditions : args_of if_argument (codes "1,0") ≡ Some (tested (digit (codes "1")) ∷ tested (digit (codes "0")) ∷ [])
-  itself_shown : args_of write_argument (codes "@A") ≡ Some (indirect_args write_argument (reference (named (codes "A"))) ∷ [])
+  name_a : ref_in 0 (codes "A") ≡ Some (named (codes "A"))
+  name_b : ref_in 0 (codes "B") ≡ Some (named (codes "B"))
+  name_c : ref_in 0 (codes "C") ≡ Some (named (codes "C"))
+  indexed_b : ref_in 0 (codes "B(C)") ≡ Some (local (codes "B") (exprs (variable (codes "C")) no_exprs))
+  indexed_a : ref_in 0 (codes "A(1)") ≡ Some (local (codes "A") (exprs (digit (codes "1")) no_exprs))
+  two_names : ref_in 0 (codes "B C") ≡ None
+  two_strings : ref_in 0 (codes "\"W 5\",\"W 6\"") ≡ None
+  shown_b : args_in write_argument 0 (codes "B") ≡ Some (shown (variable (codes "B")) ∷ [])
+  shown_i : args_in write_argument 0 (codes "I") ≡ Some (shown (variable (codes "I")) ∷ [])
+  shown_1 : args_in write_argument 0 (codes "1") ≡ Some (shown (digit (codes "1")) ∷ [])
+  shown_a : args_in write_argument 0 (codes "A") ≡ Some (shown (variable (codes "A")) ∷ [])
+  nothing_shown : args_in write_argument 0 [] ≡ None
+  shown_until_error : args_in write_argument 0 (codes "1,!,2,1/0") ≡ Some (shown (digit (codes "1")) ∷ breaks 1 ∷ shown (digit (codes "2")) ∷ shown (with_operator (number (codes "1")) divide (number (codes "0"))) ∷ [])
+  two_assignments : args_in set_argument 0 (codes "B=4,C=5") ≡ Some (set_to (named (codes "B")) (digit (codes "4")) ∷ set_to (named (codes "C")) (digit (codes "5")) ∷ [])
+  two_texts : args_in xecute_argument 0 (codes "\"W 5\",\"W 6\"") ≡ Some (executed (only (text (codes "W 5"))) None ∷ executed (only (text (codes "W 6"))) None ∷ [])
+  two_removals : args_in kill_argument 0 (codes "A,B") ≡ Some (kill_one (named (codes "A")) ∷ kill_one (named (codes "B")) ∷ [])
+  hidden_a : args_in new_argument 0 (codes "A") ≡ Some (new_one (codes "A") ∷ [])
+  two_conditions : args_in if_argument 0 (codes "1,0") ≡ Some (tested (digit (codes "1")) ∷ tested (digit (codes "0")) ∷ [])
+  itself_shown : args_in write_argument 0 (codes "@A") ≡ Some (indirect_args write_argument (reference (named (codes "A"))) ∷ [])
 
 texts_read : TextsRead
-unfolding reads
+unfolding reads_in
 texts_read = search rules
 
 -- lines one after another

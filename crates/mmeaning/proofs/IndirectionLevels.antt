@@ -1,8 +1,9 @@
 -- SPDX-License-Identifier: Apache-2.0
 -- How deep indirections may stand, on examples, as proved equations: which are levels at once, and in which order they are refused.
-use Rattle.mmeaning.proofs.MeaningWords.{◌≡◌, ℕ, zero, suc, ◌+◌, ◌≤◌, Bool, true, false, List, [], ◌∷◌, Option, Some, None, refl, arith, rules, codes, nat_lt, M9, Zdepth, Zsyntax, Done, nat_tests, Text, Node, Locals, level_begun, State, Gives, Fails, value_of, assigned_to, divide, number, PrimaryTree, text, bracket, reference, ReferenceTree, indirect, exprs, no_exprs, variable, one, write_argument, at_label, do_argument, do_one, indirect_args, do_word, CommandTree, many, list_at, name_at, entry_at, do_argument_at, ref_at, args_of, RoutineLineTree, spaced_out, dots_of, label_at, routine_line_at, reads, of_global, of_naked, of_local, Inside, inside, evaluated, finds, is_indirection_free, Context, context, given, setting, Position, commands, target, computes}
+use Rattle.mmeaning.proofs.MeaningWords.{◌≡◌, ℕ, zero, suc, ◌+◌, ◌≤◌, Bool, true, false, List, [], ◌∷◌, Option, Some, None, refl, arith, rules, codes, nat_lt, M9, Zdepth, Zsyntax, Done, nat_tests, Text, Node, Locals, level_begun, State, Gives, Fails, value_of, assigned_to, divide, number, PrimaryTree, text, bracket, reference, ReferenceTree, indirect, exprs, no_exprs, variable, one, write_argument, at_label, do_argument, do_one, indirect_args, do_word, CommandTree, many, list_at, name_at, entry_at, do_argument_at, ref_at, ref_in, args_of, args_in, RoutineLineTree, spaced_out, dots_of, label_at, routine_line_in, reads_in, of_global, of_naked, of_local, Inside, inside, evaluated, finds, is_indirection_free, Context, context, given, setting, Position, commands, target, computes}
 use Rattle.mgrammar.specs.ReadingExpressions.{subscripts_with, attached_with, indirect_with, reference_with, primary_with, readers_at}
 use Rattle.mmeaning.proofs.LineTrees.{only, with_operator, command, line}
+use Rattle.mmeaning.proofs.ExampleAccount.{of_profile}
 
 -- with this many levels open, of which this many are indirections
 abbrev within : ℕ → ℕ → Inside
@@ -23,7 +24,7 @@ error = bracket (with_operator (number (codes "1")) divide (number (codes "0")))
 
 module _ (naked : Option Node) (test : Bool) (out : Text) where
   abbrev state : Locals → ℕ → State
-  state locals steps = record { locals = locals; naked = naked; test = test; out = out; steps = steps }
+  state locals steps = record { locals = locals; naked = naked; test = test; out = out; steps = steps; given = of_profile }
 
   -- ---- the operand first, then the level, then the text
 
@@ -36,7 +37,7 @@ module _ (naked : Option Node) (test : Bool) (out : Text) where
     argument_text_read : (locals : Locals) (steps : ℕ) → given (at 255 0) write_argument (text (codes "1 1")) (state locals (suc steps)) ≡ Done (Fails Zsyntax (state locals steps))
 
   in_order : InOrder
-  unfolding reads computes
+  unfolding reads_in computes
   in_order = search rules
 
   -- ---- subscripts of a text, and those after it
@@ -52,7 +53,7 @@ module _ (naked : Option Node) (test : Bool) (out : Text) where
     one_argument_more : (locals : Locals) (steps : ℕ) → given (at 32 32) write_argument (text (codes "1")) (state locals (suc steps)) ≡ Done (Fails Zdepth (state locals steps))
 
   named : Named
-  unfolding reads finds
+  unfolding reads_in finds
   named = search rules
 
   -- ---- which are levels at once, if one level is free
@@ -60,25 +61,25 @@ module _ (naked : Option Node) (test : Bool) (out : Text) where
   -- an operand is evaluated before its indirection is a level
   operand_is_outside : (locals : Locals) (steps : ℕ) → value_of locals (codes "B") [] ≡ Some (codes "C")
       → evaluated (within 255 0) (indirect (reference (at_text (codes "B"))) no_exprs) (state locals (suc (suc steps))) ≡ Done (Gives (of_local (codes "C") []) (state locals steps))
-  unfolding finds ref_at name_at subscripts_with attached_with indirect_with reference_with readers_at
+  unfolding finds ref_in ref_at name_at subscripts_with attached_with indirect_with reference_with readers_at
   operand_is_outside locals steps h = rw h refl
 
   -- within the text of another both are
   text_is_inside : (locals : Locals) (steps : ℕ) → value_of locals (codes "B") [] ≡ Some (codes "C")
       → evaluated (within 255 0) (at_text (codes "@B")) (state locals (suc (suc steps))) ≡ Done (Fails Zdepth (state locals steps))
-  unfolding finds ref_at name_at subscripts_with attached_with indirect_with reference_with readers_at primary_with
+  unfolding finds ref_in ref_at name_at subscripts_with attached_with indirect_with reference_with readers_at primary_with
   text_is_inside locals steps h = rw h refl
 
   -- and so they are in the subscripts after it
   subscripts_are_inside : (locals : Locals) (steps : ℕ) → evaluated (within 255 0) (indirect (text (codes "B")) (exprs (only (reference (at_text (codes "C")))) no_exprs)) (state locals (suc (suc (suc steps)))) ≡ Done (Fails Zdepth (state locals steps))
-  unfolding finds ref_at name_at subscripts_with attached_with indirect_with reference_with readers_at
+  unfolding finds ref_in ref_at name_at subscripts_with attached_with indirect_with reference_with readers_at
   subscripts_are_inside locals steps = refl
 
   -- a target's is over when the right side is evaluated
   target_before_value : (locals : Locals) (steps : ℕ) → value_of locals (codes "B") [] ≡ Some (codes "7")
       → setting (within 255 0) (one (variable (at_text (codes "C")))) (only (reference (at_text (codes "B")))) (state locals (suc (suc (suc steps))))
       ≡ Done (Gives tt (state (assigned_to locals (codes "C") [] (codes "7")) steps))
-  unfolding finds ref_at name_at subscripts_with attached_with indirect_with reference_with readers_at
+  unfolding finds ref_in ref_at name_at subscripts_with attached_with indirect_with reference_with readers_at
   target_before_value locals steps h = rw h refl
 
 -- ---- an argument's indirection is a level while the argument is done: 32 are open when a line that does itself is refused
@@ -92,12 +93,12 @@ itself_commands = command do_word 68 (indirect_args do_argument (text (codes "T"
 abbrev itself : RoutineLineTree
 itself = record { label = Some (codes "T"); body = spaced_out [] (line ((command do_word 68 (indirect_args do_argument (text (codes "T")) ∷ []), 0) ∷ [])) }
 
-itself_read : routine_line_at itself_line ≡ Some itself
-unfolding reads
+itself_read : routine_line_in 0 itself_line ≡ Some itself
+unfolding reads_in
 itself_read = refl
 
-entry_read : args_of do_argument (codes "T") ≡ Some (do_one (at_label (codes "T")) None ∷ [])
-unfolding args_of many list_at name_at entry_at do_argument_at
+entry_read : args_in do_argument 0 (codes "T") ≡ Some (do_one (at_label (codes "T")) None ∷ [])
+unfolding args_in args_of many list_at name_at entry_at do_argument_at
 entry_read = refl
 
 entry_found : (s : State) → target (itself_line ∷ []) 0 (at_label (codes "T")) s ≡ Done (Gives (record { copy = itself_line ∷ []; line = 0 }) s)
@@ -125,7 +126,7 @@ begun_more (suc k) locals = begun_more k (level_begun locals)
 
 module _ (naked : Option Node) (test : Bool) (out : Text) (steps : ℕ) where
   abbrev in_state : Locals → ℕ → State
-  in_state locals n = record { locals = locals; naked = naked; test = test; out = out; steps = n }
+  in_state locals n = record { locals = locals; naked = naked; test = test; out = out; steps = n; given = of_profile }
 
   -- this many more indirections may be opened
   abbrev IsRefused : ℕ → ℕ → ℕ → ℕ → Locals → Type 0

@@ -1,7 +1,8 @@
 -- SPDX-License-Identifier: Apache-2.0
 -- Levels on examples, as proved equations: how many may be open, and in which order DO, GOTO and XECUTE are refused.
-use Rattle.mmeaning.proofs.MeaningWords.{◌≡◌, ℕ, zero, suc, ◌+◌, ◌≤◌, Bool, true, false, List, [], ◌∷◌, Option, Some, None, refl, ap, subst, ◌∙◌, arith, rules, codes, nat_lt, M9, M13, Zdepth, Zlevel, Zsyntax, Plan, Done, then_plan, line_at, text_run, nat_tests, Scope, Text, Node, Locals, State, Outcome, Gives, Fails, on_gives, level_begun, value_of, divide, number, text, reference, at_label, executed, execute_word, LineTree, reads, Completion, Position, top_level, after_level, run_within, Context, Go_on, Goes, context, commands, doing, doing_block, executing, going, commands_of, computes}
+use Rattle.mmeaning.proofs.MeaningWords.{◌≡◌, ℕ, zero, suc, ◌+◌, ◌≤◌, Bool, true, false, List, [], ◌∷◌, Option, Some, None, refl, ap, subst, ◌∙◌, arith, rules, codes, nat_lt, M9, M13, Zdepth, Zlevel, Zsyntax, Plan, Done, then_plan, line_in, text_run, nat_tests, Scope, Text, Node, Locals, State, Outcome, Gives, Fails, on_gives, level_begun, value_of, divide, number, text, reference, at_label, executed, execute_word, LineTree, reads_in, Completion, Position, top_level, after_level, run_within, Context, Go_on, Goes, context, commands, doing, doing_block, executing, going, commands_of, computes}
 use Rattle.mmeaning.proofs.LineTrees.{only, with_operator, named, command, line}
+use Rattle.mmeaning.proofs.ExampleAccount.{of_profile}
 
 -- a level of this many dots, of a routine of three lines, with this many levels open
 abbrev lines : List Text
@@ -19,18 +20,18 @@ record Refused : Type 0 where
   -- even for an argumentless DO that no line follows
   level_of_block : (s : State) → doing_block (within 256 0) s ≡ Done (Fails Zdepth s)
   block_ends : (naked : Option Node) (test : Bool) (out : Text) (steps : ℕ) (top : Scope) (below : Locals)
-      → doing_block (within 255 0) (record { locals = top ∷ below; naked = naked; test = test; out = out; steps = steps })
-      ≡ Done (Gives Go_on (record { locals = top ∷ below; naked = naked; test = test; out = out; steps = steps }))
+      → doing_block (within 255 0) (record { locals = top ∷ below; naked = naked; test = test; out = out; steps = steps; given = of_profile })
+      ≡ Done (Gives Go_on (record { locals = top ∷ below; naked = naked; test = test; out = out; steps = steps; given = of_profile }))
   -- after the value of a text, and before the text is read
   level_before_text : (locals : Locals) (naked : Option Node) (test : Bool) (out : Text) (steps : ℕ)
-      → executing (within 256 0) (only (text (codes "1 1"))) (record { locals = locals; naked = naked; test = test; out = out; steps = suc steps })
-      ≡ Done (Fails Zdepth (record { locals = locals; naked = naked; test = test; out = out; steps = steps }))
+      → executing (within 256 0) (only (text (codes "1 1"))) (record { locals = locals; naked = naked; test = test; out = out; steps = suc steps; given = of_profile })
+      ≡ Done (Fails Zdepth (record { locals = locals; naked = naked; test = test; out = out; steps = steps; given = of_profile }))
   text_read : (locals : Locals) (naked : Option Node) (test : Bool) (out : Text) (steps : ℕ)
-      → executing (within 255 0) (only (text (codes "1 1"))) (record { locals = locals; naked = naked; test = test; out = out; steps = suc steps })
-      ≡ Done (Fails Zsyntax (record { locals = locals; naked = naked; test = test; out = out; steps = steps }))
+      → executing (within 255 0) (only (text (codes "1 1"))) (record { locals = locals; naked = naked; test = test; out = out; steps = suc steps; given = of_profile })
+      ≡ Done (Fails Zsyntax (record { locals = locals; naked = naked; test = test; out = out; steps = steps; given = of_profile }))
   value_before_level : (locals : Locals) (naked : Option Node) (test : Bool) (out : Text) (steps : ℕ)
-      → executing (within 256 0) (with_operator (number (codes "1")) divide (number (codes "0"))) (record { locals = locals; naked = naked; test = test; out = out; steps = suc (suc steps) })
-      ≡ Done (Fails M9 (record { locals = locals; naked = naked; test = test; out = out; steps = steps }))
+      → executing (within 256 0) (with_operator (number (codes "1")) divide (number (codes "0"))) (record { locals = locals; naked = naked; test = test; out = out; steps = suc (suc steps); given = of_profile })
+      ≡ Done (Fails M9 (record { locals = locals; naked = naked; test = test; out = out; steps = steps; given = of_profile }))
   -- lines with dots
   -- GOTO keeps to the dots of its level, and opens none
   goto_dots : (s : State) → going (within 256 1) (at_label (codes "U")) s ≡ Done (Gives (Goes (record { copy = lines; line = 1 })) s)
@@ -39,7 +40,7 @@ record Refused : Type 0 where
   do_dots : (s : State) → doing (within 0 1) (at_label (codes "U")) s ≡ Done (Fails Zlevel s)
 
 refused_levels : Refused
-unfolding reads level_begun computes
+unfolding reads_in level_begun computes
 refused_levels = search rules
 
 -- ---- a text that runs itself: 256 levels are open when it is refused
@@ -48,8 +49,8 @@ refused_levels = search rules
 abbrev itself : LineTree
 itself = line ((command execute_word 88 (executed (only (reference (named (codes "A")))) None ∷ []), 0) ∷ [])
 
-itself_read : line_at (codes "X A") ≡ Some itself
-unfolding reads
+itself_read : line_in 0 (codes "X A") ≡ Some itself
+unfolding reads_in
 itself_read = refl
 
 abbrev open_levels : ℕ → Position
@@ -71,7 +72,7 @@ begun_value locals = refl
 
 module _ (naked : Option Node) (test : Bool) (out : Text) (steps : ℕ) where
   abbrev state : Locals → ℕ → State
-  state locals n = record { locals = locals; naked = naked; test = test; out = out; steps = n }
+  state locals n = record { locals = locals; naked = naked; test = test; out = out; steps = n; given = of_profile }
 
   -- this many more levels may be opened
   abbrev IsRefused : ℕ → ℕ → ℕ → Locals → Type 0
@@ -96,10 +97,10 @@ run_refused n s after h = ap (λ (p : Plan (Outcome Completion)). then_plan p (o
 
 -- the state that it leaves: 1,486 of 2,000 steps, and 256 levels more
 text_of_itself : (naked : Option Node) (test : Bool) (out : Text) (locals : Locals) → value_of locals (codes "A") [] ≡ Some (codes "X A")
-    → text_run (codes "ALICE") (line_at (codes "X A")) (record { locals = locals; naked = naked; test = test; out = out; steps = 2000 })
-    ≡ Done (Fails Zdepth (record { locals = begun_more 256 locals; naked = naked; test = test; out = out; steps = 1486 }))
+    → text_run (codes "ALICE") (line_in 0 (codes "X A")) (record { locals = locals; naked = naked; test = test; out = out; steps = 2000; given = of_profile })
+    ≡ Done (Fails Zdepth (record { locals = begun_more 256 locals; naked = naked; test = test; out = out; steps = 1486; given = of_profile }))
 text_of_itself naked test out locals h =
-    ap (λ l. text_run (codes "ALICE") l (record { locals = locals; naked = naked; test = test; out = out; steps = 2000 })) itself_read
+    ap (λ l. text_run (codes "ALICE") l (record { locals = locals; naked = naked; test = test; out = out; steps = 2000; given = of_profile })) itself_read
     ∙ run_refused 2000 (state naked test out 1486 locals 2000) (state naked test out 1486 (begun_more 256 locals) 1486) (enough 2000 refl)
   where
     enough : (n : ℕ) → steps_for 256 1486 ≡ n → commands (context (codes "ALICE") 2000 top_level) (commands_of itself) (state naked test out 1486 locals n) ≡ Done (Fails Zdepth (state naked test out 1486 (begun_more 256 locals) 1486))

@@ -30,3 +30,4 @@ pub mod LockingExamples
 pub mod LockRuns
 pub mod LockRows
 pub mod EnvironmentExamples
+pub mod LanguageExamples

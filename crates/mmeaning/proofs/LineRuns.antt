@@ -1,7 +1,7 @@
 -- SPDX-License-Identifier: Apache-2.0
 -- Lines of a terminal, one after another, in a form that `simp` computes: a turn is opened only if its state is known, since what
 -- runs a turn holds what runs the next one, and so on for all the fuel.
-use Rattle.mmeaning.proofs.MeaningWords.{◌≡◌, ℕ, zero, suc, Bool, true, false, List, [], ◌∷◌, Option, Some, None, refl, ap, ◌∙◌, map, empty, get, insert, Plan, perform, Zsyntax, Zsteps, Zterm, Zline, Zchar, ReferenceTree, ExprsTree, ArgTree, CommandTree, LineTree, line_at, opening, replies, Text, Node, Locals, no_locals, assigned_to, State, Outcome, Act, ◌>>=◌, fail, Evaluated, Depth, through, finds, inside, Completion, Position, top_level, Turning, Texts, Context, texts, arguments, commands, after_turn, after_level, commands_of, Account, Settings, Session, World, Event, Reply, plan_of, begun, session_or_new, ended, refused, is_too_long, is_ascii, checked, at_account, normal}
+use Rattle.mmeaning.proofs.MeaningWords.{◌≡◌, ℕ, zero, suc, Bool, true, false, List, [], ◌∷◌, Option, Some, None, refl, ap, ◌∙◌, map, empty, get, insert, get-insert, nat_cmp_total, Plan, perform, Zsyntax, Zsteps, Zterm, Zline, Zchar, ReferenceTree, ExprsTree, ArgTree, CommandTree, LineTree, line_in, opening, replies, Text, Node, Locals, Given, no_locals, assigned_to, State, Outcome, Act, ◌>>=◌, fail, Evaluated, Depth, through, finds, inside, Completion, Position, top_level, Turning, Texts, Context, texts, arguments, commands, after_turn, after_level, commands_of, Account, Settings, Session, World, Event, Reply, plan_of, begun, session_or_new, ended, refused, is_too_long, is_ascii, checked, at_account, normal}
 use Rattle.mmeaning.specs.Transition.{act}
 use Rattle.mmeaning.proofs.ExampleAccount.{account, settings_of}
 
@@ -68,33 +68,46 @@ shut_at_account settings e l world (Some a) = shut_checked (is_too_long e.text) 
 abbrev pub shut_step : Settings → Event → Option LineTree → World → Reply × World
 shut_step settings e l world = shut_at_account settings e l world (get settings.terminals e.terminal)
 
-checked_is_shut : (long ascii : Bool) (settings : Settings) (e : Event) (world : World) (a : Account) → checked long ascii settings e world a ≡ shut_checked long ascii settings e (line_at e.text) world a
+checked_is_shut : (long ascii : Bool) (settings : Settings) (e : Event) (world : World) (a : Account)
+    → checked long ascii settings e world a ≡ shut_checked long ascii settings e (line_in a.language e.text) world a
 checked_is_shut true ascii settings e world a = refl
 checked_is_shut false false settings e world a = refl
 checked_is_shut false true settings e world a =
-    ap (λ p. ended e.terminal world (perform (act settings e.terminal a.name) p world.shared)) (run_is_shut a (session_or_new (get world.sessions e.terminal)) (line_at e.text))
+    ap (λ p. ended e.terminal world (perform (act settings e.terminal a.name) p world.shared)) (run_is_shut a (session_or_new (get world.sessions e.terminal)) (line_in a.language e.text))
 
-at_account_is_shut : (settings : Settings) (e : Event) (world : World) (o : Option Account) → at_account settings e world o ≡ shut_at_account settings e (line_at e.text) world o
+-- the language of an account's lines, and 0 if there is no account
+abbrev pub language_of : Option Account → ℕ
+language_of None = 0
+language_of (Some a) = a.language
+
+at_account_is_shut : (settings : Settings) (e : Event) (world : World) (o : Option Account)
+    → at_account settings e world o ≡ shut_at_account settings e (line_in (language_of o) e.text) world o
 at_account_is_shut settings e world None = refl
 at_account_is_shut settings e world (Some a) = checked_is_shut (is_too_long e.text) (is_ascii e.text) settings e world a
 
-pub step_is_shut : (settings : Settings) (e : Event) (world : World) → normal settings e world ≡ shut_step settings e (line_at e.text) world
+pub step_is_shut : (settings : Settings) (e : Event) (world : World)
+    → normal settings e world ≡ shut_step settings e (line_in (language_of (get settings.terminals e.terminal)) e.text) world
 step_is_shut settings e world = at_account_is_shut settings e world (get settings.terminals e.terminal)
 
 -- ---- proofs of examples: lines with their trees, one after another
 
-line_is : (a : Account) (world : World) (t : Text) (l : Option LineTree) → line_at t ≡ l → normal (settings_of a) (event t) world ≡ shut_step (settings_of a) (event t) l world
-line_is a world t l e = step_is_shut (settings_of a) (event t) world ∙ ap (λ l. shut_step (settings_of a) (event t) l world) e
+-- terminal 1 is the account's
+language_is : (a : Account) → language_of (get (settings_of a).terminals 1) ≡ a.language
+language_is a = ap language_of (get-insert nat_cmp_total empty 1 a 1)
+
+pub line_is : (a : Account) (world : World) (t : Text) (l : Option LineTree) → line_in a.language t ≡ l → normal (settings_of a) (event t) world ≡ shut_step (settings_of a) (event t) l world
+line_is a world t l e =
+    step_is_shut (settings_of a) (event t) world ∙ ap (λ l. shut_step (settings_of a) (event t) l world) (ap (λ n. line_in n t) (language_is a) ∙ e)
 
 pub at_last : {a : Account} {world : World} {t : Text} {r : Reply} (l : Option LineTree)
-    → line_at t ≡ l → (shut_step (settings_of a) (event t) l world).0 ≡ r → AreAnswered a world (t ∷ []) (r ∷ [])
+    → line_in a.language t ≡ l → (shut_step (settings_of a) (event t) l world).0 ≡ r → AreAnswered a world (t ∷ []) (r ∷ [])
 at_last {a = a} {world = world} {t = t} l e run = record {
   answers = ap (λ (x : Reply × World). x.0 ∷ []) (line_is a world t l e) ∙ ap (λ (r : Reply). r ∷ []) run;
 }
 
 -- one more line by itself
 pub at_case : {a : Account} {world : World} {t : Text} {r : Reply} {cases : Cases} (l : Option LineTree)
-    → line_at t ≡ l → (shut_step (settings_of a) (event t) l world).0 ≡ r → AreAnsweredEach a world cases → AreAnsweredEach a world ((t, r) ∷ cases)
+    → line_in a.language t ≡ l → (shut_step (settings_of a) (event t) l world).0 ≡ r → AreAnsweredEach a world cases → AreAnsweredEach a world ((t, r) ∷ cases)
 at_case {a = a} {world = world} {t = t} l e run rest = record {
   answers = let first = ap (λ (x : Reply × World). x.0) (line_is a world t l e) ∙ run in λ i. first i ∷ rest.answers i;
 }
@@ -104,7 +117,7 @@ no_more = record { answers = refl }
 
 -- a line, and then those after it in the world that it leaves
 pub at_first : {a : Account} {world : World} {t : Text} {r : Reply} {ts : List Text} {rs : List Reply} (after : World) (l : Option LineTree)
-    → line_at t ≡ l → shut_step (settings_of a) (event t) l world ≡ (r, after) → AreAnswered a after ts rs → AreAnswered a world (t ∷ ts) (r ∷ rs)
+    → line_in a.language t ≡ l → shut_step (settings_of a) (event t) l world ≡ (r, after) → AreAnswered a after ts rs → AreAnswered a world (t ∷ ts) (r ∷ rs)
 at_first {a = a} {world = world} {t = t} {r = r} {ts = ts} after l e first rest = record {
   answers =
       ap (λ (x : Reply × World). x.0 ∷ replies (settings_of a) x.1 (map event ts)) (line_is a world t l e ∙ first)
@@ -120,13 +133,14 @@ turned a (suc n) p t = commands (at a n p) t.body >>= after_turn (at a n p) t
 -- only if the state is known
 abbrev pub Opens : {A : Type 0} → Act A → Act A → Type 0
 Opens f g =
-    (locals : Locals) (naked : Option Node) (test : Bool) (out : Text) (steps : ℕ) → f (record { locals = locals; naked = naked; test = test; out = out; steps = steps })
-    ≡ g (record { locals = locals; naked = naked; test = test; out = out; steps = steps })
+    (locals : Locals) (naked : Option Node) (test : Bool) (out : Text) (steps : ℕ) (given : Given)
+    → f (record { locals = locals; naked = naked; test = test; out = out; steps = steps; given = given })
+    ≡ g (record { locals = locals; naked = naked; test = test; out = out; steps = steps; given = given })
 
 pub opened : (a : Text) (n : ℕ) (p : Position) (t : Turning) → Opens ((shut a n).turn p t) (turned a n p t)
 unfolding shut
-opened a zero p t locals naked test out steps = refl
-opened a (suc n) p t locals naked test out steps = refl
+opened a zero p t locals naked test out steps given = refl
+opened a (suc n) p t locals naked test out steps given = refl
 
 abbrev pub entered : Text → ℕ → Position → List CommandTree → Act Completion
 entered a zero p cs = fail Zsteps
@@ -134,8 +148,8 @@ entered a (suc n) p cs = commands (at a n p) cs >>= after_level (at a n p)
 
 pub text_opened : (a : Text) (n : ℕ) (p : Position) (cs : List CommandTree) → Opens ((shut a n).enter p cs) (entered a n p cs)
 unfolding shut
-text_opened a zero p cs locals naked test out steps = refl
-text_opened a (suc n) p cs locals naked test out steps = refl
+text_opened a zero p cs locals naked test out steps given = refl
+text_opened a (suc n) p cs locals naked test out steps given = refl
 
 abbrev pub listed : Text → ℕ → Position → List ArgTree → Act Completion
 listed a zero p args = fail Zsteps
@@ -143,8 +157,8 @@ listed a (suc n) p args = arguments (at a n p) args
 
 pub list_opened : (a : Text) (n : ℕ) (p : Position) (args : List ArgTree) → Opens ((shut a n).list p args) (listed a n p args)
 unfolding shut
-list_opened a zero p args locals naked test out steps = refl
-list_opened a (suc n) p args locals naked test out steps = refl
+list_opened a zero p args locals naked test out steps given = refl
+list_opened a (suc n) p args locals naked test out steps given = refl
 
 -- what a text names is found if the state is known, too
 abbrev pub found : Text → ℕ → Depth → ReferenceTree → ExprsTree → Act Evaluated
@@ -153,7 +167,7 @@ found a (suc n) d r subscripts = through (inside a n d) r subscripts
 
 pub name_found : (a : Text) (n : ℕ) (d : Depth) (r : ReferenceTree) (subscripts : ExprsTree) → Opens (finds a n d r subscripts) (found a n d r subscripts)
 unfolding finds
-name_found a zero d r subscripts locals naked test out steps = refl
-name_found a (suc n) d r subscripts locals naked test out steps = refl
+name_found a zero d r subscripts locals naked test out steps given = refl
+name_found a (suc n) d r subscripts locals naked test out steps given = refl
 
 pub ruleset turns = (opened)

@@ -1,6 +1,6 @@
 -- SPDX-License-Identifier: Apache-2.0
 -- LOCK and HALT of several terminals on examples, as proved equations.
-use Rattle.mmeaning.proofs.MeaningWords.{rules, nat_cmp, M6, M9, Zlocked, Zsyntax, Session, World, Halted, FinMap, insert, remove, LockName, Locks, held, divide, number, global, naked, exprs, no_exprs, anew, adding, lock_one, lock_argument, locked, ref_at, args_of, reads}
+use Rattle.mmeaning.proofs.MeaningWords.{rules, nat_cmp, M6, M9, Zlocked, Zsyntax, Session, World, Halted, FinMap, insert, remove, LockName, Locks, held, divide, number, global, naked, exprs, no_exprs, anew, adding, lock_one, lock_argument, locked, ref_in, args_in, reads_in}
 use Rattle.mmeaning.proofs.LineTrees.{only, with_operator}
 use Rattle.mmeaning.proofs.LockRuns.{AreReplied, replied_first, replied_last, plain_session, halted, computed_locks}
 use Rattle.mmeaning.proofs.Running.{◌≡◌, List, [], ◌∷◌, Some, None, true, false, refl, codes, empty, Text, opening, done, failed, computed_operations, runs, running}
@@ -78,14 +78,14 @@ list_counts_twice =
 -- ---- names and arguments that a text gives
 
 record TextsRead : Type 0 where
-  naked_1 : ref_at (codes "^(1)") ≡ Some (naked (exprs (only (number (codes "1"))) no_exprs))
-  naked_error : ref_at (codes "^(1/0)") ≡ Some (naked (exprs (with_operator (number (codes "1")) divide (number (codes "0"))) no_exprs))
-  two_globals : ref_at (codes "^X,^Y") ≡ None
-  no_naked_lock : args_of lock_argument (codes "^(1)") ≡ None
-  two_locks : args_of lock_argument (codes "^X,+^Y:0") ≡ Some (locked anew (lock_one (global (codes "X") no_exprs)) None ∷ locked adding (lock_one (global (codes "Y") no_exprs)) (Some (only (number (codes "0")))) ∷ [])
+  naked_1 : ref_in 0 (codes "^(1)") ≡ Some (naked (exprs (only (number (codes "1"))) no_exprs))
+  naked_error : ref_in 0 (codes "^(1/0)") ≡ Some (naked (exprs (with_operator (number (codes "1")) divide (number (codes "0"))) no_exprs))
+  two_globals : ref_in 0 (codes "^X,^Y") ≡ None
+  no_naked_lock : args_in lock_argument 0 (codes "^(1)") ≡ None
+  two_locks : args_in lock_argument 0 (codes "^X,+^Y:0") ≡ Some (locked anew (lock_one (global (codes "X") no_exprs)) None ∷ locked adding (lock_one (global (codes "Y") no_exprs)) (Some (only (number (codes "0")))) ∷ [])
 
 texts_read : TextsRead
-unfolding reads
+unfolding reads_in
 texts_read = search rules
 
 -- a naked reference is none: where it is written the line has no tree, nor has a text of arguments; of one that a text names the

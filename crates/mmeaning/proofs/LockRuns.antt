@@ -1,11 +1,11 @@
 -- SPDX-License-Identifier: Apache-2.0
 -- Lines of several terminals, one after another, and the maps of locks and sessions that they leave: for examples of LOCK and HALT.
-use Rattle.mmeaning.proofs.MeaningWords.{◌≡◌, ℕ, Bool, true, false, cond, List, [], ◌∷◌, Option, Some, None, refl, sym, ap, ◌∙◌, codes, not, map, eq_by_cmp, Plan, Ask, Take, Give_back, Release, perform, Ops, LineTree, line_at, Completion, Session, World, Event, Reply, Halted, normal, replies, get, insert, empty, entries, remove, retain_keys, get-insert, get-remove, get-empty, entries-insert, same_map, LockName, Locks, Held, held_cmp, Read, Text, Outcome, no_locals, equal_of, get_cut, cut_drops, entries_none, Shared, act, Inside, inside}
+use Rattle.mmeaning.proofs.MeaningWords.{◌≡◌, ℕ, Bool, true, false, cond, List, [], ◌∷◌, Option, Some, None, refl, sym, ap, ◌∙◌, codes, not, map, eq_by_cmp, Plan, Ask, Take, Give_back, Release, perform, Ops, LineTree, line_in, Completion, Session, World, Event, Reply, Halted, normal, replies, get, insert, empty, entries, remove, retain_keys, get-insert, get-remove, get-empty, entries-insert, same_map, FinMap, nat_cmp, nat_cmp_total, Account, LockName, Locks, Held, held_cmp, Read, Text, Outcome, no_locals, equal_of, get_cut, cut_drops, entries_none, Shared, act, Inside, inside}
 use Rattle.std.specs.FinMap.Entries.{put}
 use Rattle.mspec.specs.Access.{Settings}
 use Rattle.mspec.proofs.LockOrders.{held_cmp_total, held_cmp_exact}
 use Rattle.mmeaning.proofs.ExampleAccount.{account_named}
-use Rattle.mmeaning.proofs.LineRuns.{shut_step, step_is_shut}
+use Rattle.mmeaning.proofs.LineRuns.{language_of, shut_step, step_is_shut}
 
 -- ALICE has terminals 1 and 2, and BOB terminal 3; she lets him read her X
 abbrev pub lending : Settings
@@ -35,17 +35,33 @@ line_of l = record { terminal = l.0; text = l.1 }
 pub record AreReplied (world : World) (ls : List (ℕ × Text)) (rs : List Reply) : Type 0 where
   pub answers : replies lending world (map line_of ls) ≡ rs
 
-line_is : (world : World) (l : ℕ × Text) (tree : Option LineTree) → line_at l.1 ≡ tree → normal lending (line_of l) world ≡ shut_step lending (line_of l) tree world
-line_is world l tree e = step_is_shut lending (line_of l) world ∙ ap (λ t. shut_step lending (line_of l) t world) e
+-- at each terminal lines are read as the profile's
+profile_is : (b : Bool) (a : Account) (o : Option Account) → a.language ≡ 0 → language_of o ≡ 0 → language_of (cond b (Some a) o) ≡ 0
+profile_is true a o e h = e
+profile_is false a o e h = h
 
-pub replied_last : {world : World} {l : ℕ × Text} {r : Reply} (tree : Option LineTree) → line_at l.1 ≡ tree → (shut_step lending (line_of l) tree world).0 ≡ r → AreReplied world (l ∷ []) (r ∷ [])
+-- one more terminal of such an account
+terminal_more : (m : FinMap nat_cmp Account) (k : ℕ) (a : Account) (t : ℕ) → a.language ≡ 0 → language_of (get m t) ≡ 0 → language_of (get (insert m k a) t) ≡ 0
+terminal_more m k a t e h = ap language_of (get-insert nat_cmp_total m k a t) ∙ profile_is (eq_by_cmp nat_cmp t k) a (get m t) e h
+
+lending_language : (t : ℕ) → language_of (get lending.terminals t) ≡ 0
+lending_language t =
+    terminal_more (insert (insert empty 1 (account_named (codes "ALICE"))) 2 (account_named (codes "ALICE"))) 3 (account_named (codes "BOB")) t refl
+    (terminal_more (insert empty 1 (account_named (codes "ALICE"))) 2 (account_named (codes "ALICE")) t refl
+    (terminal_more empty 1 (account_named (codes "ALICE")) t refl (ap language_of (get-empty nat_cmp t))))
+
+line_is : (world : World) (l : ℕ × Text) (tree : Option LineTree) → line_in 0 l.1 ≡ tree → normal lending (line_of l) world ≡ shut_step lending (line_of l) tree world
+line_is world l tree e =
+    step_is_shut lending (line_of l) world ∙ ap (λ t. shut_step lending (line_of l) t world) (ap (λ n. line_in n l.1) (lending_language l.0) ∙ e)
+
+pub replied_last : {world : World} {l : ℕ × Text} {r : Reply} (tree : Option LineTree) → line_in 0 l.1 ≡ tree → (shut_step lending (line_of l) tree world).0 ≡ r → AreReplied world (l ∷ []) (r ∷ [])
 replied_last {world = world} {l = l} tree e run = record {
   answers = ap (λ (x : Reply × World). x.0 ∷ []) (line_is world l tree e) ∙ ap (λ (r : Reply). r ∷ []) run;
 }
 
 -- a line, and then those after it in the world that it leaves
 pub replied_first : {world : World} {l : ℕ × Text} {r : Reply} {ls : List (ℕ × Text)} {rs : List Reply} (after : World) (tree : Option LineTree)
-    → line_at l.1 ≡ tree → shut_step lending (line_of l) tree world ≡ (r, after) → AreReplied after ls rs → AreReplied world (l ∷ ls) (r ∷ rs)
+    → line_in 0 l.1 ≡ tree → shut_step lending (line_of l) tree world ≡ (r, after) → AreReplied after ls rs → AreReplied world (l ∷ ls) (r ∷ rs)
 replied_first {world = world} {l = l} {r = r} {ls = ls} after tree e first rest = record {
   answers =
       ap (λ (x : Reply × World). x.0 ∷ replies lending x.1 (map line_of ls)) (line_is world l tree e ∙ first)

@@ -1,6 +1,6 @@
 -- SPDX-License-Identifier: Apache-2.0
 -- The interpreter on examples, as proved equations.
-use Rattle.mmeaning.proofs.MeaningWords.{ℕ, ◌++◌, Option, map, replicate, line_at, Done, perform, State, Outcome, Gives, Fails, Completion, replies, computes, join, Code, M4, M6, M9, M10, Zlong, Zsyntax, Zover, Zarg, Zchar, Zline, Zterm, Zsteps, Event, Reply, begun, text_run}
+use Rattle.mmeaning.proofs.MeaningWords.{ℕ, ◌++◌, Option, map, replicate, line_in, Done, perform, State, Outcome, Gives, Fails, Completion, replies, computes, join, Code, M4, M6, M9, M10, Zlong, Zsyntax, Zover, Zarg, Zchar, Zline, Zterm, Zsteps, Event, Reply, begun, text_run}
 use Rattle.mmeaning.specs.Operators.{binary}
 use Rattle.mmeaning.specs.Transition.{act}
 use Rattle.mmeaning.proofs.ExampleAccount.{alice}
@@ -18,7 +18,7 @@ shown_by (Gives completion s) = (s.out, None)
 shown_by (Fails code s) = (s.out, Some code)
 
 abbrev shown : Text → Text × Option Code
-shown t = shown_by (perform (act alice 1 account.name) (text_run account.name (line_at t) (begun account new_session)) (opening empty).shared).0
+shown t = shown_by (perform (act alice 1 account.name) (text_run account.name (line_in 0 t) (begun account new_session)) (opening empty).shared).0
 
 abbrev Rows : Type 0
 Rows = List (Text × (Text × Option Code))

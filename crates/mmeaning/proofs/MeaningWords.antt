@@ -2,6 +2,7 @@
 -- The words that most proofs of this crate have, in one place.
 pub use Rattle.std.proofs.Common.{Bool, Err, List, None, Ok, Option, Result, Some, [], ap, arith, cond, false, refl, rules, subst, suc, sym, true, zero, ℕ, ◌*◌, ◌++◌, ◌+◌, ◌<◌, ◌∙◌, ◌∷◌, ◌≡◌, ◌≤◌}
 pub use Rattle.std.proofs.lemmas.Bool.Decides.{nat_tests}
+pub use Rattle.std.proofs.lemmas.Cmp.{nat_cmp_total}
 pub use Rattle.std.specs.FinMap.{FinMap, empty, entries, entries-insert, get, get-empty, get-insert, get-remove, insert, remove, retain_keys, same_map}
 unfoldable pub use Rattle.std.specs.Fmt.{digits}
 pub use Rattle.std.specs.List.{list_all}
@@ -14,7 +15,7 @@ pub use Rattle.mspec.proofs.MapCuts.{cut_drops, equal_of, get_cut}
 pub use Rattle.mspec.proofs.NodeOrders.{node_cmp_exact, node_cmp_total}
 pub use Rattle.mspec.proofs.Plans.{cut_first, cut_second, cut_whole, keeps, keeps_short, perform-then}
 pub use Rattle.mspec.specs.Access.{Mode, Read, Write, may}
-pub use Rattle.mspec.specs.Act.{Act, Fails, Gives, Locals, Node, Outcome, State, Text, ask, fail, give, on_gives, ◌>>=◌}
+pub use Rattle.mspec.specs.Act.{Act, Fails, Given, Gives, Locals, Node, Outcome, State, Text, ask, fail, give, give_some, on_gives, read_so, ◌>>=◌}
 unfoldable pub use Rattle.mspec.specs.Act.{assigned_to, level_begun, no_locals, value_of}
 pub use Rattle.mspec.specs.Code.{Code, Fault, Lost, M1, M10, M13, M15, M4, M6, M7, M9, Memory, Own, Store, Zarg, Zchar, Zdepth, Zgrant, Zlevel, Zline, Zlocked, Zlong, Zover, Zsteps, Zsub, Zsyntax, Zterm}
 pub use Rattle.mspec.specs.Globals.{Globals, is_node_within, lines_of, status}
@@ -25,13 +26,14 @@ pub use Rattle.mspec.specs.Number.{significant_digits}
 unfoldable pub use Rattle.mspec.specs.NumberText.{size_text}
 pub use Rattle.mspec.specs.Plan.{Answer, Ask, Done, Give_back, Kill, May, Neighbour, Op, Ops, Plan, Put, Release, Routine, Status, Take, Value, cut_short, perform, then_plan}
 pub use Rattle.mspec.specs.Scopes.{Scope, bottom}
-unfoldable pub use Rattle.mgrammar.proofs.Computing.{reads}
+unfoldable pub use Rattle.mgrammar.proofs.Computing.{reads_in}
 pub use Rattle.mgrammar.specs.Grammar.{ArgTree, BinaryTree, CommandTree, ExprTree, ExprsTree, KeywordTree, LineTree, OperandTree, PrimaryTree, ReferenceTree, SpacedTree, adding, anew, apply, assign, at_label, at_label_in, bracket, breaks, divide, do_argument, do_one, do_word, execute_word, executed, expr, exprs, extended, for_word, giving_back, global, go_to, goto_argument, goto_word, if_argument, indirect, indirect_args, is, join, kill_argument, kill_one, less, local, lock_argument, lock_one, lock_several, locked, loop, minus, multiply, naked, new_argument, new_one, no_exprs, no_tails, number, one, operand, quit_word, refer, reference, set_argument, set_word, shown, tail, tested, text, until, variable, write_argument, write_word, xecute_argument}
 unfoldable pub use Rattle.mgrammar.specs.IndirectTexts.{args_of, ref_at}
-unfoldable pub use Rattle.mgrammar.specs.Reading.{do_argument_at, entry_at, line_at}
+unfoldable pub use Rattle.mgrammar.specs.Languages.{args_in, line_in, ref_in, routine_line_in}
+unfoldable pub use Rattle.mgrammar.specs.Reading.{do_argument_at, entry_at}
 unfoldable pub use Rattle.mgrammar.specs.ReadingWords.{list_at, many, name_at}
 pub use Rattle.mgrammar.specs.RoutineLine.{RoutineLineTree, dots_of, spaced_out}
-unfoldable pub use Rattle.mgrammar.specs.RoutineLine.{label_at, routine_line_at}
+unfoldable pub use Rattle.mgrammar.specs.RoutineLine.{label_at}
 pub use Rattle.mmeaning.specs.Calls.{Did, Ends, FailedBy, Follows, Gave, Here, IsCut, MayLose, Standing, ops_of}
 pub use Rattle.mmeaning.specs.Expression.{Depth, Inside, evaluated, inside, is_indirection_free, through, value}
 unfoldable pub use Rattle.mmeaning.specs.Expression.{finds}

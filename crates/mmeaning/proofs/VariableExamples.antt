@@ -1,6 +1,6 @@
 -- SPDX-License-Identifier: Apache-2.0
 -- Variables on examples, as proved equations.
-use Rattle.mmeaning.proofs.MeaningWords.{M9, Zsub, Zarg, computes, reads}
+use Rattle.mmeaning.proofs.MeaningWords.{M9, Zsub, Zarg, computes, reads_in}
 use Rattle.mmeaning.proofs.Running.{[], ◌∷◌, refl, codes, gets, done, failed, Answered, holding, at_first, at_last, Each, at_case, no_more, runs, running, numbers}
 
 refusals : Each (
@@ -10,7 +10,7 @@ refusals : Each (
     (codes "S L(\"\")=1", failed [] Zsub) ∷
     -- $ORDER without a subscript
     (codes "W $O(L)", failed [] Zarg) ∷ [])
-unfolding reads computes
+unfolding reads_in computes
 refusals = at_case _ refl (simp gets) (at_case _ refl (simp gets) (at_case _ refl (simp gets) no_more))
 
 values : Each (

@@ -1,6 +1,6 @@
 -- SPDX-License-Identifier: Apache-2.0
 -- How acts that look at no state are put together.
-use Rattle.mmeaning.proofs.MeaningWords.{◌≡◌, Result, Ok, Err, refl, sym, ap, ◌∙◌, subst, arith, Fault, Own, Lost, Memory, Store, Done, then_plan, perform, State, Gives, Act, on_gives, ◌>>=◌, give, Standing, Here, Ends, FailedBy, Did, ops_of}
+use Rattle.mmeaning.proofs.MeaningWords.{◌≡◌, Result, Ok, Err, refl, sym, ap, ◌∙◌, subst, arith, Fault, Own, Lost, Memory, Store, Done, then_plan, perform, State, Gives, Act, on_gives, ◌>>=◌, give, give_some, read_so, Code, ℕ, Option, Standing, Here, Ends, FailedBy, Did, ops_of}
 use Rattle.std.specs.Result.{IsErr, IsErrAnd}
 use Rattle.mmeaning.specs.Yields.{YieldsFault, YieldsAs, Yields}
 use Rattle.mmeaning.proofs.Calls.{residual_is}
@@ -57,5 +57,26 @@ yields_ends b steady fault_of p f h (Err e) y = yields_lost b steady p h (fault_
 pub yielded : {A X E : Type 0} {b : Standing} {steady : Type 0} {fault_of : E → Fault} {p : Act A} {f : X → A} {r : Result X E} (h : Here) → Yields fault_of p f r → Did b steady fault_of (λ n. p) f h r h
 yielded {b = b} {steady = steady} {fault_of = fault_of} {p = p} {f = f} {r = r} h y = record {
   at = λ n le. yields_ends b steady fault_of p f h r y.ends;
+  fewer = omega arith;
+}
+
+-- ---- texts, read in the language of the line
+
+so_lost : {A : Type 0} (b : Standing) (steady : Type 0) (c : Code) (read : ℕ → Option A) (h : Here) (d : Fault)
+    → YieldsFault (give_some c (read h.0.given.language)) d → FailedBy b steady (read_so c read) h d h
+so_lost b steady c read h (Own d) y = ap (λ p. perform (ops_of b) p h.1) (y h.0)
+so_lost b steady c read h (Lost Memory) y = (0, refl)
+so_lost b steady c read h (Lost Store) y = absurd y
+
+so_ends : {A X E : Type 0} (b : Standing) (steady : Type 0) (fault_of : E → Fault) (c : Code) (read : ℕ → Option A) (f : X → A) (h : Here) (r : Result X E)
+    → YieldsAs fault_of (give_some c (read h.0.given.language)) f r → Ends b steady fault_of (read_so c read) f h r h
+so_ends b steady fault_of c read f h (Ok x) y = ap (λ p. perform (ops_of b) p h.1) (y h.0)
+so_ends b steady fault_of c read f h (Err e) y = so_lost b steady c read h (fault_of e) y
+
+-- a call that reads a text in that language does so wherever it is made
+pub yielded_so : {A X E : Type 0} {b : Standing} {steady : Type 0} {fault_of : E → Fault} (c : Code) (read : ℕ → Option A) {f : X → A} {r : Result X E} (h : Here)
+    → Yields fault_of (give_some c (read h.0.given.language)) f r → Did b steady fault_of (λ n. read_so c read) f h r h
+yielded_so {b = b} {steady = steady} {fault_of = fault_of} c read {f = f} {r = r} h y = record {
+  at = λ n le. so_ends b steady fault_of c read f h r y.ends;
   fewer = omega arith;
 }

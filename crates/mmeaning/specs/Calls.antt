@@ -6,7 +6,7 @@
 use Rattle.std.specs.Prelude.{◌≡◌, ◌≤◌, ℕ, Bool, Option, Result, Ok, Err}
 use Rattle.mspec.specs.Code.{Fault, Own, Lost, Memory, Store}
 use Rattle.mspec.specs.Plan.{Ops, perform, cut_short}
-use Rattle.mspec.specs.Act.{Text, Node, Locals, State, Gives, Fails, Act}
+use Rattle.mspec.specs.Act.{Text, Node, Locals, Given, State, Gives, Fails, Act}
 use Rattle.mmeaning.specs.Transition.{Settings, Shared, act}
 
 -- what stays the same while a line runs
@@ -14,6 +14,7 @@ pub record Standing : Type 0 where
   pub settings : Settings
   pub terminal : ℕ
   pub account : Text
+  pub given : Given
 
 abbrev pub ops_of : Standing → Ops Shared
 ops_of b = act b.settings b.terminal b.account
@@ -23,8 +24,8 @@ abbrev pub Here : Type 0
 Here = State × Shared
 
 -- the same by its parts
-abbrev pub point : Locals → Option Node → Bool → Text → ℕ → Shared → Here
-point locals naked test out steps w = (record { locals = locals; naked = naked; test = test; out = out; steps = steps }, w)
+abbrev pub point : Locals → Option Node → Bool → Text → ℕ → Given → Shared → Here
+point locals naked test out steps given w = (record { locals = locals; naked = naked; test = test; out = out; steps = steps; given = given }, w)
 
 abbrev pub Gave : {A : Type 0} → Standing → Act A → Here → A → Here → Type 0
 Gave b p h a h' = perform (ops_of b) (p h.0) h.1 ≡ (Gives a h'.0, h'.1)

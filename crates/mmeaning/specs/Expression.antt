@@ -11,11 +11,12 @@ use Rattle.mspec.specs.Number.{significant_digits}
 use Rattle.mspec.specs.NumberText.{numeric_value}
 use Rattle.mspec.specs.Interpretations.{truth_text}
 use Rattle.mgrammar.specs.Matching.{atom_of}
-use Rattle.mgrammar.specs.Grammar.{ExprTree, expr, TailsTree, no_tails, tail, TailTree, apply, matches, matches_not, OperandTree, operand, PrimaryTree, number, text, special, reference, bracket, call, select, refer, ReferenceTree, local, global, naked, indirect, extended, special_of, ExprsTree, no_exprs, exprs, ChoicesTree, no_choices, choice}
+use Rattle.mgrammar.specs.Grammar.{ExprTree, expr, TailsTree, no_tails, tail, TailTree, apply, matches, matches_not, OperandTree, operand, PrimaryTree, number, text, special, reference, bracket, call, select, refer, ReferenceTree, local, global, naked, indirect, extended, ExprsTree, no_exprs, exprs, ChoicesTree, no_choices, choice}
+use Rattle.mgrammar.specs.Specials.{special_of}
 use Rattle.mgrammar.specs.Functions.{function_of}
-use Rattle.mgrammar.specs.IndirectTexts.{ref_at}
+use Rattle.mgrammar.specs.Languages.{ref_in}
 use Rattle.mspec.specs.Code.{M4, Zdepth, Zsteps, Zsyntax}
-use Rattle.mspec.specs.Act.{Text, Act, ◌>>=◌, ◌>>◌, give, give_some, fail, unless, charge}
+use Rattle.mspec.specs.Act.{Text, Act, ◌>>=◌, ◌>>◌, give, read_so, fail, unless, charge}
 use Rattle.mmeaning.specs.Operators.{as_text, as_truth, unaries, binary, matching}
 use Rattle.mmeaning.specs.Functions.{call_value}
 use Rattle.mmeaning.specs.Variables.{Evaluated, of_local, of_global, of_naked, subscripts_of, with_subscripts, reading, resolve, read_at, referring, special_value}
@@ -42,11 +43,11 @@ pub record Inside : Type 0 where
   pub depth : Depth
   pub find : Depth → ReferenceTree → ExprsTree → Act Evaluated
 
--- what the variable that a text names has to evaluate, and the subscripts after it
+-- what the variable that a text names has to evaluate, and the subscripts after it; the text is read in the line's language
 abbrev pub named_by : Inside → ExprsTree → Text → Act Evaluated
 named_by i subscripts x = do
   an_indirection_free i.depth
-  r ← give_some Zsyntax (ref_at x)
+  r ← read_so Zsyntax (λ l. ref_in l x)
   i.find (indirected i.depth) r subscripts
 
 -- A primary costs a step, before it is evaluated: a bracket and a call cost theirs before what is in them.

@@ -6,9 +6,10 @@
 use Rattle.std.specs.Prelude.{ℕ, ◌^◌, ℤ, pos, ◌*ℤ◌, List, [], ◌∷◌, ◌++◌, length, get_or, slice_get, Option, Some, None, unwrap_or}
 use Rattle.mspec.specs.NumberText.{number_text}
 use Rattle.mspec.specs.Interpretations.{whole_part}
-use Rattle.mspec.specs.TextFunctions.{piece_of, extract_of, find_of, piece_count, translate_of, justify_of}
+use Rattle.mspec.specs.TextFunctions.{piece_of, extract_of, find_of, piece_count, reverse_of, translate_of, justify_of}
+use Rattle.mspec.specs.NumberFormats.{justify_number}
 use Rattle.mspec.specs.CharacterFunctions.{ascii_of, char_of}
-use Rattle.mgrammar.specs.Functions.{ValueFunctionTree, ascii_function, char_function, extract_function, find_function, justify_function, length_function, piece_function, translate_function, FunctionTree, of_values, of_variable, of_choices, function_of}
+use Rattle.mgrammar.specs.Functions.{ValueFunctionTree, ascii_function, char_function, extract_function, find_function, justify_function, length_function, piece_function, reverse_function, translate_function, FunctionTree, of_values, of_variable, of_choices, function_of}
 use Rattle.mspec.specs.Code.{Zsyntax}
 use Rattle.mspec.specs.Act.{Text, Act, ◌>>=◌, give, fail}
 use Rattle.mmeaning.specs.Operators.{as_number, outcome}
@@ -53,6 +54,17 @@ abbrev pub length_of : Text → Option Text → ℕ
 length_of s None = length s
 length_of s (Some d) = piece_count s d
 
+-- $JUSTIFY: a text, or a number with so many places if there is a third argument
+abbrev pub justified : List Text → Option Text → Act Text
+justified args None = do
+  width ← whole_at 1 args
+  outcome (justify_of (text_at 0 args) (unwrap_or width (pos 0)))
+justified args (Some x) = do
+  number ← as_number (text_at 0 args)
+  width ← whole_at 1 args
+  places ← as_whole x
+  outcome (justify_number number (unwrap_or width (pos 0)) places)
+
 abbrev pub function_value : ValueFunctionTree → List Text → Act Text
 function_value ascii_function args = do
   place ← whole_at 1 args
@@ -67,14 +79,13 @@ function_value extract_function args = do
 function_value find_function args = do
   from ← whole_at 2 args
   give (whole_text (pos (find_of (text_at 0 args) (text_at 1 args) from)))
-function_value justify_function args = do
-  width ← whole_at 1 args
-  outcome (justify_of (text_at 0 args) (unwrap_or width (pos 0)))
+function_value justify_function args = justified args (slice_get args 2)
 function_value length_function args = give (whole_text (pos (length_of (text_at 0 args) (slice_get args 1))))
 function_value piece_function args = do
   from ← whole_at 2 args
   to ← whole_at 3 args
   give (piece_of (text_at 0 args) (text_at 1 args) from to)
+function_value reverse_function args = give (reverse_of (text_at 0 args))
 function_value translate_function args = outcome (translate_of (text_at 0 args) (text_at 1 args) (text_at 2 args))
 
 -- a word that names no function of values is in no tree of the grammar with values alone

@@ -4,19 +4,18 @@
 -- Restates "Commands" of ISO/IEC 11756:1999, "Do", "Else", "For", "Goto", "Halt", "If", "Kill", "New", "Quit", "Set", "Write" and "Xecute"
 -- among them, and what "Indirection" says of arguments: arguments are done from left to right, each as if it stood in a command of its
 -- own, and those that a text gives as if they stood in its place. A DO without arguments does the lines after its own that have one dot
--- more, and keeps $TEST. LOCK is in Locking.
+-- more, and keeps $TEST. LOCK is in Locking. Each text is read in the language that the line is given.
 use Rattle.std.specs.Prelude.{ℕ, zero, suc, ◌+◌, ℤ, ◌+ℤ◌, Bool, true, not, cond, nat_lt, ◌==◌, List, [], ◌∷◌, ◌++◌, drop, replicate, Option, Some, None}
 use Rattle.mspec.specs.Number.{sum_of}
 use Rattle.mspec.specs.NumberText.{number_text}
 use Rattle.mspec.specs.TextFunctions.{set_piece_of}
 use Rattle.mspec.specs.Scopes.{killed_except, newed, newed_except}
 use Rattle.mgrammar.specs.Grammar.{ExprTree, EntryTree, ReferenceTree, TargetTree, variable, piece, DestinationTree, one, several, ParameterTree, once, onward, until, KeywordTree, set_word, kill_word, new_word, if_word, else_word, for_word, quit_word, write_word, do_word, goto_word, execute_word, lock_word, halt_word, ArgTree, assign, breaks, shown, kill_one, kill_others, new_one, new_others, tested, loop, do_one, go_to, executed, locked, indirect_args, FormTree, PrimaryTree, CommandTree, LineTree}
-use Rattle.mgrammar.specs.Reading.{line_at}
-use Rattle.mgrammar.specs.IndirectTexts.{args_of}
-use Rattle.mgrammar.specs.RoutineLine.{routine_line_at, dots_of}
+use Rattle.mgrammar.specs.Languages.{line_in, routine_line_in, args_in}
+use Rattle.mgrammar.specs.RoutineLine.{dots_of}
 use Rattle.mspec.specs.Code.{M15, Zsteps, Zsyntax}
 use Rattle.mspec.specs.Plan.{Release}
-use Rattle.mspec.specs.Act.{Text, Act, level_begun, ◌>>=◌, ◌>>◌, give, give_some, fail, ask, charge, write, with_locals, test_is, set_test}
+use Rattle.mspec.specs.Act.{Text, Act, level_begun, ◌>>=◌, ◌>>◌, give, give_some, read_so, fail, ask, charge, write, with_locals, test_is, set_test}
 use Rattle.mmeaning.specs.Operators.{outcome, as_number, as_truth, as_text}
 use Rattle.mmeaning.specs.Functions.{as_whole_or_none}
 use Rattle.mmeaning.specs.Variables.{Evaluated, at_local, writing, resolve, found_at, read_or, put_at, kill_at}
@@ -233,7 +232,7 @@ turns_forever x body = begin_turn x (record { index = []; course = forever; para
 -- the commands of a line that is entered; it is read when it is reached, and not before
 abbrev pub line_entered : Context → ℕ → Text → Act Completion
 line_entered x n text = do
-  l ← give_some Zsyntax (routine_line_at text)
+  l ← read_so Zsyntax (λ n. routine_line_in n text)
   x.texts.enter (record { depth = x.position.depth; level = record x.position.level { next = Some (n + 1) } }) (commands_in l.body)
 
 -- The lines from a place on, which are these. One with more dots than the level's is passed over; one with fewer ends the level, as does
@@ -288,7 +287,7 @@ abbrev pub executing : Context → ExprTree → Act Completion
 executing x e = do
   text ← value (inside_of x) e
   a_level_free x.position.depth
-  l ← give_some Zsyntax (line_at text)
+  l ← read_so Zsyntax (λ n. line_in n text)
   in_level x (record { copy = x.position.level.copy; next = None; dots = 0 }) leaves (λ y. y.texts.enter y.position (commands_of l))
 
 -- GOTO: a line with as many dots as the level
@@ -309,7 +308,7 @@ where_holds x c p = do
 abbrev pub given_by : Context → FormTree → Text → Act Completion
 given_by x f text = do
   an_indirection_free x.position.depth
-  args ← give_some Zsyntax (args_of f text)
+  args ← read_so Zsyntax (λ n. args_in f n text)
   x.texts.list (within_indirection x.position) args
 
 abbrev pub given : Context → FormTree → PrimaryTree → Act Completion

@@ -15,7 +15,7 @@ use Rattle.mspec.specs.Interpretations.{truth_text}
 use Rattle.mspec.specs.Code.{M1, M7, Zarg, Zgrant, Zlong, Zsub, Zsyntax}
 use Rattle.mspec.specs.Plan.{May, Value, Status, Neighbour, Put, Kill}
 use Rattle.mspec.specs.Act.{Text, Node, Act, ◌>>=◌, ◌>>◌, give, give_some, fail, unless, ask, get_local, set_local, with_locals, of_locals, value_of, test_is, naked_is, set_naked}
-use Rattle.mgrammar.specs.Grammar.{SpecialTree, test_special}
+use Rattle.mgrammar.specs.Specials.{SpecialTree, test_special}
 use Rattle.mgrammar.specs.Functions.{VariableFunctionTree, data_function, get_function, order_function, FunctionTree, of_values, of_variable, of_choices}
 use Rattle.mmeaning.specs.Functions.{whole_text, as_whole}
 

@@ -21,3 +21,5 @@ pub mod Remainders
 pub mod UnitDigits
 pub mod WholeParts
 pub mod NameTexts
+pub mod Reversals
+pub mod Places

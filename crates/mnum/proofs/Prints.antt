@@ -21,7 +21,7 @@ fraction_zero zero = refl
 fraction_zero (suc k) = refl
 
 -- a quotient and a remainder, both sides times u
-scaled_quotient : (f P u : ℕ) → 0 < u → f * u / (P * u) ≡ f / P
+pub scaled_quotient : (f P u : ℕ) → 0 < u → f * u / (P * u) ≡ f / P
 scaled_quotient f P u h = mul-div-mul_right f P h
 
 pub scaled_remainder : (f P u : ℕ) → 0 < u → f * u % (P * u) ≡ f % P * u

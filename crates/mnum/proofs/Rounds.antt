@@ -63,7 +63,7 @@ pub record Drops (kept z k t n m p q : ℕ) : Type 0 where
   pub high : n < 10 ^ (kept + k)
   pub is : m ≡ (n + 10 ^ k / 2) / 10 ^ k
 
-ten_even : (k : ℕ) → 0 < k → 10 ^ k ≡ 2 * (10 ^ k / 2)
+pub ten_even : (k : ℕ) → 0 < k → 10 ^ k ≡ 2 * (10 ^ k / 2)
 ten_even zero h = absurd (omega arith)
 ten_even (suc k) h = omega (arith, pow-suc 10 k)
 

@@ -1,6 +1,6 @@
 // SPDX-License-Identifier: Apache-2.0
 // Texts of characters below 128.
-ghost use Rattle.std.specs.Prelude.{◌≡◌, ◌↔◌, ◌<◌, [], ◌∷◌, ◌++◌, All, IsOk, IfOk, IfErr, OnOk, OnErr};
+ghost use Rattle.std.specs.Prelude.{◌≡◌, ◌↔◌, ◌<◌, [], ◌∷◌, ◌++◌, reverse, All, IsOk, IfOk, IfErr, OnOk, OnErr};
 ghost use Rattle.std.specs.Prelude.{Some, nat_eq, refl};
 ghost use Rattle.std.specs.Cmp.{partial_equiv_from_equiv};
 ghost use Rattle.std.specs.Cmp.Lexicographic.{pointwise, slice_cmp, nat_list_eq_equiv, nat_list_cmp_total, texts_po, texts_ties, bytes_decides};
@@ -64,6 +64,19 @@ impl Bytes7 {
         ensures { IfOk result (λ text. text ≡ self.now) }
     {
         let bytes = self.bytes.clone()?;
+        Ok(Bytes7 { bytes })
+    }
+
+    /// A text of the same bytes, the last one first, on this one's allocator.
+    ///
+    /// # Errors
+    ///
+    /// `AllocError` if it runs out of memory.
+    pub fn reversed(&self) -> Result<Bytes7, AllocError>
+        ensures { IfOk result (λ text. text ≡ reverse self.now) }
+    {
+        let mut bytes = self.bytes.clone()?;
+        bytes.reverse();
         Ok(Bytes7 { bytes })
     }
 

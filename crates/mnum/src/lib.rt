@@ -7,6 +7,7 @@
 
 mod arithmetic;
 mod bytes;
+mod fixed;
 mod name;
 mod num;
 mod numbered;

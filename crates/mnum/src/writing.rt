@@ -1,6 +1,6 @@
 // SPDX-License-Identifier: Apache-2.0
 // Numbers written as texts.
-ghost use Rattle.std.specs.Prelude.{◌≡◌, ℕ, ◌+◌, ◌-◌, ◌*◌, ◌/◌, ◌%◌, ◌^◌, ◌<◌, ◌≤◌, [], ◌∷◌, ◌++◌, ◌↔◌, true, IsTrue, OnOk, OnErr, length, All, cond, nat_eq};
+ghost use Rattle.std.specs.Prelude.{◌≡◌, ℕ, ◌+◌, ◌-◌, ◌*◌, ◌/◌, ◌%◌, ◌^◌, ◌<◌, ◌≤◌, [], ◌∷◌, ◌++◌, ◌↔◌, true, IsTrue, OnOk, OnErr, length, All, cond, decimal, nat_eq};
 ghost use Rattle.std.specs.Cmp.Lexicographic.{pointwise};
 ghost use Rattle.arrayvec.specs.ArrayVec.{array_vec_len};
 ghost use Rattle.mspec.specs.NumberText.{fraction_text, whole_text, number_text, IsCanonical};
@@ -18,7 +18,7 @@ use std::alloc::AllocError;
 
 // Appends the digits of a fraction, up to the last that is not 0.
 #[tactic(auto, using(std::proofs::lemmas::Nat::mod_below, crate::proofs::Prints::fraction_more))]
-fn push_fraction(out: &mut ArrayVec<u8, 40>, places: u32, fraction: u64)
+pub(crate) fn push_fraction(out: &mut ArrayVec<u8, 40>, places: u32, fraction: u64)
     requires below { fraction < 10 ^ places }
     requires few { places ≤ 18 }
     requires room { array_vec_len out.old + places ≤ 40 }
@@ -35,8 +35,21 @@ fn push_fraction(out: &mut ArrayVec<u8, 40>, places: u32, fraction: u64)
     }
 }
 
-// Appends the digits of a whole number, none for 0.
+// Appends the digits of a whole number.
 #[tactic(auto, using(crate::proofs::Prints::decimal_short))]
+pub(crate) fn push_decimal(out: &mut ArrayVec<u8, 40>, whole: u64)
+    requires below { whole < 10 ^ 18 }
+    requires room { array_vec_len out.old + 18 ≤ 40 }
+    ensures items { out.new.items ≡ out.old.items ++ decimal whole }
+    ensures len { array_vec_len out.new ≤ array_vec_len out.old + 18 }
+{
+    let mut buffer = Buffer::new();
+    for b in buffer.format(whole).as_bytes() {
+        out.push(*b);
+    }
+}
+
+// The same, none for 0.
 fn push_whole(out: &mut ArrayVec<u8, 40>, whole: u64)
     requires below { whole < 10 ^ 18 }
     requires room { array_vec_len out.old + 18 ≤ 40 }
@@ -44,15 +57,12 @@ fn push_whole(out: &mut ArrayVec<u8, 40>, whole: u64)
     ensures len { array_vec_len out.new ≤ array_vec_len out.old + 18 }
 {
     if whole > 0 {
-        let mut buffer = Buffer::new();
-        for b in buffer.format(whole).as_bytes() {
-            out.push(*b);
-        }
+        push_decimal(out, whole);
     }
 }
 
 // Appends the sign of a number below 0.
-fn push_sign(out: &mut ArrayVec<u8, 40>, negative: bool)
+pub(crate) fn push_sign(out: &mut ArrayVec<u8, 40>, negative: bool)
     requires room { array_vec_len out.old < 40 }
     ensures items { out.new.items ≡ out.old.items ++ cond negative (45 ∷ []) [] }
     ensures len { array_vec_len out.new ≤ array_vec_len out.old + 1 }

@@ -1,9 +1,10 @@
 -- SPDX-License-Identifier: Apache-2.0
 -- Arguments of functions at their places.
-use Rattle.moperator.proofs.OperatorWords.{◌≡◌, ℕ, ◌<◌, ◌≤◌, List, [], ◌∷◌, ◌++◌, length, drop, get_or, Some, None, Result, Ok, Err, refl, sym, ap, subst, slice_get, Text, give, as_whole, as_whole_or_none, whole_at, wholes, Yields, yields_then, yields_failed, yields_gives, fault_of, Code}
+use Rattle.moperator.proofs.OperatorWords.{◌≡◌, ℕ, ◌<◌, ◌≤◌, List, [], ◌∷◌, ◌++◌, length, drop, get_or, Some, None, Result, Ok, Err, refl, sym, ◌∙◌, ap, subst, slice_get, Text, give, as_number, as_whole, as_whole_or_none, text_at, whole_at, wholes, Yields, yields_then, yields_failed, yields_gives, fault_of, Code}
 use Rattle.std.proofs.Common.{◌+◌, Option}
 use Rattle.std.specs.Prelude.{ℤ}
 use Rattle.std.proofs.Math.ListN.{drop_of_length-le}
+use Rattle.std.proofs.lemmas.List.{get_or_default, get_or_past}
 use Rattle.std.proofs.lemmas.Option.{slice_get_read, slice_get_past}
 use Rattle.mspec.proofs.ListPlaces.{next_item}
 
@@ -11,7 +12,14 @@ use Rattle.mspec.proofs.ListPlaces.{next_item}
 pub argument_is : (args : List Text) (k : ℕ) (v : Text) → k < length args → v ≡ get_or args k v → slice_get args k ≡ Some v
 argument_is args k v within is = slice_get_read args (length args) k v refl within is
 
--- ---- one as a whole number
+-- ---- one as a number, or as a whole number
+
+-- the number of an argument, and of one that is left out
+pub argument_number : {X : Type 0} (view : X → ℤ) (args : List Text) (k : ℕ) (v : Text) (r : Result X Code) → k < length args → v ≡ get_or args k v → Yields fault_of (as_number v) view r → Yields fault_of (as_number (text_at k args)) view r
+argument_number view args k v r within is d = subst (λ x. Yields fault_of (as_number x) view r) (is ∙ get_or_default args k v [] within) d
+
+pub no_number_there : {X : Type 0} (view : X → ℤ) (args : List Text) (k : ℕ) (r : Result X Code) → length args ≤ k → Yields fault_of (as_number []) view r → Yields fault_of (as_number (text_at k args)) view r
+no_number_there view args k r past d = subst (λ x. Yields fault_of (as_number x) view r) (sym (get_or_past args k [] past)) d
 
 pub left_out : (args : List Text) (k : ℕ) → length args ≤ k → Yields fault_of (whole_at k args) (λ (n : Option ℤ). n) (Ok None)
 left_out args k past = subst (λ x. Yields fault_of (as_whole_or_none x) (λ (n : Option ℤ). n) (Ok None)) (sym (slice_get_past args k past)) (yields_gives None (λ (n : Option ℤ). n) None refl)

@@ -1,12 +1,13 @@
 -- SPDX-License-Identifier: Apache-2.0
 -- Numbers of values, and what an operation on numbers gives.
-use Rattle.moperator.proofs.OperatorWords.{◌≡◌, ◌<◌, ◌^◌, Bool, true, false, Some, None, Result, Ok, Err, refl, sym, ap, subst, arith, unwrap_or, IfSome, pos, negsuc, unsigned_abs, MatchResult, int_eq, Decides-int_eq, significant_digits, numeric_value, number_text, Text, Act, give_some, as_number, as_text, Yields, yields_gives, units, fault_of, outcome_units, Code}
+use Rattle.moperator.proofs.OperatorWords.{◌≡◌, ◌<◌, ◌^◌, Bool, true, false, Some, None, Result, Ok, Err, refl, sym, ◌∙◌, [], ap, subst, arith, unwrap_or, IfSome, pos, negsuc, unsigned_abs, MatchResult, int_eq, Decides-int_eq, significant_digits, numeric_value, number_text, Text, Act, give_some, as_number, as_text, Yields, yields_gives, units, fault_of, outcome_units, Code}
 use Rattle.std.proofs.Common.{not, Option}
 use Rattle.std.specs.Prelude.{ℤ}
 use Rattle.std.specs.Int.{w64}
 use Rattle.std.proofs.lemmas.Int.{ints}
 use mir.Val.{to_z, of_z}
 use Rattle.mspec.specs.Code.{Zover}
+use Rattle.mspec.proofs.ComputedNumbers.{value_none}
 use Rattle.mspec.specs.Interpretations.{is_true}
 use Rattle.mnum.specs.declared.num.Num.{Num}
 use Rattle.mnum.specs.Division.{Leaves}
@@ -23,6 +24,10 @@ number_is x n e = subst (λ (o : Option ℤ). Yields fault_of (give_some Zover o
 
 pub no_number : (x : Text) → numeric_value significant_digits x ≡ None → Yields {X = Num} fault_of (as_number x) units (Err codes.Zover)
 no_number x e = subst (λ (o : Option ℤ). Yields {X = Num} fault_of (give_some Zover o) units (Err codes.Zover)) (sym e) (record { ends = λ s. refl })
+
+-- that of the empty text is 0
+pub empty_number : (n : Num) → units n ≡ pos 0 → Yields fault_of (as_number []) units (Ok n)
+empty_number n none = number_is [] n (value_none ∙ ap Some (sym none))
 
 -- what the clauses of an operation say of its result
 outcome_is : (r : Result Num Over) (o : Option ℤ) → MatchResult r (λ n. o ≡ Some (units n)) (λ _. o ≡ None) → outcome_units r ≡ o

@@ -10,7 +10,7 @@ pub use Rattle.mgrammar.specs.Functions.{FunctionTree, ValueFunctionTree, ascii_
 pub use Rattle.mgrammar.specs.Matching.{atom_of, is_at_most, is_match, is_reversed}
 pub use Rattle.mmeaning.proofs.Calls.{assoc, residual_is}
 pub use Rattle.mmeaning.proofs.Yieldings.{yields_failed, yields_gives, yields_stopped, yields_then, yields_wanting}
-pub use Rattle.mmeaning.specs.Functions.{as_whole, as_whole_or_none, call_value, function_value, named_value, whole_at, whole_text, wholes}
+pub use Rattle.mmeaning.specs.Functions.{as_whole, as_whole_or_none, call_value, function_value, named_value, text_at, whole_at, whole_text, wholes}
 pub use Rattle.mmeaning.specs.Operators.{as_number, as_text, matching, outcome, unaries, unary}
 pub use Rattle.mmeaning.specs.Yields.{Yields, YieldsFault}
 pub use Rattle.mnum.specs.Num.{units}

@@ -2,12 +2,14 @@
 // The arguments of functions.
 ghost use Rattle.std.specs.Prelude.{◌≡◌, [], ◌^◌, ◌<◌, map, unsigned_abs, IfOk, IfSome};
 ghost use Rattle.mmeaning.specs.Functions as meaning;
+ghost use Rattle.mmeaning.specs.Operators.{as_number};
 ghost use Rattle.mmeaning.specs.Yields.{Yields};
+ghost use Rattle.mnum.specs.Num.{units};
 ghost use Rattle.moperator.specs.Codes.{fault_of};
 
 use crate::code::Code;
-use crate::conversions::whole_of;
-use mnum::Bytes7;
+use crate::conversions::{number_of, whole_of};
+use mnum::{Bytes7, Num};
 use mvalue::{Shown, Value};
 use std::alloc::{AllocError, Global};
 
@@ -22,6 +24,16 @@ pub(crate) fn text_at(
     match arguments.get(place) {
         None => Ok(Shown::printed(Bytes7::empty(alloc))),
         Some(value) => value.shown(alloc),
+    }
+}
+
+// The number of the argument at a place, which is that of the empty text if it is left out.
+pub(crate) fn number_at(arguments: &[Value], place: usize) -> Result<Num, Code>
+    ensures { Yields fault_of (as_number (meaning.text_at place arguments.now)) units result }
+{
+    match arguments.get(place) {
+        None => Ok(Num::from_whole(0)),
+        Some(value) => number_of(value),
     }
 }
 

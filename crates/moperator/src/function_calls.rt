@@ -1,6 +1,6 @@
 // SPDX-License-Identifier: Apache-2.0
 // The functions, of arguments that are values already.
-ghost use Rattle.std.specs.Prelude.{◌≡◌, map, IsErrAnd};
+ghost use Rattle.std.specs.Prelude.{◌≡◌, map, IsErrAnd, None, Some};
 ghost use Rattle.mgrammar.specs.Functions as grammar;
 ghost use Rattle.mspec.specs.Act.{State};
 ghost use Rattle.mspec.specs.Code as spec;
@@ -10,11 +10,11 @@ ghost use Rattle.mmeaning.specs.Yields.{Yields};
 ghost use Rattle.moperator.specs.Codes.{fault_of};
 ghost use Rattle.moperator.specs.Outcomes.{FailsBy};
 
-use crate::arguments::{text_at, whole_at, wholes};
+use crate::arguments::{number_at, text_at, whole_at, wholes};
 use crate::characters::{characters, code_at, refuse_characters};
 use crate::code::Code;
-use crate::conversions::answered;
-use mtext::{extract, find, justify, piece, pieces, translate};
+use crate::conversions::{answered, whole_of};
+use mtext::{extract, find, justify, justify_number, piece, pieces, translate};
 use mtree::{ValueFunction, ValueWord};
 use mvalue::Value;
 use std::alloc::Global;
@@ -62,13 +62,34 @@ fn found(alloc: Global, arguments: &[Value]) -> Result<Value, Code>
     Ok(Value::of_count(alloc, place)?)
 }
 
-#[tactic(auto, using(mmeaning::proofs::Yieldings::yields_stopped))]
 fn justified(alloc: Global, arguments: &[Value]) -> Result<Value, Code>
     ensures { Yields fault_of (meaning.function_value grammar.justify_function arguments.now) (λ value. value) result }
+{
+    match arguments.get(2) {
+        None => justified_text(alloc, arguments),
+        Some(places) => justified_number(alloc, arguments, places),
+    }
+}
+
+// With two arguments.
+#[tactic(auto, using(mmeaning::proofs::Yieldings::yields_stopped))]
+fn justified_text(alloc: Global, arguments: &[Value]) -> Result<Value, Code>
+    ensures { Yields fault_of (meaning.justified arguments.now None) (λ value. value) result }
 {
     let width = whole_at(arguments, 1)?;
     let text = text_at(alloc, arguments, 0)?;
     answered(justify(alloc, text.as_text(), width.unwrap_or(0)))
+}
+
+// With a third one, the places after the point.
+#[tactic(auto, using(mmeaning::proofs::Yieldings::yields_stopped))]
+fn justified_number(alloc: Global, arguments: &[Value], places: &Value) -> Result<Value, Code>
+    ensures { Yields fault_of (meaning.justified arguments.now (Some places.now)) (λ value. value) result }
+{
+    let number = number_at(arguments, 0)?;
+    let width = whole_at(arguments, 1)?;
+    let places = whole_of(places)?;
+    answered(justify_number(alloc, number, width.unwrap_or(0), places))
 }
 
 // Of characters, and of pieces if there is a delimiter.
@@ -105,6 +126,14 @@ fn pieces_from_to(alloc: Global, arguments: &[Value]) -> Result<Value, Code>
     Ok(Value::of_bytes(alloc, part)?)
 }
 
+#[tactic(auto, using(mmeaning::proofs::Yieldings::yields_gives))]
+fn reversed(alloc: Global, arguments: &[Value]) -> Result<Value, Code>
+    ensures { Yields fault_of (meaning.function_value grammar.reverse_function arguments.now) (λ value. value) result }
+{
+    let text = text_at(alloc, arguments, 0)?;
+    Ok(Value::of_text(text.as_text().reversed()?))
+}
+
 fn translated(alloc: Global, arguments: &[Value]) -> Result<Value, Code>
     ensures { Yields fault_of (meaning.function_value grammar.translate_function arguments.now) (λ value. value) result }
 {
@@ -128,6 +157,7 @@ fn function(alloc: Global, function: ValueFunction, arguments: &[Value]) -> Resu
         ValueFunction::Justify => justified(alloc, arguments),
         ValueFunction::Length => length(alloc, arguments),
         ValueFunction::Piece => pieces_from_to(alloc, arguments),
+        ValueFunction::Reverse => reversed(alloc, arguments),
         ValueFunction::Translate => translated(alloc, arguments),
     }
 }

@@ -5,13 +5,13 @@ ghost use Rattle.mgrammar.specs.Grammar.{LineTree, spell};
 ghost use Rattle.mgrammar.specs.WellFormed.{least_gap, well};
 ghost use Rattle.mgrammar.specs.ReadingWords.{many};
 ghost use Rattle.mgrammar.specs.Reading.{at_end, spaced_at, comment_at, line_at};
-ghost use Rattle.mtree.specs.Tree.{arg_tree, spaced_tree, line_tree};
+ghost use Rattle.mtree.specs.Tree.{arg_tree, spaced_tree, line_tree, IsCounted};
 ghost use Rattle.mscan.specs.Gives.{Gives};
 
 use crate::command::command;
 use mnum::Bytes7;
 use mscan::{Class, ParseFault, run};
-use mtree::{Arg, Line, Spaced};
+use mtree::{Arg, Line, Spaced, since_commands};
 use std::alloc::Global;
 
 fn is_at_end(bytes: &[u8]) -> bool
@@ -80,20 +80,23 @@ fn commands(alloc: Global, bytes: &[u8]) -> Result<(Vec<Spaced>, &[u8]), ParseFa
 
 #[tactic(auto, unfolding(mgrammar::specs::Reading::line_at))]
 pub fn line(alloc: Global, text: &[u8]) -> Result<Line, ParseFault>
-    ensures { Gives (λ l. line_tree l) result (line_at text.now) }
+    ensures read { Gives (λ l. line_tree l) result (line_at text.now) }
+    ensures counted { IfOk result (λ l. IsCounted l) }
 {
     let (spaces, rest) = run(Class::Space, text);
     let (commands, rest) = commands(alloc, rest)?;
     let comment = comment(alloc, rest)?;
     let lead = spaces.len();
+    let since = since_commands(&commands);
     Ok(Line {
         lead,
         commands,
         comment,
+        since,
     })
 }
 
-/// The tree of a line of any bytes: the one tree of the grammar that has this text.
+/// The tree of a line of any bytes: the one tree of the grammar that has this text, whatever language it needs.
 ///
 /// # Errors
 ///
@@ -101,6 +104,7 @@ pub fn line(alloc: Global, text: &[u8]) -> Result<Line, ParseFault>
 #[tactic(auto, using(mgrammar::proofs::ReadingLines::reads_its_tree, crate::proofs::WholeTexts::is_syntax))]
 pub fn parse_line(alloc: Global, text: &[u8]) -> Result<Line, ParseFault>
     ensures tree { IfOk result (λ l. well (line_tree l) × (spell (line_tree l) ≡ text.now)) }
+    ensures counted { IfOk result (λ l. IsCounted l) }
     ensures syntax { result ≡ Err ParseFault.Syntax → (t : LineTree) → well t → spell t ≡ text.now → ⊥ }
 {
     line(alloc, text)

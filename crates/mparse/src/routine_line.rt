@@ -2,7 +2,7 @@
 // Lines of routines: a label or none, and after it a comment, or dots and what a line of a terminal has too.
 ghost use Rattle.std.specs.Prelude.{◌≡◌, IfOk, Err, Some, option_map};
 ghost use Rattle.mgrammar.specs.RoutineLine.{RoutineLineTree, spell_routine_line, well_routine_line, dot_at, dots_at, body_at, routine_line_at};
-ghost use Rattle.mtree.specs.Tree.{body_tree, routine_line_tree};
+ghost use Rattle.mtree.specs.Tree.{body_tree, routine_line_tree, IsBodyCounted};
 ghost use Rattle.mscan.specs.Gives.{Gives};
 
 use crate::line::{comment, line};
@@ -41,7 +41,8 @@ fn dots(alloc: Global, bytes: &[u8]) -> Result<(Vec<usize>, &[u8]), ParseFault>
 // What comes after the label.
 #[tactic(auto, unfolding(mgrammar::specs::RoutineLine::body_at))]
 fn body(alloc: Global, bytes: &[u8]) -> Result<Body, ParseFault>
-    ensures { Gives (λ b. body_tree b) result (body_at bytes.now) }
+    ensures read { Gives (λ b. body_tree b) result (body_at bytes.now) }
+    ensures counted { IfOk result (λ b. IsBodyCounted b) }
 {
     let Some(behind) = past(b' ', bytes) else {
         return Ok(Body::Short(comment(alloc, bytes)?));
@@ -53,7 +54,8 @@ fn body(alloc: Global, bytes: &[u8]) -> Result<Body, ParseFault>
 
 #[tactic(auto, unfolding(mgrammar::specs::RoutineLine::routine_line_at))]
 fn routine_line(alloc: Global, text: &[u8]) -> Result<RoutineLine, ParseFault>
-    ensures { Gives (λ l. routine_line_tree l) result (routine_line_at text.now) }
+    ensures read { Gives (λ l. routine_line_tree l) result (routine_line_at text.now) }
+    ensures counted { IfOk result (λ l. IsBodyCounted l.body) }
 {
     let (name, rest) = label(text);
     let body = body(alloc, rest)?;
@@ -73,6 +75,7 @@ fn routine_line(alloc: Global, text: &[u8]) -> Result<RoutineLine, ParseFault>
 #[tactic(auto, using(mgrammar::proofs::ReadingRoutines::reads_its_routine_tree, crate::proofs::WholeTexts::is_syntax))]
 pub fn parse_routine_line(alloc: Global, text: &[u8]) -> Result<RoutineLine, ParseFault>
     ensures read { Gives (λ l. routine_line_tree l) result (routine_line_at text.now) }
+    ensures counted { IfOk result (λ l. IsBodyCounted l.body) }
     ensures tree { IfOk result (λ l. well_routine_line (routine_line_tree l) × (spell_routine_line (routine_line_tree l) ≡ text.now)) }
     ensures syntax { result ≡ Err ParseFault.Syntax → (t : RoutineLineTree) → well_routine_line t → spell_routine_line t ≡ text.now → ⊥ }
 {

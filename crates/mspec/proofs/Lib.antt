@@ -29,6 +29,7 @@ pub mod MapCuts
 pub mod ComputedMaps
 pub mod ComputedNumbers
 pub mod NumberExamples
+pub mod FormatExamples
 pub mod LockFacts
 pub mod GlobalExamples
 pub mod ListPlaces

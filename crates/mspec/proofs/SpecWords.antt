@@ -34,6 +34,8 @@ pub use Rattle.mspec.specs.NodeOrder.{Empty, IsAncestor, Numeric, Other, Place, 
 unfoldable pub use Rattle.mspec.specs.NodeOrder.{canonical_value}
 pub use Rattle.mspec.specs.Number.{IsNumber, is_below_zero, product_of, quotient_of, remainder_of, signed, significant_digits, sum_of, whole_quotient_of}
 unfoldable pub use Rattle.mspec.specs.Number.{digits_before, nearest, round, round_size, rounding_unit}
+pub use Rattle.mspec.specs.NumberFormats.{fixed_number, justify_number}
+unfoldable pub use Rattle.mspec.specs.NumberFormats.{fixed_text, rounded_to}
 pub use Rattle.mspec.specs.NumberLaws.{BeginsWith, CanonicalByMoreDigits, CanonicalIsText, EachHasDigits, HasCanonicalForm, HasDigits, IsMultiple, IsNearest, IsPlain, NearestIsUnique, NoZeroAtEnd, NoZeroInFront, NumberRoundsToItself, PlainLiteralIsUnique, ReadsLongestLiteral, RoundedIsNumber, RoundingIsNearest, TextHasCanonicalForm, TextHasValue, ZeroRoundsToZero, distance}
 pub use Rattle.mspec.specs.NumberText.{IsCanonical, after_digits, after_fraction, after_signs, fraction_digits, fraction_text, front_digits, front_exponent, is_negated, is_sign, number_text, point_text, signed_digits, whole_text}
 unfoldable pub use Rattle.mspec.specs.NumberText.{literal_size, numeric_value, size_text}

@@ -22,10 +22,11 @@ pub record Grant : Type 0 where
   pub global : Text
   pub mode : Mode
 
--- an account, and the steps that each of its lines may use
+-- an account, the steps that each of its lines may use, and the language that these are read in: 0, the profile, or 1
 pub record Account : Type 0 where
   pub name : Text
   pub steps : ℕ
+  pub language : ℕ
 
 -- the accounts in some order, the account of each terminal, and the grants
 pub record Settings : Type 0 where
@@ -48,6 +49,9 @@ name_at settings place = unwrap_or (option_map (λ a. a.name) (account_at settin
 
 abbrev pub steps_at : Settings → ℕ → ℕ
 steps_at settings place = unwrap_or (option_map (λ a. a.steps) (account_at settings place)) 0
+
+abbrev pub language_at : Settings → ℕ → ℕ
+language_at settings place = unwrap_or (option_map (λ a. a.language) (account_at settings place)) 0
 
 -- the account of a name
 abbrev pub account_named : Settings → Text → Option Account

@@ -24,14 +24,32 @@ value_of locals name xs = value_at locals name xs
 unfoldable pub assigned_to : Locals → Text → List Text → Text → Locals
 assigned_to locals name xs x = assigned locals name xs x
 
--- the state of a session while a line runs: what it keeps (locals, naked indicator, $TEST), the output so far and the steps
--- that are left
+-- a day, counted as $HOROLOG counts days, and the seconds of it that are over
+pub record Moment : Type 0 where
+  pub days : ℕ
+  pub seconds : ℕ
+
+-- What a line is given, and no command changes: the language that its texts are read in; and, which no command asks for yet, the moment
+-- that it is said to run at, the seed of its chance, and the texts that were typed ahead for it.
+pub record Given : Type 0 where
+  pub language : ℕ
+  pub moment : Option Moment
+  pub seed : Option ℕ
+  pub inputs : List Text
+
+-- the language alone, and nothing else
+abbrev pub given_language : ℕ → Given
+given_language language = record { language = language; moment = None; seed = None; inputs = [] }
+
+-- the state of a session while a line runs: what it keeps (locals, naked indicator, $TEST), the output so far, the steps that are left,
+-- and what the line is given
 pub record State : Type 0 where
   pub locals : Locals
   pub naked : Option Node
   pub test : Bool
   pub out : Text
   pub steps : ℕ
+  pub given : Given
 
 pub data Outcome (A : Type 0) : Type 0 where
   Gives : A → State → Outcome A
@@ -76,6 +94,10 @@ write t s = Done (Gives tt (record s { out = s.out ++ t }))
 abbrev pub give_some : {A : Type 0} → Code → Option A → Act A
 give_some c None = fail c
 give_some c (Some a) = give a
+
+-- what a text is read as in the line's language, if it is read as anything
+abbrev pub read_so : {A : Type 0} → Code → (ℕ → Option A) → Act A
+read_so c read s = give_some c (read s.given.language) s
 
 abbrev pub unless : Code → Bool → Act (Unit {0})
 unless c true = give tt

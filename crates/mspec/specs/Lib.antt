@@ -12,6 +12,7 @@ pub mod Maps
 pub mod Pieces
 pub mod PieceLaws
 pub mod TextFunctions
+pub mod NumberFormats
 pub mod Pattern
 pub mod NodeOrder
 pub mod KeyBytes

@@ -1,10 +1,10 @@
 -- SPDX-License-Identifier: Apache-2.0
 -- The functions and operators of texts.
 --
--- Restates "$PIECE", "$EXTRACT", "$FIND", "$LENGTH", "$TRANSLATE" and "$JUSTIFY", SET of a "$PIECE", and the relations
--- "Contains" and "Follows" of ISO/IEC 11756:1999, over characters and pieces. Places are counted from 1. An argument that
+-- Restates "$PIECE", "$EXTRACT", "$FIND", "$LENGTH", "$REVERSE", "$TRANSLATE" and "$JUSTIFY", SET of a "$PIECE", and the
+-- relations "Contains" and "Follows" of ISO/IEC 11756:1999, over characters and pieces. Places are counted from 1. An argument that
 -- may be left out is an option.
-use Rattle.std.specs.Prelude.{ℕ, zero, suc, ℤ, pos, negsuc, ◌+◌, ◌-◌, Bool, true, false, ◌&&◌, ◌==◌, nat_le, nat_lt, max, List, [], ◌∷◌, ◌++◌, length, take, drop, slice_get, Option, Some, None, option_map, unwrap_or, is_some, replicate, Result, Ok, Err, if◌then◌else◌}
+use Rattle.std.specs.Prelude.{ℕ, zero, suc, ℤ, pos, negsuc, ◌+◌, ◌-◌, Bool, true, false, ◌&&◌, ◌==◌, nat_le, nat_lt, max, List, [], ◌∷◌, ◌++◌, reverse, length, take, drop, slice_get, Option, Some, None, option_map, unwrap_or, is_some, replicate, Result, Ok, Err, if◌then◌else◌}
 use Rattle.std.specs.List.{flat_map}
 use Rattle.std.specs.Option.{option_to_list}
 pub use Rattle.mspec.specs.Limits.{max_text, max_place}
@@ -55,6 +55,10 @@ find_of s t from =
 -- $LENGTH with a delimiter
 abbrev pub piece_count : List ℕ → List ℕ → ℕ
 piece_count s d = length (pieces_of d s)
+
+-- $REVERSE: the characters, the last one first
+abbrev pub reverse_of : List ℕ → List ℕ
+reverse_of s = reverse s
 
 -- s contains t
 abbrev pub contains : List ℕ → List ℕ → Bool

@@ -1,7 +1,7 @@
 // SPDX-License-Identifier: Apache-2.0
 //! The functions and operators of texts: pieces, characters, searches, the texts that they make, and pattern match.
 //!
-//! The definitions that the contracts cite are in `mspec`: `Pieces`, `TextFunctions` and `Pattern`. Places are counted from
+//! The definitions that the contracts cite are in `mspec`: `Pieces`, `TextFunctions`, `NumberFormats` and `Pattern`. Places are counted from
 //! 1, and are whole numbers of any size. An argument that the language lets a program leave out is an `Option`.
 #![tactic(auto)]
 
@@ -13,6 +13,7 @@ mod ending;
 mod fault;
 mod functions;
 mod making;
+mod numbers;
 mod pattern;
 mod places;
 
@@ -22,4 +23,5 @@ pub use ending::{Ending, LentAtom, LentRepeated, segment_end};
 pub use fault::TextFault;
 pub use functions::{contains, extract, find, follows};
 pub use making::{justify, set_piece, translate};
+pub use numbers::justify_number;
 pub use pattern::{Atom, Count, Pattern, PatternCode, Repeated, matches};

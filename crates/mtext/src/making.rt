@@ -1,6 +1,6 @@
 // SPDX-License-Identifier: Apache-2.0
 // The texts that functions make, each of at most 4,095 characters.
-ghost use Rattle.std.specs.Prelude.{◌≡◌, ◌≢◌, ◌+◌, ◌-◌, ◌<◌, ◌≤◌, [], ◌∷◌, ◌++◌, All, length, take, drop, IfOk, MatchResult};
+ghost use Rattle.std.specs.Prelude.{◌≡◌, ◌≢◌, ◌+◌, ◌-◌, ◌<◌, ◌≤◌, [], ◌∷◌, ◌++◌, All, length, take, drop, replicate, IfOk, MatchResult};
 ghost use Rattle.std.specs.List.{repeat};
 ghost use Rattle.std.specs.Option.{option_to_list};
 ghost use Rattle.mspec.specs.Pieces.{join, pieces_of};
@@ -93,6 +93,17 @@ pub fn translate(
     Ok(translation(alloc, characters, known, others)?)
 }
 
+// A text of so many spaces, as long as memory suffices.
+pub(crate) fn spaces(alloc: Global, count: usize) -> Result<Bytes7, AllocError>
+    ensures { IfOk result (λ text. text ≡ replicate count 32) }
+{
+    let mut out = Bytes7::empty(alloc);
+    for _ in 0..count {
+        out.append(b" ")?;
+    }
+    Ok(out)
+}
+
 /// $JUSTIFY with two arguments: `text` with spaces before it, up to `width` characters.
 ///
 /// # Errors
@@ -104,10 +115,7 @@ pub fn justify(alloc: Global, text: &Bytes7, width: i64) -> Result<Bytes7, TextF
     let characters = text.as_bytes();
     let width = end_at(width);
     check_length(width.max(characters.len()))?;
-    let mut out = Bytes7::empty(alloc);
-    for _ in 0..width.saturating_sub(characters.len()) {
-        out.append(b" ")?;
-    }
+    let mut out = spaces(alloc, width.saturating_sub(characters.len()))?;
     out.append(characters)?;
     Ok(out)
 }

@@ -2,3 +2,4 @@
 pub mod LetterClasses
 pub mod ListTexts
 mod Operands
+pub mod InLanguages

@@ -1,10 +1,13 @@
 -- SPDX-License-Identifier: Apache-2.0
 -- A line of the program as a plain tree of the grammar.
 pub use Rattle.mtree.specs.Functions.{value_function_tree, variable_function_tree, function_tree}
-use Rattle.std.specs.Prelude.{Option, Box, map, option_map}
+use Rattle.std.specs.Prelude.{◌≡◌, Option, Box, map, option_map}
 use Rattle.mgrammar.specs.Grammar as grammar
-use Rattle.mgrammar.specs.Grammar.{SignTree, TruthTree, BinaryTree, KeywordTree, SpecialTree, RepeatedTree, AtomTree, ExprTree, TailTree, tails_of, exprs_of, choices_of, OperandTree, PrimaryTree, ReferenceTree, TargetTree, DestinationTree, ParameterTree, EntryTree, LockKindTree, LockedTree, ArgTree, CommandTree, SpacedTree, LineTree}
+use Rattle.mgrammar.specs.Grammar.{SignTree, TruthTree, BinaryTree, KeywordTree, RepeatedTree, AtomTree, ExprTree, TailTree, tails_of, exprs_of, choices_of, OperandTree, PrimaryTree, ReferenceTree, TargetTree, DestinationTree, ParameterTree, EntryTree, LockKindTree, LockedTree, ArgTree, CommandTree, SpacedTree, LineTree}
+use Rattle.mgrammar.specs.Specials as specials
+use Rattle.mgrammar.specs.Specials.{SpecialTree}
 use Rattle.mgrammar.specs.Commands.{form_of}
+use Rattle.mgrammar.specs.Languages.{since_line}
 use Rattle.mgrammar.specs.RoutineLine as routine
 use Rattle.mgrammar.specs.RoutineLine.{BodyTree, RoutineLineTree}
 use Rattle.mtree.specs.declared.tree.Sign.{Sign}
@@ -92,7 +95,7 @@ keyword_tree keyword.Lock = grammar.lock_word
 keyword_tree keyword.Halt = grammar.halt_word
 
 abbrev pub special_tree : SpecialVariable → SpecialTree
-special_tree special_variable.Test = grammar.test_special
+special_tree special_variable.Test = specials.test_special
 
 abbrev pub repeated_tree : Repeated → RepeatedTree
 repeated_tree (repeated.Classes letters) = grammar.classes letters
@@ -227,3 +230,11 @@ body_tree (body.Spaced dots l) = routine.spaced_out dots.items (line_tree l.valu
 
 abbrev pub routine_line_tree : RoutineLine → RoutineLineTree
 routine_line_tree l = record { label = l.label; body = body_tree l.body }
+
+-- the first language that a line tells is the one that has all forms of its tree
+abbrev pub IsCounted : Line → Type 0
+IsCounted l = l.since ≡ since_line (line_tree l)
+
+abbrev pub IsBodyCounted : Body → Type 0
+IsBodyCounted (body.Short comment) = Unit {0}
+IsBodyCounted (body.Spaced dots l) = IsCounted l.value

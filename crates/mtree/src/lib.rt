@@ -16,6 +16,7 @@ mod literal;
 mod pieces;
 mod put_list;
 mod reference;
+mod since;
 pub mod tree;
 pub mod words;
 pub mod write;
@@ -25,6 +26,7 @@ pub use count::Count;
 pub use function_word::{ValueWord, VariableWord};
 pub use letters::Letters;
 pub use literal::Literal;
+pub use since::{since_args, since_commands, since_reference, since_routine_line};
 pub use tree::{
     Arg, Atom, Binary, Body, Choice, Command, Destination, Entry, Expr, Function, Keyword, Line,
     LockKind, Locked, Operand, Parameter, PieceTarget, Primary, Reference, Referring, Repeated,

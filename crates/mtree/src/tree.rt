@@ -167,6 +167,7 @@ pub enum ValueFunction {
     Justify,
     Length,
     Piece,
+    Reverse,
     Translate,
 }
 
@@ -340,6 +341,9 @@ pub struct Line {
     pub commands: Vec<Spaced>,
     /// The text after `;`, if there is one.
     pub comment: Option<Bytes7>,
+    /// The first language that has all forms of the line (`since_commands`), so that it is counted once, however often the line
+    /// is entered. It is no part of the tree that contracts see.
+    pub since: u32,
 }
 
 /// What comes after the label of a routine's line.
@@ -498,6 +502,7 @@ impl Drop for Line {
             lead: _,
             commands: _,
             comment: _,
+            since: _,
         } = self;
     }
 }

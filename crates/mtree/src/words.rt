@@ -1,9 +1,10 @@
 // SPDX-License-Identifier: Apache-2.0
 // Words of commands, of functions and of special variables.
-ghost use Rattle.std.specs.Prelude.{◌≡◌, option_map};
-ghost use Rattle.mgrammar.specs.Grammar.{is_either, special_of};
-ghost use Rattle.mgrammar.specs.Commands.{keyword_of};
-ghost use Rattle.mgrammar.specs.Functions.{of_values, of_variable, function_of, is_piece};
+ghost use Rattle.std.specs.Prelude.{◌≡◌, option_map, unwrap_or};
+ghost use Rattle.mgrammar.specs.Grammar.{is_either};
+ghost use Rattle.mgrammar.specs.Specials.{special_of, since_special};
+ghost use Rattle.mgrammar.specs.Commands.{keyword_of, since_keyword};
+ghost use Rattle.mgrammar.specs.Functions.{of_values, of_variable, function_of, since_function, since_values, is_piece};
 ghost use Rattle.mtree.specs.Tree.{keyword_tree, value_function_tree, variable_function_tree, function_tree, special_tree};
 
 use crate::tree::{Function, Keyword, SpecialVariable, ValueFunction, VariableFunction};
@@ -51,6 +52,27 @@ pub fn keyword_of(word: &[u8]) -> Option<Keyword>
     }
 }
 
+/// The first language that has a command. Takes no memory.
+pub fn since_keyword(keyword: Keyword) -> u32
+    ensures { result ≡ since_keyword (keyword_tree keyword) }
+{
+    match keyword {
+        Keyword::Set
+        | Keyword::Kill
+        | Keyword::New
+        | Keyword::If
+        | Keyword::Else
+        | Keyword::For
+        | Keyword::Quit
+        | Keyword::Write
+        | Keyword::Do
+        | Keyword::Goto
+        | Keyword::Execute
+        | Keyword::Lock
+        | Keyword::Halt => 0,
+    }
+}
+
 // A function of values.
 fn values(function: ValueFunction, least: usize, most: Option<usize>) -> Function
     ensures { function_tree result ≡ of_values (value_function_tree function) least most }
@@ -69,38 +91,73 @@ fn variable(function: VariableFunction, most: usize) -> Function
     Function::OfVariable { function, most }
 }
 
+// What a function's word says, and the first language that has the function: the rows of the functions.
+#[tactic(auto, unfolding(mgrammar::specs::Functions::function_of, mgrammar::specs::Functions::since_function))]
+fn function_row(word: &[u8]) -> Option<(Function, u32)>
+    ensures function { option_map (λ row. function_tree row.0) result ≡ function_of word.now }
+    ensures since { unwrap_or (option_map (λ row. row.1) result) 0 ≡ since_function word.now }
+{
+    if is_either(word, b"a", b"ascii") {
+        Some((values(ValueFunction::Ascii, 1, Some(2)), 0))
+    } else if is_either(word, b"c", b"char") {
+        Some((values(ValueFunction::Char, 1, None), 0))
+    } else if is_either(word, b"d", b"data") {
+        Some((variable(VariableFunction::Data, 0), 0))
+    } else if is_either(word, b"e", b"extract") {
+        Some((values(ValueFunction::Extract, 1, Some(3)), 0))
+    } else if is_either(word, b"f", b"find") {
+        Some((values(ValueFunction::Find, 2, Some(3)), 0))
+    } else if is_either(word, b"g", b"get") {
+        Some((variable(VariableFunction::Get, 1), 0))
+    } else if is_either(word, b"j", b"justify") {
+        Some((values(ValueFunction::Justify, 2, Some(3)), 0))
+    } else if is_either(word, b"l", b"length") {
+        Some((values(ValueFunction::Length, 1, Some(2)), 0))
+    } else if is_either(word, b"o", b"order") {
+        Some((variable(VariableFunction::Order, 1), 0))
+    } else if is_either(word, b"p", b"piece") {
+        Some((values(ValueFunction::Piece, 2, Some(4)), 0))
+    } else if is_either(word, b"re", b"reverse") {
+        Some((values(ValueFunction::Reverse, 1, Some(1)), 1))
+    } else if is_either(word, b"s", b"select") {
+        Some((Function::OfChoices, 0))
+    } else if is_either(word, b"tr", b"translate") {
+        Some((values(ValueFunction::Translate, 2, Some(3)), 0))
+    } else {
+        None
+    }
+}
+
 /// What a function's word says, without its `$`: the whole word or its abbreviation, in either case of letters. Takes no
 /// memory.
-#[tactic(auto, unfolding(mgrammar::specs::Functions::function_of))]
 pub fn function_of(word: &[u8]) -> Option<Function>
     ensures { option_map function_tree result ≡ function_of word.now }
 {
-    if is_either(word, b"a", b"ascii") {
-        Some(values(ValueFunction::Ascii, 1, Some(2)))
-    } else if is_either(word, b"c", b"char") {
-        Some(values(ValueFunction::Char, 1, None))
-    } else if is_either(word, b"d", b"data") {
-        Some(variable(VariableFunction::Data, 0))
-    } else if is_either(word, b"e", b"extract") {
-        Some(values(ValueFunction::Extract, 1, Some(3)))
-    } else if is_either(word, b"f", b"find") {
-        Some(values(ValueFunction::Find, 2, Some(3)))
-    } else if is_either(word, b"g", b"get") {
-        Some(variable(VariableFunction::Get, 1))
-    } else if is_either(word, b"j", b"justify") {
-        Some(values(ValueFunction::Justify, 2, Some(2)))
-    } else if is_either(word, b"l", b"length") {
-        Some(values(ValueFunction::Length, 1, Some(2)))
-    } else if is_either(word, b"o", b"order") {
-        Some(variable(VariableFunction::Order, 1))
-    } else if is_either(word, b"p", b"piece") {
-        Some(values(ValueFunction::Piece, 2, Some(4)))
-    } else if is_either(word, b"s", b"select") {
-        Some(Function::OfChoices)
-    } else if is_either(word, b"tr", b"translate") {
-        Some(values(ValueFunction::Translate, 2, Some(3)))
+    match function_row(word) {
+        Some((function, _)) => Some(function),
+        None => None,
+    }
+}
+
+/// The first language that has the function of a word, which comes without its `$`; 0 if no function has the word. Takes no memory.
+pub fn since_function(word: &[u8]) -> u32
+    ensures { result ≡ since_function word.now }
+{
+    match function_row(word) {
+        Some((_, since)) => since,
+        None => 0,
+    }
+}
+
+/// The first language in which the function of a word, which comes without its `$`, takes so many values; 0 if it takes them since it is
+/// there. Takes no memory.
+pub fn since_values(word: &[u8], count: usize) -> u32
+    ensures { result ≡ since_values word.now count }
+{
+    if count > 2 && is_either(word, b"j", b"justify") {
+        1
     } else {
-        None
+        0
     }
 }
 
@@ -111,15 +168,37 @@ pub fn is_piece(word: &[u8]) -> bool
     is_either(word, b"p", b"piece")
 }
 
+// What a special variable's word says, and the first language that has the special variable: the rows of the special variables.
+#[tactic(auto, unfolding(mgrammar::specs::Specials::special_of, mgrammar::specs::Specials::since_special))]
+fn special_row(word: &[u8]) -> Option<(SpecialVariable, u32)>
+    ensures special { option_map (λ row. special_tree row.0) result ≡ special_of word.now }
+    ensures since { unwrap_or (option_map (λ row. row.1) result) 0 ≡ since_special word.now }
+{
+    if is_either(word, b"t", b"test") {
+        Some((SpecialVariable::Test, 0))
+    } else {
+        None
+    }
+}
+
 /// What a special variable's word says, without its `$`: the whole word or its abbreviation, in either case of letters. Takes no
 /// memory.
-#[tactic(auto, unfolding(mgrammar::specs::Grammar::special_of))]
 pub fn special_of(word: &[u8]) -> Option<SpecialVariable>
     ensures { option_map special_tree result ≡ special_of word.now }
 {
-    if is_either(word, b"t", b"test") {
-        Some(SpecialVariable::Test)
-    } else {
-        None
+    match special_row(word) {
+        Some((special, _)) => Some(special),
+        None => None,
+    }
+}
+
+/// The first language that has the special variable of a word, which comes without its `$`; 0 if none has the word. Takes no
+/// memory.
+pub fn since_special(word: &[u8]) -> u32
+    ensures { result ≡ since_special word.now }
+{
+    match special_row(word) {
+        Some((_, since)) => since,
+        None => 0,
     }
 }

@@ -1,14 +1,14 @@
 -- SPDX-License-Identifier: Apache-2.0
 -- The wire form and the replies of the definitional interpreter on examples, as proved equations.
 use Rattle.mwire.proofs.WireWords.{◌≡◌, ℕ, List, [], ◌∷◌, ◌++◌, refl, ap, ◌∙◌, codes, replicate, digits, lines, Text, no_locals, level_begun, value_of, assigned_to, Zlong, Own, Settings, World, Reply, Finished, Halted, Faulted, opening, WireLine, Ignored, TooLong, Unreadable, Runs, classify, shown, reply_text, line_served, lines_served, stream_served}
-use Rattle.std.specs.FinMap.{empty, gets}
+use Rattle.std.specs.FinMap.{empty, get, gets}
 use Rattle.mspec.specs.NodeOrder.{canonical_value}
 use Rattle.mspec.proofs.ComputedMaps.{computed_maps}
 use Rattle.mspec.proofs.ComputedNumbers.{computed_numbers}
-use Rattle.mgrammar.specs.Reading.{line_at}
-use Rattle.mgrammar.proofs.Computing.{reads}
+use Rattle.mgrammar.specs.Languages.{line_in}
+use Rattle.mgrammar.proofs.Computing.{reads_in}
 use Rattle.mmeaning.proofs.ExampleAccount.{alice}
-use Rattle.mmeaning.proofs.LineRuns.{shut_step, step_is_shut}
+use Rattle.mmeaning.proofs.LineRuns.{language_of, shut_step, step_is_shut}
 
 abbrev runs : ℕ → Text → WireLine
 runs terminal text = Runs (record { terminal = terminal; text = text })
@@ -59,7 +59,9 @@ reply_endings = (refl, refl)
 -- ---- streams, by steps whose turns are shut
 
 abbrev line_by_shut : Settings → World → WireLine → Text × World
-line_by_shut settings world (Runs e) = (reply_text e.terminal (shut_step settings e (line_at e.text) world).0, (shut_step settings e (line_at e.text) world).1)
+line_by_shut settings world (Runs e) =
+    let read = line_in (language_of (get settings.terminals e.terminal)) e.text in
+    (reply_text e.terminal (shut_step settings e read world).0, (shut_step settings e read world).1)
 line_by_shut settings world unrun = line_served settings world unrun
 
 abbrev lines_by_shut : Settings → World → List Text → Text
@@ -81,20 +83,20 @@ served : (bytes : Text) {answer : Text} → lines_by_shut alice (opening empty) 
 served bytes is = lines_are_shut alice (opening empty) (lines bytes) ∙ is
 
 left_to_right : stream_served alice empty (fed (codes "1 WRITE 1+2*3" ∷ [])) ≡ fed (codes "1-9" ∷ codes "1." ∷ [])
-unfolding reads digits canonical_value no_locals level_begun value_of assigned_to
+unfolding reads_in digits canonical_value no_locals level_begun value_of assigned_to
 left_to_right = served (fed (codes "1 WRITE 1+2*3" ∷ [])) (simp (gets, computed_maps, computed_numbers))
 
 -- what a line assigned is there for the next, and an unfinished last line is run
 sessions : stream_served alice empty (fed (codes "1 S A=\"x\"" ∷ []) ++ codes "1 W A") ≡ fed (codes "1." ∷ codes "1-x" ∷ codes "1." ∷ [])
-unfolding reads digits canonical_value no_locals level_begun value_of assigned_to
+unfolding reads_in digits canonical_value no_locals level_begun value_of assigned_to
 sessions = served (fed (codes "1 S A=\"x\"" ∷ []) ++ codes "1 W A") (simp (gets, computed_maps, computed_numbers))
 
 -- a fault, and output with a line end
 faults : stream_served alice empty (fed (codes "1 W \"x\",!,B" ∷ [])) ≡ fed (codes "1:x" ∷ codes "1!M6" ∷ [])
-unfolding reads digits canonical_value no_locals level_begun value_of assigned_to
+unfolding reads_in digits canonical_value no_locals level_begun value_of assigned_to
 faults = served (fed (codes "1 W \"x\",!,B" ∷ [])) (simp (gets, computed_maps, computed_numbers))
 
 -- lines of each wire_line, and an account without the terminal
 stream : stream_served alice empty (fed ([] ∷ codes "1 W 1+" ∷ codes "hello" ∷ (codes "1 ;" ++ replicate 258 65) ∷ (codes "2 W 1" ++ 13 ∷ []) ∷ codes "1 W 2" ∷ [])) ≡ fed (codes "1!ZSYNTAX" ∷ codes "?!ZWIRE" ∷ codes "?!ZLINE" ∷ codes "2!ZTERM" ∷ codes "1-2" ∷ codes "1." ∷ [])
-unfolding reads digits canonical_value no_locals level_begun value_of assigned_to
+unfolding reads_in digits canonical_value no_locals level_begun value_of assigned_to
 stream = served (fed ([] ∷ codes "1 W 1+" ∷ codes "hello" ∷ (codes "1 ;" ++ replicate 258 65) ∷ (codes "2 W 1" ++ 13 ∷ []) ∷ codes "1 W 2" ∷ [])) (simp (gets, computed_maps, computed_numbers))

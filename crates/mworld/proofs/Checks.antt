@@ -23,6 +23,7 @@ known settings terminal place text same within short ascii =
       known = sym same ∙ there.1;
       name = sym (ap (λ o. unwrap_or (option_map (λ (a : Account). a.name) o) []) there.1);
       steps = sym (ap (λ o. unwrap_or (option_map (λ (a : Account). a.steps) o) 0) there.1);
+      language = sym (ap (λ o. unwrap_or (option_map (λ (a : Account). a.language) o) 0) there.1);
       short = short;
       ascii = ascii;
     }

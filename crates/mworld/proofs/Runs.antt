@@ -4,8 +4,9 @@ use Rattle.mworld.proofs.WorldWords.{DoubtsOver, Doubts-same, is_kept_by, ◌≡
 use Rattle.mspec.specs.Code as spec
 use Rattle.mspec.specs.Plan.{perform, cut_short}
 use Rattle.mspec.specs.LockConflict.{Locks, released}
-use Rattle.mspec.specs.Act.{Text}
-use Rattle.mgrammar.specs.Reading.{line_at}
+use Rattle.mspec.specs.Access.{language_at}
+use Rattle.mspec.specs.Act.{Text, given_language}
+use Rattle.mgrammar.specs.Languages.{line_in}
 use Rattle.mmeaning.specs.LineMeaning.{Completion}
 use Rattle.mmeaning.specs.Transition as transition
 use Rattle.mmeaning.specs.Transition.{Account}
@@ -24,7 +25,7 @@ use Rattle.mcommand.specs.declared.parts.Parts.{Parts}
 use Rattle.mexec.specs.declared.text.Ended.{Ended}
 use Rattle.mexec.specs.declared.text.Ended.TheVariants.{Done, Halt, Fault}
 use Rattle.mworld.specs.declared.reply.Reply.{Reply}
-use Rattle.mworld.specs.Ran.{Ran}
+use Rattle.mworld.specs.Ran.{Ran, given_at, standing_at}
 use Rattle.mworld.proofs.Checks.{let_through}
 
 -- ---- a run that is not lost
@@ -76,19 +77,19 @@ module _ {S : Type 0} (g : Ghosts S) (settings : Settings) (e : Event) (place : 
   world = record { shared = shared g store locks; sessions = sessions }
 
   abbrev b : Standing
-  b = record { settings = settings; terminal = e.terminal; account = name_at settings place }
+  b = standing_at settings e.terminal place
 
   abbrev here : Here
-  here = point (level_begun old.locals) old.naked old.test [] (steps_at settings place) (shared g store locks)
+  here = point (level_begun old.locals) old.naked old.test [] (steps_at settings place) (given_at settings place) (shared g store locks)
 
   abbrev there : Here
-  there = point new.locals new.naked new.test reply.out.items ran.left (shared g store' locks')
+  there = point new.locals new.naked new.test reply.out.items ran.left (given_at settings place) (shared g store' locks')
 
-  ends : EndsBy b (IsSteady g store') (text_run (name_at settings place) (line_at e.text)) here reply.ending there
+  ends : EndsBy b (IsSteady g store') (text_run (name_at settings place) (line_in (language_at settings place) e.text)) here reply.ending there
   ends = ran.at sure
 
   begins : begun passes.account (session_or_new (get sessions e.terminal)) ≡ here.0
-  begins = λ i. record { locals = level_begun (sym same i).locals; naked = (sym same i).naked; test = (sym same i).test; out = []; steps = passes.steps i }
+  begins = λ i. record { locals = level_begun (sym same i).locals; naked = (sym same i).naked; test = (sym same i).test; out = []; steps = passes.steps i; given = given_language (passes.language i) }
 
   -- a line that is not lost
   pub ran_transition : (after : World) → is_failure (ending_of reply.ending) ≡ false → after ≡ settled e.terminal world (ending_of reply.ending) there.0 there.1 → Transition settings e (reply_of reply) world after
@@ -97,20 +98,20 @@ module _ {S : Type 0} (g : Ghosts S) (settings : Settings) (e : Event) (place : 
       normally : normal settings e world ≡ (reply_of reply, after)
       normally =
           let_through settings e passes.account world passes.known passes.short passes.ascii
-          ∙ (λ i. ended e.terminal world (perform (act settings e.terminal (passes.name i)) (text_run (passes.name i) (line_at e.text) (begins i)) world.shared))
-          ∙ ended_by b (IsSteady g store') e.terminal world (text_run (name_at settings place) (line_at e.text)) here reply.ending there ends fine
+          ∙ (λ i. ended e.terminal world (perform (act settings e.terminal (passes.name i)) (text_run (passes.name i) (line_in (passes.language i) e.text) (begins i)) world.shared))
+          ∙ ended_by b (IsSteady g store') e.terminal world (text_run (name_at settings place) (line_in (language_at settings place) e.text)) here reply.ending there ends fine
           ∙ ap (λ (s : World). (reply_of reply, s)) (sym stored)
 
   -- one that is lost, even if it was run to its end: what it left of its session is gone
   pub lost_transition : (after : World) (answer : transition.Reply) (loss : spec.Loss) → after ≡ record { shared = shared g store' (released locks' e.terminal); sessions = remove sessions e.terminal } → answer ≡ lost (Faulted (Lost loss)) → Transition settings e answer world after
   lost_transition after answer loss gone is = subst (λ r. Transition settings e r world after) (sym is) (refl, failed)
     where
-      cut : IsCut b (text_run (name_at settings place) (line_at e.text)) here there
-      cut = is_cut b (IsSteady g store') (text_run (name_at settings place) (line_at e.text)) here reply.ending there ends
+      cut : IsCut b (text_run (name_at settings place) (line_in (language_at settings place) e.text)) here there
+      cut = is_cut b (IsSteady g store') (text_run (name_at settings place) (line_in (language_at settings place) e.text)) here reply.ending there ends
 
       -- whatever was done for the terminal, others hold what they held
-      others : PlanKeepsOthersLocks settings e.terminal (name_at settings place) (text_run (name_at settings place) (line_at e.text) here.0) here.1
-      others = others_kept settings e.terminal (name_at settings place) (text_run (name_at settings place) (line_at e.text) here.0) here.1
+      others : PlanKeepsOthersLocks settings e.terminal (name_at settings place) (text_run (name_at settings place) (line_in (language_at settings place) e.text) here.0) here.1
+      others = others_kept settings e.terminal (name_at settings place) (text_run (name_at settings place) (line_in (language_at settings place) e.text) here.0) here.1
 
       failed : FailedTransition settings e world after
       failed = record {
@@ -121,7 +122,7 @@ module _ {S : Type 0} (g : Ghosts S) (settings : Settings) (e : Event) (place : 
         operations = cut.0;
         globals =
             ap (λ (s : World). s.shared.globals) gone ∙ sym (ap (λ (w : Shared). w.globals) cut.1)
-            ∙ (λ i. (cut_short (act settings e.terminal (sym passes.name i)) cut.0 (text_run (sym passes.name i) (line_at e.text) (sym begins i)) world.shared).globals);
+            ∙ (λ i. (cut_short (act settings e.terminal (sym passes.name i)) cut.0 (text_run (sym passes.name i) (line_in (sym passes.language i) e.text) (sym begins i)) world.shared).globals);
         locks = ap (λ (s : World). s.shared.locks) gone ∙ sym (ap (λ (w : Shared). released w.locks e.terminal) cut.1) ∙ others.short cut.0;
         sessions = ap (λ (s : World). s.sessions) gone;
       }
@@ -130,10 +131,10 @@ module _ {S : Type 0} (g : Ghosts S) (settings : Settings) (e : Event) (place : 
 pub ran_fits : {S : Type 0} (g : Ghosts S) (settings : Settings) (e : Event) (place : ℕ) (old new : Session) (store store' : S) (locks locks' : Locks) (reply : Reply) (passes : Passes settings e place)
     → Ran g settings e.terminal place e.text old store locks reply new store' locks' → g.doubt store' ≡ 0 → AreFit settings locks → AreFit settings locks'
 ran_fits g settings e place old new store store' locks locks' reply passes ran sure fit =
-    let b : Standing = record { settings = settings; terminal = e.terminal; account = name_at settings place } in
-    let here : Here = point (level_begun old.locals) old.naked old.test [] (steps_at settings place) (shared g store locks) in
-    let there : Here = point new.locals new.naked new.test reply.out.items ran.left (shared g store' locks') in
-    let p : Act Completion = text_run (name_at settings place) (line_at e.text) in
+    let b : Standing = standing_at settings e.terminal place in
+    let here : Here = point (level_begun old.locals) old.naked old.test [] (steps_at settings place) (given_at settings place) (shared g store locks) in
+    let there : Here = point new.locals new.naked new.test reply.out.items ran.left (given_at settings place) (shared g store' locks') in
+    let p : Act Completion = text_run (name_at settings place) (line_in (language_at settings place) e.text) in
     let cut : IsCut b p here there = is_cut b (IsSteady g store') p here reply.ending there (ran.at sure) in
     let sender : Actor = record { settings = settings; terminal = e.terminal; account = passes.account; known = passes.known } in
     let kept : KeepsFit sender (p here.0) here.1 = plans_keep_fit sender (p here.0) here.1 fit in
@@ -159,17 +160,17 @@ unrun_transition g settings e place sessions store locks passes after answer los
 )
 
 -- the session, with a level begun, the store, the locks and the output are those that were lent
-pub ran_over : {S : Type 0} {g : Ghosts S} {text : Text} {old new : Parts S} {ended : Ended} {session session' : Session} {store' : S} {locks' : Locks} {out : Vec ℕ Global} → RunsText g (line_at text) old ended new → old.eval.steps ≡ steps_at old.eval.settings.now old.eval.account
+pub ran_over : {S : Type 0} {g : Ghosts S} {text : Text} {old new : Parts S} {ended : Ended} {session session' : Session} {store' : S} {locks' : Locks} {out : Vec ℕ Global} → RunsText g (line_in (standing_of old.eval).given.language text) old ended new → old.eval.steps ≡ steps_at old.eval.settings.now old.eval.account
     → old.out.now.items ≡ [] → old.eval.session.now ≡ record session { locals = level_begun session.locals } → session' ≡ new.eval.session.now → store' ≡ new.eval.store.now → locks' ≡ new.locks.now → out ≡ new.out.now
     → Ran g old.eval.settings.now old.eval.terminal old.eval.account text session old.eval.store.now old.locks.now (record { out = out; ending = ended }) session' store' locks'
 ran_over {S = S} {g = g} {text = text} {old = old} {new = new} {ended = ended} runs steps first begun s u l o = record {
   left = new.eval.steps;
   doubt = subst (λ u. DoubtsOver g old.eval.store.now u (is_kept_by ended)) (sym u) runs.doubt;
   at = λ sure.
-      subst (λ (q : Here × Here × S). EndsBy (standing_of old.eval) (IsSteady g q.2) (text_run (standing_of old.eval).account (line_at text)) q.0 ended q.1)
+      subst (λ (q : Here × Here × S). EndsBy (standing_of old.eval) (IsSteady g q.2) (text_run (standing_of old.eval).account (line_in (standing_of old.eval).given.language text)) q.0 ended q.1)
       (λ i. (
-        point (begun i).locals (begun i).naked (begun i).test (first i) (steps i) (shared g old.eval.store.now old.locks.now),
-        point (sym s i).locals (sym s i).naked (sym s i).test (sym o i).items new.eval.steps (shared g (sym u i) (sym l i)),
+        point (begun i).locals (begun i).naked (begun i).test (first i) (steps i) (standing_of old.eval).given (shared g old.eval.store.now old.locks.now),
+        point (sym s i).locals (sym s i).naked (sym s i).test (sym o i).items new.eval.steps (runs.keeps.eval.same i).given (shared g (sym u i) (sym l i)),
         sym u i,
       ))
       (runs.at (subst (λ u. g.doubt u ≡ 0) u sure));
@@ -182,9 +183,9 @@ not_run {g = g} {settings = settings} {terminal = terminal} {place = place} {tex
   left = 0;
   doubt = subst (λ u. DoubtsOver g store u (is_kept_by reply.ending)) (sym same) (Doubts-same _);
   at = λ sure.
-      subst (λ (ending : Ended). EndsBy (record { settings = settings; terminal = terminal; account = name_at settings place }) (IsSteady g store') (text_run (name_at settings place) (line_at text))
-      (point (level_begun session.locals) session.naked session.test [] (steps_at settings place) (shared g store locks)) ending
-      (point session'.locals session'.naked session'.test reply.out.items 0 (shared g store' locks')))
+      subst (λ (ending : Ended). EndsBy (standing_at settings terminal place) (IsSteady g store') (text_run (name_at settings place) (line_in (language_at settings place) text))
+      (point (level_begun session.locals) session.naked session.test [] (steps_at settings place) (given_at settings place) (shared g store locks)) ending
+      (point session'.locals session'.naked session'.test reply.out.items 0 (given_at settings place) (shared g store' locks')))
       (sym is) (0, λ i. shared g (sym same i) (sym unlocked i));
 }
 

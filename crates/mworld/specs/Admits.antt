@@ -3,7 +3,7 @@
 use Rattle.std.specs.Prelude.{◌≡◌, true, false, Some, ℕ, Result, Ok, Err}
 use Rattle.std.specs.FinMap.{get}
 use Rattle.mspec.specs.Code as spec
-use Rattle.mspec.specs.Access.{Account, Settings, name_at, steps_at}
+use Rattle.mspec.specs.Access.{Account, Settings, name_at, steps_at, language_at}
 use Rattle.mmeaning.specs.Transition.{Event, World, normal, refused, is_too_long, is_ascii}
 use Rattle.moperator.specs.Codes.{fault_of}
 use Rattle.moperator.specs.declared.code.Code.{Code}
@@ -14,6 +14,7 @@ pub record Passes (settings : Settings) (e : Event) (place : ℕ) : Type 0 where
   pub known : get settings.terminals e.terminal ≡ Some account
   pub name : account.name ≡ name_at settings place
   pub steps : account.steps ≡ steps_at settings place
+  pub language : account.language ≡ language_at settings place
   pub short : is_too_long e.text ≡ false
   pub ascii : is_ascii e.text ≡ true
 

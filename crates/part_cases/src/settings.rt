@@ -117,6 +117,10 @@ fn asked(alloc: Global, settings: &Settings, words: &[&str]) -> anyhow::Result<V
             let steps = settings.steps_of(id(settings, account)?);
             return Ok(steps.to_string(alloc)?.into_bytes());
         }
+        ["language_of", account] => {
+            let language = settings.language_of(id(settings, account)?);
+            return Ok(language.to_string(alloc)?.into_bytes());
+        }
         ["may", me, owner, global, mode] => {
             let owner = if *owner == "-" { "" } else { *owner };
             let mode = match *mode {

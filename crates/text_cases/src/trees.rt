@@ -50,6 +50,9 @@ fn entries_of(cases: &[&str]) -> anyhow::Result<usize> {
     Ok(count.parse::<usize>()?)
 }
 
+// The language that the texts are read in.
+const PROFILE: u32 = 0;
+
 // How many hold the tree of a text; None if it has none.
 fn asked(
     alloc: Global,
@@ -60,11 +63,11 @@ fn asked(
     let (kind, text) = case.split_once(' ').context("a case of one word")?;
     let text = bytes_of(alloc, text)?;
     let holders = match kind {
-        "line" => match trees.line(alloc, &text) {
+        "line" => match trees.line(alloc, PROFILE, &text) {
             Ok(tree) => holders(&mut answered.lines, tree)?,
             Err(fault) => return refused(fault),
         },
-        "routine_line" => match trees.routine_line(alloc, &text) {
+        "routine_line" => match trees.routine_line(alloc, PROFILE, &text) {
             Ok(tree) => holders(&mut answered.routine_lines, tree)?,
             Err(fault) => return refused(fault),
         },

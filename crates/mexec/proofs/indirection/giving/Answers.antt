@@ -1,6 +1,6 @@
 -- SPDX-License-Identifier: Apache-2.0
-use Rattle.mexec.proofs.ExecLaws.{◌<◌, suc, List, Result, Ok, arith, Text, Act, ◌>>=◌, give_some, ArgTree, FormTree, form_of, keyword_tree, primary_tree, within_indirection, Context, context, inside, given_by, View, Ghosts, Code, fault_of, Parts, DoesAt, Runs, depth_of, at_evaluated, position_of, Zsyntax, PrimaryTree, an_indirection_free, primary_value, Yields, Completion, given, runs_then, runs_spent, runs_stopped, runs_wanting, at_yielded, list_opened}
-use Rattle.mgrammar.specs.IndirectTexts.{args_of}
+use Rattle.mexec.proofs.ExecLaws.{◌<◌, suc, List, Result, Ok, arith, Text, Act, ◌>>=◌, read_so, at_read, ArgTree, FormTree, form_of, keyword_tree, primary_tree, within_indirection, Context, context, inside, given_by, View, Ghosts, Code, fault_of, Parts, DoesAt, Runs, depth_of, at_evaluated, position_of, Zsyntax, PrimaryTree, an_indirection_free, primary_value, Yields, Completion, given, runs_then, runs_spent, runs_stopped, runs_wanting, at_yielded, list_opened}
+use Rattle.mgrammar.specs.Languages.{args_in}
 use Rattle.mmeaning.specs.LineMeaning.{Position}
 use Rattle.mexec.specs.declared.completion.Completion as completions
 use Rattle.mexec.proofs.indirection.giving.Goals as goal
@@ -11,7 +11,7 @@ listed x args = x.texts.list (within_indirection x.position) args
 
 -- once an indirection is free
 abbrev read : Context → FormTree → Text → Act Completion
-read x f text = give_some Zsyntax (args_of f text) >>= listed x
+read x f text = read_so Zsyntax (λ l. args_in f l text) >>= listed x
 
 -- they are, once the text is known and an indirection is free
 read_then : {S X : Type 0} {g : Ghosts S} {there : X → Unit {0}} {d : X} {fs fs' : List View} {old mid new : Parts S} {r : Result completions.Completion Code} (p : Position) (f : FormTree) (o : PrimaryTree) (text : Text)
@@ -39,21 +39,21 @@ returns-in_err-text-2-clause-does g c =
 pub returns-in_err-args-clause-does : goal.returns-in_err-args-clause-does
 returns-in_err-args-clause-does g c =
     let p = position_of c.args.position.now in
-    let tree = rw (c.as_bytes.ensures.bytes, c.in_ok-text-2.ensures) at c.in_err-args.ensures in
+    let tree = rw (c.as_bytes.ensures.bytes, c.in_ok-text-2.ensures, c.language-language.ensures) at c.in_err-args.ensures in
     read_then p (form_of (keyword_tree c.args.keyword)) (primary_tree c.args.operand.now) c.in_ok-text.text (at_evaluated c.args.position.now.depth c.in_ok-text.ensures.does) c.in_ok-text.ensures.spent c.in_ok-depth.ensures.does
-    (runs_stopped (λ a n. listed (context a (suc n) p)) (at_yielded tree) c.from_residual-in_err-args.ensures)
+    (runs_stopped (λ a n. listed (context a (suc n) p)) (at_read Zsyntax (λ l. args_in (form_of (keyword_tree c.args.keyword)) l c.in_ok-text.text) tree) c.from_residual-in_err-args.ensures)
 
 pub returns-in_err-leave_given-clause-does : goal.returns-in_err-leave_given-clause-does
 returns-in_err-leave_given-clause-does g c =
     let p = position_of c.args.position.now in
-    let tree = rw (c.as_bytes.ensures.bytes, c.in_ok-text-2.ensures) at c.in_ok-args.ensures in
+    let tree = rw (c.as_bytes.ensures.bytes, c.in_ok-text-2.ensures, c.language-language.ensures) at c.in_ok-args.ensures in
     read_then p (form_of (keyword_tree c.args.keyword)) (primary_tree c.args.operand.now) c.in_ok-text.text (at_evaluated c.args.position.now.depth c.in_ok-text.ensures.does) c.in_ok-text.ensures.spent c.in_ok-depth.ensures.does
-    (runs_then (λ a n. listed (context a (suc n) p)) (at_yielded tree) (runs_wanting _ _ c.from_residual-in_err-leave_given.ensures))
+    (runs_then (λ a n. listed (context a (suc n) p)) (at_read Zsyntax (λ l. args_in (form_of (keyword_tree c.args.keyword)) l c.in_ok-text.text) tree) (runs_wanting _ _ c.from_residual-in_err-leave_given.ensures))
 
 pub returns-clause-does : goal.returns-clause-does
 returns-clause-does g c =
     let p = position_of c.args.position.now in
-    let tree = rw (c.as_bytes.ensures.bytes, c.in_ok-text-2.ensures) at c.in_ok-args.ensures in
+    let tree = rw (c.as_bytes.ensures.bytes, c.in_ok-text-2.ensures, c.language-language.ensures) at c.in_ok-args.ensures in
     rw c.in_ok-leave_given.ensures.frames
     (read_then p (form_of (keyword_tree c.args.keyword)) (primary_tree c.args.operand.now) c.in_ok-text.text (at_evaluated c.args.position.now.depth c.in_ok-text.ensures.does) c.in_ok-text.ensures.spent c.in_ok-depth.ensures.does
-    (runs_then (λ a n. listed (context a (suc n) p)) (at_yielded tree) (list_opened p (depth_of c.in_ok-depth.depth) c.in_ok-depth.ensures.deeper _)))
+    (runs_then (λ a n. listed (context a (suc n) p)) (at_read Zsyntax (λ l. args_in (form_of (keyword_tree c.args.keyword)) l c.in_ok-text.text) tree) (list_opened p (depth_of c.in_ok-depth.depth) c.in_ok-depth.ensures.deeper _)))

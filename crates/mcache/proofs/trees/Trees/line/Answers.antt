@@ -1,22 +1,15 @@
 -- SPDX-License-Identifier: Apache-2.0
-use Rattle.mcache.proofs.CacheWords.{◌≡◌, Some, err_from_is_err_and, line_at, line_tree, Syntax}
-use Rattle.mcache.proofs.Held.{with_line}
-use Rattle.mcache.proofs.Texts.{line_is, no_line, handed_on}
+use Rattle.mcache.proofs.CacheWords.{◌<◌, ◌≤◌, ◌∙◌, ap, subst, line_tree}
+use Rattle.mtree.specs.declared.tree.Line.{Line}
+use Rattle.mtree.proofs.InLanguages.{line_kept, line_left_out}
 use Rattle.mcache.proofs.trees.Trees.line.Goals as goal
 
-pub returns-in_err-parse_line-clause-syntax : goal.returns-in_err-parse_line-clause-syntax
-returns-in_err-parse_line-clause-syntax c h =
-    let p = err_from_is_err_and c.from_residual.result c.from_residual.ensures.1 in
-    no_line c.args.text.now (c.in_err-parse_line.ensures.syntax (handed_on c.from_residual.result p.0 c.in_err-parse_line.field-0.0 Syntax p.1 p.2 h))
-
-tree_is : (c : goal.After-keep) → line_at c.args.text.now ≡ Some (line_tree c.in_ok-line.line.value)
-tree_is c = rw c.in_ok-line.ensures.ok (line_is c.args.text.now (line_tree c.in_ok-parse_line.field-0) c.in_ok-parse_line.ensures.tree)
-
-pub invariant_of-self-2 : goal.invariant_of-self-2
-invariant_of-self-2 c = with_line c.self.invariant c.args.text.now c.in_ok-line.line.value c.find.new.tree_cache.entries c.make_room.new.lines.entries c.keep.new.tree_cache.entries c.make_room.new.routine_lines.entries c.find.ensures.within c.make_room.ensures.lines c.make_room.ensures.routine_lines c.make_room.ensures.room c.keep.ensures.within c.keep.ensures.count (tree_is c)
+pub returns-then-deref-language-clause-syntax : goal.returns-then-deref-language-clause-syntax
+returns-then-deref-language-clause-syntax c h =
+    line_left_out c.args.language c.args.text.now (line_tree c.in_ok-line.line.value) c.in_ok-line.ensures.tree
+    (subst (λ s. c.args.language < s) (ap (λ (l : Line). l.since) c.deref.ensures ∙ c.in_ok-line.ensures.counted) c.if-deref-language.true)
 
 pub returns-clause-tree : goal.returns-clause-tree
-returns-clause-tree c = tree_is c
-
-pub returns-then-not-is_wanted-clause-tree : goal.returns-then-not-is_wanted-clause-tree
-returns-then-not-is_wanted-clause-tree c = rw c.in_ok-line.ensures.ok (line_is c.args.text.now (line_tree c.in_ok-parse_line.field-0) c.in_ok-parse_line.ensures.tree)
+returns-clause-tree c =
+    line_kept c.args.language c.args.text.now (line_tree c.in_ok-line.line.value) c.in_ok-line.ensures.tree
+    (subst (λ s. s ≤ c.args.language) (ap (λ (l : Line). l.since) c.deref.ensures ∙ c.in_ok-line.ensures.counted) c.if-deref-language.false)

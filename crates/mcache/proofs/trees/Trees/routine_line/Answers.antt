@@ -1,22 +1,16 @@
 -- SPDX-License-Identifier: Apache-2.0
-use Rattle.mcache.proofs.CacheWords.{◌≡◌, Some, err_from_is_err_and, routine_line_at, routine_line_tree, Syntax}
-use Rattle.mcache.proofs.Held.{with_routine_line}
-use Rattle.mcache.proofs.Texts.{routine_line_is, no_routine_line, handed_on}
+use Rattle.mcache.proofs.CacheWords.{◌<◌, ◌≤◌, ◌∙◌, ap, subst, routine_line_tree}
+use Rattle.mgrammar.specs.Languages.{since_routine_line}
+use Rattle.mtree.specs.declared.tree.RoutineLine.{RoutineLine}
+use Rattle.mtree.proofs.InLanguages.{routine_line_kept, routine_line_left_out}
 use Rattle.mcache.proofs.trees.Trees.routine_line.Goals as goal
 
-pub returns-in_err-parse_routine_line-clause-syntax : goal.returns-in_err-parse_routine_line-clause-syntax
-returns-in_err-parse_routine_line-clause-syntax c h =
-    let p = err_from_is_err_and c.from_residual.result c.from_residual.ensures.1 in
-    no_routine_line c.args.text.now (c.in_err-parse_routine_line.ensures.syntax (handed_on c.from_residual.result p.0 c.in_err-parse_routine_line.field-0.0 Syntax p.1 p.2 h))
-
-tree_is : (c : goal.After-keep) → routine_line_at c.args.text.now ≡ Some (routine_line_tree c.in_ok-line.line.value)
-tree_is c = rw c.in_ok-line.ensures.ok (routine_line_is c.args.text.now (routine_line_tree c.in_ok-parse_routine_line.field-0) c.in_ok-parse_routine_line.ensures.tree)
-
-pub invariant_of-self-2 : goal.invariant_of-self-2
-invariant_of-self-2 c = with_routine_line c.self.invariant c.args.text.now c.in_ok-line.line.value c.find.new.tree_cache.entries c.make_room.new.routine_lines.entries c.keep.new.tree_cache.entries c.make_room.new.lines.entries c.find.ensures.within c.make_room.ensures.routine_lines c.make_room.ensures.lines c.make_room.ensures.room c.keep.ensures.within c.keep.ensures.count (tree_is c)
+pub returns-then-since_routine_line-language-clause-syntax : goal.returns-then-since_routine_line-language-clause-syntax
+returns-then-since_routine_line-language-clause-syntax c h =
+    routine_line_left_out c.args.language c.args.text.now (routine_line_tree c.in_ok-line.line.value) c.in_ok-line.ensures.tree
+    (subst (λ s. c.args.language < s) (c.since_routine_line.ensures ∙ ap (λ (l : RoutineLine). since_routine_line (routine_line_tree l)) c.deref.ensures) c.if-since_routine_line-language.true)
 
 pub returns-clause-tree : goal.returns-clause-tree
-returns-clause-tree c = tree_is c
-
-pub returns-then-not-is_wanted-clause-tree : goal.returns-then-not-is_wanted-clause-tree
-returns-then-not-is_wanted-clause-tree c = rw c.in_ok-line.ensures.ok (routine_line_is c.args.text.now (routine_line_tree c.in_ok-parse_routine_line.field-0) c.in_ok-parse_routine_line.ensures.tree)
+returns-clause-tree c =
+    routine_line_kept c.args.language c.args.text.now (routine_line_tree c.in_ok-line.line.value) c.in_ok-line.ensures.tree
+    (subst (λ s. s ≤ c.args.language) (c.since_routine_line.ensures ∙ ap (λ (l : RoutineLine). since_routine_line (routine_line_tree l)) c.deref.ensures) c.if-since_routine_line-language.false)

@@ -243,14 +243,14 @@ named-returns-in_err-text g t c =
 pub named-returns-in_err-reference : goal.named-returns-in_err-reference
 named-returns-in_err-reference g t c =
     let free = is_free _ _ c.in-Some.is c.indirected.ensures.free in
-    let none = rw c.in_ok-text.ensures at c.in_err-reference.ensures in
+    let none = rw (c.in_ok-text.ensures, c.language.ensures) at c.in_err-reference.ensures in
     evaluates_then (λ i x. named_by i _ x) c.in_ok-value.ensures.does (evaluates_unnamed _ _ free none c.from_residual-in_err-reference.ensures)
 
 pub named-returns : goal.named-returns
 named-returns g t c =
     let free = is_free _ _ c.in-Some.is c.indirected.ensures.free in
     let deeper = rw c.in-Some.is at c.indirected.ensures.deeper in
-    let named = rw c.in_ok-text.ensures at c.in_ok-reference.ensures in
+    let named = rw (c.in_ok-text.ensures, c.language.ensures) at c.in_ok-reference.ensures in
     evaluates_entry _ _ _ reference_tree _ _ c.in_ok-value.ensures.does c.in_ok-value.ensures.spent free deeper named c.through_given-result.ensures
 
 pub through_given-returns-in-Ok : goal.through_given-returns-in-Ok

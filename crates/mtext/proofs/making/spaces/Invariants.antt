@@ -1,6 +1,6 @@
 -- SPDX-License-Identifier: Apache-2.0
 use Rattle.mtext.proofs.TextWords.{◌≡◌, replicate}
-use Rattle.mtext.proofs.making.justify.Given as goal
+use Rattle.mtext.proofs.making.spaces.Given as goal
 
 abbrev pub invariant-loop : goal.invariant-loop
 invariant-loop l = l.out ≡ replicate l.counter 32

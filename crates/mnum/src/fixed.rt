@@ -1,0 +1,57 @@
+// SPDX-License-Identifier: Apache-2.0
+// Numbers rounded to places after the point, and written with all of these.
+ghost use Rattle.std.specs.Prelude.{◌≡◌, ◌<◌, ◌≤◌, ◌++◌, All, replicate};
+ghost use Rattle.mspec.specs.Number.{is_below_zero};
+ghost use Rattle.mspec.specs.NumberFormats.{rounded_to, fixed_number};
+ghost use Rattle.mnum.specs.Num.{units};
+
+use crate::num::Num;
+use crate::powers::power;
+use crate::writing::{push_decimal, push_fraction, push_sign};
+use arrayvec::ArrayVec;
+
+impl Num {
+    /// The nearest number with at most `places` places after the point; of two, the one farther from 0. Takes no memory.
+    pub fn to_places(self, places: usize) -> Num
+        ensures { units result ≡ rounded_to places (units self) }
+    {
+        if places >= self.places as usize {
+            return self;
+        }
+        let left = places as u32;
+        let ten = power(self.places - left) as u64;
+        Num {
+            digits: (self.digits + ten / 2) / ten,
+            places: left,
+            negative: self.negative,
+        }
+    }
+
+    /// Whether the number is below 0. Takes no memory.
+    pub fn is_below_zero(self) -> bool
+        ensures { result ≡ is_below_zero (units self) }
+    {
+        self.negative && self.digits > 0
+    }
+
+    /// The text of a number of at most `places` places with all of them, a digit before the point, and no point if `places` is 0. It
+    /// is what is on the stack, with so many zeros after it. Takes no memory.
+    pub fn fixed(self, places: usize) -> (ArrayVec<u8, 40>, usize)
+        ensures text { result.0.items ++ replicate result.1 48 ≡ fixed_number places (units self) }
+        ensures ascii { All (λ c. c < 128) result.0.items }
+        ensures few { result.1 ≤ places }
+    {
+        let mut out = ArrayVec::new();
+        push_sign(&mut out, self.is_below_zero());
+        let (whole, fraction) = self.parts();
+        push_decimal(&mut out, whole);
+        if places == 0 {
+            return (out, 0);
+        }
+        out.push(b'.');
+        let before = out.len();
+        push_fraction(&mut out, self.places, fraction);
+        let digits = out.len() - before;
+        (out, places.saturating_sub(digits))
+    }
+}

@@ -1,0 +1,6 @@
+-- SPDX-License-Identifier: Apache-2.0
+use Rattle.mtext.proofs.TextWords.{◌≡◌, ◌++◌, replicate}
+use Rattle.mtext.proofs.numbers.push_zeros.Given as goal
+
+abbrev pub invariant-loop : goal.invariant-loop
+invariant-loop l = l.out ≡ l.initial.out ++ replicate l.counter 48

@@ -1,0 +1,22 @@
+-- SPDX-License-Identifier: Apache-2.0
+use Rattle.std.proofs.Common.{◌≡◌, ◌∙◌, ap, arith, sym, map, List, ℕ, Vec, Global}
+use Rattle.mgrammar.specs.Grammar as grammar
+use Rattle.mgrammar.specs.Grammar.{exprs_of, PrimaryTree, ReferenceTree, TailTree, ExprTree, OperandTree}
+use Rattle.mgrammar.specs.Languages.{since_primary, since_exprs}
+use Rattle.mtree.specs.Tree.{ChoiceTree, expr_tree, primary_tree, primary_layer, reference_layer, tail_layer, choice_layer, expr_layer, operand_layer, referring_layer}
+use Rattle.mtree.specs.declared.tree.Expr.{Expr}
+use Rattle.mtree.specs.declared.tree.Primary.{Primary}
+use Rattle.mtree.specs.declared.tree.Primary.TheVariants as primary
+use Rattle.mtree.specs.declared.tree.Primary.TheFolds.{fold-roll-Primary}
+use Rattle.mtree.proofs.InLanguages.{call_since}
+use Rattle.mtree.proofs.since.+since.Goals as goal
+
+call_is : (word : List ℕ) (values : Vec Expr Global) → primary_tree (primary.Call word values) ≡ grammar.call word (exprs_of (map expr_tree values.items))
+call_is word values = ap primary_tree (sym (primary.rolls-Call word values)) ∙ fold-roll-Primary PrimaryTree ReferenceTree TailTree ChoiceTree ExprTree OperandTree PrimaryTree primary_layer reference_layer tail_layer choice_layer expr_layer operand_layer referring_layer _
+
+pub since_primary-returns-in-Call : goal.since_primary-returns-in-Call
+since_primary-returns-in-Call m c =
+    call_since c.in-Call.word c.as_bytes-word.result.now c.in-Call.arguments.items c.len.result c.since_function.result c.since_values.result c.later-function.result c.since_exprs.result c.later.result
+    (c.as_bytes-word.ensures.bytes ∙ c.as_text.ensures) (omega (arith, c.len.ensures, c.in-Call.arguments.ok)) c.since_function.ensures c.since_values.ensures c.later-function.ensures
+    (c.since_exprs.ensures ∙ ap (λ (xs : List Expr). since_exprs (exprs_of (map expr_tree xs))) c.deref-in-Call.ensures.value) c.later.ensures
+    ∙ ap since_primary (sym (call_is c.in-Call.word c.in-Call.arguments)) ∙ ap (λ (p : Primary). since_primary (primary_tree p)) (sym c.in-Call.is)

@@ -1,0 +1,302 @@
+// SPDX-License-Identifier: Apache-2.0
+// The first language that has all forms of a tree.
+ghost use Rattle.std.specs.Prelude.{◌≡◌, map, max, option_map};
+ghost use Rattle.mgrammar.specs.Grammar.{tails_of, exprs_of, choices_of};
+ghost use Rattle.mgrammar.specs.Languages.{since_all, since_optional, since_expr, since_tails, since_tail, since_operand, since_primary, since_reference, since_exprs, since_choices, since_target, since_destination, since_parameter, since_locked, since_arg, since_args, since_command, since_spaced, since_routine_line};
+ghost use Rattle.mtree.specs.Tree.{expr_tree, tail_tree, operand_tree, primary_tree, reference_tree, referring_tree, choice_tree, piece_tree, target_tree, destination_tree, parameter_tree, locked_tree, arg_tree, command_tree, spaced_tree, condition_tree, routine_line_tree, IsBodyCounted};
+
+use crate::tree::{
+    Arg, Body, Choice, Command, Destination, Expr, Locked, Operand, Parameter, PieceTarget,
+    Primary, Reference, Referring, RoutineLine, Spaced, Tail, Target,
+};
+use crate::words::{since_function, since_keyword, since_special, since_values};
+
+// The later of two languages.
+fn later(one: u32, other: u32) -> u32
+    ensures { result ≡ max one other }
+{
+    if one < other { other } else { one }
+}
+
+// That of an expression.
+#[cycle(since)]
+fn since_expr(expr: &Expr) -> u32
+    ensures { result ≡ since_expr (expr_tree expr.now) }
+{
+    later(since_operand(&expr.first), since_tails(&expr.rest))
+}
+
+#[cycle(since)]
+#[tactic(auto, using(crate::proofs::InLanguages::max_more))]
+fn since_tails(tails: &[Tail]) -> u32
+    ensures { result ≡ since_tails (tails_of (map tail_tree tails.now)) }
+{
+    let mut since = 0;
+    for tail in tails {
+        since = later(since, since_tail(tail));
+    }
+    since
+}
+
+#[cycle(since)]
+fn since_tail(tail: &Tail) -> u32
+    ensures { result ≡ since_tail (tail_tree tail.now) }
+{
+    match tail {
+        Tail::Apply(_, operand) => since_operand(operand),
+        Tail::Matches(_) => 0,
+        Tail::MatchesNot(_) => 0,
+    }
+}
+
+#[cycle(since)]
+fn since_operand(operand: &Operand) -> u32
+    ensures { result ≡ since_operand (operand_tree operand.now) }
+{
+    since_primary(&operand.primary)
+}
+
+#[cycle(since)]
+fn since_primary(primary: &Primary) -> u32
+    ensures { result ≡ since_primary (primary_tree primary.now) }
+{
+    match primary {
+        Primary::Number(_) => 0,
+        Primary::Text(_) => 0,
+        Primary::Special(word) => since_special(word.as_bytes()),
+        Primary::Reference(reference) => since_reference(reference),
+        Primary::Bracket(inner) => since_expr(inner),
+        Primary::Call(word, arguments) => {
+            let word = word.as_text().as_bytes();
+            let function = later(since_function(word), since_values(word, arguments.len()));
+            later(function, since_exprs(arguments))
+        }
+        Primary::Select(word, choices) => {
+            later(since_function(word.as_bytes()), since_choices(choices))
+        }
+        Primary::Refer(referring) => since_referring(referring),
+    }
+}
+
+#[cycle(since)]
+fn since_referring(referring: &Referring) -> u32
+    ensures { result ≡ since_primary (referring_tree referring.now) }
+{
+    let word = since_function(referring.word.as_text().as_bytes());
+    let reference = since_reference(&referring.reference);
+    later(word, later(reference, since_exprs(&referring.more)))
+}
+
+/// That of a variable. Takes no memory.
+#[cycle(since)]
+pub fn since_reference(reference: &Reference) -> u32
+    ensures { result ≡ since_reference (reference_tree reference.now) }
+{
+    match reference {
+        Reference::Variable(_) => 0,
+        Reference::Node(_, subscript) => since_expr(subscript),
+        Reference::Local(_, subscripts) => since_exprs(subscripts),
+        Reference::Global(_, subscripts) => since_exprs(subscripts),
+        Reference::Naked(subscripts) => since_exprs(subscripts),
+        Reference::Indirect(operand, subscripts) => {
+            later(since_primary(operand), since_exprs(subscripts))
+        }
+        Reference::Extended(environment, _, subscripts) => {
+            later(since_expr(environment), since_exprs(subscripts))
+        }
+    }
+}
+
+#[cycle(since)]
+#[tactic(auto, using(crate::proofs::InLanguages::max_more))]
+fn since_exprs(exprs: &[Expr]) -> u32
+    ensures { result ≡ since_exprs (exprs_of (map expr_tree exprs.now)) }
+{
+    let mut since = 0;
+    for expr in exprs {
+        since = later(since, since_expr(expr));
+    }
+    since
+}
+
+#[cycle(since)]
+#[tactic(auto, using(crate::proofs::InLanguages::max_more))]
+fn since_choices(choices: &[Choice]) -> u32
+    ensures { result ≡ since_choices (choices_of (map choice_tree choices.now)) }
+{
+    let mut since = 0;
+    for choice in choices {
+        let both = later(since_expr(&choice.condition), since_expr(&choice.value));
+        since = later(since, both);
+    }
+    since
+}
+
+fn since_place(place: &Option<Expr>) -> u32
+    ensures { result ≡ since_optional since_expr (option_map expr_tree place.now) }
+{
+    match place {
+        None => 0,
+        Some(place) => since_expr(place),
+    }
+}
+
+fn since_condition(condition: &Option<Box<Expr>>) -> u32
+    ensures { result ≡ since_optional since_expr (condition_tree condition.now) }
+{
+    match condition {
+        None => 0,
+        Some(condition) => since_expr(condition),
+    }
+}
+
+fn since_piece(piece: &PieceTarget) -> u32
+    ensures { result ≡ since_target (piece_tree piece.now) }
+{
+    let word = since_function(piece.word.as_bytes());
+    let reference = since_reference(&piece.reference);
+    let delimiter = since_expr(&piece.delimiter);
+    later(
+        word,
+        later(reference, later(delimiter, since_place(&piece.place))),
+    )
+}
+
+fn since_target(target: &Target) -> u32
+    ensures { result ≡ since_target (target_tree target.now) }
+{
+    match target {
+        Target::Variable(reference) => since_reference(reference),
+        Target::Piece(piece) => since_piece(piece),
+    }
+}
+
+#[tactic(auto, using(crate::proofs::InLanguages::max_more))]
+fn since_targets(targets: &[Target]) -> u32
+    ensures { result ≡ since_all since_target (map target_tree targets.now) }
+{
+    let mut since = 0;
+    for target in targets {
+        since = later(since, since_target(target));
+    }
+    since
+}
+
+fn since_destination(destination: &Destination) -> u32
+    ensures { result ≡ since_destination (destination_tree destination.now) }
+{
+    match destination {
+        Destination::One(target) => since_target(target),
+        Destination::Several(targets) => since_targets(targets),
+    }
+}
+
+fn since_parameter(parameter: &Parameter) -> u32
+    ensures { result ≡ since_parameter (parameter_tree parameter.now) }
+{
+    match parameter {
+        Parameter::Once(value) => since_expr(value),
+        Parameter::Onward(start, step) => later(since_expr(start), since_expr(step)),
+        Parameter::Until(start, step, limit) => {
+            later(
+                since_expr(start),
+                later(since_expr(step), since_expr(limit)),
+            )
+        }
+    }
+}
+
+#[tactic(auto, using(crate::proofs::InLanguages::max_more))]
+fn since_parameters(parameters: &[Parameter]) -> u32
+    ensures { result ≡ since_all since_parameter (map parameter_tree parameters.now) }
+{
+    let mut since = 0;
+    for parameter in parameters {
+        since = later(since, since_parameter(parameter));
+    }
+    since
+}
+
+#[tactic(auto, using(crate::proofs::InLanguages::max_more))]
+fn since_references(references: &[Reference]) -> u32
+    ensures { result ≡ since_all since_reference (map reference_tree references.now) }
+{
+    let mut since = 0;
+    for reference in references {
+        since = later(since, since_reference(reference));
+    }
+    since
+}
+
+fn since_locked(locked: &Locked) -> u32
+    ensures { result ≡ since_locked (locked_tree locked.now) }
+{
+    match locked {
+        Locked::One(reference) => since_reference(reference),
+        Locked::Several(references) => since_references(references),
+    }
+}
+
+fn since_arg(arg: &Arg) -> u32
+    ensures { result ≡ since_arg (arg_tree arg.now) }
+{
+    match arg {
+        Arg::Assign(destination, value) => later(since_destination(destination), since_expr(value)),
+        Arg::Breaks(_) => 0,
+        Arg::Value(value) => since_expr(value),
+        Arg::KillOne(reference) => since_reference(reference),
+        Arg::KillOthers(_) => 0,
+        Arg::NewOne(_) => 0,
+        Arg::NewOthers(_) => 0,
+        Arg::Tested(condition) => since_expr(condition),
+        Arg::Loop(_, parameters) => since_parameters(parameters),
+        Arg::DoOne(_, condition) => since_condition(condition),
+        Arg::GoTo(_, condition) => since_condition(condition),
+        Arg::Executed(text, condition) => later(since_expr(text), since_condition(condition)),
+        Arg::Lock(_, names, timeout) => later(since_locked(names), since_condition(timeout)),
+        Arg::Indirect(_, operand) => since_primary(operand),
+    }
+}
+
+/// That of some arguments. Takes no memory.
+#[tactic(auto, using(crate::proofs::InLanguages::max_more))]
+pub fn since_args(args: &[Arg]) -> u32
+    ensures { result ≡ since_args (map arg_tree args.now) }
+{
+    let mut since = 0;
+    for arg in args {
+        since = later(since, since_arg(arg));
+    }
+    since
+}
+
+fn since_command(command: &Command) -> u32
+    ensures { result ≡ since_command (command_tree command.now) }
+{
+    let keyword = since_keyword(command.keyword);
+    let condition = since_condition(&command.condition);
+    later(keyword, later(condition, since_args(&command.args)))
+}
+
+/// That of a line of these commands. Takes no memory.
+#[tactic(auto, using(crate::proofs::InLanguages::max_more))]
+pub fn since_commands(commands: &[Spaced]) -> u32
+    ensures { result ≡ since_all since_spaced (map spaced_tree commands.now) }
+{
+    let mut since = 0;
+    for spaced in commands {
+        since = later(since, since_command(&spaced.command));
+    }
+    since
+}
+
+/// That of a routine's line, which its commands tell. Takes no memory.
+pub fn since_routine_line(line: &RoutineLine) -> u32
+    requires { IsBodyCounted line.now.body }
+    ensures { result ≡ since_routine_line (routine_line_tree line.now) }
+{
+    match &line.body {
+        Body::Short(_) => 0,
+        Body::Spaced(_, line) => line.since,
+    }
+}

@@ -5,7 +5,7 @@ A cause is found by what was wanted at the place of the fault, by what stands th
 one of the list counts. tools/page_words.py writes the list out for the page."""
 from __future__ import annotations
 
-from dataclasses import dataclass
+from dataclasses import dataclass, replace
 
 END = r"(?![\s\S])"
 
@@ -14,7 +14,8 @@ END = r"(?![\s\S])"
 class Cause:
     """A cause: its name, what to write instead, a line that has it; and how it is known: `wanted` begins something that was wanted at the place,
     `here` is found there, `before` ends there, `command` begins the command. `reads` says where a command can be read: `here`, or at the
-    `argument` of the command. The fault is told `back` characters before the place."""
+    `argument` of the command. The fault is told `back` characters before the place. `since` is the language that has what it names, if one
+    does: to its accounts it is no cause."""
 
     name: str
     advice: str
@@ -25,6 +26,12 @@ class Cause:
     command: str = ""
     reads: str = ""
     back: int = 0
+    since: int | None = None
+
+
+def _later(language: int, cause: Cause) -> Cause:
+    """A cause that a later language takes away: its name says which, and its advice is what to write without it."""
+    return replace(cause, name=f"{cause.name}, which needs language {language} of the account's settings", advice=f"Without it: {cause.advice}", since=language)
 
 
 def _word(words: str, name: str, advice: str, example: str) -> Cause:
@@ -118,13 +125,13 @@ _VALUES = [
     _dollar(r"(?:N|NEXT)\(", "$NEXT", 'Use $ORDER, which begins and ends with "".', "S X=$N(^A(-1))"),
     _dollar(r"(?:FN|FNUMBER)\(", "$FNUMBER", "Put the text together by $PIECE, $EXTRACT and $JUSTIFY.", 'W $FN(X,",")'),
     _dollar(r"(?:R|RANDOM)\(", "$RANDOM", "The server answers the same lines alike: the client sends random numbers.", "S X=$R(10)"),
-    _dollar(r"(?:RE|REVERSE)\(", "$REVERSE", "Loop: F I=$L(X):-1:1 S Y=Y_$E(X,I).", "W $RE(X)"),
+    _later(1, _dollar(r"(?:RE|REVERSE)\(", "$REVERSE", 'S Y="" F I=$L(X):-1:1 S Y=Y_$E(X,I).', "W $RE(X)")),
     _dollar(r"Z[A-Z]*", "a $Z function or variable", "It is another system's own.", "W $ZV"),
     _dollar(r"(?:ST|STACK|V|VIEW|I|INCREMENT|D|DEVICE|IO|J|JOB|K|KEY|P|PRINCIPAL|S|STORAGE|SY|SYSTEM|X|Y|EC|ECODE|ES|ESTACK|ET|ETRAP|TL|TLEVEL|TR|"
             r"TRESTART|Q|QUIT)(?![A-Z(])|(?:ST|STACK|V|VIEW|I|INCREMENT)\(", "a special variable or function that is not there",
             "The session has $TEST alone; $INCREMENT(X) is S X=$G(X)+1.", "S X=$I(^N)"),
     _dollar("[A-Z]+", "a function that is not there", 'docs/LANGUAGE.md, "Functions", has all of them.', "W $FOO(1)"),
-    Cause("$JUSTIFY with three arguments", "Round first: $J(X*100+.5\\1/100,8), for X from 0 on.", "W $J(X,8,2)", "close $JUSTIFY", ","),
+    _later(1, Cause("$JUSTIFY with three arguments", "round first: $J(X*100+.5\\1/100,8), for X from 0 on.", "W $J(X,8,2)", "close $JUSTIFY", ",")),
     Cause("more arguments than the function takes", 'docs/LANGUAGE.md, "Functions", has what each takes.', "W $L(1,2,3)", "close $", ","),
     Cause("the function wants a further argument", 'docs/LANGUAGE.md, "Functions", has what each takes.', "W $F(A)", "comma"),
     Cause("$SELECT without a value", "Each of its arguments is a condition, a colon and a value: $S(A:1,1:2).", "W $S(A)", "colon"),

@@ -3,7 +3,8 @@
 
 language.py says where and why a line is not. The server has the last word: a line's label and dots are taken off, and the rest is sent after
 `Q  `, where it is read whole and never reached. A rest that is too long for that is put together in a local variable that the session does
-not have, and run by XECUTE, after `Q  ` too; then that local is killed."""
+not have, and run by XECUTE, after `Q  ` too; then that local is killed. The language is the account's, which the server tells in the same way:
+by whether it takes a line that is new in a language."""
 from __future__ import annotations
 
 import re
@@ -12,7 +13,7 @@ from contextlib import suppress
 from dataclasses import dataclass, replace
 from enum import Enum
 
-from . import keys, language
+from . import grammar, keys, language
 from .mtext import is_barred, set_lines
 from .routine_files import Source, SourceLine, source_line
 from .routines import is_line, nodes_of
@@ -57,13 +58,31 @@ class Entry:
     routine: str
 
 
-def check(connection: Connection, lines: list[SourceLine], number: int = language.LANGUAGE) -> list[Finding]:
-    """What is not in a language, line by line, and what means something else in M."""
+def language_of(connection: Connection) -> int:
+    """The language of the terminal's account: the newest one that the server takes a new line of."""
+    replies = connection.pipeline(GUARD + line for line in grammar.NEW_LINES.values())
+    taken = [number for (number, line), reply in zip(grammar.NEW_LINES.items(), replies, strict=True) if _is_accepted(line, reply.code)]
+    return max(taken, default=language.PROFILE)
+
+
+def fault_of(connection: Connection, text: str) -> language.Fault | None:
+    """Why the server has refused a line. It is asked for the account's language only if the verdicts of several leave that open."""
+    told = {number: language.fault(text, number) for number in language.LANGUAGES}
+    refusing = {number: fault for number, fault in told.items() if fault is not None}
+    if len(set(refusing.values())) < 2:
+        return next(iter(refusing.values()), None)
+    return told[language_of(connection)]
+
+
+def check(connection: Connection, lines: list[SourceLine], number: int | None = None) -> list[Finding]:
+    """What is not in a language, the account's if no other is named, line by line, and what means something else in M."""
+    own = language_of(connection)
+    number = own if number is None else number
     found = []
     plain = [line.rest if line.rest.isascii() else "" for line in lines]
     for place, accepted in enumerate(accepted_rests(connection, plain)):
         line = lines[place]
-        finding = _of_form(line) or _refused(line, accepted, number)
+        finding = _of_form(line) or _refused(line, accepted if number == own else None, number)
         found += [replace(one, line=place + 1) for one in ([finding] if finding is not None else _locks(line, number))]
     return found
 
@@ -119,14 +138,13 @@ def _of_form(line: SourceLine) -> Finding | None:
     return None
 
 
-def _refused(line: SourceLine, accepted: bool, number: int) -> Finding | None:
-    """Why a line is not in a language; None if it is. Of the server's own language the server has the last word."""
-    is_own = number == language.LANGUAGE
-    if is_own and accepted:
+def _refused(line: SourceLine, accepted: bool | None, number: int) -> Finding | None:
+    """Why a line is not in a language; None if it is. Of the account's own language the server has the last word: whether it has accepted it."""
+    if accepted:
         return None
     found = language.fault(line.rest, number)
     if found is None:
-        return Finding(0, before(line) + 1, f"not in the language: {line.rest[:60]}", "The server refuses it.", cause="another cause") if is_own else None
+        return None if accepted is None else Finding(0, before(line) + 1, f"not in the language: {line.rest[:60]}", "The server refuses it.", cause="another cause")
     return Finding(0, before(line) + found.place + 1, f"not in the language: {line.rest[found.command:][:60]}: {found.name}", found.advice,
                    cause=found.name)
 
@@ -151,7 +169,7 @@ def _locks(line: SourceLine, number: int) -> Iterator[Finding]:
             yield Finding(0, before(line) + start + 1, f"LOCK {text[:60]} does not wait", NO_WAIT, Kind.WARNING)
 
 
-def entries(lines: list[SourceLine], number: int = language.LANGUAGE) -> Iterator[Entry]:
+def entries(lines: list[SourceLine], number: int) -> Iterator[Entry]:
     """What the DOs and GOTOs of a routine name. What stands in strings, or behind an @, is not looked at."""
     for place, line in enumerate(lines, 1):
         for name, start, end in language.reader(number).read(line.rest).marks if _may_call(line) else ():
@@ -179,7 +197,7 @@ class Labels:
             self._known[routine] = {source_line(text).label for text in texts} if texts else None
         return self._known[routine]
 
-    def missing(self, source: Source, number: int = language.LANGUAGE) -> Iterator[Finding]:
+    def missing(self, source: Source, number: int) -> Iterator[Finding]:
         """The labels and routines that a routine's DOs and GOTOs name and that are not there."""
         for entry in entries(source.lines, number):
             labels = self.of(entry.routine or source.name)
@@ -191,8 +209,9 @@ class Labels:
                               "A label begins its line, and its case of letters counts: M13.", Kind.MISSING)
 
 
-def findings(connection: Connection, checked: list[Source], number: int = language.LANGUAGE) -> Iterator[tuple[Source, list[Finding]]]:
-    """What is to be said of each of some routines, line by line."""
+def findings(connection: Connection, checked: list[Source], number: int | None = None) -> Iterator[tuple[Source, list[Finding]]]:
+    """What is to be said of each of some routines, line by line, by a language, the account's if no other is named."""
+    number = language_of(connection) if number is None else number
     labels = Labels(connection, checked)
     for source in checked:
         found = check(connection, source.lines, number)

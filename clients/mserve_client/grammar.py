@@ -28,6 +28,10 @@ NAME = "[A-Za-z%][A-Za-z0-9]{0,30}(?![A-Za-z0-9])"
 # The functions of values: how many at least, and at most.
 OF_VALUES = {"A ASCII": (1, 2), "C CHAR": (1, 255), "E EXTRACT": (1, 3), "F FIND": (2, 3), "J JUSTIFY": (2, 2), "L LENGTH": (1, 2), "P PIECE": (2, 4),
              "TR TRANSLATE": (2, 3)}
+# Those that a later language has, or has with other counts.
+OF_VALUES_SINCE = {1: {"J JUSTIFY": (2, 3), "RE REVERSE": (1, 1)}}
+# A line that a language takes, and none before it.
+NEW_LINES = {1: "W $RE(1)"}
 # The functions of a variable: how many values at most after it.
 OF_VARIABLE = {"D DATA": 0, "G GET": 1, "O ORDER": 1}
 
@@ -125,7 +129,28 @@ OPERATOR = r"[+\-*/\\#_=<>&!\[]|\]\]?|'(?:[=<>&!\[]|\]\]?)"
 COUNT = r"(?:[0-9]{1,4}(?![0-9.])|[0-9]{0,4}\.[0-9]{0,4}(?![0-9]))"
 ENTRY = all_of(mark("entry", any_of(all_of(text(r"\^"), text(NAME, "name")),
                                     all_of(text(NAME, "entry"), perhaps(all_of(text(r"\^", "more"), text(NAME, "name")))))), rule("condition"))
-RULES: dict[str, Step] = {
+
+
+def of_values(language: int) -> dict[str, tuple[int, int]]:
+    """The functions of values that a language has."""
+    found = dict(OF_VALUES)
+    for since, more in OF_VALUES_SINCE.items():
+        found.update(more if since <= language else {})
+    return found
+
+
+def rules(language: int) -> dict[str, Step]:
+    """The rules of a language."""
+    return {**SHARED, "dollar": any_of(
+        text(rf"\${either('T TEST')}(?![A-Za-z(])", "operand"),
+        *[function(words, *values(*counts)) for words, counts in of_values(language).items()],
+        *[function(words, inner("variable"), *([perhaps(all_of(text(",", "more"), inner("expression")))] if most else []))
+          for words, most in OF_VARIABLE.items()],
+        function("S SELECT", listed(all_of(inner("expression"), text(":", "colon"), inner("expression")))))}
+
+
+# The rules that all languages have alike.
+SHARED: dict[str, Step] = {
     "line": all_of(text(" *"), ["many", rule("command")], text(f"(?:;[\\x00-\\x7f]*)?{END}", "command")),
     "command": any_of(
         command("S SET", listed(rule("assignment")), False),
@@ -160,11 +185,6 @@ RULES: dict[str, Step] = {
         rule("variable"),
         all_of(text(r"\("), inner("expression"), text(r"\)", "close")),
         all_of(text(r"(?=\$)"), rule("dollar"))),
-    "dollar": any_of(text(rf"\${either('T TEST')}(?![A-Za-z(])", "operand"),
-                     *[function(words, *values(*counts)) for words, counts in OF_VALUES.items()],
-                     *[function(words, inner("variable"), *([perhaps(all_of(text(",", "more"), inner("expression")))] if most else []))
-                       for words, most in OF_VARIABLE.items()],
-                     function("S SELECT", listed(all_of(inner("expression"), text(":", "colon"), inner("expression"))))),
     "variable": any_of(
         all_of(text(NAME, "variable"), rule("subscripts")),
         all_of(text(r"\^(?!\()", "variable"), perhaps(all_of(text(r"\|"), inner("expression"), text(r"\|", "bar"))), text(NAME, "name"), rule("subscripts")),
@@ -172,8 +192,8 @@ RULES: dict[str, Step] = {
         all_of(OPERAND, perhaps(all_of(text(r"@(?=\()"), rule("subscripts"))))),
     "subscripts": perhaps(all_of(text(r"\("), listed(inner("expression")), text(r"\)", "close"))),
 }
-# The tables of all languages that the server speaks.
-LANGUAGES: dict[int, dict[str, Step]] = {0: RULES}
+# The tables of all languages that an account can have.
+LANGUAGES: dict[int, dict[str, Step]] = {language: rules(language) for language in (0, *OF_VALUES_SINCE)}
 Mark = tuple[str, int, int]
 
 

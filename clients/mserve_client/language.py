@@ -2,7 +2,8 @@
 """Where a line leaves the language, why, and what to write instead: for the shell, for `check` and, by the same tables, for the page.
 
 The server alone decides whether a line is in the language. This agrees with it on drawn texts and on every line of GT.M's routines
-(clients/tests/test_language.py). Each verdict is of a language, by its number: the server speaks language 0."""
+(clients/tests/test_language.py). Each verdict is of a language, by its number: an account has the one that the settings give it, and
+checking.py asks the server which one that is. 0 is the profile."""
 from __future__ import annotations
 
 import re
@@ -12,7 +13,7 @@ from functools import cache
 from .causes import CAUSES, END, Cause
 from .grammar import LANGUAGES, Outcome, Reader
 
-LANGUAGE = max(LANGUAGES)
+PROFILE, NEWEST = 0, max(LANGUAGES)
 NO_LABEL = "a label begins with a letter or %, and has at most 31 letters and digits; a line without one begins with a space"
 LABEL_PARAMETERS = "a label takes no parameters: the caller SETs the variables, and the line begins with LABEL and a space"
 OVER = Cause("a character over 127", "Values and lines are ASCII, comments too: write another character.", "")
@@ -35,14 +36,14 @@ class Fault:
 
 
 @cache
-def reader(language: int = LANGUAGE) -> Reader:
+def reader(language: int) -> Reader:
     """The reader of a language. ValueError if there is none of this number."""
     if language not in LANGUAGES:
-        raise ValueError(f"there is no language {language}: mserve speaks {', '.join(map(str, LANGUAGES))}")
+        raise ValueError(f"there is no language {language}: mserve has {', '.join(map(str, LANGUAGES))}")
     return Reader(LANGUAGES[language])
 
 
-def fault(text: str, language: int = LANGUAGE) -> Fault | None:
+def fault(text: str, language: int = PROFILE) -> Fault | None:
     """Why a line, without label and dots, is not in a language; None if it is. A line's length is not looked at."""
     if found := OVER_PLACE.search(text):
         return Fault("ZCHAR", found.start(), found.start(), OVER.name, OVER.advice)
@@ -57,7 +58,9 @@ def fault(text: str, language: int = LANGUAGE) -> Fault | None:
 
 
 def _fits(cause: Cause, blank: str, outcome: Outcome, language: int) -> bool:
-    """Whether a cause is that of a fault."""
+    """Whether a cause is that of a fault. What a language has is none in it."""
+    if cause.since is not None and language >= cause.since:
+        return False
     if cause.wanted and not any(wanted.startswith(cause.wanted) for wanted in outcome.wanted):
         return False
     if not _pattern(cause.here).match(blank, outcome.place) or not _pattern(cause.command).match(blank, outcome.command):

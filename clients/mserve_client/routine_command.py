@@ -38,8 +38,8 @@ def words(arguments: list[str] | None = None) -> argparse.ArgumentParser:
                         ("diff", "compare files with the account's routines; status 1 if they differ")):
         acts.add_parser(name, help=about, description=about).add_argument("paths", nargs="+", metavar="FILE.m|FOLDER")
     acts.choices["load"].add_argument("--check", action="store_true", help="load nothing if a line of any file is not in the language")
-    acts.choices["check"].add_argument("--language", type=int, choices=sorted(language.LANGUAGES), default=language.LANGUAGE, metavar="NUMBER",
-                                       help="the language of the verdicts (default %(default)s, the server's)")
+    acts.choices["check"].add_argument("--language", type=int, choices=sorted(language.LANGUAGES), metavar="NUMBER",
+                                       help="the language of the verdicts: 0, the profile, or 1 (default: the account's, as the server tells it)")
     acts.add_parser("list", help="name the account's routines, each with its count of lines")
     save = acts.add_parser("save", help="write routines to files")
     save.add_argument("routines", nargs="*", metavar="ROUTINE", help="all, if none is named")
@@ -78,8 +78,8 @@ def check(connection: Connection, files: list[Source], chosen: argparse.Namespac
     return FOUND if {Kind.REFUSED, Kind.MISSING} & set(kinds) else 0
 
 
-def show_findings(connection: Connection, files: list[Source], number: int) -> list[Finding]:
-    """Prints what is to be said of files' lines, and gives it."""
+def show_findings(connection: Connection, files: list[Source], number: int | None = None) -> list[Finding]:
+    """Prints what is to be said of files' lines by a language, the account's if no other is named, and gives it."""
     shown: list[Finding] = []
     for source, found in findings(connection, files, number):
         for finding in found:
@@ -93,7 +93,7 @@ def show_findings(connection: Connection, files: list[Source], number: int) -> l
 def load(connection: Connection, files: list[Source], chosen: argparse.Namespace) -> int:
     """Replaces routines by files."""
     refuse_over(files)
-    if chosen.check and any(finding.kind is Kind.REFUSED for finding in show_findings(connection, files, language.LANGUAGE)):
+    if chosen.check and any(finding.kind is Kind.REFUSED for finding in show_findings(connection, files)):
         options.tell(NAME, "nothing was loaded")
         return FOUND
     with routines.deploying(connection):

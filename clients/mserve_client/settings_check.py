@@ -11,7 +11,7 @@ from collections.abc import Iterator
 from dataclasses import dataclass, field
 
 from . import keys
-from .settings_file import ACCOUNT_KEYS, GRANT_KEYS, MAX_BYTES, MAX_ENTRIES, MAX_STEPS, MAX_TERMINAL, MODES
+from .settings_file import ACCOUNT_KEYS, GRANT_KEYS, LANGUAGE, MAX_BYTES, MAX_ENTRIES, MAX_STEPS, MAX_TERMINAL, MODES, is_language
 
 _AT = re.compile(r" \(at (?:line (\d+), column (\d+)|end of document)\)$")
 # A string of TOML of any kind, a comment, or one other character.
@@ -144,8 +144,11 @@ def _entry(name: str, number: int, entry: object, wanted: dict[str, type], where
     if not isinstance(entry, dict):
         yield Fault("Shape", where.of(name, number), name, "an entry is no table", f"Write [[{name}]] before each entry.")
         return
-    for key in entry.keys() - wanted.keys():
-        yield Fault("Shape", where.of(name, number, key), key, "there is no such key", f"[[{name}]] has the keys {', '.join(wanted)}.")
+    known = [*wanted, *([LANGUAGE] if name == "account" else [])]
+    for key in entry.keys() - set(known):
+        yield Fault("Shape", where.of(name, number, key), key, "there is no such key", f"[[{name}]] has the keys {', '.join(known)}.")
+    if LANGUAGE in entry and LANGUAGE in known and not is_language(entry[LANGUAGE]):
+        yield Fault("Shape", where.of(name, number, LANGUAGE), LANGUAGE, "is not 0 or 1", "Write language = 1, or leave it out: then it is 0, the profile.")
     for key, kind in wanted.items():
         if key not in entry:
             yield Fault("Shape", where.of(name, number), key, "is missing", f"Add {WANTED[key].partition(': ')[2]} below this [[{name}]].")

@@ -15,6 +15,8 @@ from .wire import ClientError
 MAX_ENTRIES, MAX_TERMINAL, MAX_STEPS, MAX_BYTES = 9_999, 9_999, 1_000_000, 1_000_000
 MODES = ("read", "write")
 ACCOUNT_KEYS = {"name": str, "terminals": list, "steps": int}
+# The one key that may be absent, with its values.
+LANGUAGE, LANGUAGES = "language", (0, 1)
 GRANT_KEYS = {"from": str, "to": str, "global": str, "mode": str}
 
 
@@ -24,14 +26,16 @@ class BadSettings(ClientError):
 
 @dataclass(frozen=True, slots=True)
 class Account:
-    """An account with its terminals, and the steps that each of its lines may use."""
+    """An account with its terminals, the steps that each of its lines may use, and their language."""
 
     name: str
     terminals: tuple[int, ...]
     steps: int
+    language: int = 0
 
     def __str__(self) -> str:
-        return f'[[account]]\nname = "{self.name}"\nterminals = [{", ".join(map(str, self.terminals))}]\nsteps = {self.steps}\n'
+        language = f"language = {self.language}\n" if self.language else ""
+        return f'[[account]]\nname = "{self.name}"\nterminals = [{", ".join(map(str, self.terminals))}]\nsteps = {self.steps}\n{language}'
 
 
 @dataclass(frozen=True, slots=True)
@@ -91,7 +95,7 @@ def parsed(source: str, data: bytes) -> Settings:
         raise BadSettings(f"{source}: Toml: {error}") from error
     for fault in _shape_faults(document):
         raise BadSettings(f"{source}: Shape: {fault}")
-    settings = Settings(tuple(Account(entry["name"], tuple(entry["terminals"]), entry["steps"]) for entry in document.get("account", [])),
+    settings = Settings(tuple(Account(entry["name"], tuple(entry["terminals"]), entry["steps"], entry.get("language", 0)) for entry in document.get("account", [])),
                         tuple(Grant(entry["from"], entry["to"], entry["global"], entry["mode"]) for entry in document.get("grant", [])))
     check(source, settings)
     return settings
@@ -121,10 +125,18 @@ def _shape_faults(document: dict[str, object]) -> Iterator[str]:
             yield f"{key} is to be a list of at most {MAX_ENTRIES:,} tables"
             continue
         for number, entry in enumerate(entries, 1):
-            if not isinstance(entry, dict) or entry.keys() != wanted.keys():
-                yield f"{key} {number} is to have the keys {', '.join(wanted)}, and no others"
+            optional = [LANGUAGE] if key == "account" else []
+            if not isinstance(entry, dict) or entry.keys() - set(optional) != wanted.keys():
+                yield f"{key} {number} is to have the keys {', '.join([*wanted, *optional])}, and no others"
+            elif optional and not is_language(entry.get(LANGUAGE, 0)):
+                yield f"{key} {number} has a language that is not 0 or 1"
             elif any(type(entry[word]) is not kind for word, kind in wanted.items()) or any(type(x) is not int for x in entry.get("terminals", [])):
                 yield f"{key} {number} has a value of another type"
+
+
+def is_language(value: object) -> bool:
+    """Whether a value is the number of a language."""
+    return type(value) is int and value in LANGUAGES
 
 
 def _faults(settings: Settings) -> Iterator[str]:

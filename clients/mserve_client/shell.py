@@ -185,7 +185,7 @@ class Shell:
         self._screen.show_reply(map(self._visible, reply.output))
         self.failed = self.failed or reply.code is not None
         line = escape.shown_line(line) if self._connection.in_utf_8 else line
-        fault = language.fault(as_read(line, self._connection.in_utf_8)) if reply.code in ("ZSYNTAX", "ZCHAR") else None
+        fault = checking.fault_of(self._connection, as_read(line, self._connection.in_utf_8)) if reply.code in ("ZSYNTAX", "ZCHAR") else None
         if fault is None and reply.note:
             self._screen.show(reply.note, "note")
         if fault is not None and self._person:

@@ -29,6 +29,8 @@ hypothesis.settings.register_profile("house", deadline=None, max_examples=40, de
 hypothesis.settings.load_profile("house")
 SETTINGS = str(CLIENTS / "tests" / "settings.toml")
 ALICE, ALICE_TOO, BOB, SHORT = 1, 2, 3, 4
+# A terminal of an account with language 1; the others have the profile.
+CAROL = 5
 CONNECTIONS = 1_000_000
 # The kinds of store; the variable STORES names fewer.
 STORES = os.environ.get("STORES", "memory file").split()
@@ -105,7 +107,7 @@ def lasting_server(request: pytest.FixtureRequest) -> Iterator[Server]:
 @pytest.fixture
 def server(lasting_server: Server) -> Server:
     """A server over a store of each kind, with nothing in it, and new sessions."""
-    for terminal in (ALICE, ALICE_TOO, BOB, SHORT):
+    for terminal in (ALICE, ALICE_TOO, BOB, SHORT, CAROL):
         with lasting_server.connection(terminal) as connection:
             replies = list(connection.pipeline(["HALT", *(f"K ^{name}" for name in NAMES)]))
             assert all(reply.ok for reply in replies)

@@ -30,8 +30,8 @@ Rows = list[tuple[bytes, bytes]]
 
 
 def settings_of(grants: list[tuple[str, str]], names: tuple[str, ...] = NAMES) -> Settings:
-    """Accounts of one terminal each, and grants between them."""
-    return Settings(tuple(Account(name, (number,), 2000) for number, name in enumerate(names, 1)), tuple(Grant(giver, taker, "X", "read") for giver, taker in grants))
+    """Accounts of one terminal each, every other one with language 1, and grants between them."""
+    return Settings(tuple(Account(name, (number,), 2000, 1 - number % 2) for number, name in enumerate(names, 1)), tuple(Grant(giver, taker, "X", "read") for giver, taker in grants))
 
 
 def island_by_definition(settings: Settings, account: str) -> set[str]:
@@ -126,6 +126,7 @@ GOOD = '[[account]]\nname = "A"\nterminals = [1]\nsteps = 1\n\n[[account]]\nname
 @pytest.mark.parametrize(("old", "new", "fault"), [
     ("=", "", "Toml"), ("steps = 1\n\n[[account]]", "\n[[account]]", "Shape"), ("[[grant]]", "x = 1\n[[grant]]", "Shape"), ("[1]", '["1"]', "Shape"), ("steps = 1\n", "steps = true\n", "Shape"),
     ('"A"', '"A_B"', "Name"), ('name = "B"', 'name = "A"', "Name"), ("[1]", "[0]", "Terminal"), ("[]", "[1]", "Terminal"), ("[]", "[10000]", "Terminal"),
+    ("steps = 1\n", "steps = 1\nlanguage = 2\n", "Shape"), ("[[grant]]", "[[grant]]\nlanguage = 1", "Shape"), ("steps = 1\n", "steps = 1\nlanguage = false\n", "Shape"),
     ("steps = 1\n", "steps = 0\n", "Steps"), ("steps = 1\n", "steps = 1000001\n", "Steps"), ('"X"', '"1X"', "Grant"), ('"read"', '"READ"', "Grant"), ('to = "B"', 'to = "C"', "Grant"),
     ('to = "B"', 'to = "A"', "Grant"),
 ])

@@ -10,11 +10,12 @@ from random import Random
 
 import pytest
 import running
-from conftest import CLIENTS, Command, Server
-from drawn_texts import drawn_texts
+from conftest import ALICE, CAROL, CLIENTS, SETTINGS, Command, Server
+from drawn_texts import LATER, drawn_texts
 from mserve_client import language
 from mserve_client.causes import CAUSES, Cause
-from mserve_client.checking import GUARD, Kind, check, findings
+from mserve_client.checking import GUARD, Kind, check, fault_of, findings, language_of
+from mserve_client.grammar import LANGUAGES, NEW_LINES
 from mserve_client.routine_files import Source, source_line
 
 GTM = sorted(glob.glob("/usr/lib/*/fis-gtm/V*"))
@@ -24,6 +25,9 @@ OWN = [path.read_text() for path in sorted((CLIENTS.parent / "examples").rglob("
 ROOM = 255 - len(GUARD)
 # So many lines go to one run of the program.
 AT_ONCE = 2000
+# A terminal of an account with each language.
+TERMINALS = {0: ALICE, 1: CAROL}
+each_language = pytest.mark.parametrize("number", LANGUAGES)
 
 
 def rests(texts: list[str]) -> list[str]:
@@ -32,38 +36,43 @@ def rests(texts: list[str]) -> list[str]:
     return sorted(line for line in found if line.isascii() and len(line) <= ROOM and not set(line) & set("\r\0"))
 
 
-def served(lines: list[str]) -> list[bool]:
-    """Whether the server takes each of these lines: it reads it, and stops before it."""
+def served(lines: list[str], number: int) -> list[bool]:
+    """Whether the server takes each of these lines of an account with a language: it reads it, and stops before it."""
+    terminal = TERMINALS[number]
     answers: list[str] = []
     for start in range(0, len(lines), AT_ONCE):
-        status, output, told = running.run("".join(f"1 {GUARD}{line}\n" for line in lines[start:start + AT_ONCE]).encode())
+        status, output, told = running.run("".join(f"{terminal} {GUARD}{line}\n" for line in lines[start:start + AT_ONCE]).encode(), SETTINGS)
         assert (status, told) == (0, b"")
         answers += output.decode().splitlines()
-    assert len(answers) == len(lines) and set(answers) <= {"1.", "1!ZSYNTAX"}
-    return [answer == "1." for answer in answers]
+    assert len(answers) == len(lines) and set(answers) <= {f"{terminal}.", f"{terminal}!ZSYNTAX"}
+    return [answer == f"{terminal}." for answer in answers]
 
 
-def disagreed(lines: list[str]) -> list[str]:
-    """The lines of which the module says another thing than the server."""
-    return [line for line, taken in zip(lines, served(lines), strict=True) if (language.fault(line) is None) is not taken]
+def disagreed(lines: list[str], number: int) -> list[str]:
+    """The lines of which the module says another thing than the server, by a language."""
+    return [line for line, taken in zip(lines, served(lines, number), strict=True) if (language.fault(line, number) is None) is not taken]
 
 
-def test_drawn_texts_have_the_servers_verdicts(times: int) -> None:
-    """A thousand, and with `--count 20` twenty thousand; a sixth of them at least is in the language, and a fifth is not."""
-    lines = drawn_texts(Random(71), rests(OWN), 1000 * times)
-    assert disagreed(lines) == []
-    taken = sum(language.fault(line) is None for line in lines)
-    assert len(lines) / 6 < taken < len(lines) * 4 / 5
+@each_language
+def test_drawn_texts_have_the_servers_verdicts(times: int, number: int) -> None:
+    """A thousand, and with `--count 20` twenty thousand; a sixth of them at least is in the language, and a fifth is not. Of a later language some
+    are not in the one before."""
+    lines = drawn_texts(Random(71), [*rests(OWN), *LATER * 20 * number], 1000 * times)
+    assert disagreed(lines, number) == []
+    taken = [line for line in lines if language.fault(line, number) is None]
+    assert len(lines) / 6 < len(taken) < len(lines) * 4 / 5
+    assert number == 0 or sum(language.fault(line, number - 1) is not None for line in taken) > len(lines) / 20
 
 
 @pytest.mark.skipif(not GTM and not os.environ.get("CI"), reason="GT.M is not there: apt-get install fis-gtm")
-def test_lines_of_gtms_routines_have_the_servers_verdicts(times: int) -> None:
+@each_language
+def test_lines_of_gtms_routines_have_the_servers_verdicts(times: int, number: int) -> None:
     """All lines; of the two routines of 48,072 lines every fiftieth, and with `--count 20` all."""
     texts = [Path(path).read_bytes().decode("latin1") for path in sorted(glob.glob(f"{GTM[-1]}/*.m") + glob.glob(f"{GTM[-1]}/*/*.m"))]
     lines = rests([text for text in texts if text.count("\n") < 2000])
     large = rests([text for text in texts if text.count("\n") >= 2000])[::1 if times >= 20 else 50]
     assert len(lines) > 3000 and len(large) > 500
-    assert disagreed(lines + large) == []
+    assert disagreed(lines + large, number) == []
 
 
 @pytest.mark.parametrize("cause", CAUSES, ids=[f"{cause.name}-{number}" for number, cause in enumerate(CAUSES)])
@@ -73,8 +82,27 @@ def test_each_cause_is_told_of_its_example(cause: Cause) -> None:
     assert found is not None and (found.name, found.advice) == (cause.name, cause.advice)
 
 
-def test_the_server_refuses_each_example() -> None:
-    assert served([cause.example for cause in CAUSES]) == [False] * len(CAUSES)
+@each_language
+def test_the_server_refuses_each_example(number: int) -> None:
+    """But for those of a later language, to whose accounts it is none."""
+    taken = [cause.since is not None and cause.since <= number for cause in CAUSES]
+    assert served([cause.example for cause in CAUSES], number) == taken
+    assert [language.fault(cause.example, number) is None for cause in CAUSES] == taken
+    assert sum(taken) == sum(cause.since is not None for cause in CAUSES) * (number == max(LANGUAGES))
+
+
+@pytest.mark.parametrize("cause", [cause for cause in CAUSES if cause.since is not None], ids=lambda cause: cause.example)
+def test_form_of_a_later_language_is_told_as_such(cause: Cause) -> None:
+    found = language.fault(cause.example, cause.since - 1)
+    assert found is not None
+    assert found.name.endswith(f", which needs language {cause.since} of the account's settings") and found.advice.startswith("Without it: ")
+
+
+@pytest.mark.parametrize("number", NEW_LINES)
+def test_new_line_of_a_language(number: int) -> None:
+    """It takes it, and none before it does."""
+    line = NEW_LINES[number]
+    assert [language.fault(line, one) is None for one in LANGUAGES] == [served([line], one) == [True] for one in LANGUAGES] == [one >= number for one in LANGUAGES]
 
 
 @pytest.mark.parametrize(("line", "marked", "name"), [
@@ -102,14 +130,45 @@ def test_fault_as_a_person_sees_it() -> None:
 
 
 def test_language_that_is_not_there() -> None:
-    with pytest.raises(ValueError, match="there is no language 1: mserve speaks 0"):
-        language.fault("W 1", 1)
+    with pytest.raises(ValueError, match="there is no language 2: mserve has 0, 1"):
+        language.fault("W 1", 2)
+
+
+def test_language_of_an_account(server: Server) -> None:
+    """The server tells it, by lines that do nothing."""
+    for number, terminal in TERMINALS.items():
+        with server.connection(terminal) as connection:
+            connection.send("S A=1")
+            assert (language_of(connection), connection.send("W A").rest) == (number, "1")
+
+
+@pytest.mark.parametrize(("line", "names"), [
+    ("W 1", [None, None]), ("W $RE(A)", ["$REVERSE, which needs language 1 of the account's settings", None]),
+    ("W $RE(A) R X", ["$REVERSE, which needs language 1 of the account's settings", "READ"]), ("W $RE(A,1)", ["$REVERSE, which needs language 1 of the account's settings",
+     "more arguments than the function takes"]), ("W $J(A,8,2)", ["$JUSTIFY with three arguments, which needs language 1 of the account's settings", None]),
+    ("W $J(1,2,3,4)", ["$JUSTIFY with three arguments, which needs language 1 of the account's settings", "more arguments than the function takes"]),
+    ("R X", ["READ", "READ"]), ("W $re(", ["$REVERSE, which needs language 1 of the account's settings", "an operand is missing"]),
+])
+def test_cause_by_the_language_of_the_account(server: Server, line: str, names: list[str | None]) -> None:
+    """What is said of a line that the server has refused, and of a routine's line."""
+    for (number, terminal), name in zip(TERMINALS.items(), names, strict=True):
+        with server.connection(terminal) as connection:
+            found = language.fault(line, number)
+            assert (found and found.name, [finding.cause for finding in check(connection, [source_line(f" {line}")])]) == (name, [name] if name else [])
+            assert name is None or fault_of(connection, line) == found
 
 
 def test_language_of_a_check(server: Server, command: Command, tmp_path: Path) -> None:
-    (tmp_path / "A.m").write_text("A Q\n")
-    assert command("mroutine", server.port, 1, "check", "--language", "0", "A.m").status == 0
-    assert "invalid choice: 1" in command("mroutine", server.port, 1, "check", "--language", "1", "A.m").told
+    """It is the account's, if no other is named."""
+    (tmp_path / "A.m").write_text("A W $RE(1)\n Q\n")
+    refused = "A.m:1:5: not in the language: W $RE(1): $REVERSE, which needs language 1 of the account's settings\n"
+    for words, terminal, is_taken in (((), ALICE, False), ((), CAROL, True), (("--language", 0), CAROL, False), (("--language", 1), ALICE, True)):
+        ran = command("mroutine", server.port, terminal, "check", *words, "A.m")
+        assert (ran.status, ran.told) == (0 if is_taken else 1, "")
+        assert ran.output.startswith("1 file, 2 lines: all in the language" if is_taken else refused)
+    assert "invalid choice: 2" in command("mroutine", server.port, 1, "check", "--language", "2", "A.m").told
+    assert command("mroutine", server.port, ALICE, "load", "--check", "A.m").told.endswith("nothing was loaded\n")
+    assert command("mroutine", server.port, CAROL, "load", "--check", "A.m").output == "A: 2 lines from A.m\n"
 
 
 def source(name: str, *lines: str) -> Source:

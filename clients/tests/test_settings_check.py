@@ -42,7 +42,9 @@ CHANGES = [("account", "acount"), ("[[", "["), ("]]", "]"), ('"CLINIC"', '"CL-IN
            ('mode = "read"', ""), ('"read"', '"READ"'), ('"RESULT"', '"^RESULT"'), ('to = "CLINIC"', 'to = "LAB"'), ("global", "# global"), ("grant", "account"),
            ('"LAB"', '"""LAB"""'), ("[\n", "[ # more\n"), ("name =", '"name" ='), ("=", "=="), ('"', ""), ("\n", "\r\n"), ("\n", "\r"), ("steps = 2000", "steps = 2000\nsteps = 1"),
            ("# two", "x = 1\n# two"), ("# two", "\ufeff# two"), ("two", "tw\0o"), ("two", "zw\u00f6lf"), ('"CLINIC"', '"KLINIK\u00c4"'), ("[[grant]]", "[x]\ny = 1979-05-27\n[[grant]]"),
-           ("4,", "4, 5, 6, 7, 4,"), ("2000", "0x7D0"), ("2000", "02000"), ("2000", "+2000"), ("name", "na.me"), ("[[grant]]", "[[grant.x]]"), ("[1, 2]", "[1, [2]]"), ("[1, 2]", "{a = 1}")]
+           ("4,", "4, 5, 6, 7, 4,"), ("2000", "0x7D0"), ("2000", "02000"), ("2000", "+2000"), ("name", "na.me"), ("[[grant]]", "[[grant.x]]"), ("[1, 2]", "[1, [2]]"), ("[1, 2]", "{a = 1}"),
+           *[("steps = 2000", f"steps = 2000\nlanguage = {value}") for value in ("0", "1", "1", "+1", "2", "-1", "true", '"1"', "1.0", "[1]", "99999999999999999999", "0x1")],
+           ('mode = "read"', 'mode = "read"\nlanguage = 1'), ("language = 1", "languages = 1"), ("steps = 1_000", "steps = 0\nlanguage = 1")]
 CHARACTERS = "[]={}\"'#.,\\\n\t 0aZ_-\u00e9"
 
 
@@ -86,7 +88,8 @@ def test_drawn_documents_have_the_programs_word(times: int) -> None:
     ("  4,", "  99999999999999999999,", 9, "terminals", "has more than 64 bits"), ("# two", "x = 1\n# two", 1, "x", "there is no such key"),
     ("steps = 1_000", "step = 1", 13, "step", "there is no such key"), ('mode = "read"', "", 15, "mode", "is missing"), ("2000", "true", 5, "steps", "has another type"),
     ("3,", '"3",', 9, "terminals", "has another type"), ('"LAB"', '"L A B"', 8, "name", "'L A B' is no name of an account"), ('"LAB"', '"CLINIC"', 8, "name", "CLINIC is an account already, of line 3"),
-    ("4,", "1,", 9, "terminals", "1 is a terminal already, of line 4"), ("4,", "10000,", 9, "terminals", "10000 is not 1 to 9,999"), ("1_000", "0", 13, "steps", "0 is not 1 to 1,000,000"),
+    ("2000", "2000\nlanguage = 2", 6, "language", "is not 0 or 1"), ("2000", "2000\nlanguage = true", 6, "language", "is not 0 or 1"),
+    ('mode = "read"', 'mode = "read"\nlanguage = 1', 20, "language", "there is no such key"), ("4,", "1,", 9, "terminals", "1 is a terminal already, of line 4"), ("4,", "10000,", 9, "terminals", "10000 is not 1 to 9,999"), ("1_000", "0", 13, "steps", "0 is not 1 to 1,000,000"),
     ('to = "CLINIC"', 'to = "CLINC"', 17, "to", "'CLINC' is no account"), ('"RESULT"', '"^RESULT"', 18, "global", "'^RESULT' is no name of a global"), ('"read"', '"Read"', 19, "mode", "'Read' is no mode"),
     ('to = "CLINIC"', 'to = "LAB"', 17, "to", "LAB grants something to itself"), ("[[account]]", "[account]", 2, "account", "it is no list"),
 ])
@@ -106,7 +109,7 @@ def test_each_fault_is_told(command: Command, tmp_path: Path) -> None:
 
 def test_good_settings(command: Command) -> None:
     ran = command("msettings", SETTINGS)
-    assert (ran.output, ran.status) == (f"{SETTINGS}: good: 3 accounts, 4 terminals, 1 grant\n", 0)
+    assert (ran.output, ran.status) == (f"{SETTINGS}: good: 4 accounts, 5 terminals, 1 grant\n", 0)
 
 
 def test_settings_that_cannot_be_read(command: Command, tmp_path: Path) -> None:

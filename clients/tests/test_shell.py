@@ -9,7 +9,7 @@ from contextlib import contextmanager
 from pathlib import Path
 
 import pytest
-from conftest import ALICE, BOB, Command, Server, start_at
+from conftest import ALICE, BOB, CAROL, Command, Server, start_at
 from mserve_client import ServerGone
 from mserve_client.screen import Screen
 from mserve_client.shell import Shell
@@ -47,6 +47,16 @@ def test_lines_with_a_code(server: Server, command: Command, line: str, output: 
     ran = command("mshell", server.port, ALICE, stdin=line + "\n")
     assert ran.status == 1 and ran.told == ""
     assert output is None or ran.output.encode("latin1").decode() == output
+
+
+def test_lines_of_a_later_language(server: Server, command: Command) -> None:
+    """The cause is by the language that the server says the account has."""
+    lines = "W $RE(12)\nW $RE(1) R X\n"
+    name = "ZSYNTAX: not in the language: column 3: $REVERSE, which needs language 1 of the account's settings\n"
+    ran = command("mshell", server.port, ALICE, stdin=lines)
+    assert (ran.output, ran.told, ran.status) == (name + name, "", 1)
+    ran = command("mshell", server.port, CAROL, stdin=lines)
+    assert (ran.output, ran.told, ran.status) == ("21\nZSYNTAX: not in the language: column 10: READ\n", "", 1)
 
 
 def test_no_server(command: Command) -> None:

@@ -4,7 +4,7 @@
  * A line's label and dots are taken off, and the rest is sent after `Q  `: the server reads it whole, and stops at the Q. A
  * rest that is too long for that is put together in a local variable that the session does not have, and run by XECUTE,
  * after `Q  ` too; then that local is killed. Each call wants a terminal that its caller has alone (`Terminal.alone`). */
-import { LABEL_PARAMETERS, LONGEST_LINE, LONGEST_TEXT, NO_LABEL, OVER } from "./codes.js";
+import { LABEL_PARAMETERS, LONGEST_LINE, LONGEST_TEXT, NEW_LINES, NO_LABEL, OVER } from "./codes.js";
 import { fault, inWords } from "./language.js";
 import { setLines } from "./mtext.js";
 import { textOf } from "./routines.js";
@@ -18,15 +18,27 @@ const OVER_PLACE = /[^\x00-\x7f]/;
 
 /** What is not in the language, line by line: `{line, column, message, advice}`, line and column from 1. */
 export async function check(terminal, lines) {
+  const language = await languageOf(terminal);
   const accepted = await acceptedRests(terminal, lines.map((line) => (OVER_PLACE.test(line.rest) ? "" : line.rest)));
   const found = [];
   for (const [number, line] of lines.entries()) {
-    const finding = faultOfForm(line) ?? (accepted[number] ? null : refused(line));
+    const finding = faultOfForm(line) ?? (accepted[number] ? null : refused(line, language));
     if (finding) {
       found.push({ line: number + 1, ...finding });
     }
   }
   return found;
+}
+
+/** The language of the terminal's account: the newest one that the server takes a new line of. */
+export async function languageOf(terminal) {
+  let language = 0;
+  for (const [number, line] of Object.entries(NEW_LINES)) {
+    if (isAccepted(line, (await terminal.send(GUARD + line)).code)) {
+      language = Number(number);
+    }
+  }
+  return language;
 }
 
 /** Whether each of these lines of M is in the language. */
@@ -93,9 +105,9 @@ function faultOfForm(line) {
   return null;
 }
 
-/** Why a line is not in the language. */
-function refused(line) {
-  const found = fault(line.rest);
+/** Why a line is not in the account's language. */
+function refused(line, language) {
+  const found = fault(line.rest, language);
   const column = line.label.length + line.level.length + 1;
   if (found === null) {
     return { column, message: `not in the language: ${line.rest.slice(0, 60)}`, advice: "The server refuses it." };

@@ -1,9 +1,9 @@
 // SPDX-License-Identifier: Apache-2.0
 /** Codes in words; and where a line leaves the language, why, and what to write instead.
  *
- * The server alone decides whether a line is in the language. The grammar and the causes are those of clients/mserve_client, which say how
- * they are read (grammar.py, causes.py): here are the same few kinds of steps. */
-import { CAUSES, CODES, DEPTH, OVER, RULES } from "./codes.js";
+ * The server alone decides whether a line is in the language, which is that of the account: 0, the profile, or a later one. The grammars and the
+ * causes are those of clients/mserve_client, which say how they are read (grammar.py, causes.py): here are the same few kinds of steps. */
+import { CAUSES, CODES, DEPTH, LATER_RULES, OVER, RULES } from "./codes.js";
 
 const STRING = /"(?:[^"]|"")*"?/g;
 const OVER_PLACE = /[^\x00-\x7f]/;
@@ -136,28 +136,45 @@ class Reader {
   }
 }
 
-const READER = new Reader(RULES);
+const READERS = new Map([[0, new Reader(RULES)]]);
+for (const [number, rules] of Object.entries(LATER_RULES)) {
+  READERS.set(Number(number), new Reader({ ...RULES, ...rules }));
+}
 
-/** Why a line, without label and dots, is not in the language, `{code, place, command, name, advice}`; null if it is. A line's length is
+/** Why the server has refused a line, as `fault` gives it. `asked` tells the account's language; it is called only if the verdicts of several
+ * languages leave open which one that is. */
+export async function faultOf(text, asked) {
+  const told = new Map([...READERS.keys()].map((language) => [language, fault(text, language)]));
+  const refusing = [...told.values()].filter((found) => found !== null);
+  if (new Set(refusing.map((found) => JSON.stringify(found))).size < 2) {
+    return refusing[0] ?? null;
+  }
+  return told.get(await asked());
+}
+
+/** Why a line, without label and dots, is not in a language, `{code, place, command, name, advice}`; null if it is. A line's length is
  * not looked at. */
-export function fault(text) {
+export function fault(text, language = 0) {
   const over = OVER_PLACE.exec(text);
   if (over) {
     return { code: "ZCHAR", place: over.index, command: over.index, ...OVER };
   }
-  const outcome = READER.read(text);
+  const outcome = READERS.get(language).read(text);
   if (outcome.end >= 0) {
     return null;
   }
   const blank = blanked(text);
-  const cause = CAUSES.find((one) => fits(one, blank, outcome));
+  const cause = CAUSES.find((one) => fits(one, blank, outcome, language));
   const place = cause.reads === "argument" ? argumentPlace(blank, outcome) - 1 : Math.max(outcome.place - (cause.back ?? 0), 0);
   const command = cause.wanted === "command" && !cause.back ? place : outcome.command;
   return { code: "ZSYNTAX", place, command, name: cause.name, advice: cause.advice };
 }
 
-/** Whether a cause is that of a fault. */
-function fits(cause, blank, outcome) {
+/** Whether a cause is that of a fault. What a language has is none in it. */
+function fits(cause, blank, outcome, language) {
+  if (language >= (cause.since ?? Infinity)) {
+    return false;
+  }
   if (cause.wanted && !outcome.wanted.some((wanted) => wanted.startsWith(cause.wanted))) {
     return false;
   }
@@ -167,7 +184,7 @@ function fits(cause, blank, outcome) {
   if (cause.before && !new RegExp(`(?:${cause.before})${END}`, "i").test(blank.slice(0, outcome.place))) {
     return false;
   }
-  return !cause.reads || READER.read(blank, "command", cause.reads === "argument" ? argumentPlace(blank, outcome) : outcome.place).end >= 0;
+  return !cause.reads || READERS.get(language).read(blank, "command", cause.reads === "argument" ? argumentPlace(blank, outcome) : outcome.place).end >= 0;
 }
 
 /** Whether a pattern, if there is one, is found at a place. */

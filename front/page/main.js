@@ -1,5 +1,6 @@
 // SPDX-License-Identifier: Apache-2.0
 /** The page: sign-on, its parts, and sign-off. */
+import { languageOf } from "./checking.js";
 import { COMMANDS, FUNCTIONS } from "./codes.js";
 import { confirmed, shown } from "./dialog.js";
 import { byId, make, setAttribute, tell } from "./dom.js";
@@ -23,7 +24,7 @@ const WHYS = {
 };
 
 const tabs = new Tabs();
-const prompt = new Prompt((text) => house.terminal.line(text), (text) => globals.learn(text));
+const prompt = new Prompt((text) => house.terminal.line(text), (text) => globals.learn(text), () => house.terminal.alone(languageOf));
 const globals = new Globals(() => house.terminal);
 const editor = new RoutineEditor(() => house.terminal, (text) => globals.learn(text), (line) => {
   tabs.show("terminal");

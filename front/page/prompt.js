@@ -1,25 +1,28 @@
 // SPDX-License-Identifier: Apache-2.0
 /** The terminal: a line to type, lines that were run with their replies in place, and the lines of before. */
-import { advice, fault, inWords, pointed } from "./language.js";
+import { advice, faultOf, inWords, pointed } from "./language.js";
 import { confirmed } from "./dialog.js";
 import { byId, counted, make, visible } from "./dom.js";
 
 const MOST_ENTRIES = 1000;
 const MOST_HISTORY = 500;
 
-/** The view of a terminal. `send` runs a line and gives its reply; `learned` is called with each line that is typed. */
+/** The view of a terminal. `send` runs a line and gives its reply; `learned` is called with each line that is typed; `language` asks for the
+ * account's language. */
 export class Prompt {
   #send;
   #learned;
+  #language;
   #log = byId("log");
   #line = byId("line");
   #history = [];
   #at = 0;
   #unfinished = "";
 
-  constructor(send, learned) {
+  constructor(send, learned, language) {
     this.#send = send;
     this.#learned = learned;
+    this.#language = language;
     byId("prompt").addEventListener("submit", (event) => this.#submit(event));
     this.#line.addEventListener("keydown", (event) => this.#key(event));
     this.#line.addEventListener("paste", (event) => this.#paste(event));
@@ -45,7 +48,9 @@ export class Prompt {
     this.#add(make("div", { class: "entry" }, make("p", { class: "sent" }, visible(text)), reply));
     try {
       const answer = await this.#send(text);
-      reply.replaceChildren(...shownReply(answer, text));
+      // A line that the server has read was ASCII there: what is not stands for escapes in strings.
+      const found = answer.code === "ZSYNTAX" ? await faultOf(text.replace(/[^\x00-\x7f]/g, "x"), this.#language).catch(() => null) : null;
+      reply.replaceChildren(...shownReply(answer, text, found));
       this.#scroll();
       return answer.code === null;
     } catch (error) {
@@ -140,12 +145,10 @@ export class Prompt {
   }
 }
 
-/** The elements that show a reply of a line. */
-function shownReply(reply, text) {
+/** The elements that show a reply of a line, and where it leaves the language, if it does. */
+function shownReply(reply, text, found) {
   const output = reply.rest ? [...reply.lines, reply.rest] : reply.lines;
   const shown = output.length ? [make("pre", {}, output.map(visible).join("\n"))] : [];
-  // A line that the server has read was ASCII there: what is not stands for escapes in strings.
-  const found = reply.code === "ZSYNTAX" ? fault(text.replace(/[^\x00-\x7f]/g, "x")) : null;
   if (found) {
     shown.push(make("pre", { class: "code-of-fault" }, pointed(visible(text), found).join("\n")));
   } else if (reply.code !== null) {

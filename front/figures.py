@@ -50,7 +50,8 @@ class Measurement:
 def measurements(short: bool) -> list[Measurement]:
     """All of them; short ones try that each works."""
     rates, machines = str(HERE / "journal_rates.py"), str(HERE / "machine_rates.py")
-    many, one, count, killed = ("2", "1", "1", "2") if short else ("8", "4", "10", "20")
+    # Of leaders ten times as many are killed as `count` says.
+    many, one, count, killed = ("2", "1", "1", "2") if short else ("8", "4", "4", "20")
     islands, seconds, moved, trial = ("6", "3", "1", "1") if short else ("100", "20", "5", "25")
     replayed, grouped = ("500", "5") if short else ("10000", "100")
     # Tests that kill processes, and no machine: their files need no disk.

@@ -1,5 +1,5 @@
 // SPDX-License-Identifier: Apache-2.0
-/** The operator's page: what the front tells, each few seconds. */
+/** The operator's page: what a front, a standby or a gate tells, each few seconds. What it does not tell is not shown. */
 const PICTURES = [[1, "Lines a second"], [2, "Part of the time that the server is busy"], [3, "Lines that wait"], [4, "Longest wait, seconds"]];
 const EVERY = 5000;
 const byId = (id) => document.getElementById(id);
@@ -47,19 +47,24 @@ function alarm({ what, do: remedy }) {
 }
 
 function show(found) {
-  byId("state").textContent = `${found.figures.mfront_up ? "The server is up" : "The server is not up"}; ${found.users.length} signed on; `
-    + new Date(found.time * 1000).toLocaleTimeString();
+  byId("state").textContent = `${found.state}; ${new Date(found.time * 1000).toLocaleTimeString()}`;
+  for (const [id, some] of [["islands", found.islands], ["accounts", found.accounts], ["users", found.users], ["pictures", found.points]]) {
+    byId(id).closest("section").hidden = !some;
+  }
   byId("alarms").replaceChildren(...found.alarms.map(alarm));
   if (!found.alarms.length) {
     byId("alarms").append(Object.assign(document.createElement("li"), { className: "none", textContent: "None." }));
   }
-  byId("pictures").replaceChildren(...PICTURES.map(([place, title]) => picture(found.points, place, title)));
-  const all = found.accounts.reduce((sum, one) => sum + one.seconds, 0) || 1;
+  const { points = [], accounts = [], users = [], islands = [] } = found;
+  byId("pictures").replaceChildren(...PICTURES.map(([place, title]) => picture(points, place, title)));
+  rows("islands", islands.map((one) => [one.island, one.machine, one.target ? `${one.state}, to ${one.target}` : one.state, one.accounts.join(" "), one.front,
+    one.signed_on, one.lines, `${one.seconds.toFixed(1)} s`]));
+  const all = accounts.reduce((sum, one) => sum + one.seconds, 0) || 1;
   const earlier = new Map((before?.accounts ?? []).map((one) => [one.account, one.lines]));
   const span = before ? Math.max(found.time - before.time, 1) : 1;
-  rows("accounts", found.accounts.map((one) => [one.account, one.signed_on, one.lines,
+  rows("accounts", accounts.map((one) => [one.account, one.signed_on, one.lines,
     before ? ((one.lines - (earlier.get(one.account) ?? 0)) / span).toFixed(1) : "", `${one.seconds.toFixed(1)} s`, `${Math.round(100 * one.seconds / all)} %`]));
-  rows("users", found.users.map((one) => [one.user, one.account, one.terminal, one.way, one.from, `${Math.round(one.seconds / 60)} min`, one.waits ? "yes" : ""]));
+  rows("users", users.map((one) => [one.user, one.account, one.terminal, one.way, one.from, `${Math.round(one.seconds / 60)} min`, one.waits ? "yes" : ""]));
   rows("figures", Object.entries(found.figures).map(([name, value]) => [name, value]));
   before = found;
 }
@@ -68,7 +73,7 @@ async function turn() {
   try {
     show(await (await fetch("admin.json")).json());
   } catch {
-    byId("state").textContent = "The front does not answer.";
+    byId("state").textContent = "It does not answer.";
   }
   setTimeout(turn, EVERY);
 }

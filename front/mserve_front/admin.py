@@ -1,18 +1,20 @@
 # SPDX-License-Identifier: Apache-2.0
 """The operator's page, at a socket of its own that only the front's user and root may open: who is signed on, what each account uses, what waits, the
-journal and the backup, the last hour in pictures, and for each alarm what to do."""
+journal and the backup, the last hour in pictures, and for each alarm what to do. A standby has it too, with how far it is behind its leader, and a gate has
+one of its islands."""
 from __future__ import annotations
 
 import asyncio
-import contextlib
-import os
 import time
 from collections import deque
+from collections.abc import Awaitable, Callable, Mapping
 from dataclasses import dataclass
 from pathlib import Path
 
 from aiohttp import web
 
+from .control import bound
+from .http_head import names_loopback
 from .metrics import Metrics
 from .sessions import Sessions
 from .settings import Settings
@@ -48,45 +50,80 @@ ALARMS = (
     Alarm("mfront_journal_up", False, 1, "The journal cannot be written: no line runs.", "Free the disk, or bring the database back."),
     Alarm("mfront_journal_room_bytes", False, 1e9, "Less than 1 GB is left for the journal.", "Run mbackup verify and mjournal expire."),
     Alarm("mfront_journal_open_lines", True, 64, "Lines stay without a reply.", "The server does not answer: look at its process."),
+    Alarm("mfront_standby_fault", True, 0, "The standby cannot go on.", "mfront status says why, and docs/OPERATING.md what to do then."),
     Alarm("mfront_standby_behind_lines", True, 1000, "The standby is behind.", "Its disk or processor is slower: users would wait at a promotion."),
     Alarm("backup_verified_age_seconds", True, 172_800, "No snapshot was verified for two days.", "Run mbackup verify, and read what it says."),
 )
 
 
-class Admin:
-    """Serves the page, once a socket is named for it."""
+Told = dict[str, object]
 
-    def __init__(self, settings: Settings, sessions: Sessions, metrics: Metrics) -> None:
-        self._settings = settings
-        self._sessions = sessions
-        self._metrics = metrics
-        self._points: deque[list[float]] = deque(maxlen=POINTS)
-        self._before = (time.monotonic(), 0, 0.0)
+
+def alarms_of(figures: Mapping[str, float]) -> list[Told]:
+    """The alarms that ring by these figures."""
+    return [{"what": alarm.what, "do": alarm.do, "value": figures[alarm.figure]} for alarm in ALARMS
+            if alarm.figure in figures and alarm.rings(figures[alarm.figure])]
+
+
+def figures_of(text: str) -> dict[str, float]:
+    """The figures without labels of a text for Prometheus, and how old the last verified backup is."""
+    found = dict(line.split(" ", 1) for line in text.splitlines() if line[0] != "#" and "{" not in line)
+    figures = {name: float(value) for name, value in found.items()}
+    if (verified := figures.get("mfront_backup_verified_timestamp_seconds")) is not None:
+        figures["backup_verified_age_seconds"] = round(time.time() - verified)
+    return figures
+
+
+class Page:
+    """Serves the page at a socket, if one is named, with what is told at each request."""
+
+    def __init__(self, path: Path | None, tell: Callable[[], Awaitable[Told]]) -> None:
+        self._path = path
+        self._tell = tell
         self._runner: web.AppRunner | None = None
 
     async def begin(self) -> None:
         """Listens. Raises OSError if that cannot be."""
-        path = self._settings.admin
-        if path is None:
+        if self._path is None:
             return
-        made = web.Application()
+        made = web.Application(middlewares=[asked_here])
         made.add_routes([web.get("/admin.json", self._told), *(web.get(place, self._file) for place in FILES)])
         self._runner = web.AppRunner(made, handle_signals=False, access_log=None)
         await self._runner.setup()
-        with contextlib.suppress(FileNotFoundError):
-            path.unlink()
-        before = os.umask(0o177)
-        try:
-            await web.UnixSite(self._runner, str(path)).start()
-        finally:
-            os.umask(before)
+        await web.SockSite(self._runner, bound(self._path)).start()
 
     async def end(self) -> None:
         """Listens no more."""
-        if self._runner is not None:
-            await self._runner.cleanup()
-            with contextlib.suppress(FileNotFoundError):
-                self._settings.admin.unlink()
+        runner, self._runner = self._runner, None
+        if runner is not None:
+            await runner.cleanup()
+            self._path.unlink(missing_ok=True)
+
+    async def _told(self, request: web.Request) -> web.StreamResponse:
+        return web.json_response(await self._tell(), headers=HEADERS)
+
+    async def _file(self, request: web.Request) -> web.StreamResponse:
+        name, kind = FILES[request.path]
+        return web.FileResponse(FOLDER / name, headers={**HEADERS, "Content-Type": f"{kind}; charset=utf-8"})
+
+
+@web.middleware
+async def asked_here(request: web.Request, handler: Callable[[web.Request], Awaitable[web.StreamResponse]]) -> web.StreamResponse:
+    """Answers those who ask the loopback: a page of another origin could have its own name stand for it, and read through an operator's tunnel."""
+    if not names_loopback(request.host):
+        raise web.HTTPMisdirectedRequest
+    return await handler(request)
+
+
+class Admin(Page):
+    """The page of a front that serves."""
+
+    def __init__(self, settings: Settings, sessions: Sessions, metrics: Metrics) -> None:
+        super().__init__(settings.admin, self.told)
+        self._sessions = sessions
+        self._metrics = metrics
+        self._points: deque[list[float]] = deque(maxlen=POINTS)
+        self._before = (time.monotonic(), 0, 0.0)
 
     async def run(self) -> None:
         """Keeps the points of the last hour."""
@@ -104,32 +141,18 @@ class Admin:
                              round(max(server.oldest(), self._metrics.longest()), 3)])
         self._before = (now, lines, taken)
 
-    def told(self) -> dict[str, object]:
+    async def told(self) -> Told:
         """All that the page shows."""
         figures = self._figures()
         users = [{"user": one.user, "account": one.account, "terminal": one.terminal, "way": one.way, "from": one.address,
                   "seconds": round(time.monotonic() - one.began), "waits": one.carried > 0} for one in self._sessions]
         accounts = [{"account": account, "lines": lines, "seconds": round(taken, 3), "signed_on": sum(one["account"] == account for one in users)}
                     for account, (lines, taken) in sorted(self._sessions.server.shares.used().items())]
-        alarms = [{"what": alarm.what, "do": alarm.do, "value": figures[alarm.figure]} for alarm in ALARMS
-                  if alarm.figure in figures and alarm.rings(figures[alarm.figure])]
-        return {"time": round(time.time()), "users": users, "accounts": accounts, "alarms": alarms, "figures": figures, "points": list(self._points),
-                "step": STEP}
+        state = f"The server is {'up' if figures['mfront_up'] else 'not up'}; {len(users)} signed on"
+        return {"time": round(time.time()), "state": state, "users": users, "accounts": accounts, "alarms": alarms_of(figures), "figures": figures,
+                "points": list(self._points), "step": STEP}
 
     def _figures(self) -> dict[str, float]:
-        """The figures that have no labels, and how old the last verified backup is."""
         server = self._sessions.server
         text = self._metrics.text({}, server.waiting, server.oldest(), server.state == "up", self._sessions.journal_figures())
-        found = dict(line.split(" ", 1) for line in text.splitlines() if line[0] != "#" and "{" not in line)
-        figures = {name: float(value) for name, value in found.items()}
-        figures["mfront_audit_waiting"] = float(self._sessions.audit_waiting)
-        if (verified := figures.get("mfront_backup_verified_timestamp_seconds")) is not None:
-            figures["backup_verified_age_seconds"] = round(time.time() - verified)
-        return figures
-
-    async def _told(self, request: web.Request) -> web.StreamResponse:
-        return web.json_response(self.told(), headers=HEADERS)
-
-    async def _file(self, request: web.Request) -> web.StreamResponse:
-        name, kind = FILES[request.path]
-        return web.FileResponse(FOLDER / name, headers={**HEADERS, "Content-Type": f"{kind}; charset=utf-8"})
+        return figures_of(text) | {"mfront_audit_waiting": float(self._sessions.audit_waiting)}

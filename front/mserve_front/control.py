@@ -22,13 +22,30 @@ class Refused(Exception):
 
 
 @contextlib.contextmanager
-def _reached(path: Path) -> Iterator[str]:
+def reached(path: Path) -> Iterator[str]:
     """A short name of a path: a socket's has 107 bytes at most."""
     folder = os.open(path.parent, os.O_RDONLY | os.O_DIRECTORY)
     try:
         yield f"/proc/self/fd/{folder}/{path.name}"
     finally:
         os.close(folder)
+
+
+def bound(path: Path) -> socket.socket:
+    """A socket that listens at a path, of mode 0600, in place of one that was left there. Raises OSError."""
+    listener = socket.socket(socket.AF_UNIX)
+    before = os.umask(0o177)
+    try:
+        path.unlink(missing_ok=True)
+        with reached(path) as place:
+            listener.bind(place)
+        listener.listen()
+    except BaseException:
+        listener.close()
+        raise
+    finally:
+        os.umask(before)
+    return listener
 
 
 class Control:
@@ -45,18 +62,7 @@ class Control:
 
     async def listen(self) -> None:
         """Listens. Raises OSError."""
-        listener = socket.socket(socket.AF_UNIX)
-        before = os.umask(0o177)
-        try:
-            self._path.unlink(missing_ok=True)
-            with _reached(self._path) as place:
-                listener.bind(place)
-        except BaseException:
-            listener.close()
-            raise
-        finally:
-            os.umask(before)
-        self._server = await asyncio.start_unix_server(self._serve, sock=listener, limit=LONGEST)
+        self._server = await asyncio.start_unix_server(self._serve, sock=bound(self._path), limit=LONGEST)
 
     def close(self) -> None:
         """Listens no more."""
@@ -88,7 +94,7 @@ def asked(path: Path, request: dict[str, object], timeout: float | None) -> Answ
     try:
         with socket.socket(socket.AF_UNIX) as peer:
             peer.settimeout(timeout)
-            with _reached(path) as place:
+            with reached(path) as place:
                 peer.connect(place)
             peer.sendall(json.dumps(request).encode() + b"\n")
             with peer.makefile("rb") as answers:

@@ -47,12 +47,34 @@ def spare_memory() -> None:
     asyncio.sslproto.constants.FLOW_CONTROL_HIGH_WATER_SSL_READ = TLS_WAITING
 
 
-def held(host: str, port: int) -> socket.socket:
-    """A socket that has a port, and does not listen yet: nobody else can take the port, and who connects is refused. Raises OSError if it is taken."""
+def strict(context: ssl.SSLContext) -> None:
+    """Has a context take what is good today alone: of TLS 1.2 only suites with forward secrecy and authenticated encryption."""
+    context.minimum_version = ssl.TLSVersion.TLSv1_2
+    context.options |= ssl.OP_NO_RENEGOTIATION | ssl.OP_NO_COMPRESSION
+    context.set_ciphers("ECDHE+AESGCM:ECDHE+CHACHA20")
+
+
+def held(host: str, port: int, shared: bool = False) -> socket.socket:
+    """A socket that has a port, or any if it is 0, and does not listen yet: no other user of the machine can take the port, and who connects is refused.
+    `shared` says that another process of this user may have it too: a gate holds the ports of its fronts. Raises OSError if it is taken.
+
+    Linux lets two users have a port by SO_REUSEADDR as long as neither listens, and by SO_REUSEPORT never."""
+    if not shared:
+        _bound(host, port, socket.SO_REUSEADDR).close()
+    try:
+        return _bound(host, port, socket.SO_REUSEPORT)
+    except OSError:
+        if shared:
+            raise
+        # Connections of a front that did not have it by SO_REUSEPORT are not over yet.
+        return _bound(host, port, socket.SO_REUSEADDR)
+
+
+def _bound(host: str, port: int, how: int) -> socket.socket:
     family = socket.AF_INET6 if ":" in host else socket.AF_INET
     place = socket.socket(family)
     try:
-        place.setsockopt(socket.SOL_SOCKET, socket.SO_REUSEADDR, 1)
+        place.setsockopt(socket.SOL_SOCKET, how, 1)
         if family == socket.AF_INET6:
             place.setsockopt(socket.IPPROTO_IPV6, socket.IPV6_V6ONLY, 1)
         place.bind((host, port))
@@ -283,7 +305,9 @@ class Doors:
 
     def listen(self, host: str, port: int, made: Made) -> None:
         """Accepts connections, each with a door of its own. Raises OSError if the port is taken."""
-        listener = self._places.pop(port, None) or held(host, port)
+        listener = self._places.pop(port, None) or held(host, port, shared=self._gate is not None)
+        # Connections that are over keep the port for a while, and the next front takes it all the same.
+        listener.setsockopt(socket.SOL_SOCKET, socket.SO_REUSEADDR, 1)
         listener.listen(BACKLOG)
         listener.setblocking(False)
         self._listeners.append(listener)
@@ -311,8 +335,8 @@ class Doors:
                 door.cut()
 
     def close(self) -> None:
-        """Accepts no more connections."""
-        for listener in self._listeners:
+        """Accepts no more connections, and holds no ports."""
+        for listener in (*self._listeners, *self._places.values()):
             listener.close()
         for task in self._tasks:
             task.cancel()

@@ -29,7 +29,9 @@ def hear(number: signal.Signals, act: Callable[..., object], *given: object) -> 
 
 def run(work: Coroutine[object, object, Result]) -> Result:
     """Runs a service to its end. What it heard is ignored from then on: a loop that closes gives its own handlers (`add_signal_handler`) up to the system's,
-    so that a second SIGTERM would kill a service that was stopped well, and change its status."""
+    so that a second SIGTERM would kill a service that was stopped well, and change its status. A reload before it is heard of ends nothing."""
+    signal.signal(signal.SIGHUP, signal.SIG_IGN)
+
     async def whole() -> Result:
         try:
             return await work

@@ -70,12 +70,12 @@ def of_journal(open_lines: int, waiting: int, faulty: float, folder: Path | None
 
 
 def of_backup(folder: Path) -> list[str]:
-    """Figures of the last snapshot that was verified; none if none was."""
+    """Figures of the last snapshot that was verified; if none was, line 0 in 1970: that is as long ago as an alarm wants."""
     try:
         found = json.loads((folder / VERIFIED).read_bytes())
         values = int(found["line"]), int(found["at"])
     except (OSError, ValueError, KeyError, TypeError):
-        return []
+        values = 0, 0
     return [*family("mfront_backup_verified_line", "gauge", "The line of the last snapshot that was verified by a replay.", {"": values[0]}),
             *family("mfront_backup_verified_timestamp_seconds", "gauge", "When that was, in seconds since 1970.", {"": values[1]})]
 

@@ -11,11 +11,12 @@ import ssl
 from collections.abc import Callable
 from dataclasses import dataclass
 from pathlib import Path
+from typing import TYPE_CHECKING
 
 from mserve_client import ClientError
 
 from . import ending
-from .doors import Doors, spare_memory
+from .doors import Doors, spare_memory, strict
 from .ending import FAILED, USAGE
 from .gate import Gate
 from .init import make_islands, write_machine
@@ -23,21 +24,24 @@ from .islands import Home, Islands
 from .journal import LogFault
 from .placement import NAME, BadPlacement, LocalPlacement, Machine, Placed, Placement
 from .server import tell
-from .settings import PROGRAM, BadSettings, Limits, Table, read_toml
+from .settings import PROGRAM, BadSettings, Limits, Table, characters_of, limits_of, read_toml
 from .slices import SHORT, take_slices
 from .users import BadUsers
+
+if TYPE_CHECKING:
+    from .gate_page import GatePage
 
 DEFAULT = "/etc/mserve/machine.toml"
 STATUSES = "Status: 0 all went well; 2 the words or the settings are wrong, or the placement refuses it; 3 a port is taken, or the database is away; " \
            "130 an interrupt."
-TABLES = ("machine", "listen", "peers")
+TABLES = ("machine", "listen", "peers", "admin", "audit", "limits")
 # Connections of users, and those of other machines: a gate computes no passwords, and so has room for more than a front.
 MOST = 3500
 
 
 @dataclass(frozen=True, slots=True)
 class Doorway:
-    """Where the gate listens, and with which certificates; a machine that is alone has no peers."""
+    """Where the gate listens, and with which certificates; a machine that is alone has no peers. `admin` is the socket of the operator's page."""
 
     host: str
     port: int
@@ -45,6 +49,7 @@ class Doorway:
     certificate: Path
     key: Path
     peers: Peers | None
+    admin: Path | None = None
 
 
 @dataclass(frozen=True, slots=True)
@@ -98,7 +103,7 @@ def settings_of(options: argparse.Namespace) -> tuple[Home, Doorway]:
     tables = read_toml(options.config)
     for name in tables.keys() - set(TABLES):
         raise BadSettings(f"{options.config}: {name}: there is no such table")
-    machine, listen, peers = (Table(options.config, name, tables.get(name, {})) for name in TABLES)
+    machine, listen, peers, admin, audit, limits = taken = [Table(options.config, name, tables.get(name, {})) for name in TABLES]
     name, host = machine.text("name"), listen.text("host", "127.0.0.1")
     if name is None or not NAME.fullmatch(name):
         raise machine.fault("name", "is to be 1 to 32 letters, digits, _ and -, as in the certificate for other machines")
@@ -107,10 +112,11 @@ def settings_of(options: argparse.Namespace) -> tuple[Home, Doorway]:
         raise machine.fault("database", "is missing: the database of the placement and of the journals. A machine that is alone has no [peers]")
     port = _port(peers, "port") if database is not None else 0
     home = Home(Machine(name, str(host), port), machine.needed_file("folder"), machine.needed_file("users"), database,
-                str(machine.file("program", PROGRAM)), tuple(listen.texts("origins", [])))
+                str(machine.file("program", PROGRAM)), tuple(listen.texts("origins", [])), characters_of(machine), audit.truth("texts", False), limits_of(limits))
     others = None if database is None else Peers(peers.needed_file("certificate"), peers.needed_file("key"), peers.needed_file("authority"))
-    doorway = Doorway(str(host), _port(listen, "port"), _port(listen, "lines_port"), listen.needed_file("certificate"), listen.needed_file("key"), others)
-    for table in (machine, listen, peers):
+    doorway = Doorway(str(host), _port(listen, "port"), _port(listen, "lines_port"), listen.needed_file("certificate"), listen.needed_file("key"), others,
+                      admin.file("socket"))
+    for table in taken:
         table.end()
     return home, doorway
 
@@ -122,20 +128,36 @@ def _port(table: Table, key: str) -> int:
     return found
 
 
-def contexts(doorway: Doorway) -> tuple[ssl.SSLContext, ssl.SSLContext | None, ssl.SSLContext | None]:
+@dataclass(frozen=True, slots=True)
+class Contexts:
     """What users see, what other machines see, and what this one shows them: each of the two has to have a certificate of the authority."""
+
+    users: ssl.SSLContext
+    inward: ssl.SSLContext | None = None
+    outward: ssl.SSLContext | None = None
+
+    def load(self, doorway: Doorway) -> None:
+        """Reads the certificates, for the connections that come from now on. Raises `BadSettings`."""
+        load(self.users, doorway.certificate, doorway.key)
+        for context in (self.inward, self.outward):
+            if context is not None:
+                load(context, doorway.peers.certificate, doorway.peers.key, doorway.peers.authority)
+
+
+def contexts(doorway: Doorway) -> Contexts:
+    """The contexts of a machine. Raises `BadSettings`."""
     spare_memory()
-    users, peers = context_of(ssl.PROTOCOL_TLS_SERVER, doorway.certificate, doorway.key), doorway.peers
-    if peers is None:
-        return users, None, None
-    inward, outward = (context_of(purpose, peers.certificate, peers.key, peers.authority) for purpose in (ssl.PROTOCOL_TLS_SERVER, ssl.PROTOCOL_TLS_CLIENT))
-    return users, inward, outward
+    server = ssl.PROTOCOL_TLS_SERVER
+    made = Contexts(ssl.SSLContext(server), *(ssl.SSLContext(kind) for kind in (server, ssl.PROTOCOL_TLS_CLIENT) if doorway.peers is not None))
+    for context in (made.users, made.inward, made.outward):
+        if context is not None:
+            strict(context)
+    made.load(doorway)
+    return made
 
 
-def context_of(purpose: int, certificate: Path, key: Path, authority: Path | None = None) -> ssl.SSLContext:
-    """A context of TLS; with an authority the other side has to have a certificate of it. Raises `BadSettings`."""
-    context = ssl.SSLContext(purpose)
-    context.minimum_version = ssl.TLSVersion.TLSv1_2
+def load(context: ssl.SSLContext, certificate: Path, key: Path, authority: Path | None = None) -> None:
+    """Has a context show a certificate; with an authority the other side has to have a certificate of it. Raises `BadSettings`."""
     try:
         context.load_cert_chain(certificate, key)
         if authority is not None:
@@ -144,7 +166,6 @@ def context_of(purpose: int, certificate: Path, key: Path, authority: Path | Non
     except (OSError, ssl.SSLError, ValueError) as error:
         files = ", ".join(str(path) for path in (certificate, key, authority) if path is not None)
         raise BadSettings(f"{files} cannot be used: {getattr(error, 'reason', None) or error}") from error
-    return context
 
 
 def serve(options: argparse.Namespace) -> None:
@@ -160,28 +181,56 @@ async def _serve(home: Home, doorway: Doorway) -> None:
     stopping = asyncio.Event()
     for number in (signal.SIGTERM, signal.SIGINT):
         ending.hear(number, stopping.set)
-    users, inward, outward = contexts(doorway)
+    shown = contexts(doorway)
     islands = Islands(home, placed_of(home))
-    gate = Gate(home.machine.name, islands, outward)
+    gate, page = Gate(home.machine.name, islands, shown.outward), page_of(home, doorway, islands)
     await islands.begin()
     # Other machines' connections have doors of their own, so that users' take none of theirs.
-    outside, between = Doors(Limits(connections=MOST), users, {}), Doors(Limits(connections=MOST, connections_of_address=MOST), inward, {})
+    outside, between = Doors(Limits(connections=MOST), shown.users, {}), Doors(Limits(connections=MOST, connections_of_address=MOST), shown.inward, {})
     keeping = [asyncio.create_task(islands.run()), asyncio.create_task(swept(outside, between))]
+
+    def again() -> None:
+        reload(doorway, shown)
+        keeping.append(asyncio.create_task(islands.reopen()))
+    ending.hear(signal.SIGHUP, again)
     try:
         outside.listen(doorway.host, doorway.port, gate.door(gate.serve_http, False))
         outside.listen(doorway.host, doorway.lines_port, gate.door(gate.serve_lines, False))
-        if inward is not None:
+        if shown.inward is not None:
             between.listen(doorway.host, home.machine.port, gate.door(gate.serve_peer, True))
+        if page is not None:
+            await page.begin()
         tell(f"{home.machine.name}: serving at https://{doorway.host}:{doorway.port}/, lines at port {doorway.lines_port}")
         await stopping.wait()
     finally:
         outside.close()
         between.close()
+        if page is not None:
+            await page.end()
         for task in keeping:
             task.cancel()
             with contextlib.suppress(asyncio.CancelledError):
                 await task
         await islands.end()
+
+
+def reload(doorway: Doorway, shown: Contexts) -> None:
+    """Takes new certificates, if all can be used."""
+    try:
+        contexts(doorway)
+        shown.load(doorway)
+        tell("certificates opened again, and the audit logs of the islands")
+    except BadSettings as error:
+        tell(f"not reloaded: {error}")
+
+
+def page_of(home: Home, doorway: Doorway, islands: Islands) -> GatePage | None:
+    """The operator's page, if a socket is named for it."""
+    if doorway.admin is None:
+        return None
+    # Not above: aiohttp takes memory, and a gate does without.
+    from .gate_page import GatePage
+    return GatePage(doorway.admin, home.machine.name, islands)
 
 
 async def swept(*doors: Doors) -> None:
@@ -213,8 +262,6 @@ def init(options: argparse.Namespace) -> None:
         raise BadSettings(f"{options.config}: machine.database: is for several machines: leave it out, or place each island by mgate place")
     for part in make_islands(home, options.settings, options.store):
         print(part)
-
-
 
 
 def listed(options: argparse.Namespace) -> None:

@@ -2,6 +2,7 @@
 """The head of a request of HTTP/1.1, read strictly: what two readers could take for different requests is refused."""
 from __future__ import annotations
 
+import ipaddress
 import re
 from dataclasses import dataclass
 
@@ -45,6 +46,15 @@ class Head:
         words = [word.strip().lower() for word in self.field("connection").split(",")]
         return (self.method == "GET" and self.field("upgrade").lower() == "websocket" and "upgrade" in words and self.field("sec-websocket-version") == "13"
                 and len(self.field("sec-websocket-key")) == 24)
+
+
+def names_loopback(host: str) -> bool:
+    """Whether a field Host names the loopback, with a port or without. A name that begins like an address of it may be anybody's."""
+    name = host.rpartition(":")[0] if host.rpartition(":")[2].isdigit() else host
+    try:
+        return name.lower() == "localhost" or ipaddress.ip_address(name.strip("[]")).is_loopback
+    except ValueError:
+        return False
 
 
 def read_head(data: bytes, most_body: int) -> Head:

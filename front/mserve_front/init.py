@@ -14,7 +14,7 @@ from .folders import sync_folder, write_whole
 from .islands import Home
 from .placement import BadPlacement, LocalPlacement
 from .rows import take_log
-from .settings import BadSettings, read_settings
+from .settings import BadSettings, read_settings, read_toml
 
 
 def make_islands(home: Home, settings: Path, store: Path) -> Iterator[str]:
@@ -62,6 +62,11 @@ def write_machine(config: Path, front: Path, folder: Path) -> None:
     tables: dict[str, dict[str, object]] = {
         "machine": {"name": "one", "folder": str(folder.absolute()), "users": str(found.users), "program": str(found.program)},
         "listen": {"host": found.host, "port": found.port, "lines_port": found.lines_port, "certificate": str(found.certificate), "key": str(found.key),
-                   "origins": list(found.origins)}}
+                   "origins": list(found.origins)},
+        "audit": {"texts": found.texts}, "limits": read_toml(front).get("limits", {})}
+    if found.in_utf_8:
+        tables["machine"]["text"] = "utf-8"
+    if found.admin is not None:
+        tables["admin"] = {"socket": str(found.admin)}
     text = "\n".join(f"[{name}]\n" + "".join(f"{key} = {json.dumps(value)}\n" for key, value in keys.items()) for name, keys in tables.items())
     write_whole(config, text.encode())

@@ -10,16 +10,19 @@ import json
 import os
 import shutil
 import signal
+import socket
 import sys
 import time
-from dataclasses import dataclass, field
+from dataclasses import asdict, dataclass, field
 from pathlib import Path
 
 from .control import Refused, asked
+from .doors import held
 from .folders import write_whole
 from .placement import HERE, LEFT, MOVING, READY, TAKING, Island, Machine, Placed
 from .preamble import new_secret
-from .server import Fault, free_port, tell, tied
+from .server import HOST, Fault, tell, tied
+from .settings import Limits
 from .standing import place_of, read_standing
 from .users import Users, load, save
 
@@ -27,8 +30,8 @@ from .users import Users, load, save
 LOOK, PAUSE = 0.3, 1.0
 # The longest pause, of a front that ends again and again.
 LONGEST = 30.0
-# Seconds for an answer of a front, and for its end.
-ANSWER, ENDING = 5.0, 20.0
+# Seconds for an answer of a front, and for its end; and after which it surely hears signals.
+ANSWER, ENDING, SETTLED = 5.0, 20.0, 10.0
 # Lines that a standby is behind at most when the front of the machine before is ended.
 NEAR = 200
 COMMAND = Path(__file__).resolve().parent.parent / "mfront"
@@ -36,7 +39,8 @@ COMMAND = Path(__file__).resolve().parent.parent / "mfront"
 
 @dataclass(frozen=True, slots=True)
 class Home:
-    """Where a machine keeps its islands, and what all their fronts have in common. Without a database their journals are in folders beside their stores."""
+    """Where a machine keeps its islands, and what all their fronts have in common: characters, limits, and whether the audit log has texts. Without a
+    database their journals are in folders beside their stores."""
 
     machine: Machine
     folder: Path
@@ -44,20 +48,33 @@ class Home:
     database: str | None
     program: str
     origins: tuple[str, ...]
+    text: str = "ascii"
+    texts: bool = False
+    limits: Limits = Limits()
 
 
 @dataclass(eq=False, slots=True)
 class House:
-    """The front of an island: its ports, its process, whether it stands by, and its server's settings."""
+    """The front of an island: its ports, its process, whether it stands by, and its server's settings. The gate holds the ports, so that no other user of the
+    machine has one of them before the front listens, or after its end, and is handed users."""
 
     island: str
-    ports: dict[str, int]
+    places: dict[str, socket.socket]
     follows: bool
     settings: str
     pause: float = PAUSE
     process: asyncio.subprocess.Process | None = None
     began: float = field(default_factory=time.monotonic)
     told: str = ""
+
+    def port(self, kind: str) -> int:
+        """The port of a kind."""
+        return int(self.places[kind].getsockname()[1])
+
+    def close(self) -> None:
+        """Holds its ports no more."""
+        for place in self.places.values():
+            place.close()
 
 
 class Islands:
@@ -86,7 +103,7 @@ class Islands:
     def port(self, island: str, kind: str) -> int | None:
         """The port of an island's front here, or None if it does not serve here."""
         house = self._houses.get(island)
-        return house.ports[kind] if house is not None and not house.follows else None
+        return house.port(kind) if house is not None and not house.follows else None
 
     async def begin(self) -> None:
         """Notes where this machine is, and reads the placement once. Raises `LogFault` or `BadUsers`."""
@@ -109,6 +126,16 @@ class Islands:
                 # Whatever it was: the islands that run go on, and it is tried again.
                 self._fault.comes(error)
             await asyncio.sleep(LOOK)
+
+    async def reopen(self) -> None:
+        """Has all fronts open their audit logs anew. One that has just begun is left alone for a while: it does not hear of it yet, and would end."""
+        await asyncio.gather(*map(self._reopens, list(self._houses.values())))
+
+    @staticmethod
+    async def _reopens(house: House) -> None:
+        await asyncio.sleep(max(0.0, house.began + SETTLED - time.monotonic()))
+        if house.process is not None and house.process.returncode is None:
+            house.process.send_signal(signal.SIGHUP)
 
     async def end(self) -> None:
         """Ends all fronts in order."""
@@ -159,11 +186,13 @@ class Islands:
             await self._ended(island.name)
         elif house is not None and time.monotonic() - house.began < house.pause:
             return
+        if house is not None:
+            house.close()
         pause = PAUSE if house is None or time.monotonic() - house.began > 2 * LONGEST else min(2 * house.pause, LONGEST)
-        house = House(island.name, {"http": free_port(), "lines": free_port()}, follows, island.settings, pause)
+        house = House(island.name, {kind: held(HOST, 0, shared=True) for kind in ("http", "lines")}, follows, island.settings, pause)
         self._houses[island.name] = house
         if follows:
-            put_aside(self._folder(island.name) / "store")
+            put_aside(self.folder(island.name) / "store")
         # Apart: a disk takes its time, and users of other islands go on.
         path = await asyncio.to_thread(self._written, island, house)
         words = [*tied(shutil.which("setpriv")), sys.executable, str(COMMAND), "--config", str(path), *(["--follow"] if follows else [])]
@@ -172,18 +201,20 @@ class Islands:
     async def _ended(self, name: str, how: signal.Signals = signal.SIGTERM) -> None:
         """Ends the front of an island in order, if it runs here; by SIGUSR1 its users are told that they have moved."""
         house = self._houses.pop(name, None)
-        if house is None or house.process is None or house.process.returncode is not None:
+        if house is None:
             return
-        house.process.send_signal(how)
-        try:
-            await asyncio.wait_for(house.process.wait(), ENDING)
-        except TimeoutError:
-            house.process.kill()
-            await house.process.wait()
+        if house.process is not None and house.process.returncode is None:
+            house.process.send_signal(how)
+            try:
+                await asyncio.wait_for(house.process.wait(), ENDING)
+            except TimeoutError:
+                house.process.kill()
+                await house.process.wait()
+        house.close()
 
     async def _caught_up(self, name: str) -> bool:
         try:
-            found = await asyncio.to_thread(asked, self._folder(name) / "mfront.control", {"ask": "status"}, ANSWER)
+            found = await asyncio.to_thread(asked, self.folder(name) / "mfront.control", {"ask": "status"}, ANSWER)
         except Refused:
             return False
         if found.get("differs") is True:
@@ -202,7 +233,7 @@ class Islands:
             return
         try:
             if house.follows:
-                await asyncio.to_thread(asked, self._folder(island.name) / "mfront.control", {"ask": "promote"}, None)
+                await asyncio.to_thread(asked, self.folder(island.name) / "mfront.control", {"ask": "promote"}, None)
                 house.follows = False
         except Refused as error:
             # It is asked again and again: what it says is told once.
@@ -213,23 +244,26 @@ class Islands:
         await asyncio.to_thread(self._placement.arrived, island.name, self._home.machine.name)
         tell(f"island {island.name} is here")
 
-    def _folder(self, name: str) -> Path:
+    def folder(self, name: str) -> Path:
+        """The folder of an island on this machine."""
         return self._home.folder / name
 
     def _written(self, island: Island, house: House) -> Path:
         """Writes the settings of an island's front, and gives their path."""
-        folder, home = self._folder(island.name), self._home
+        folder, home = self.folder(island.name), self._home
         folder.mkdir(mode=0o700, parents=True, exist_ok=True)
         write_whole(folder / "settings.toml", island.settings.encode())
         write_secret(folder / "gate.secret", self.secret)
         if not (folder / "metrics.token").exists():
             write_secret(folder / "metrics.token", new_secret())
         self._write_users(island)
-        tables = {"server": {"program": home.program, "settings": "settings.toml", "store": "store"},
-                  "listen": {"port": house.ports["http"], "lines_port": house.ports["lines"], "origins": list(home.origins), "gate": "gate.secret"},
-                  "users": {"file": "users.json"}, "audit": {"file": "audit.log"},
-                  "journal": {"folder": "journal"} if home.database is None else {"database": home.database, "name": island.name},
-                  "metrics": {"token": "metrics.token"}}
+        tables = {"server": {"program": home.program, "settings": "settings.toml", "store": "store", "text": home.text},
+                  "listen": {"port": house.port("http"), "lines_port": house.port("lines"), "origins": list(home.origins), "gate": "gate.secret"},
+                  # One machine's file can be changed here; that of several is for who keeps it.
+                  "users": {"file": "users.json"} | ({"machine": str(home.users)} if home.database is None else {}), "audit": {"file": "audit.log", "texts": home.texts},
+                  "journal": {"backup": "backup"} | ({"folder": "journal"} if home.database is None else {"database": home.database, "name": island.name}),
+                  "metrics": {"token": "metrics.token"}, "admin": {"socket": "admin.socket"},
+                  "limits": {name: int(value) for name, value in asdict(home.limits).items()}}
         text = "".join(f"[{name}]\n" + "".join(f"{key} = {json.dumps(value)}\n" for key, value in keys.items()) for name, keys in tables.items())
         write_whole(folder / "front.toml", text.encode())
         return folder / "front.toml"
@@ -248,7 +282,7 @@ class Islands:
 
     def _write_users(self, island: Island) -> None:
         with contextlib.suppress(FileNotFoundError):
-            save(self._folder(island.name) / "users.json", {name: user for name, user in self._users.items() if user.account in island.accounts})
+            save(self.folder(island.name) / "users.json", {name: user for name, user in self._users.items() if user.account in island.accounts})
 
 
 def write_secret(path: Path, secret: str) -> None:

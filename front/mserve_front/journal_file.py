@@ -186,10 +186,13 @@ def _locked(path: Path, force: bool) -> int:
 
 def tail_of(folder: Path, whole: bool = True) -> Tail:
     """The end of the journal in a folder; of an empty one, that of a new journal. Raises `BadJournal` if it is damaged there, and, unless `whole` is not
-    wanted, if it went further once."""
+    wanted, if it went further once; and `LogFault` if the disk does not give it."""
     # This comes first: a front that writes meanwhile notes in the head what is in the files already.
     reached = reached_in(folder) if whole else None
-    tail = _tail_of(folder)
+    try:
+        tail = _tail_of(folder)
+    except OSError as error:
+        raise LogFault(f"{folder}: {error.strerror}") from error
     if reached is not None and (reached.sequence > tail.sequence or reached.journal != tail.journal and reached.sequence):
         raise BadJournal(f"{folder}: {lost(reached, tail)}. Put back what is missing. If it is lost, a standby can be promoted with --force; or move the "
                          "journal away, remove the store's .at and .head, and serve: a new journal begins with all that the store holds")
@@ -199,7 +202,11 @@ def tail_of(folder: Path, whole: bool = True) -> Tail:
 def _tail_of(folder: Path) -> Tail:
     told = ""
     for first, path in reversed(files_of(folder)):
-        begins, last, rest = ends_of(path)
+        try:
+            begins, last, rest = ends_of(path)
+        except FileNotFoundError:
+            # Its writer has taken it away: it had nothing.
+            continue
         if rest:
             told = f"{path}: a torn flush of {rest} bytes at its end counts for nothing: it is not durable"
         if begins is not None:
@@ -235,14 +242,21 @@ class FileReader:
         self._rest = b""
 
     def more(self) -> list[Flush]:
-        """Some of the flushes that have come since, or none if none has. Raises `BadJournal` if one is damaged or missing."""
-        while True:
-            # What comes after this file is looked for first: once there is such a file, nothing is written here any more.
-            later = self._later()
-            found = [] if self._file is None else self._here(None if later is None else later[0])
-            if found or later is None:
-                return found
-            self._go_on(*later)
+        """Some of the flushes that have come since, or none if none has. Raises `BadJournal` if one is damaged or missing, and `LogFault` if the disk does
+        not give them."""
+        try:
+            while True:
+                # What comes after this file is looked for first: once there is such a file, nothing is written here any more.
+                later = self._later()
+                found = [] if self._file is None else self._here(None if later is None else later[0])
+                if found or later is None:
+                    return found
+                self._go_on(*later)
+        except FileNotFoundError:
+            # Its writer has taken away a file that had nothing, since the disk is full: what comes is in another one.
+            return []
+        except OSError as error:
+            raise LogFault(f"{self._folder}: {error.strerror}") from error
 
     def close(self) -> None:
         """Leaves the journal."""
@@ -275,8 +289,10 @@ class FileReader:
     def _go_on(self, begins: int, path: Path) -> None:
         if self._file is not None and not self._expected - 1 <= begins <= self._expected:
             raise BadJournal(f"{path}: flush {self._expected} is to come after {self._path}, and this file begins with flush {begins}: a part is missing")
+        # This comes first: the file may be gone again, and then it goes on after the one before.
+        file = path.open("rb", buffering=0)
         self.close()
-        self._file, self._path = path.open("rb", buffering=0), path
+        self._file, self._path = file, path
         self._expected = begins
         self._at, self._rest = 0, b""
 

@@ -3,15 +3,18 @@
 from __future__ import annotations
 
 import asyncio
+import socket
 import sqlite3
 import tempfile
 import time
 from collections import deque
 from collections.abc import Callable
+from dataclasses import replace
 from pathlib import Path
 
 from mserve_client import ClientError
 
+from . import enclosure
 from .connection import Connection, NoStart, joined
 from .history import CUT_SHORT, Answered, Began, Event
 from .lines import HALT, Line
@@ -105,6 +108,8 @@ class Stage:
         self._player: Player | None = None
         self._due: deque[tuple[Answered, asyncio.Future[Answer]]] = deque()
         self.child: Child | None = None
+        # The server's next connection, for the one who serves with it after this: it takes a process to make, and then users would wait for that.
+        self._ahead: asyncio.Task[socket.socket | None] | None = None
         self.at = 0
         self.open: set[int] = set()
         self.reported = 0
@@ -117,6 +122,8 @@ class Stage:
             made.flush()
             self.child = await launched(self._program, self._settings or Path(made.name), self._store, self._connections)
             self._player = await joined(self.child.port, Player, self.child.process, enclosed=self.child.enclosed)
+        if self._connections > 1 and self.child.enclosed:
+            self._ahead = asyncio.create_task(enclosure.connected(self.child.process.pid, self.child.port))
         self.open.clear()
 
     async def take(self, event: Event) -> None:
@@ -163,9 +170,27 @@ class Stage:
             self._player.close()
             self._player = None
 
+    async def handed_on(self) -> Child:
+        """Leaves the server to somebody else, with its next connection if that is made."""
+        await self.leave()
+        assert self.child is not None
+        return replace(self.child, ahead=await self._made_ahead())
+
+    async def _made_ahead(self) -> socket.socket | None:
+        """The connection that was made ahead; none if it is not made yet, or could not be."""
+        ahead, self._ahead = self._ahead, None
+        if ahead is None:
+            return None
+        if not ahead.done():
+            ahead.cancel()
+            await asyncio.wait([ahead])
+        return None if ahead.cancelled() or ahead.exception() is not None else ahead.result()
+
     async def end(self) -> None:
         """Ends the server in order, if it has one connection alone, and at once if it has more."""
         await self.leave()
+        if (ahead := await self._made_ahead()) is not None:
+            ahead.close()
         if self.child is None:
             return
         process, self.child = self.child.process, None

@@ -7,6 +7,7 @@ from __future__ import annotations
 
 import asyncio
 import contextlib
+import os
 import sqlite3
 import time
 from collections import Counter
@@ -20,10 +21,11 @@ from .metrics import family
 
 # What the quotas are of, as limits.rows and limits.memory name them.
 ROWS, MEMORY = "rows", "memory"
-# Seconds between two lines of an account that is over a quota, and between two looks at what accounts take.
-PAUSE, STEP = 1.0, 1.0
-# Seconds between two counts of rows; and how many times as long as a count took there is none.
-COUNTED, REST = 5.0, 50
+# Seconds between two lines of an account that is over a quota.
+PAUSE = 1.0
+# Seconds between two counts of rows; and how many times as long as a count took there is none. A file that was written so short a time ago, in
+# nanoseconds, may be written again with no other time.
+COUNTED, REST, FRESH = 5.0, 50, 1_000_000_000
 # The part of the server's time that an account has to have had for the memory that came meanwhile to be its own.
 MOSTLY = 0.9
 # An account's quotas that it is over: what it has of each, and what it may have.
@@ -49,6 +51,15 @@ def rows_of(store: Path, account: str) -> int | None:
         return None
 
 
+def stamp_of(store: Path) -> tuple[int, int] | None:
+    """What tells a store's file from what it was before it was written again; None if nothing does yet, or it is not there."""
+    try:
+        status = os.stat(store)
+    except OSError:
+        return None
+    return None if time.time_ns() - status.st_mtime_ns < FRESH else (status.st_mtime_ns, status.st_size)
+
+
 class Memory:
     """The memory by which the server grew for each account, since its sessions began."""
 
@@ -60,12 +71,16 @@ class Memory:
         self.grown: Counter[str] = Counter()
 
     def look(self) -> None:
-        """Charges what came since the last look to the account that had the server meanwhile."""
-        size, used, before = self._size(), self._used(), self._before
+        """Charges what came since a line was answered last to the account that had the server meanwhile. What a line that is on its way takes is charged
+        once it is answered: before that nobody has spent anything."""
+        used, before = self._used(), self._before
+        spent = {account: taken - before.get(account, (0, 0.0))[1] for account, (_, taken) in used.items()}
+        if self._last and not any(spent.values()):
+            return
+        size = self._size()
         more, self._last, self._before = size - self._last if self._last else 0, size, used
         if more <= 0:
             return
-        spent = {account: taken - before.get(account, (0, 0.0))[1] for account, (_, taken) in used.items()}
         account = max(spent, key=spent.__getitem__, default="")
         if spent and spent[account] >= MOSTLY * sum(spent.values()) > 0:
             self.grown[account] += more
@@ -85,7 +100,9 @@ class Quotas:
         self._most = {ROWS: most_rows, MEMORY: most_memory}
         self._used, self._told = used, told
         self._next: dict[str, float] = {}
+        # Of each account, how many lines it had had at its last count that succeeded, and the stamp of the file at its last count.
         self._lines: dict[str, int] = {}
+        self._stamps: dict[str, tuple[int, int] | None] = {}
         self._due = 0.0
         self._freed: dict[str, asyncio.Event] = {}
         self.memory = memory
@@ -93,15 +110,19 @@ class Quotas:
         self.over: dict[str, Over] = {}
 
     async def count(self, store: Path) -> None:
-        """Counts rows, if it is time, of the accounts that had lines since they were counted."""
+        """Counts rows, if it is time, of the accounts that had lines since they were counted, if the file was written since then."""
         if time.monotonic() < self._due:
             return
-        began = time.monotonic()
+        began, stamp = time.monotonic(), stamp_of(store)
         for account, (lines, _) in list(self._used().items()):
-            if self._lines.get(account) != lines and (found := await asyncio.to_thread(rows_of, store, account)) is not None:
+            if self._lines.get(account) == lines or stamp is not None and self._stamps.get(account) == stamp:
+                continue
+            found = await asyncio.to_thread(rows_of, store, account)
+            self._stamps[account] = stamp
+            if found is not None:
                 self._lines[account], self.rows[account] = lines, found
         now = time.monotonic()
-        self._due = now + max(COUNTED, REST * (now - began))
+        self._due = now + REST * (now - began)
 
     def look(self) -> None:
         """Finds who is over a quota, and tells those for whom that is new, or no more."""

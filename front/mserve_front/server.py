@@ -66,12 +66,13 @@ class Fault:
 @dataclass(frozen=True, slots=True)
 class Child:
     """A server that runs as a child of this process, and its port; `fresh` says that its store was made with it, and `enclosed` that it is in a network
-    of its own."""
+    of its own. `ahead` is a connection that is its next one, if one was made ahead."""
 
     process: asyncio.subprocess.Process
     port: int
     fresh: bool = False
     enclosed: bool = False
+    ahead: socket.socket | None = None
 
 
 class _Ended(Exception):
@@ -97,6 +98,7 @@ class Server:
         self._process: asyncio.subprocess.Process | None = None
         self._port = settings.join or 0
         self._enclosed = False
+        self._ahead: socket.socket | None = None
         self._turns: Turns | None = None
         self.state = "starting"
         self.session = 1
@@ -187,7 +189,7 @@ class Server:
         """Starts the server for the first time, or takes the child that runs. Raises `NoStart` if it ends at once, as for settings or a store that it
         refuses."""
         if child is not None:
-            self._process, self._port, self._enclosed = child.process, child.port, child.enclosed
+            self._process, self._port, self._enclosed, self._ahead = child.process, child.port, child.enclosed, child.ahead
         elif self._settings.join is None:
             await self._launch()
         self._text = self._text or self._settings_text()
@@ -300,8 +302,9 @@ class Server:
     async def _connected(self) -> Turns:
         """A connection to the server. One that was there before this process began has to be listening."""
         patient = self._process is not None or self.state != "starting"
+        ahead, self._ahead = self._ahead, None
         return await joined(self._port, lambda: Turns(self._settings.limits.reply, self._metrics.timed, self.shares), self._process, patient,
-                            self._enclosed)
+                            self._enclosed, ahead)
 
 
 async def launched(program: Path, settings: Path, store: str, connections: int = CONNECTIONS) -> Child:

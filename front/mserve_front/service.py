@@ -17,7 +17,7 @@ from . import ending
 from .admin import Admin
 from .audit import Audit
 from .changes import Changes
-from .doors import Doors, Made, spare_memory
+from .doors import Doors, Made, spare_memory, strict
 from .line_port import LinePort
 from .metrics import Metrics
 from .server import NoStart, tell
@@ -48,7 +48,7 @@ class Service:
         self._context = tls_context(settings)
         self._audit = audit_log(settings, self.metrics)
         self._keeper = keeper_of(settings, self.metrics, self._audit, promoted)
-        self._register = Register(settings.users)
+        self._register = Register(settings.users, settings.users_of_machine)
         for user in self._register.users.values():
             if not settings.terminals.get(user.account):
                 raise BadUsers(f"{settings.users}: user {user.name}: {user.account} is no account with terminals in {settings.server_settings}")
@@ -133,7 +133,7 @@ class Service:
             tell("the store is volatile: all data are gone once the server ends")
 
     async def _serve(self) -> None:
-        tasks = [asyncio.create_task(self._sessions.server.run()), asyncio.create_task(self._sweep()), asyncio.create_task(self._sessions.watch()),
+        tasks = [asyncio.create_task(self._sessions.server.run()), asyncio.create_task(self._sweep()), asyncio.create_task(self._sessions.count()),
                  asyncio.create_task(self._admin.run()), asyncio.create_task(self._stopping.wait())]
         if self._keeper is not None:
             tasks.append(asyncio.create_task(self._keeper.lost()))
@@ -157,6 +157,7 @@ class Service:
                     told = time.monotonic()
                     tell(f"the users stay as they were: {error}")
             self._sessions.sweep()
+            self._sessions.look()
 
     def _reload(self) -> None:
         """Takes a new certificate, and opens the audit log again."""
@@ -194,13 +195,6 @@ def tls_context(settings: Settings) -> ssl.SSLContext | None:
     strict(context)
     load_certificate(context, settings)
     return context
-
-
-def strict(context: ssl.SSLContext) -> None:
-    """Has a context take what is good today alone: of TLS 1.2 only suites with forward secrecy and authenticated encryption."""
-    context.minimum_version = ssl.TLSVersion.TLSv1_2
-    context.options |= ssl.OP_NO_RENEGOTIATION | ssl.OP_NO_COMPRESSION
-    context.set_ciphers("ECDHE+AESGCM:ECDHE+CHACHA20")
 
 
 def load_certificate(context: ssl.SSLContext, settings: Settings) -> None:

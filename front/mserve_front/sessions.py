@@ -20,7 +20,8 @@ from .fair import Pace
 from .faults import HeldBack, NoJournal
 from .lines import Line, Refused
 from .metrics import Metrics, family
-from .quotas import STEP, Memory, Over as OverQuota, Quotas, in_words, size_of
+from .quotas import COUNTED as COUNTED_ROWS
+from .quotas import Memory, Over as OverQuota, Quotas, in_words, size_of
 from .replies import Answer
 from .server import Server
 from .settings import Settings
@@ -322,15 +323,18 @@ class Sessions:
             elif not session.carried and (now - session.used > allowed or now - session.began > limits.longest):
                 self.sign_off(session, "idle")
 
-    async def watch(self) -> None:
-        """Keeps looking at what accounts take."""
-        while True:
-            await asyncio.sleep(STEP)
-            if self._settings.join is None and not self._settings.volatile:
-                await self.quotas.count(Path(self._settings.store))
-            self.quotas.memory.look()
-            self.quotas.memory.keep(session.account for session in self if not session.clean)
-            self.quotas.look()
+    def look(self) -> None:
+        """Looks at what accounts take; once a second."""
+        self.quotas.memory.look()
+        self.quotas.memory.keep(session.account for session in self if not session.clean)
+        self.quotas.look()
+
+    async def count(self) -> None:
+        """Keeps counting the rows of accounts."""
+        while self._settings.join is None and not self._settings.volatile:
+            await asyncio.sleep(COUNTED_ROWS)
+            await self.quotas.count(Path(self._settings.store))
+        await asyncio.Event().wait()
 
     def _over_quota(self, account: str, over: OverQuota) -> None:
         """Tells an account that it is over its quotas, or no more."""

@@ -81,6 +81,7 @@ class Settings:
     journal: JournalSettings = JournalSettings()
     in_utf_8: bool = False
     admin: Path | None = None
+    users_of_machine: Path | None = None
 
     @property
     def tls(self) -> bool:
@@ -204,10 +205,10 @@ def read_settings(path: Path, volatile: bool) -> Settings:
         raise BadSettings(f"{path}: {name}: there is no such table")
     taken = {name: Table(path, name, tables.get(name, {})) for name in TABLES}
     users = taken["users"].needed_file("file")
-    settings = Settings(path=path, **_server(taken["server"], volatile), **_listen(taken["listen"]), users=users,
+    settings = Settings(path=path, users_of_machine=taken["users"].file("machine"), **_server(taken["server"], volatile), **_listen(taken["listen"]), users=users,
                         journal=journal_settings(taken["journal"], users.parent), audit=taken["audit"].file("file"), texts=taken["audit"].truth("texts", False),
                         metrics_from=_networks(taken["metrics"]), metrics_token=taken["metrics"].secret("token"),
-                        admin=taken["admin"].file("socket"), limits=_limits(taken["limits"]))
+                        admin=taken["admin"].file("socket"), limits=limits_of(taken["limits"]))
     for table in taken.values():
         table.end()
     return settings
@@ -216,9 +217,7 @@ def read_settings(path: Path, volatile: bool) -> Settings:
 def _server(table: Table, volatile: bool) -> dict[str, object]:
     """The server: a child of its own, or one that runs."""
     settings = table.needed_file("settings")
-    text = table.text("text", "ascii")
-    if text not in ("ascii", "utf-8"):
-        raise table.fault("text", 'is to be "ascii", or "utf-8" for characters over 127 as escapes within strings')
+    text = characters_of(table)
     join, store, program = table.whole("join", 1, 65_535), table.text("store"), table.file("program", PROGRAM)
     if join is not None:
         if store is not None:
@@ -234,6 +233,14 @@ def _server(table: Table, volatile: bool) -> dict[str, object]:
         store = str(table.path.parent.resolve() / store)
     return {"program": program, "server_settings": settings, "store": store, "join": join, "volatile": volatile, "terminals": read_terminals(settings),
             "in_utf_8": text == "utf-8"}
+
+
+def characters_of(table: Table) -> str:
+    """How strings and replies have characters over 127."""
+    text = table.text("text", "ascii")
+    if text not in ("ascii", "utf-8"):
+        raise table.fault("text", 'is to be "ascii", or "utf-8" for characters over 127 as escapes within strings')
+    return text
 
 
 def _listen(table: Table) -> dict[str, object]:
@@ -289,7 +296,7 @@ def journal_settings(table: Table, folder: Path) -> JournalSettings:
     return found
 
 
-def _limits(table: Table) -> Limits:
+def limits_of(table: Table) -> Limits:
     """The limits that are given, and for the others their defaults."""
     default = Limits()
     return Limits(**{name: table.whole(name, least, most, int(getattr(default, name))) for name, (least, most) in _LIMITS.items()})

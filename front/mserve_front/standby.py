@@ -15,8 +15,10 @@ from dataclasses import replace
 from pathlib import Path
 
 from . import ending
+from .admin import Page, Told, alarms_of, figures_of
 from .control import Answered, Control, Refused
 from .doors import held
+from .figures import of_standby
 from .history import Answered as Ran
 from .history import Began, Event, History
 from .journal import Journal, LogFault, LogTaken
@@ -52,6 +54,7 @@ class Standby:
         self._force = False
         self._wake = asyncio.Event()
         self._control = Control(settings.journal.control, {"status": self._status, "promote": self._promote})
+        self._page = Page(settings.admin, self._told)
         self._fault = Fault("the journal cannot be read: {}; it is tried again", "the journal can be read again")
         # What it waits for, so that it can go on; and whether that is because its store is not as the leader's.
         self._waits = Fault("it stands still, and waits: {}", "it goes on")
@@ -68,10 +71,13 @@ class Standby:
         leader's was; the store is not to be used then, unless it says otherwise."""
         for number in (signal.SIGTERM, signal.SIGINT):
             ending.hear(number, self._stop)
+        # It is there for a certificate and an audit log that are new: both are opened at a promotion.
+        ending.hear(signal.SIGHUP, tell, "it stands by: certificate and audit log are opened once it serves")
         promoted = None
         try:
             self._hold_ports()
             await self._control.listen()
+            await self._page.begin()
             try:
                 await self._begin()
             except BadJournal as error:
@@ -85,6 +91,7 @@ class Standby:
             return promoted
         finally:
             self._control.close()
+            await self._page.end()
             await asyncio.to_thread(self._reader.close)
             if promoted is None:
                 await self._stage.end()
@@ -97,7 +104,7 @@ class Standby:
         for port in (settings.port, settings.lines_port):
             try:
                 if port is not None:
-                    self._places[port] = held(settings.host, port)
+                    self._places[port] = held(settings.host, port, shared=settings.gate is not None)
             except OSError as error:
                 tell(f"{error.strerror}: it cannot serve as long as that is so")
 
@@ -288,6 +295,13 @@ class Standby:
                 "caught up": self._idle and not behind and not self._fault.text and not self._waits.text, "fault": self._fault.text or self._waits.text,
                 "differs": self._differs or ""}
 
+    async def _told(self) -> Told:
+        """What the operator's page shows."""
+        status = await self._status({})
+        figures = figures_of(of_standby(status))
+        state = f"It stands by, {status['behind']} lines behind its leader" + (f", and waits: {status['fault']}" if status["fault"] else "")
+        return {"time": round(time.time()), "state": state, "alarms": alarms_of(figures), "figures": figures}
+
     async def _promote(self, request: dict[str, object]) -> Answered:
         """Asks for the promotion, and waits for what comes of it."""
         if not self._follows:
@@ -311,14 +325,14 @@ class Standby:
             # The one who asked hears of it before this process ends.
             await asyncio.sleep(0.1)
             return None
-        await self._stage.leave()
+        child = await self._stage.handed_on()
         unsent = [line.number for line in self._history.unanswered]
         tell(f"promoted after line {self._history.at}" + (f": lines {unsent[0]} to {unsent[-1]} had no reply, and were not run" if unsent else ""))
         for text in lost:
             tell(f"promoted by force: {text}")
         wanted.set_result({"line": self._history.at, "not run": unsent, "seconds": round(time.monotonic() - began, 3), "lost": lost})
         await asyncio.sleep(0)
-        return Promoted(self._stage.child, journal, self._history.at, self._places, self._stopping, whole=bool(lost))
+        return Promoted(child, journal, self._history.at, self._places, self._stopping, whole=bool(lost))
 
     async def _ready(self, journal: Journal) -> list[str]:
         """Takes the journal, and runs what was answered. Gives what is lost, which is nothing unless it is promoted by force. Raises `Refused` if it cannot

@@ -156,9 +156,10 @@ def _normal(password: str) -> bytes:
 class Register:
     """The users of a file as they stand: the file is read again if it changed."""
 
-    def __init__(self, path: Path) -> None:
-        """Raises `BadUsers` as `load` does."""
+    def __init__(self, path: Path, machine: Path | None = None) -> None:
+        """`machine` is the file of all users of the machine, where a gate makes this one of it. Raises `BadUsers` as `load` does."""
         self._path = path
+        self._machine = machine
         self._seen: tuple[int, int, int] | None = None
         self.users: Users = {}
         self._tokens: dict[str, tuple[User, str]] = {}
@@ -197,12 +198,14 @@ class Register:
         return user
 
     def change(self, name: str, password: str) -> str:
-        """Gives a user another password, in the file, and gives its hash. Raises `BadUsers`. It computes: not for the loop's own thread."""
-        hashed = password_hash(password, name)
-        with changed(self._path) as users:
-            if name not in users:
-                raise BadUsers("the user is there no more")
-            users[name].changed(hashed)
+        """Gives a user another password, in the file, and in the machine's before, if there is one, and gives its hash. Raises `BadUsers`. It computes: not
+        for the loop's own thread."""
+        hashed, account = password_hash(password, name), self.users[name].account
+        for path in (self._path,) if self._machine is None else (self._machine, self._path):
+            with changed(path) as users:
+                if name not in users or users[name].account != account:
+                    raise BadUsers("the user is there no more")
+                users[name].changed(hashed)
         return hashed
 
     def by_token(self, secret: str) -> tuple[User, str] | None:

@@ -18,7 +18,7 @@ from aiohttp.web_protocol import RequestHandler
 from .audit import NoAudit
 from .document import language_page
 from .doors import Door, Doors, HttpDoor, Made
-from .http_head import Head
+from .http_head import Head, names_loopback
 from .metrics import Metrics
 from .sessions import LINES, PAGE, TOKEN, Carried, Over, Session, Sessions
 from .settings import Settings
@@ -141,9 +141,8 @@ class Web:
         loopback, and ask here."""
         if self._settings.tls or self._settings.gate is not None:
             return True
-        host = request.host.rpartition(":")[0] if request.host.rpartition(":")[2].isdigit() else request.host
         named = (origin.partition("//")[2] for origin in self._settings.origins)
-        return host.lower() == "localhost" or _is_loopback(host) or request.host.lower() in named
+        return names_loopback(request.host) or request.host.lower() in named
 
     async def _received(self, request: web.Request) -> None:
         """Waits for the body. From there on it is not the peer who is waited for, so the connection's time does not run."""
@@ -196,7 +195,9 @@ class Web:
         origin = request.headers.get("Origin")
         if origin is None and not needed:
             return
-        own = self._settings.origins or (f"{'https' if self._settings.tls else 'http'}://{request.host}".lower(),)
+        # A gate serves over TLS, whatever it has with this front.
+        scheme = "https" if self._settings.tls or self._settings.gate is not None else "http"
+        own = self._settings.origins or (f"{scheme}://{request.host}".lower(),)
         if origin is None or origin.lower() not in own:
             raise Fault(403, "the origin is not this service's")
 
@@ -257,14 +258,14 @@ class Web:
         return response
 
     async def _password(self, request: web.Request) -> web.StreamResponse:
-        """Gives a user who is signed on by a password another one. Where a gate hands users on, their file is the machine's."""
+        """Gives a user who is signed on by a password another one. Where several machines have users in common, that is for who keeps their file."""
         self._own_origin(request, needed=False)
         session, body = self._session(request), await self._body(request)
         old, new = body.get("old"), body.get("new")
         if not isinstance(old, str) or not isinstance(new, str):
             raise Fault(400, "old and new are to be texts")
-        if self._settings.gate is not None:
-            raise Fault(409, "ask the operator for another password: this machine's users are kept for all of its islands")
+        if self._settings.gate is not None and self._settings.users_of_machine is None:
+            raise Fault(409, "ask the operator for another password: users are kept for several machines")
         try:
             self._sessions.keeps(session, await self._signing.change(session.user, old, new, self._address(request)))
         except Wrong:
@@ -367,14 +368,6 @@ def refusals_of_a_token() -> Iterator[None]:
         raise Fault(503, str(error), Retry_After="1") from None
     except NoAudit:
         raise Fault(503, "the audit log cannot be written") from None
-
-
-def _is_loopback(host: str) -> bool:
-    """Whether a host is an address of the loopback. A name that begins like one may be anybody's."""
-    try:
-        return ipaddress.ip_address(host.strip("[]")).is_loopback
-    except ValueError:
-        return False
 
 
 async def misdirected(request: web.Request) -> web.StreamResponse:

@@ -28,6 +28,8 @@ import running  # noqa: E402
 
 COMMAND = [sys.executable, str(FRONT / "mfront")]
 SETTINGS = FRONT / "tests" / "settings.toml"
+# The same, but that LAB has language 1.
+MIXED = SETTINGS.read_text().replace("[1001, 1002]\n", "[1001, 1002]\nlanguage = 1\n")
 PASSWORD = "correct horse battery"
 # Users of the tests: two of the clinic's, one of the laboratory's, and one whose lines may use 40 steps.
 USERS = {"ada": "CLINIC", "ben": "CLINIC", "cleo": "LAB", "dora": "SHORT"}

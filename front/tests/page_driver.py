@@ -13,7 +13,7 @@ from pathlib import Path
 from typing import Any
 
 import pytest
-from front import FRONT, PASSWORD, Front
+from front import FRONT, MIXED, PASSWORD, Front
 
 PAGE = FRONT / "page"
 PICTURES = FRONT / "tests" / "pictures"
@@ -62,9 +62,11 @@ def is_shown(element: Any) -> bool:
 
 @pytest.fixture(scope="module")
 def page_front(certificate: tuple[Path, Path], tmp_path_factory: pytest.TempPathFactory) -> Iterator[Front]:
-    """A front for all tests of a module. Its accounts have what the tests before have left."""
+    """A front for all tests of a module. Its accounts have what the tests before have left. LAB has language 1."""
     require_chromium()
-    made = Front(tmp_path_factory.mktemp("page"), certificate, store="store.db")
+    folder = tmp_path_factory.mktemp("page")
+    (folder / "mixed.toml").write_text(MIXED)
+    made = Front(folder, certificate, settings=folder / "mixed.toml", store="store.db")
     yield made
     made.stop()
 

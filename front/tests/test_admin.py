@@ -5,21 +5,29 @@ from __future__ import annotations
 import asyncio
 import json
 import re
+import signal
 import stat
+import time
 from pathlib import Path
 
 import aiohttp
-from front import Front, in_loop, until
+import pytest
+from front import FRONT, Front, in_loop, until
 from mserve_front import figures
 from mserve_front.admin import ALARMS
+from mserve_front.gate_page import together
+from test_standby import caught_up, leading, promoted, standby
 
-MONITORING = Path(__file__).resolve().parent.parent.parent / "packaging" / "monitoring"
+MONITORING = FRONT.parent / "packaging" / "monitoring"
+PAGE = (FRONT.parent / "docs" / "OPERATING.md").read_text(encoding="utf-8")
 NAMES = re.compile(r"\bmfront_[a-z_]+")
 
 
-async def told(front: Front, place: str = "/admin.json") -> aiohttp.ClientResponse:
-    connector = aiohttp.UnixConnector(path=str(front.folder / "admin.socket"))
-    async with aiohttp.ClientSession(connector=connector) as http, http.get(f"http://front{place}") as response:
+async def told(folder: Path, place: str = "/admin.json", host: str = "localhost:9100") -> aiohttp.ClientResponse:
+    """An answer of the operator's page, at the socket of a folder, once it is there."""
+    await until((folder / "admin.socket").exists, "the operator's socket")
+    connector = aiohttp.UnixConnector(path=str(folder / "admin.socket"))
+    async with aiohttp.ClientSession(connector=connector) as http, http.get(f"http://{host}{place}") as response:
         await response.read()
         return response
 
@@ -29,19 +37,19 @@ async def test_the_operators_page(start) -> None:
     """Who is signed on, what each account uses, and the page itself; users cannot reach it, and nobody else of the machine."""
     front: Front = start(admin={"socket": "admin.socket"}, journal={"folder": "journal"}, store="store")
     admin = front.folder / "admin.socket"
-    await until(admin.exists, "the operator's socket")
+    await told(front.folder)
     assert stat.S_IMODE(admin.stat().st_mode) == 0o600
     async with front.person("ada") as ada, front.person("cleo"):
         for _ in range(5):
             await ada.line("F I=1:1:1000 S A(I)=I")
-        found = await (await told(front)).json()
+        found = await (await told(front.folder)).json()
         assert sorted((one["user"], one["account"], one["way"]) for one in found["users"]) == [("ada", "CLINIC", "page"), ("cleo", "LAB", "page")]
         [clinic] = [one for one in found["accounts"] if one["account"] == "CLINIC"]
         assert clinic["lines"] >= 5 and clinic["seconds"] > 0 and clinic["signed_on"] == 1
         assert found["figures"]["mfront_up"] == 1 and found["figures"]["mfront_journal_up"] == 1
         assert "The server is not up." not in [alarm["what"] for alarm in found["alarms"]]
         for place, kind in (("/", "text/html"), ("/admin.js", "text/javascript"), ("/admin.css", "text/css")):
-            response = await told(front, place)
+            response = await told(front.folder, place)
             assert (response.status, response.content_type) == (200, kind) and "default-src 'self'" in response.headers["Content-Security-Policy"]
         for path in ("/admin", "/admin.json", "/admin.js", "/page/admin.js"):
             async with ada.http.get(path) as response:
@@ -65,5 +73,56 @@ async def test_each_figure_of_alarms_and_pictures_is_one_that_the_front_has(star
     shown = [target["expr"] for panel in json.loads(board)["panels"] for target in panel["targets"]]
     assert len(shown) > 10 and rules.count("- alert:") > 10
     assert rules.count("- alert:") == rules.count("description:") == rules.count("summary:")
+    # Each alarm has its row in the table of what to do.
+    runbook = PAGE[PAGE.index("### What to watch"):]
+    for rule in re.findall(r'expr: "(.*)"', rules):
+        assert any(f"`{name}" in runbook for name in NAMES.findall(rule)), rule
     for name in {*NAMES.findall(rules), *NAMES.findall(" ".join(shown)), *(alarm.figure for alarm in ALARMS if alarm.figure.startswith("mfront"))}:
         assert name in known, name
+
+
+@pytest.mark.parametrize(("host", "status"), [("localhost", 200), ("127.0.0.1:9100", 200), ("evil.example", 421), ("127.0.0.1.evil.example:9100", 421)])
+@in_loop()
+async def test_the_operators_page_is_for_who_asks_the_loopback(start, host: str, status: int) -> None:
+    """A page of another origin could have its own name stand for the loopback, and read through an operator's tunnel."""
+    front: Front = start(admin={"socket": "admin.socket"})
+    assert [(await told(front.folder, place, host)).status for place in ("/admin.json", "/")] == [status, status]
+
+
+@in_loop()
+async def test_snapshots_that_nobody_has_verified_are_an_alarm(start, tmp_path: Path) -> None:
+    front: Front = start(admin={"socket": "admin.socket"}, journal={"folder": "journal", "backup": str(tmp_path / "backup")}, store="store")
+
+    async def alarms() -> list[str]:
+        return [alarm["what"] for alarm in (await (await told(front.folder)).json())["alarms"]]
+    assert "No snapshot was verified for two days." in await alarms()
+    async with front.person("ada") as ada, ada.http.get("/metrics") as response:
+        assert "\nmfront_backup_verified_timestamp_seconds 0\n" in await response.text()
+    (tmp_path / "backup").mkdir()
+    (tmp_path / "backup" / figures.VERIFIED).write_text(json.dumps({"line": 1, "at": int(time.time())}))
+    assert "No snapshot was verified for two days." not in await alarms()
+
+
+@in_loop(100)
+async def test_the_operators_page_of_a_standby(start, tmp_path: Path) -> None:
+    """How far it is behind its leader, and what it waits for. A reload leaves it there, and once it serves the page is a front's."""
+    leader = leading(start, tmp_path / "journal")
+    second = standby(start, tmp_path / "journal", admin={"socket": "admin.socket"})
+    async with leader.person("ada") as ada:
+        await ada.line("S ^X=1")
+    await caught_up(second, tmp_path / "journal")
+    found = await (await told(second.folder)).json()
+    assert found["state"] == "It stands by, 0 lines behind its leader" and found["alarms"] == []
+    assert found["figures"]["mfront_standby_behind_lines"] == 0
+    second.process.send_signal(signal.SIGHUP)
+    second.hears("it stands by: certificate and audit log are opened once it serves")
+    leader.stop()
+    await caught_up(second, tmp_path / "journal")
+    assert promoted(second)[0] == 0
+    found = await (await told(second.folder)).json()
+    assert found["state"] == "The server is up; 0 signed on" and found["users"] == []
+
+
+def test_pictures_of_several_fronts_are_one() -> None:
+    """Lines and what waits are added up; of how busy servers are, and of the longest wait, the most counts."""
+    assert together([[[30, 1.0, 0.5, 2, 0.1], [46, 2.0, 0.1, 0, 0.0]], [[31, 0.5, 0.9, 1, 3.0]]]) == [[30, 1.5, 0.9, 3, 3.0], [45, 2.0, 0.1, 0, 0.0]]

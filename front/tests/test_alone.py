@@ -5,18 +5,22 @@ from __future__ import annotations
 import asyncio
 import math
 import os
+import signal
 import statistics
 import time
 from collections.abc import Iterator
 from pathlib import Path
 
 import pytest
-from front import Front, Ran, in_loop, mjournal, toml, tool, until
+from front import PASSWORD, Front, Person, Ran, in_loop, mjournal, toml, tool, until
 from machines import Gate, Program
 from measured import slices, started_by
-from mserve_front.settings import read_toml
+from mserve_front.settings import read_settings, read_toml
 from mserve_front.slices import SHORT
+from mserve_front.users import load
 from running import ISLANDS, PROGRAM
+from test_admin import told
+from test_password import NEW, changed
 from test_replay import held
 
 SETTINGS = """[[account]]
@@ -127,6 +131,99 @@ async def test_a_heavy_account_holds_nobody_up(alone: Path, certificate: tuple[P
     # It is not made a second time over what is there, and an island stays where it is.
     assert "there are islands already" in init(alone, tmp_path)[2]
     assert "this machine is alone" in gate.does("move", "LAB", "two")[2]
+
+
+@in_loop(180)
+async def test_an_operator_sees_all_islands_and_has_logs_opened_anew(alone: Path, certificate: tuple[Path, Path], tmp_path: Path) -> None:
+    """The page of the gate has each island and what its front tells; a reload reads certificates, and opens each island's audit log, and ends nobody's
+    session. The front's limits and characters are the islands' too."""
+    alone.write_text(alone.read_text().replace("[server]", '[server]\ntext = "utf-8"') + '\n[limits]\nrows = 30\n[admin]\nsocket = "admin.socket"\n')
+    assert init(alone, tmp_path)[0] == 0
+    gate = Alone(tmp_path, tmp_path / "machine.toml", certificate[0])
+    try:
+        lisa, cleo = Program(gate, "lisa"), Program(gate, "cleo")
+        for program in (lisa, cleo):
+            await program.signed_on()
+        assert lisa.record["text"] == "utf-8" and await lisa.told("S A=5") == ""
+
+        async def all_serve() -> bool:
+            return all(one["front"].startswith("The server is up") for one in (await (await told(tmp_path)).json())["islands"])
+        await until(all_serve, "the fronts of all islands")
+        found = await (await told(tmp_path)).json()
+        assert found["state"] == "Machine one: 3 of 3 islands are here"
+        assert sorted((one["island"], one["state"], one["accounts"], one["front"]) for one in found["islands"]) == [
+            ("HEAVY", "here", ["HEAVY"], "The server is up; 0 signed on"), ("LAB", "here", ["LAB", "CLINIC"], "The server is up; 1 signed on"),
+            ("LIGHT", "here", ["LIGHT"], "The server is up; 1 signed on")]
+        assert sorted((one["user"], one["account"]) for one in found["users"]) == [("cleo", "CLINIC"), ("lisa", "LIGHT")]
+        assert all(one["lines"] > 0 for one in found["accounts"] if one["account"] == "LIGHT")
+        assert "LIGHT: No snapshot was verified for two days." in [alarm["what"] for alarm in found["alarms"]]
+        assert read_settings(tmp_path / "islands" / "LIGHT" / "front.toml", False).limits.rows == 30
+        await snapshot(tmp_path)
+        await own_password(gate, tmp_path)
+        await reloaded(gate, lisa, certificate)
+        # A front that does not answer is an alarm, and holds nothing else of the page up.
+        [front, *_] = fronts = started_by([gate.process.pid])
+        assert len(fronts) == 3
+        os.kill(front, signal.SIGSTOP)
+        try:
+            found = await (await told(tmp_path)).json()
+            assert [alarm["what"].partition(": ")[2] for alarm in found["alarms"]].count("its front does not answer.") == 1
+        finally:
+            os.kill(front, signal.SIGCONT)
+        for program in (lisa, cleo):
+            program.close()
+    finally:
+        gate.stop()
+
+
+async def snapshot(folder: Path) -> None:
+    """Makes a snapshot of an island by the page's commands, and verifies it: then that is no alarm any more."""
+    island = folder / "islands" / "LIGHT"
+    (island / "backup").mkdir()
+    for words in (["take", island / "backup", "--end-sessions"], ["verify", island / "backup"]):
+        status, _, why = await asyncio.to_thread(tool("mbackup"), *words, "--config", island / "front.toml")
+        assert status == 0, why
+    found = [alarm["what"] for alarm in (await (await told(folder)).json())["alarms"]]
+    assert "LIGHT: No snapshot was verified for two days." not in found and "LAB: No snapshot was verified for two days." in found
+
+
+async def own_password(gate: Alone, folder: Path) -> None:
+    """A user changes their own password through the gate: it is the machine's, and the session in which that is done goes on."""
+    lab = Person(gate, "lab")
+    async with lab:
+        assert await lab.told("S A=1 W A") == "1"
+        assert (await changed(lab.http, "wrong", NEW))[0] == 403
+        assert (await changed(lab.http, PASSWORD, NEW))[0] == 204
+        # The gate gives each island its users again, and the front looks at the proof each second.
+        await asyncio.sleep(2.5)
+        assert await lab.told("W A") == "1"
+    of_machine, of_island = (load(path)["lab"].hash for path in (folder / "users.json", folder / "islands" / "LAB" / "users.json"))
+    assert of_machine == of_island
+    lab = Person(gate, "lab")
+    assert [(await lab.sign_on(password))[0] for password in (PASSWORD, NEW)] == [401, 200]
+    await lab.sign_off()
+    await lab.http.close()
+
+
+async def reloaded(gate: Alone, lisa: Program, certificate: tuple[Path, Path]) -> None:
+    """Reloads a gate, once with a certificate that is broken."""
+    log = gate.folder / "islands" / "LIGHT" / "audit.log"
+    log.rename(log.with_name("audit.old"))
+    before = certificate[0].read_bytes()
+    try:
+        certificate[0].write_text("broken")
+        gate.process.send_signal(signal.SIGHUP)
+        await until(lambda: "not reloaded: " in gate.told(), "a certificate that is refused")
+    finally:
+        certificate[0].write_bytes(before)
+    gate.process.send_signal(signal.SIGHUP)
+    await until(lambda: "certificates opened again" in gate.told(), "a gate that is reloaded")
+    await until(log.exists, "a new audit log")
+    assert await lisa.told("S A=6 W A") == "6"
+    assert '"event": "line"' in log.read_text()
+    second = Program(gate, "lisa")
+    await second.signed_on()
+    second.close()
 
 
 def let_on_soon(gate: Alone) -> None:

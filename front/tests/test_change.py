@@ -63,6 +63,31 @@ async def refused(front: Front, settings: Path) -> None:
         assert status == 3 and wanted in told, told
 
 
+@in_loop(200)
+async def test_an_account_gets_another_language(start, tmp_path: Path) -> None:
+    """From the change on its lines and its routines are read in it; nobody signs on again, and a replay has the store."""
+    settings = tmp_path / "settings.toml"
+    settings.write_text(SETTINGS.read_text())
+    front = start(tls=False, settings=settings, store="store.db", journal={"folder": "journal"})
+    async with front.person("ada") as ada, front.person("cleo") as cleo:
+        for person in (ada, cleo):
+            assert await person.told('S ^ROUTINE("R",1)="T S ^X=$RE(12) W ^X"') == ""
+            assert await person.told("D T^R") == "ZSYNTAX"
+        settings.write_text(SETTINGS.read_text().replace("[1, 2, 3]\n", "[1, 2, 3]\nlanguage = 1\n"))
+        status, _, told = await asyncio.to_thread(takes, front)
+        assert status == 0, told
+        assert (await ada.told("D T^R"), await cleo.told("D T^R"), await ada.told("W $RE(34)")) == ("21", "ZSYNTAX", "43")
+        settings.write_text(SETTINGS.read_text().replace("[1, 2, 3]\n", "[1, 2, 3]\nlanguage = 2\n"))
+        status, _, told = await asyncio.to_thread(takes, front)
+        assert status == 3 and "mserve: settings: Shape" in told, told
+        assert await ada.told("D T^R") == "21"
+    assert sum(record["event"] == "sign-on" for record in front.audit()) == 2
+    assert front.stop() == 0
+    status, _, told = mjournal(front.folder / "journal")("replay", "--program", PROGRAM, "--store", tmp_path / "all")
+    assert status == 0, told
+    assert held(tmp_path / "all") == held(front.folder / "store.db")
+
+
 @pytest.mark.long
 @in_loop(300)
 async def test_settings_change_while_users_work(start, tmp_path: Path, count: int) -> None:

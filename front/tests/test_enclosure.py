@@ -4,18 +4,16 @@ from __future__ import annotations
 
 import asyncio
 import os
+import socket
 import subprocess
 import sys
-import time
+from pathlib import Path
 
 import pytest
 from front import Front, in_loop, missed, until
+from mserve_front.doors import held
 from mserve_front.enclosure import HELPER, PORT, can_enclose
-from mserve_front.connection import joined
-from mserve_front.server import launched, tied
-from pathlib import Path
-from running import PROGRAM
-from front import SETTINGS
+from mserve_front.server import HOST
 
 # What a local user without rights does: finds ports that are listened at, says a line at each terminal there, and looks for the word.
 INTRUDER = """
@@ -91,3 +89,50 @@ async def test_the_server_ends_with_who_started_it(start) -> None:
     child = front.child
     front.process.kill()
     await until(lambda: not Path(f"/proc/{child}").exists(), "the end of the server")
+
+
+# What a local user without rights does: tries to have ports, in each way that there is, and says which of them were had.
+TAKER = """
+import socket, sys, time
+end, ports, found = time.time() + float(sys.argv[1]), [int(text) for text in sys.argv[2:]], set()
+while time.time() < end:
+    for port in ports:
+        for ways in ((), ("SO_REUSEADDR",), ("SO_REUSEPORT",), ("SO_REUSEADDR", "SO_REUSEPORT")):
+            with socket.socket() as place:
+                for way in ways:
+                    place.setsockopt(socket.SOL_SOCKET, getattr(socket, way), 1)
+                try:
+                    place.bind(("127.0.0.1", port))
+                    place.listen()
+                    found.add(port)
+                except OSError:
+                    pass
+print(len(found))
+"""
+
+
+def test_nobody_takes_a_port_that_is_held() -> None:
+    """As a standby holds its own, and a gate those of its fronts, which hears of users without TLS: before a front listens, while it does, and after its
+    end. The front takes it all the same, also where connections were not long ago; another front of this user does not."""
+    gates, own = held(HOST, 0, shared=True), held(HOST, 0)
+    ports = [place.getsockname()[1] for place in (gates, own)]
+
+    def taken() -> str:
+        return as_nobody(sys.executable, "-c", TAKER, "0.1", *map(str, ports)).communicate()[0]
+    assert taken() == "0\n"
+    for _ in range(2):
+        fronts = held(HOST, ports[0], shared=True)
+        for place in (fronts, own):
+            place.setsockopt(socket.SOL_SOCKET, socket.SO_REUSEADDR, 1)
+            place.listen()
+            with socket.create_connection(place.getsockname()), place.accept()[0] as peer:
+                peer.shutdown(socket.SHUT_RDWR)
+        assert taken() == "0\n"
+        with pytest.raises(OSError, match="in use"):
+            held(HOST, ports[1])
+        for place in (fronts, own):
+            place.close()
+        own = held(HOST, ports[1])
+        assert taken() == "0\n"
+    own.close()
+    gates.close()

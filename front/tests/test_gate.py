@@ -15,6 +15,7 @@ from front import PASSWORD, Front, in_loop, until, write_users
 from mserve_front import islands as islands_module
 from mserve_front.doors import Doors
 from mserve_front.gate import Gate
+from mserve_front.gate_command import Doorway, Peers, contexts
 from mserve_front.islands import Home, House, Islands
 from mserve_front.placement import HERE, Island, LocalPlacement, Machine
 from mserve_front.preamble import new_secret, preamble, told_by
@@ -193,3 +194,13 @@ async def test_users_who_change_hold_no_connection_up(tmp_path: Path, monkeypatc
     await islands._read_users()
     assert threads and threading.get_ident() not in threads
     assert [list(json.loads((folder / name / "users.json").read_text())["users"]) for name in "AB"] == [["ada"], ["ben"]]
+
+
+def test_what_a_gate_shows_has_suites_that_are_good_today(certificate: tuple[Path, Path]) -> None:
+    """As a front: of TLS 1.2 forward secrecy and authenticated encryption alone, for users and for other machines."""
+    shown = contexts(Doorway("127.0.0.1", 1, 2, *certificate, Peers(*certificate, certificate[0])))
+    for context in (shown.users, shown.inward, shown.outward):
+        names = [suite["name"] for suite in context.get_ciphers()]
+        assert all(name.startswith(("TLS_", "ECDHE-")) and ("GCM" in name or "CHACHA20" in name) for name in names), names
+        assert context.options & ssl.OP_NO_RENEGOTIATION and context.minimum_version is ssl.TLSVersion.TLSv1_2
+    assert shown.inward.verify_mode is shown.outward.verify_mode is ssl.CERT_REQUIRED

@@ -3,7 +3,7 @@
 
 Settings, lines and the check of who reaches whom are those of tests/drawn_settings.py and tests/support.py. An account is told alone what `mserve run` answers to the lines
 of the accounts that reach it; so that this can be compared, the users of accounts that reach one another send in the drawn order, and all others
-send at the same time as they like."""
+send at the same time as they like. Some accounts have language 0, and some language 1."""
 from __future__ import annotations
 
 import asyncio
@@ -68,8 +68,8 @@ def alone(runs: Runs, settings: Setting, account: str, lines: list[tuple[int, by
 async def signed_on(front: Front, settings: Setting) -> dict[int, Person]:
     """A user at each terminal."""
     people = {}
-    for name, (terminals, _) in settings.accounts.items():
-        for number in range(len(terminals)):
+    for name, account in settings.accounts.items():
+        for number in range(len(account.terminals)):
             person = front.person(f"{name}{number}")
             await person.__aenter__()
             assert person.record["account"] == name
@@ -90,7 +90,7 @@ async def test_each_account_is_told_what_it_is_told_alone(start, tmp_path: Path,
     settings = drawn_setting(rng)
     (tmp_path / "drawn.toml").write_text(settings.document())
     lines = lines_of(rng, settings)
-    users = {f"{name}{place}": name for name, (terminals, _) in settings.accounts.items() for place in range(len(terminals))}
+    users = {f"{name}{place}": name for name, account in settings.accounts.items() for place in range(len(account.terminals))}
     store = str(tmp_path / "store.db") if number % 2 else "memory"
     front = start(users=users, settings=tmp_path / "drawn.toml", store=store)
     people = await signed_on(front, settings)

@@ -17,7 +17,7 @@ from pathlib import Path
 import pytest
 from front import COMMAND, Front, in_loop, mjournal, small_disk, until
 from mserve_front import journal as journal_module
-from mserve_front import witness
+from mserve_front import journal_file, witness
 from mserve_front.faults import HeldBack, NoJournal
 from mserve_front.history import Began, History
 from mserve_front.journal import Journal, LogFault, LogTaken, Tail
@@ -84,6 +84,44 @@ def test_starts_there_and_back_and_records_of_a_later_version() -> None:
                        (b"B\x03" + start.packed()[2:], "a start of version 3, and this program knows 2: a later version wrote this journal")):
         with pytest.raises(BadJournal, match=told):
             read_flush(Flush(7, 1, 1, 0, 0, (Later(data),)).packed(), 0)
+
+
+def test_a_file_that_its_writer_takes_away_while_it_is_looked_for(tmp_path: Path, monkeypatch: pytest.MonkeyPatch) -> None:
+    """A writer whose disk is full takes away a file that it has just begun, and who reads meanwhile goes on with what is there. A standby ended by that."""
+    parts, log = flushes(9), FileLog(tmp_path, 1)
+    log.take()
+    log.append(parts[0])
+    log.append(parts[1])
+    reader, found, real = FileReader(tmp_path), [], journal_file.files_of
+    for flush in parts[2:]:
+        # The file that is to have this flush was there for a moment.
+        gone = flush.sequence, tmp_path / f"{flush.sequence:020d}.journal"
+        monkeypatch.setattr(journal_file, "files_of", lambda folder, gone=gone: [*real(folder), gone])
+        for _ in range(2):
+            found += read(reader)
+            assert tail_of(tmp_path).sequence == flush.sequence - 1
+        monkeypatch.setattr(journal_file, "files_of", real)
+        log.append(flush)
+    assert found + read(reader) == parts and read(reader) == []
+    log.close()
+
+
+def test_a_disk_that_gives_nothing_now_is_waited_for(tmp_path: Path, monkeypatch: pytest.MonkeyPatch) -> None:
+    """That is no damage of the journal: it is told as a fault that may go."""
+    parts = flushes(3)
+    written(tmp_path, parts)
+
+    def broken(*given: object, **named: object) -> None:
+        raise OSError(5, "Input/output error")
+    reader = FileReader(tmp_path)
+    with monkeypatch.context() as patch:
+        for name in ("open", "read_bytes"):
+            patch.setattr(Path, name, broken)
+        with pytest.raises(LogFault, match="Input/output error"):
+            reader.more()
+        with pytest.raises(LogFault, match="Input/output error"):
+            tail_of(tmp_path)
+    assert read(reader) == parts and tail_of(tmp_path).sequence == 3
 
 
 def test_a_journal_that_is_cut_at_each_byte(tmp_path: Path) -> None:

@@ -252,6 +252,7 @@ def test_markup_stays_text(browsers: Opened) -> None:  # noqa: F811
     assert ada.run("return [window.hit ?? null, document.querySelectorAll('b, script:not([src]), #house img:not([src^=\"page/\"])').length]") == [None, 0]
     assert "^ ZSYNTAX: " in ada.line(f"{MARKUP[:40]}")
     assert ada.line("W 1 2").splitlines()[:2] == ["W 1 2", "   ^ ZSYNTAX: two expressions need a comma, or two commands one space"]
+    assert ada.line("W $RE(1) R X").splitlines()[1] == "  ^ ZSYNTAX: $REVERSE, which needs language 1 of the account's settings"
 
 
 @pytest.mark.long

@@ -8,14 +8,15 @@ import random
 import subprocess
 import sys
 from collections.abc import Iterator
+from pathlib import Path
 
 import page_driver
 import pytest
 import running
-from front import FRONT, PASSWORD, SETTINGS, Front
+from front import FRONT, MIXED, PASSWORD, Front
 from mserve_client import CODES, Connection, in_words, keys, language, mtext, routine_files
 from mserve_client.causes import CAUSES
-from mserve_client.checking import check
+from mserve_client.checking import check, fault_of
 from mserve_client.extracts import Entry
 from mserve_client.terminal_way import TerminalWay
 from mserve_client.walk import Walker
@@ -26,7 +27,7 @@ TOP = FRONT.parent
 sys.path.append(str(TOP / "clients" / "tests"))
 import drawn_texts  # noqa: E402
 
-TERMINAL = 1
+TERMINAL, LATER_TERMINAL = 1, 1001
 # The lists of cases that the clients' tests have, by the name of the test.
 CASES = """
 import json, sys
@@ -44,14 +45,13 @@ def cases() -> dict[str, list]:
     return json.loads(subprocess.run(words, check=True, capture_output=True, timeout=60).stdout)
 
 
-@pytest.fixture(scope="module")
-def browser(page_front: Front) -> Iterator[Browser]:  # noqa: F811
+def signed_on(front: Front, user: str) -> Iterator[Browser]:
     """A browser with a terminal of the page's own making."""
     made = Browser()
     try:
-        made.driver.get(page_front.origin)
+        made.driver.get(front.origin)
         made.module("""const { Terminal, signOn } = await import("/page/service.js");
-                       window.own = new Terminal(await signOn(given[0], given[1]), () => {});""", "ada", PASSWORD)
+                       window.own = new Terminal(await signOn(given[0], given[1]), () => {});""", user, PASSWORD)
         yield made
     finally:
         page_driver.left(made)
@@ -59,17 +59,41 @@ def browser(page_front: Front) -> Iterator[Browser]:  # noqa: F811
 
 
 @pytest.fixture(scope="module")
-def connection() -> Iterator[Connection]:
-    """A connection of the clients to a server by the same settings."""
+def browser(page_front: Front) -> Iterator[Browser]:  # noqa: F811
+    """One at a terminal of an account with language 0."""
+    yield from signed_on(page_front, "ada")
+
+
+@pytest.fixture(scope="module")
+def later_browser(page_front: Front) -> Iterator[Browser]:  # noqa: F811
+    """One at a terminal of an account with language 1."""
+    yield from signed_on(page_front, "cleo")
+
+
+def connected(folder: Path, terminal: int) -> Iterator[Connection]:
+    """A connection of the clients to a server of its own by the same settings, since a server has one at a time."""
+    (folder / "mixed.toml").write_text(MIXED)
     port = running.free_port()
-    process = subprocess.Popen(running.serve_words(port, 10, "memory", str(SETTINGS)), stdin=subprocess.DEVNULL)
+    process = subprocess.Popen(running.serve_words(port, 10, "memory", str(folder / "mixed.toml")), stdin=subprocess.DEVNULL)
     running.connected(port).close()
     try:
-        with Connection(port, TERMINAL) as made:
+        with Connection(port, terminal) as made:
             yield made
     finally:
         process.terminate()
         process.wait(30)
+
+
+@pytest.fixture(scope="module")
+def connection(tmp_path_factory: pytest.TempPathFactory) -> Iterator[Connection]:
+    """One of an account with language 0."""
+    yield from connected(tmp_path_factory.mktemp("server"), TERMINAL)
+
+
+@pytest.fixture(scope="module")
+def later_connection(tmp_path_factory: pytest.TempPathFactory) -> Iterator[Connection]:
+    """One of an account with language 1."""
+    yield from connected(tmp_path_factory.mktemp("server"), LATER_TERMINAL)
 
 
 def test_words_of_the_page_are_the_clients() -> None:
@@ -117,15 +141,39 @@ def test_what_is_said_of_other_systems_lines(browser: Browser, connection: Conne
         assert found and found == checked(connection, text), text
 
 
-def test_verdicts_and_causes_of_drawn_texts(browser: Browser, request: pytest.FixtureRequest) -> None:
-    """The page reads the grammar and the causes as the clients do: 1,000 texts, and `--count` times as many."""
-    texts = drawn_texts.drawn_texts(random.Random(72), [cause.example for cause in CAUSES], 1000 * request.config.getoption("--count", 1))
+def as_told(found: language.Fault) -> dict[str, object]:
+    """A fault as the page has it."""
+    return dataclasses.asdict(dataclasses.replace(found, advice=advice_of(found.advice)))
+
+
+@pytest.mark.parametrize("number", language.LANGUAGES)
+def test_verdicts_and_causes_of_drawn_texts(browser: Browser, request: pytest.FixtureRequest, number: int) -> None:
+    """The page reads the grammars and the causes as the clients do: 1,000 texts, and `--count` times as many."""
+    texts = drawn_texts.drawn_texts(random.Random(72), [*(cause.example for cause in CAUSES), *drawn_texts.LATER * 5], 1000 * request.config.getoption("--count", 1))
     given = browser.module("""const { fault, pointed } = await import("/page/language.js");
-                              return given[0].map((text) => { const found = fault(text); return found && [found, pointed(text, found)]; });""", texts)
+                              return given[0].map((text) => { const found = fault(text, given[1]); return found && [found, pointed(text, found)]; });""", texts, number)
     for text, found in zip(texts, given, strict=True):
-        if wanted := language.fault(text):
-            wanted = dataclasses.replace(wanted, advice=advice_of(wanted.advice))
-        assert found == (wanted and [dataclasses.asdict(wanted), language.pointed(text, wanted)]), text
+        wanted = language.fault(text, number)
+        assert found == (wanted and [as_told(wanted), language.pointed(text, dataclasses.replace(wanted, advice=advice_of(wanted.advice)))]), text
+
+
+FAULT = """const [{ faultOf }, { languageOf }] = [await import("/page/language.js"), await import("/page/checking.js")];
+           const found = [];
+           for (const text of given[0]) {
+             found.push(await faultOf(text, () => window.own.alone(languageOf)));
+           }
+           return found;"""
+
+
+@pytest.mark.parametrize("number", language.LANGUAGES)
+def test_language_of_the_account(request: pytest.FixtureRequest, number: int) -> None:
+    """Lines are checked by it, and the cause of one that was refused is the one of the account's language."""
+    own, asked = (request.getfixturevalue(name) for name in (("browser", "connection"), ("later_browser", "later_connection"))[number])
+    taken, refused = ["W $RE(A)"], ["W $RE(A) R X", "W $RE(A,1)", "W $re(", "R X"]
+    assert own.module(CHECK, [f" {text}" for text in taken + refused]) == [checked(asked, f" {text}") for text in taken + refused]
+    assert [checked(asked, f" {text}") == [] for text in taken] == [number == 1] * len(taken)
+    refused += taken * (number == 0)
+    assert own.module(FAULT, refused) == [as_told(fault_of(asked, text)) for text in refused]
 
 
 def test_check_runs_nothing_and_leaves_the_session(browser: Browser) -> None:

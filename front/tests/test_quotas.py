@@ -4,11 +4,13 @@ from __future__ import annotations
 
 import asyncio
 import json
+import os
 import time
 from pathlib import Path
 
 import pytest
 from front import PASSWORD, Front, Person, in_loop, small_disk, until
+from mserve_front import quotas as quotas_module
 from mserve_front.quotas import PAUSE, Memory, Quotas
 from test_programs import Program, new_token, posted
 
@@ -101,8 +103,10 @@ def test_memory_is_charged_to_who_had_the_server() -> None:
     assert ran({"B": 1.0}, 850) == {"A": 100}
     assert ran({"B": 0.01}, 860) == {"A": 100, "B": 10}
     assert ran({}, 900) == {"A": 100, "B": 10}
+    # What came while no line was answered is of the one that was on its way.
+    assert ran({"B": 3.0}, 910) == {"A": 100, "B": 60}
     memory.keep(["B"])
-    assert memory.grown == {"B": 10}
+    assert memory.grown == {"B": 60}
 
 
 @in_loop()
@@ -125,7 +129,7 @@ async def test_who_waits_for_a_turn_goes_on_once_the_account_is_within_its_quota
 @in_loop(120)
 async def test_a_line_that_fills_the_memory_is_answered_zmem_and_others_go_on(start) -> None:
     """Its variables are gone; the front and the server stay."""
-    front: Front = start(before=["prlimit", f"--as={MEMORY}"])
+    front: Front = start(before=["prlimit", f"--as={MEMORY}"], limits={"memory": 4 * MEMORY})
     child = front.child
     async with front.person("ada") as ada, front.person("cleo") as cleo:
         assert await cleo.told("S A=7") == ""
@@ -195,3 +199,41 @@ def test_the_units_bound_memory_and_files() -> None:
         text = (Path(__file__).resolve().parent.parent.parent / "packaging" / f"{unit}.service").read_text()
         keys = dict(line.split("=", 1) for line in text.splitlines() if "=" in line and line[0] not in "#[")
         assert {"LimitAS", "MemoryMax", "LimitFSIZE"} <= keys.keys() and keys["OOMPolicy"] == "continue" and keys["LimitCORE"] == "0"
+
+
+@in_loop()
+async def test_rows_are_counted_once_for_each_time_that_the_store_is_written(tmp_path: Path, monkeypatch: pytest.MonkeyPatch) -> None:
+    """Also if they cannot be: a front that has nothing to do looks at the file's time, and opens nothing."""
+    store, counted, lines, found = tmp_path / "store", [], {"A": (1, 0.1)}, [None]
+
+    def rows_of(store: Path, account: str) -> int | None:
+        counted.append(account)
+        return found[0]
+
+    def written(ago: float) -> None:
+        store.write_text("x")
+        os.utime(store, (time.time() - ago,) * 2)
+    monkeypatch.setattr(quotas_module, "rows_of", rows_of)
+    quotas = Quotas(10, 100, Memory(dict, lambda: 0), lambda: lines, lambda account, over: None)
+
+    async def counts() -> list[str]:
+        counted.clear()
+        quotas._due = 0.0
+        await quotas.count(store)
+        return list(counted)
+    written(60)
+    assert (await counts(), await counts()) == (["A"], [])
+    # Nothing came, and the file is another: what could not be counted is tried again, and what was counted is not.
+    written(50)
+    found[0] = 7
+    assert (await counts(), await counts(), quotas.rows) == (["A"], [], {"A": 7})
+    written(40)
+    assert await counts() == []
+    lines = {"A": (2, 0.1), "B": (1, 0.1)}
+    assert (await counts(), await counts()) == (["A", "B"], [])
+    # A file that was just written may be written again within the same moment.
+    written(0)
+    lines = {"A": (3, 0.1), "B": (1, 0.1)}
+    assert await counts() == ["A"]
+    lines = {"A": (4, 0.1), "B": (1, 0.1)}
+    assert await counts() == ["A"]

@@ -16,7 +16,7 @@ from datetime import UTC, datetime
 from pathlib import Path
 
 import pytest
-from front import FRONT, SETTINGS, Front, Person, Ran, in_loop, mjournal, small_disk, tool
+from front import FRONT, MIXED, SETTINGS, Front, Person, Ran, in_loop, mjournal, small_disk, tool
 from mserve_front.journal_file import FileLog, files_of
 from mserve_front.places import end_of
 from mserve_front.records import Flush, LineRecord, ReplyRecord, StartRecord
@@ -26,7 +26,8 @@ from mserve_front.snapshots import accounts_of
 from running import PROGRAM
 
 LINES = ["S ^X({n})={n} W ^X({n})", "S A({n})={n},B=$G(B)+{n} W B", "K ^X({m})", "W $O(^X({m})),A", "S ^X({m},{n})=$G(^X({m}))_B", "L +^X({m}):0 W $T", "H",
-         "S X=^X({m})", "F I=1:1:5 S ^Y(I)=$G(^Y(I))+1", "X ^X({m})", "W 1/0", "S ^X(1)=$L(B) W ^X(1),!,$D(^X({n}))", "L", "K", "S ^%Z={n} F  Q:$T"]
+         "S X=^X({m})", "F I=1:1:5 S ^Y(I)=$G(^Y(I))+1", "X ^X({m})", "W 1/0", "S ^X(1)=$L(B) W ^X(1),!,$D(^X({n}))", "L", "K", "S ^%Z={n} F  Q:$T",
+         "S ^X({n})=$RE({n}_B) W ^X({n})"]
 
 
 def replay(front: Front, store: object, *words: object) -> Ran:
@@ -58,8 +59,10 @@ def backup(front: Front, *words: object) -> Path:
 
 @in_loop(200)
 async def test_stores_of_drawn_lines_are_made_anew(start, tmp_path: Path) -> None:
-    """Snapshots are taken while users work; a replay to the number of each holds what it does, and so does one from each that is exact."""
-    front = start(store="store.db", journal={"folder": "journal", "roll": 10_000})
+    """Snapshots are taken while users work; a replay to the number of each holds what it does, and so does one from each that is exact. Cleo's account
+    has language 1, the others' have 0."""
+    (tmp_path / "mixed.toml").write_text(MIXED)
+    front = start(settings=tmp_path / "mixed.toml", store="store.db", journal={"folder": "journal", "roll": 10_000})
     async with front.person("ada") as ada, front.person("ben") as ben, front.person("cleo") as cleo:
         work = asyncio.gather(*(works(person, seed, 90) for seed, person in enumerate((ada, ben, cleo))))
         snapshots = []
@@ -68,6 +71,7 @@ async def test_stores_of_drawn_lines_are_made_anew(start, tmp_path: Path) -> Non
             snapshots.append(await asyncio.to_thread(backup, front, *["--end-sessions"] * (number == 1)))
         await work
         # Events are read with the reply that comes after them.
+        assert (await ada.told("W $RE(12)"), await cleo.told("W $RE(12)")) == ("ZSYNTAX", "21")
         assert await ada.told("W 5") == "5" and [event["event"] for event in ada.events] == ["restarted"]
     assert front.stop() == 0
     status, output, told = replay(front, tmp_path / "all")
@@ -200,6 +204,18 @@ def test_settings_that_change(tmp_path: Path) -> None:
     folder = made(tmp_path / "journal", (begin(), line(1, b"S ^X=1 S ^Y=1 S ^Z=1 S A=1"), reply(1, 1, b"1.\n")),
                   (begin(2, 1, 1, False, other), line(2, b"S ^X=1 S ^Y=1 S ^Z=1 S A=1"), reply(2, 1, b"1!ZSTEPS\n", "ZSTEPS")))
     assert mjournal(folder)("replay", "--program", PROGRAM, "--store", tmp_path / "new")[::2] == (0, "")
+
+
+def test_language_that_changes(tmp_path: Path) -> None:
+    """A journal from before there were languages is replayed as it was, and goes on by settings that give the account one, and take it back."""
+    later = tmp_path / "later.toml"
+    later.write_text('[[account]]\nname = "CLINIC"\nterminals = [1]\nsteps = 2000\nlanguage = 1\n')
+    refused, taken = (reply(1, 1, b"1!ZSYNTAX\n", "ZSYNTAX"), reply(2, 1, b"1-21\n1.\n"))
+    folder = made(tmp_path / "journal", (begin(), line(1, b"W $RE(12)"), refused), (begin(2, 1, 1, False, later), line(2, b"W $RE(12)"), taken),
+                  (begin(3, 2, 2, False), line(3, b"W $RE(12)"), reply(3, 1, b"1!ZSYNTAX\n", "ZSYNTAX")))
+    assert mjournal(folder)("replay", "--program", PROGRAM, "--store", tmp_path / "new")[::2] == (0, "")
+    folder = made(tmp_path / "otherwise", (begin(settings=later), line(1, b"W $RE(12)"), refused))
+    assert "line 1, of terminal 1, is answered otherwise" in mjournal(folder)("replay", "--program", PROGRAM, "--store", tmp_path / "other")[2]
 
 
 @in_loop(200)

@@ -52,10 +52,11 @@ def of_machine() -> list[int]:
 
 
 def kill_machine() -> None:
-    """Ends all other processes of this one's machine. They are stopped first: none sees another one end."""
+    """Ends all other processes of this one's machine. They are stopped first: none sees another one end. The eldest is last, since this process may end
+    with it, and one that is stopped would stay."""
     found = of_machine()
     signalled(found, signal.SIGSTOP)
-    signalled({*found, *of_machine()}, signal.SIGKILL)
+    signalled(sorted({*found, *of_machine()}, reverse=True), signal.SIGKILL)
 
 
 def signalled(pids: Iterable[int], number: signal.Signals) -> None:

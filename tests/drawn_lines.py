@@ -23,9 +23,9 @@ def joined(parts: list[str | Pair], between: str = "") -> Pair:
 class Draw:
     """One line that is drawn: its parts, and the texts that its second form refers to."""
 
-    def __init__(self, drawn: Random) -> None:
-        """A line by what this draws."""
-        self.drawn = drawn
+    def __init__(self, drawn: Random, language: int = 0) -> None:
+        """A line of a language by what this draws."""
+        self.drawn, self.language = drawn, language
         self.texts: list[tuple[str, str]] = []
 
     def held(self, text: str) -> str:
@@ -74,6 +74,10 @@ class Draw:
 
     def expression(self, depth: int) -> Pair:
         """An expression that nests this deep at most."""
+        if self.language and depth > 0 and self.drawn.randrange(4) == 0:
+            if self.drawn.randrange(2):
+                return joined(["$J(", self.expression(depth - 1), self.drawn.choice([",1", ",5", ",I"]), self.drawn.choice([",0)", ",2)", ",I)"])])
+            return joined([self.drawn.choice(["$RE(", "$REVERSE(", "$re("]), self.expression(depth - 1), ")"])
         form = self.drawn.randrange(14) if depth > 0 else 0
         if form <= 3:
             text = self.drawn.choice(["1", "2", "1", "2", "0", "5", '"x"', '"xy"', "I", "N", ".5"])

@@ -1,5 +1,6 @@
 # SPDX-License-Identifier: Apache-2.0
-"""Drawn settings of several accounts and drawn lines of all their terminals, hostile ones among them, and runs of them over new stores."""
+"""Drawn settings of several accounts, of which some have language 0 and some language 1, and drawn lines of all their terminals, hostile ones among
+them, and runs of them over new stores."""
 from __future__ import annotations
 
 import itertools
@@ -10,6 +11,7 @@ from collections.abc import Callable, Iterator
 from contextlib import contextmanager
 from dataclasses import dataclass
 from random import Random
+from typing import NamedTuple
 
 from hypothesis import given, note, settings
 from hypothesis import strategies as st
@@ -41,18 +43,33 @@ TEXTS = [
     # hostile: without end, too long, too deep, refused
     'F  S B=1', 'F I=1:1 S ^{g}(I)=I', 'F I=1:1 L +^{g}(I)', 'S B="x" F  S B=B_B', 'F I=1:1 S ^{g}("x"_I)=$J("",4000)', 'S B="X B" X B',
     'S ^{g}({i})=1 W 1/0', 'W "', 'S ^{g}("")=1', 'W $C(200)', 'W "é"', ";" + "x" * 255, 'ZZ', '', 'D NO^R', 'W @"^|"',
+    # of language 1, in a routine's line
+    'S ^ROUTINE("R",2)="B S ^{g}({i})=$REVERSE(""{v}"") W ^{g}({i}) Q"', 'D B^R', 'D B^R',
+    # of language 1, in the line, in a text that it runs, and in names that it looks up
+    'W $RE("{v}")', 'S ^{g}({i})=$RE({v}_$G(^{g}({i})))', 'W $L($RE(^|"{o}"|{g}({i})))', 'X "S A=$RE({v}) W A"', 'S A="$RE({v})" W @A',
+    'S A="^{g}($RE({i}))" W $G(@A,"-")', 'W $J($RE({v}),6,2)', 'S ^{g}({i})=$J($RE({v})/7,9,3) W ^{g}({i})',
 ]
+# What a line has that is in language 1 alone: where it is reached, language 0 ends by ZSYNTAX.
+LATER = b"$RE("
+
+
+class Account(NamedTuple):
+    """An account: its terminals, the steps of its lines, and its language."""
+    terminals: list[int]
+    steps: int
+    language: int
 
 
 @dataclass(frozen=True)
 class Setting:
-    """Accounts with their terminals and steps, and grants."""
-    accounts: dict[str, tuple[list[int], int]]
+    """Accounts, and grants."""
+    accounts: dict[str, Account]
     grants: list[Grant]
 
     def document(self) -> str:
         """It as a file of settings has it."""
-        tables = [f'[[account]]\nname = "{name}"\nterminals = {terminals}\nsteps = {steps}\n' for name, (terminals, steps) in self.accounts.items()]
+        tables = [f'[[account]]\nname = "{name}"\nterminals = {terminals}\nsteps = {steps}\nlanguage = {language}\n'
+                  for name, (terminals, steps, language) in self.accounts.items()]
         tables += [f'[[grant]]\nfrom = "{giver}"\nto = "{taker}"\nglobal = "{name}"\nmode = "{mode}"\n' for giver, taker, name, mode in self.grants]
         return "\n".join(tables)
 
@@ -67,13 +84,14 @@ class Setting:
 
     def terminals(self, members: set[str]) -> set[int]:
         """The terminals of some accounts."""
-        return {terminal for name in members for terminal in self.accounts[name][0]}
+        return {terminal for name in members for terminal in self.accounts[name].terminals}
 
 
 def drawn_setting(drawn: Random) -> Setting:
-    """Three to five accounts of two terminals each, and at least one grant."""
+    """Three to five accounts of two terminals each, at least one of each language, and at least one grant."""
     names = drawn.sample(NAMES, drawn.randint(3, 5))
-    accounts = {name: ([2 * place + 1, 2 * place + 2], drawn.choice([60, 400, 2000])) for place, name in enumerate(names)}
+    languages = drawn.sample([0, 1, *drawn.choices([0, 1], k=len(names) - 2)], len(names))
+    accounts = {name: Account([2 * place + 1, 2 * place + 2], drawn.choice([60, 400, 2000]), languages[place]) for place, name in enumerate(names)}
     pairs = [(giver, taker) for giver in names for taker in names if giver != taker]
     granted = drawn.sample(pairs, drawn.randint(1, len(names) - 1))
     return Setting(accounts, [(giver, taker, drawn.choice(GLOBALS), drawn.choice(["read", "read", "write"])) for giver, taker in granted])
@@ -146,6 +164,28 @@ def told(setting: Setting, account: str, answer: list[bytes]) -> list[bytes]:
     """Of an answer, what goes to an account's terminals."""
     own = setting.terminals({account})
     return [line for line in answer if (found := REPLY.match(line)) and int(found[1]) in own]
+
+
+def later_lines(setting: Setting, lines: list[Line], answer: list[bytes]) -> Iterator[tuple[int, bytes]]:
+    """Of lines that were answered, those with a form of language 1: the account's language, and the reply."""
+    languages = {terminal: account.language for account in setting.accounts.values() for terminal in account.terminals}
+    answered = list(whole_replies(answer))
+    sent = [line for line in lines if line[1].strip(b"\r\n")]
+    assert len(answered) == len(sent)
+    for (terminal, line), reply in zip(sent, answered, strict=True):
+        if terminal in languages and LATER in line:
+            yield languages[terminal], reply
+
+
+def whole_replies(answer: list[bytes]) -> Iterator[bytes]:
+    """The replies of an answer, each with all its lines."""
+    reply = b""
+    for line in answer:
+        reply += line
+        if line.startswith(b"?") or REPLY.match(line)[0][-1:] in b".!":
+            yield reply
+            reply = b""
+    assert reply == b""
 
 
 def sent_by(setting: Setting, members: set[str], lines: list[Line]) -> list[Line]:

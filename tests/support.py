@@ -111,9 +111,9 @@ def replies(stream: bytes, store: str = "memory", settings: str | None = None) -
     return ran.stdout
 
 
-def replies_of_lines(lines: list[str], store: str = "memory") -> list[list[str]]:
+def replies_of_lines(lines: list[str], store: str = "memory", settings: str | None = None) -> list[list[str]]:
     """The reply to each of the lines, which are of terminal 1, by its own lines."""
-    written = replies("".join(f"1 {line}\n" for line in lines).encode("ascii"), store).decode("ascii")
+    written = replies("".join(f"1 {line}\n" for line in lines).encode("ascii"), store, settings).decode("ascii")
     found: list[list[str]] = []
     reply: list[str] = []
     for line in written.splitlines():

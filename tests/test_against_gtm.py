@@ -13,16 +13,19 @@ import pytest
 from against_gtm import Difference, Reply, alike, differences, faults_of_drawn, faults_of_examples, faults_of_rows, first_fault
 from drawn_forms import BEGIN, FORMS, SHOW, session
 from gtm import gtm_folder
+from running import OF_LANGUAGE
 
 needs_gtm = pytest.mark.skipif(gtm_folder() is None and not os.environ.get("CI"), reason="GT.M is not there: apt-get install fis-gtm")
 
 
 @needs_gtm
-def test_drawn_lines(count: int) -> None:
-    """2,000 lines, and `--count` times as many."""
-    lines, faults = faults_of_drawn(differences(), against_gtm.SESSIONS * count, 68, 0)
+@pytest.mark.parametrize("language", OF_LANGUAGE)
+def test_drawn_lines(count: int, language: int) -> None:
+    """2,000 lines, and `--count` times as many; of a later language, most of them of its own forms, half as many."""
+    sessions, least = ((against_gtm.SESSIONS, 2000), (200, 1000))[language]
+    lines, faults = faults_of_drawn(differences(), sessions * count, 68, language)
     assert [fault.told() for fault in faults] == []
-    assert lines >= 2000 * count
+    assert lines >= least * count
 
 
 @needs_gtm
@@ -62,8 +65,11 @@ def test_what_a_row_explains() -> None:
 
 
 def test_each_form_is_drawn() -> None:
-    """Each form of language 0 gives lines of its own, and sessions have what they begin with and what shows their end."""
-    kinds = Counter(form.name for form in FORMS if form.since == 0)
+    """Each form gives lines of its own, each language has some, and sessions have what they begin with and what shows their end."""
+    kinds = Counter(form.name for form in FORMS)
     assert max(kinds.values()) == 1 and all(form.draw(Random(1)) for form in FORMS)
-    drawn = session(Random(2), 0)
-    assert drawn[:len(BEGIN)] == BEGIN and drawn[-len(SHOW):] == SHOW and len(drawn) >= len(BEGIN) + len(SHOW) + 5
+    assert {form.since for form in FORMS} > set(OF_LANGUAGE)
+    for language in OF_LANGUAGE:
+        drawn = session(Random(2), language)
+        assert drawn[:len(BEGIN)] == BEGIN and drawn[-len(SHOW):] == SHOW and len(drawn) >= len(BEGIN) + len(SHOW) + 5
+    assert "$RE" not in "".join(line for seed in range(50) for line in session(Random(seed), 0)) and "$RE" in "".join(session(Random(2), 1))

@@ -39,4 +39,14 @@ def test_tables(tmp_path: Path) -> None:
 
 def test_folder_without_routines_and_other_languages(tmp_path: Path) -> None:
     assert (told(tmp_path).returncode, told(tmp_path).stderr) == (1, f"coverage: {tmp_path} has no file .m\n")
-    assert "invalid choice: 1" in told(tmp_path, "--language", 1).stderr
+    assert "invalid choice: 2" in told(tmp_path, "--language", 2).stderr
+
+
+def test_language(tmp_path: Path) -> None:
+    """A form of language 1 is refused at 0, by its own cause, and taken at 1."""
+    (tmp_path / "A.m").write_text("A W $RE(1)\n R X\n")
+    ran = [told(tmp_path, "--language", language) for language in (0, 1)]
+    assert [(one.returncode, one.stderr) for one in ran] == [(0, "")] * 2
+    causes = [one.stdout.strip().partition("| first cause | lines | routines |\n|---|---|---|\n")[2].split("\n") for one in ran]
+    assert causes == [["| $REVERSE, which needs language 1 of the account's settings | 1 | 1 |", "| READ | 1 | 1 |"], ["| READ | 1 | 1 |"]]
+    assert "| lines of 2 | 50.0 % | 50.0 % |" in ran[1].stdout and "| lines of 2 | 0.0 % | 0.0 % |" in ran[0].stdout

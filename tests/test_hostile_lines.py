@@ -4,7 +4,7 @@ has exactly one reply, from the terminal that it names, and the replies are the 
 
 What is changed: a bracket too many, a byte over 127 or under 32, a name of 32 characters, 41 brackets or operands of `@` one within the other,
 256 levels, a count of 10^19, a character left out, doubled or in place of another, a cut, and the terminal. Of one long line every cut
-is tried."""
+is tried. Half of the lines have forms of language 1, and all are played by language 0 and by language 1."""
 from __future__ import annotations
 
 import re
@@ -15,7 +15,7 @@ import pytest
 from drawn_lines import Draw, quoted
 from hypothesis import given, note, settings
 from hypothesis import strategies as st
-from running import ONE_ACCOUNT, run
+from running import OF_LANGUAGE, run
 from support import run_in_pieces
 
 # So many streams are drawn, of so many lines each, of which some are left out.
@@ -33,12 +33,17 @@ NESTED = [
     'S A="@A" W @A', "F  F  F  F  X \"F  \"", 255 * "(", 255 * "@", 255 * '"',
     'S ^ROUTINE("R",9)="X D X^R" D X^R', 'W ?' + BIG, f'W "A"?{BIG}A', f'W "A"?.{BIG}A', f"W $P(A,B,{BIG})", f'W $J("",{BIG})', f"F I=1:{BIG} W I",
     f"F I={BIG}:1:2 W I", f"S $P(A,B,{BIG})=1", f"W {BIG}*{BIG}", f"S A({BIG})=1", f"W $E(A,-{BIG},{BIG})", f'L +^A({BIG}):{BIG}',
-    f'W $O(A({BIG}),{BIG})', f"W {BIG}E{BIG}", f"W .{BIG}", "S B=\"x\" F  S B=B_B", 'W $J("",200)?.E.E.E.E1"x"', 'K  K ^A,^B N  L', "H", "Q", "G", "D",
+    "W " + 41 * "$RE(" + "1" + 41 * ")", 'S X="X $RE($RE(X))" X X', 'W $RE($J("",200))?.E.E.E.E1"x"', 'S B="x" F  S B=$RE(B_B)', f"W $RE({BIG})", "W $RE(", "W $RE", "S $RE(A)=1",
+    f"W $J({BIG},1,1)", f"W $J(1,{BIG},1)", f"W $J(1,1,{BIG})", "W $J(1,0,999999999999999999)", "W $J(1,4095,4094)", "W $J(1,5,-1)", "W $J(1,2,3,4)",
+    "W " + 41 * "$J(1,1," + "1" + 41 * ")", "W $RE(1,2)", "W $RE()", 40 * "$RE(", f'W $G(@"A($RE({BIG}))")', f'W $O(A({BIG}),{BIG})', f"W {BIG}E{BIG}", f"W .{BIG}", "S B=\"x\" F  S B=B_B", 'W $J("",200)?.E.E.E.E1"x"', 'K  K ^A,^B N  L', "H", "Q", "G", "D",
 ]
+# One with forms of language 0, and the same with forms of language 1 in it.
 LONG = (
     'S:1=1 A(1,"x")=$P(^A(1),"y",1,2),B=-$L(@"A"),$P(C,",",2)=\'(1<2)!(A]]"q") F I=1:1:2 W:I#2=1 $S(I:$J(I,3),1:"no"),! X "W I" '
     'I $D(B) D P^R,@"R^R":I K (A,B) L +(^A,B):0 N I W $O(^A("")),$TR("ab","a","b"),$E("abc",2),$G(^|"ALICE"|A(1)),$C(65),A?1.N ; end'
 )
+LONGS = {0: LONG, 1: LONG.replace('$TR("ab","a","b")', "$RE($J(1.5,6,2))").replace('"no"', "$RE(I)")}
+each_language = pytest.mark.parametrize("language", OF_LANGUAGE)
 
 
 def with_bracket(drawn: Random, text: str) -> str:
@@ -116,7 +121,7 @@ def drawn_line(drawn: Random) -> bytes:
     if drawn.randrange(12) == 0:
         return b""
     # the right line is drawn apart, by a seed: a difference shrinks to one change of one line all the same
-    draw = Draw(Random(drawn.randrange(SEEDS)))
+    draw = Draw(Random(drawn.randrange(SEEDS)), drawn.randrange(2))
     plain, other = draw.line()
     texts = [f"S {name}={quoted(text)}" for name, text in draw.texts]
     text = drawn.choice(CHANGES)(drawn, drawn.choice([plain, other, *texts]))
@@ -142,48 +147,53 @@ def endings(output: bytes) -> list[tuple[bytes, bytes]]:
     return [(match[1] or match[3], line) for match, line in found if match]
 
 
-def judge(stream: bytes) -> list[bytes]:
-    """The last lines of the replies to a stream, which are as they should be, however it is cut."""
-    status, output, told = run(stream)
+def judge(stream: bytes, language: int) -> list[bytes]:
+    """The last lines of the replies to a stream by a language, which are as they should be, however it is cut."""
+    status, output, told = run(stream, OF_LANGUAGE[language])
     assert (status, told) == (0, b"")
     assert not output or output.endswith(b"\n")
     ends = endings(output)
     assert [line if whose == b"?" else whose for whose, line in ends] == wanted_endings(stream)
     for size in PIECES:
-        assert (size, run_in_pieces(stream, size, ONE_ACCOUNT, None)) == (size, (0, output, b""))
+        assert (size, run_in_pieces(stream, size, OF_LANGUAGE[language], None)) == (size, (0, output, b""))
     return [line for _, line in ends]
 
 
 @pytest.mark.parametrize("form", ["1 {}\n", "{}\n", "1 {}"], ids=["a line", "without a terminal", "without a line feed"])
-def test_each_cut_of_a_long_line(form: str) -> None:
-    cuts = [form.format(LONG[:place]).encode("ascii") for place in range(len(LONG) + 1)]
+@each_language
+def test_each_cut_of_a_long_line(form: str, language: int) -> None:
+    long = LONGS[language]
+    cuts = [form.format(long[:place]).encode("ascii") for place in range(len(long) + 1)]
     if form.endswith("\n"):
-        judge(b"".join(cuts))
+        judge(b"".join(cuts), language)
         return
     for line in cuts:
-        status, output, told = run(line)
+        status, output, told = run(line, OF_LANGUAGE[language])
         assert (line, status, told, [whose for whose, _ in endings(output)]) == (line, 0, b"", [b"1"])
 
 
 @pytest.mark.parametrize("text", NESTED, ids=range(len(NESTED)))
-def test_a_line_that_nests_or_counts(text: str) -> None:
-    judge(f"1 {text}\n1 W 1\n".encode("ascii"))
+@each_language
+def test_a_line_that_nests_or_counts(text: str, language: int) -> None:
+    judge(f"1 {text}\n1 W 1\n".encode("ascii"), language)
 
 
 @pytest.mark.long
-def test_drawn_lines(count: int) -> None:
+@each_language
+def test_drawn_lines(count: int, language: int) -> None:
     """They end in many ways, none of them for want of memory or room."""
     codes: Counter[bytes] = Counter()
+    streams = count * STREAMS // 2
 
-    @settings(max_examples=count * STREAMS)
+    @settings(max_examples=streams)
     @given(st.randoms(use_true_random=False))
     def answered(drawn: Random) -> None:
         stream = b"".join(drawn_line(drawn) for _ in range(LINES))
         note("\n".join(map(repr, stream.split(b"\n"))))
-        codes.update(line.rpartition(b"!")[2] for line in judge(stream))
+        codes.update(line.rpartition(b"!")[2] for line in judge(stream, language))
 
     answered()
     print(codes.total(), codes)
-    assert codes.total() >= 0.75 * count * STREAMS * LINES
+    assert codes.total() >= 0.75 * streams * LINES
     assert not set(codes) & {b"ZMEM", b"ZSTORE"}
     assert set(codes) >= {b"1.", b"ZSYNTAX", b"ZWIRE", b"ZLINE", b"ZTERM", b"ZCHAR", b"ZDEPTH", b"ZSTEPS", b"ZOVER", b"M6", b"M13"}

@@ -13,6 +13,7 @@ import pytest
 from drawn_lines import Draw, quoted
 from hypothesis import given, settings
 from hypothesis import strategies as st
+from running import OF_LANGUAGE
 from support import replies_of_lines
 
 # So many streams are drawn, of so many lines each.
@@ -34,10 +35,10 @@ BEGIN = [
 ]
 
 
-def drawn_line(drawn: Random) -> tuple[list[str], str, str]:
+def drawn_line(drawn: Random, language: int) -> tuple[list[str], str, str]:
     """A line that is short enough: the lines before it, and its two forms. One that is not is drawn again, with fewer parts at last."""
     for _ in range(TRIES):
-        draw = Draw(drawn)
+        draw = Draw(drawn, language)
         plain, other = draw.line()
         before = [f"S {name}={quoted(text)}" for name, text in draw.texts]
         if max(map(len, [plain, other, *before])) <= LONGEST:
@@ -57,21 +58,25 @@ def runs(lines: list[tuple[list[str], str, str]]) -> tuple[list[str], list[str],
 
 
 @pytest.mark.long
-def test_lines_with_indirection_and_without(count: int) -> None:
-    """Most lines have indirection and end without a code, so that the test shows something."""
+@pytest.mark.parametrize("language", OF_LANGUAGE)
+def test_lines_with_indirection_and_without(count: int, language: int) -> None:
+    """Most lines have indirection and end without a code, so that the test shows something. Of the later language half as many."""
     ends: Counter[str] = Counter()
+    streams = count * STREAMS // (1 + language)
 
-    @settings(max_examples=count * STREAMS)
+    @settings(max_examples=streams)
     @given(st.randoms(use_true_random=False))
     def alike(drawn: Random) -> None:
-        plain_run, other_run, places = runs([drawn_line(drawn) for _ in range(LINES)])
-        plain, other = replies_of_lines(plain_run), replies_of_lines(other_run)
+        plain_run, other_run, places = runs([drawn_line(drawn, language) for _ in range(LINES)])
+        plain, other = (replies_of_lines(run, settings=OF_LANGUAGE[language]) for run in (plain_run, other_run))
+        ends["lines with a form of language 1"] += sum("$re" in line.lower() for line in other_run)
         for line, other_line, reply, other_reply in zip(plain_run, other_run, plain, other):
             assert (line, reply) == (line, other_reply), other_line
         ends.update(other[place][-1] for place in places)
 
     alike()
     print(ends)
+    assert (ends.pop("lines with a form of language 1") >= streams) == (language == 1)
     assert not set(ends) & {"1!ZSYNTAX", "1!ZDEPTH", "1!ZSTEPS", "1!ZLINE"}
-    assert ends.total() >= 0.8 * count * STREAMS * LINES
+    assert ends.total() >= 0.8 * streams * LINES
     assert 2 * ends["1."] >= ends.total()

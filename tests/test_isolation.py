@@ -6,6 +6,9 @@ For each account three outputs are equal: the replies at its terminals if all li
 replies at its terminals if there is nothing but the accounts that reach it: the settings cut to them, with their lines alone. An account
 reaches another if a chain of grants leads there; a grant to write leads both ways.
 
+In each of the settings accounts of language 0 and of language 1 share the host. A line with a form of language 1 ends by ZSYNTAX where the account
+has language 0, with nothing written before it, and by ZSYNTAX never where it has language 1.
+
 That the streams would show a leak is tested too: for some accounts the replies are others if their own lines are run alone, since they depend
 on a grant, and in some settings if all accounts have all grants.
 
@@ -16,7 +19,7 @@ from collections import Counter
 from collections.abc import Iterator
 
 import pytest
-from drawn_settings import LINES, Case, Line, Runs, Setting, for_cases, runs_over, sent_by, told
+from drawn_settings import LINES, Case, Line, Runs, Setting, for_cases, later_lines, runs_over, sent_by, told
 from support import reaching
 
 # So many settings are drawn, of each kind of store.
@@ -29,6 +32,7 @@ def judge(runs: Runs, setting: Setting, parts: list[list[Line]]) -> Iterator[str
     def answered(cut: Setting, members: set[str]) -> list[bytes]:
         return runs.answered(cut, *(sent_by(setting, members, part) for part in parts))
     answer = runs.answered(setting, *parts)
+    yield from judged_by_language(setting, [line for part in parts for line in part], answer)
     other = runs.answered(setting.with_all_grants(), *parts)
     for account in setting.accounts:
         among_all = told(setting, account, answer)
@@ -42,6 +46,15 @@ def judge(runs: Runs, setting: Setting, parts: list[list[Line]]) -> Iterator[str
             yield "tied"
         if told(setting, account, other) != among_all:
             yield "open to all"
+
+
+def judged_by_language(setting: Setting, lines: list[Line], answer: list[bytes]) -> Iterator[str]:
+    """Looks at the lines with a form of language 1; gives a word for each that language 0 refuses, and for each that language 1 takes to its end."""
+    for language, reply in later_lines(setting, lines, answer):
+        is_refused = reply.endswith(b"!ZSYNTAX\n")
+        assert is_refused == (language == 0) and (not is_refused or reply.count(b"\n") == 1), (language, reply)
+        if is_refused or reply.endswith(b".\n"):
+            yield "refused by language 0" if is_refused else "taken by language 1"
 
 
 @pytest.mark.parametrize("kind", [pytest.param(kind, marks=() if kind == "memory" else pytest.mark.long) for kind in SETTINGS])
@@ -60,4 +73,5 @@ def test_each_account_is_shown_the_same(kind: str, count: int) -> None:
     isolated()
     print(dict(seen))
     assert seen["reached by nobody"] > 0 and seen["tied"] > 0 and seen["open to all"] > 0
+    assert seen["refused by language 0"] > draws / 2 and seen["taken by language 1"] > draws / 2
     assert seen["accounts"] >= 3 * draws and seen["lines"] >= 0.8 * draws * LINES

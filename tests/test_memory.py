@@ -42,7 +42,7 @@ BLOCKS = [block for block in blocks() if block.kind in (*SERVED, "only")]
 # steps, and of a run over a file.
 MOST, MOST_SHOWN, MOST_STEPS, MOST_OVER_A_FILE = 5000, 250, 1000, 100
 # Those of several accounts, and one of them in which BOB locks.
-SEVERAL = [block for block in BLOCKS if block.kind in ("terminals", "accounts")]
+SEVERAL = [block for block in BLOCKS if block.kind in ("terminals", "accounts", "languages")]
 LOCKS = "locks between terminals"
 # Each of the former with each account that no other reaches, and that has a terminal.
 APART = [(block, name) for block in SEVERAL for name, terminals in accounts_of(SERVED[block.kind]).items()

@@ -1,5 +1,5 @@
 # SPDX-License-Identifier: Apache-2.0
-"""The second interpreter (tests/second_interpreter), written from the rules, beside the program at language 0 and beside GT.M at language 1."""
+"""The second interpreter (tests/second_interpreter), written from the rules, beside the program, and of what is coming beside GT.M."""
 from __future__ import annotations
 
 import os
@@ -14,6 +14,7 @@ from blocks import SERVED, Block, blocks
 from drawn_forms import ROUTINES, quoted, session
 from gtm import Gtm, gtm_folder
 from running import ONE_ACCOUNT
+from second_interpreter.languages import COMING
 from second_interpreter.world import World, deep
 from support import ACCOUNT, content, replies as program_replies
 
@@ -33,8 +34,8 @@ def stored(routines: dict[str, list[str]]) -> list[str]:
     return [f"S ^ROUTINE({quoted(name)},{number})={quoted(text)}" for name, lines in routines.items() for number, text in enumerate(lines, 1)]
 
 
-def interpreted(given: bytes, settings: str = ONE_ACCOUNT, language: int = 0) -> bytes:
-    """What the second interpreter replies to a stream."""
+def interpreted(given: bytes, settings: str = ONE_ACCOUNT, language: int | None = None) -> bytes:
+    """What the second interpreter replies to a stream, by the languages of the settings if no other is given."""
     return deep(lambda: World(content(settings).decode("ascii"), language).replies(given))
 
 
@@ -51,11 +52,12 @@ def test_transcripts(file: str) -> None:
 
 
 @pytest.mark.parametrize("steps", [2000, 60])
-def test_drawn_sessions_beside_the_program(count: int, steps: int, written: Callable[[str], str]) -> None:
-    """Sessions of all forms of language 0 are answered alike, byte for byte, also where their lines run out of steps."""
-    drawn, settings = Random(steps), written(ACCOUNT.format(1, steps))
-    for _ in range(3 * count):
-        lines = [*stored(ROUTINES), *(line for _ in range(SESSIONS // 6) for line in session(drawn, 0))]
+@pytest.mark.parametrize(("language", "forms"), [(0, 0), (1, 1), (0, 1)], ids=["language 0", "language 1", "forms of language 1 at language 0"])
+def test_drawn_sessions_beside_the_program(count: int, language: int, forms: int, steps: int, written: Callable[[str], str]) -> None:
+    """Sessions of all forms of a language are answered alike, byte for byte, also where their lines run out of steps."""
+    drawn, settings = Random(steps), written(f"{ACCOUNT.format(1, steps)}language = {language}\n")
+    for _ in range((3 if language == forms else 1) * count):
+        lines = [*stored(ROUTINES), *(line for _ in range(SESSIONS // 6) for line in session(drawn, forms))]
         given = stream(lines)
         ours, programs = interpreted(given, settings), program_replies(given, settings=settings)
         assert len(list(replies(programs.decode("ascii")))) == len(lines)
@@ -184,24 +186,24 @@ W !,$X'''.split("\n")
 
 
 def both(lines: list[str], folder: Path) -> list[tuple[str, Reply, Reply]]:
-    """Each line with what this interpreter at language 1 and GT.M answer to it, each after the same beginning."""
+    """Each line with what this interpreter, with all that is coming, and GT.M answer to it, each after the same beginning."""
     played = [line for one in lines for line in ("K  K ^A W !", one)]
-    ours = list(replies(interpreted(stream([*stored(CALLED), *played]), language=1).decode("ascii")))[len(stored(CALLED)):]
+    ours = list(replies(interpreted(stream([*stored(CALLED), *played]), language=COMING).decode("ascii")))[len(stored(CALLED)):]
     return list(zip(played, ours, Gtm(folder, CALLED).play(played), strict=True))[1::2]
 
 
 @needs_gtm
 @pytest.mark.parametrize("lines", [FUNCTIONS, OUTPUT], ids=["functions", "output"])
-def test_language_1_beside_gtm(lines: list[str], tmp_path: Path) -> None:
+def test_what_is_coming_beside_gtm(lines: list[str], tmp_path: Path) -> None:
     different = {line: (ours, theirs) for line, ours, theirs in both(lines, tmp_path) if not alike(ours, theirs)}
     assert different.keys() == KNOWN.keys() & set(lines), different
 
 
 @needs_gtm
-def test_drawn_sessions_of_language_1_beside_gtm(count: int) -> None:
+def test_drawn_sessions_of_what_is_coming_beside_gtm(count: int) -> None:
     """Sessions with parameters and functions, among lines of all other forms."""
     drawn, known = Random(70), against_gtm.differences()
-    played = list(against_gtm.on_both([session(drawn, 1) for _ in range(SESSIONS * count)],
-                                      lambda sessions: against_gtm.by_session(sessions, interpreted(against_gtm.stream(sessions), language=1))))
+    played = list(against_gtm.on_both([session(drawn, COMING) for _ in range(SESSIONS * count)],
+                                      lambda sessions: against_gtm.by_session(sessions, interpreted(against_gtm.stream(sessions), language=COMING))))
     assert [fault.told() for fault in (against_gtm.first_fault(*one, known) for one in played) if fault] == []
     assert len(played) >= 0.9 * SESSIONS * count

@@ -10,7 +10,7 @@ from pathlib import Path
 import pytest
 from blocks import SERVED
 from running import ONE_ACCOUNT, run
-from support import LINE, REPLY, content, refused, run_as_nobody
+from support import ACCOUNT, LINE, REPLY, content, refused, run_as_nobody
 
 TWO = content(SERVED["terminals"]).decode("ascii")
 # A document with these texts in place of others, and its first fault.
@@ -20,6 +20,9 @@ DOCUMENTS = [
     ([("mode = \"read\"", "mode = \"read\"\nx = 1")], "Shape"),
     ([("steps = 2000\n\n[[account]]", "\n[[account]]")], "Shape"),
     ([("steps = 2000", "steps = true")], "Shape"),
+    ([("steps = 2000", "steps = 2000\nlanguage = 2")], "Shape"),
+    ([("steps = 2000", "steps = 2000\nlanguage = true")], "Shape"),
+    ([("steps = 2000", "steps = 0\nlanguage = 1")], "Steps"),
     ([("\"BOB\"\nterminals", "\"A-B\"\nterminals")], "Name"),
     ([("\"BOB\"\nterminals", "\"ALICE\"\nterminals")], "Name"),
     ([("[3]", "[10000]")], "Terminal"),
@@ -78,6 +81,21 @@ def test_a_document_with_a_fault(changes: list[tuple[str, str]], fault: str, wri
         assert old in document
         document = document.replace(old, new, 1)
     assert run(LINE, written(document), str(tmp_path)) == refused(3, "settings", fault)
+
+
+@pytest.mark.parametrize(("language", "reply"), [("", b"1!ZSYNTAX\n"), ("language = 0\n", b"1!ZSYNTAX\n"), ("language = 1\n", b"1-21\n1.\n")], ids=["none", "0", "1"])
+def test_language_of_an_account(language: str, reply: bytes, written: Written, store: str) -> None:
+    """Over memory, over a file, and of the account alone."""
+    settings = written(ACCOUNT.format(1, 2000) + language)
+    for ran in (run(b"1 W $RE(12)\n", settings), run(b"1 W $RE(12)\n", settings, store), run(b"1 W $RE(12)\n", settings, only="A1")):
+        assert ran == (0, reply, b"")
+
+
+def test_language_that_changes_over_a_store(written: Written, store: str) -> None:
+    """The store has no language: routines that are there are read in the one that the settings give, and back."""
+    stored = b'1 S ^ROUTINE("R",1)="T W $RE(12)"\n'
+    for language, stream, replies in ((0, stored + b"1 D T^R\n", b"1.\n1!ZSYNTAX\n"), (1, b"1 D T^R\n", b"1-21\n1.\n"), (0, b"1 D T^R\n", b"1!ZSYNTAX\n")):
+        assert run(stream, written(f"{ACCOUNT.format(1, 2000)}language = {language}\n"), store) == (0, replies, b"")
 
 
 def test_no_account_at_all(written: Written) -> None:

@@ -27,7 +27,7 @@ EMPTY = (b"\n", b"\r\n")
 # The last line of a reply.
 ENDING = re.compile(r"\d+\.|(\d+|\?)!\w+")
 # Each block of several accounts, with each account of its settings.
-ONE_SHOWN = [(block, name) for block in PLAYED if block.kind in ("terminals", "accounts") for name in accounts_of(SERVED[block.kind])]
+ONE_SHOWN = [(block, name) for block in PLAYED if block.kind in ("terminals", "accounts", "languages") for name in accounts_of(SERVED[block.kind])]
 
 
 def each_block(*kinds: str, where: str = "") -> pytest.MarkDecorator:

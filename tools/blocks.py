@@ -13,6 +13,7 @@ SERVED = {
     "lines": os.path.join(SETTINGS, "one_account.toml"),
     "terminals": os.path.join(SETTINGS, "three_terminals.toml"),
     "accounts": os.path.join(SETTINGS, "four_accounts.toml"),
+    "languages": os.path.join(SETTINGS, "two_languages.toml"),
 }
 # The settings of the blocks of which one account alone is told, and that account.
 ONLY = SERVED["terminals"], "ALICE"

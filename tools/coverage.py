@@ -2,11 +2,12 @@
 # SPDX-License-Identifier: Apache-2.0
 """Tells how much of other people's M the language takes: of all files .m in a folder and below, and of the rest the first cause.
 
-    tools/coverage.py FOLDER                      # by the server's language
+    tools/coverage.py FOLDER                      # by language 0, the profile
     tools/coverage.py FOLDER --apart 2000         # routines of more lines, as programs write them, in a table of their own
-    tools/coverage.py FOLDER --language 0
+    tools/coverage.py FOLDER --language 1
 
-Files with the same content count once. A line is taken if the server reads it, which it is asked by the clients' check: nothing is run.
+Files with the same content count once. A line is taken if a server reads it by settings whose account has that language; it is asked by the
+clients' check: nothing is run.
 The loaders of routines turn tabs outside strings and comments into spaces, so each table has both: what is taken of the lines as they
 are, and as they are loaded. A line with code is one that is more than a label and a comment. The causes are those that the check tells,
 of lines as they are loaded; of a line the first one counts."""
@@ -22,10 +23,10 @@ from collections import Counter
 from collections.abc import Iterator
 from dataclasses import dataclass
 
-from running import TOP, connected, free_port, require_program, serve_words
+from running import OF_LANGUAGE, TOP, connected, free_port, require_program, serve_words
 
 sys.path.append(os.path.join(TOP, "clients"))
-from mserve_client import checking, language  # noqa: E402
+from mserve_client import checking  # noqa: E402
 from mserve_client.routine_files import SourceLine, file_lines, source_line  # noqa: E402
 from mserve_client.wire import Connection  # noqa: E402
 
@@ -44,10 +45,10 @@ class Read:
 
 
 @contextlib.contextmanager
-def connection() -> Iterator[Connection]:
-    """A connection to a server over a new store in memory."""
+def connection(language: int) -> Iterator[Connection]:
+    """A connection to a server over a new store in memory, whose account has a language."""
     port = free_port()
-    with subprocess.Popen(serve_words(port, 2), stdin=subprocess.DEVNULL) as server:
+    with subprocess.Popen(serve_words(port, 2, settings=OF_LANGUAGE[language]), stdin=subprocess.DEVNULL) as server:
         try:
             connected(port).close()
             with Connection(port, TERMINAL) as made:
@@ -67,10 +68,10 @@ def is_code(line: SourceLine) -> bool:
     return NO_CODE.fullmatch(line.rest) is None
 
 
-def read(asked: Connection, texts: list[str], number: int) -> list[Read]:
-    """The lines of a routine, as a language reads them."""
+def read(asked: Connection, texts: list[str]) -> list[Read]:
+    """The lines of a routine, as the account's language reads them."""
     lines = [source_line(text) for text in texts]
-    refused = {found.line: found.cause for found in checking.check(asked, lines, number) if found.kind is checking.Kind.REFUSED}
+    refused = {found.line: found.cause for found in checking.check(asked, lines) if found.kind is checking.Kind.REFUSED}
     return [Read(is_code(line), text != line.text, refused.get(place, "")) for place, (text, line) in enumerate(zip(texts, lines, strict=True), 1)]
 
 
@@ -104,16 +105,16 @@ def main() -> int:
     """Reads all routines of a folder, and prints the tables."""
     reader = argparse.ArgumentParser(description=__doc__.split("\n\n", maxsplit=1)[0])
     reader.add_argument("folder", metavar="FOLDER")
-    reader.add_argument("--language", type=int, choices=sorted(language.LANGUAGES), default=language.LANGUAGE, metavar="NUMBER",
-                        help="the language that reads (default %(default)s, the server's)")
+    reader.add_argument("--language", type=int, choices=sorted(OF_LANGUAGE), default=0, metavar="NUMBER",
+                        help="the language that reads (default %(default)s, the profile)")
     reader.add_argument("--apart", type=int, default=sys.maxsize, metavar="LINES", help="routines of more lines are counted in a table of their own")
     asked = reader.parse_args()
     require_program()
     found = routines(asked.folder)
     if not found:
         sys.exit(f"coverage: {asked.folder} has no file .m")
-    with connection() as made:
-        all_read = [read(made, texts, asked.language) for texts in found]
+    with connection(asked.language) as made:
+        all_read = [read(made, texts) for texts in found]
     for title, group in ("routines", [one for one in all_read if len(one) <= asked.apart]), ("longer routines", [one for one in all_read if len(one) > asked.apart]):
         if group:
             print(f"\n{title}, language {asked.language}\n", *table(group), sep="\n", flush=True)

@@ -7,6 +7,7 @@ import json
 import os
 import re
 import sys
+import textwrap
 
 TOP = os.path.realpath(os.path.join(os.path.dirname(os.path.abspath(__file__)), ".."))
 sys.path.insert(0, os.path.join(TOP, "clients"))
@@ -24,7 +25,9 @@ def exported() -> dict[str, tuple[str, object]]:
                   {name: {"words": code.words, "section": code.section, "advice": code.advice} for name, code in codes.CODES.items()}),
         "COMMANDS": ("The commands of the language, in a line each.", reference.COMMANDS),
         "FUNCTIONS": ("The functions of the language, in a line each.", reference.FUNCTIONS),
-        "RULES": ("The grammar of lines, as clients/mserve_client/grammar.py has it: kinds of steps, and rules of them.", grammar.LANGUAGES[language.LANGUAGE]),
+        "RULES": ("The grammar of lines of language 0, as clients/mserve_client/grammar.py has it: kinds of steps, and rules of them.", grammar.LANGUAGES[0]),
+        "LATER_RULES": ("The rules of each later language that are others.", {number: others(rules) for number, rules in grammar.LANGUAGES.items() if number}),
+        "NEW_LINES": ("A line that a language takes, and none before it.", grammar.NEW_LINES),
         "DEPTH": ("How many brackets and operands of @ may be open at a place.", grammar.DEPTH),
         "CAUSES": ("Why a line is not in the language: how that is known, its name, and what to write instead. The first that fits counts.",
                    [cause_words(cause) for cause in causes.CAUSES]),
@@ -41,6 +44,11 @@ def exported() -> dict[str, tuple[str, object]]:
     }
 
 
+def others(rules: dict[str, grammar.Step]) -> dict[str, grammar.Step]:
+    """The rules of a language that are not those of language 0."""
+    return {name: step for name, step in rules.items() if step != grammar.LANGUAGES[0].get(name)}
+
+
 def advice_of(advice: str) -> str:
     """Advice as the page gives it. A browser has no docs/LANGUAGE.md: Help leads to the page that is made of it."""
     return advice.replace("docs/LANGUAGE.md", "the page of the language, by Help")
@@ -50,16 +58,18 @@ def cause_words(cause: causes.Cause) -> dict[str, object]:
     """A cause without its example, and without what it leaves open."""
     found = dataclasses.asdict(cause)
     found["advice"] = advice_of(cause.advice)
-    return {name: value for name, value in found.items() if value and name != "example" or name == "advice"}
+    return {name: value for name, value in found.items() if value not in ("", 0, None) and name != "example" or name == "advice"}
 
 
 def written(value: object) -> str:
-    """A value as JavaScript has it: a key that is a name stands without quotes, and a rule or a cause in one line."""
+    """A value as JavaScript has it: a key that is a name or a number stands without quotes, and a rule or a cause in one line."""
     if isinstance(value, list):
         return "[\n" + "".join(f"  {json.dumps(one)},\n" for one in value) + "]"
     if isinstance(value, dict) and value and all(isinstance(step, list) for step in value.values()):
         return "{\n" + "".join(f"  {name}: {json.dumps(step)},\n" for name, step in value.items()) + "}"
-    return re.sub(r'^( *)"([A-Za-z_$][A-Za-z0-9_$]*)":', r"\1\2:", json.dumps(value, indent=2), flags=re.MULTILINE)
+    if isinstance(value, dict) and value and all(isinstance(name, int) and isinstance(one, dict) for name, one in value.items()):
+        return "{\n" + "".join(f"{textwrap.indent(f'{number}: {written(one)}', '  ')},\n" for number, one in value.items()) + "}"
+    return re.sub(r'^( *)"([A-Za-z_$][A-Za-z0-9_$]*|[0-9]+)":', r"\1\2:", json.dumps(value, indent=2), flags=re.MULTILINE)
 
 
 def module() -> str:

@@ -25,6 +25,8 @@ def program_of(name, variable):
 
 PROGRAM, ISLANDS = program_of("mserve", "MSERVE"), program_of("mislands", "MISLANDS")
 ONE_ACCOUNT = os.path.join(TOP, "tests", "settings", "one_account.toml")
+# The same with each language that an account can have.
+OF_LANGUAGE = {0: ONE_ACCOUNT, 1: os.path.join(TOP, "tests", "settings", "one_account_language_1.toml")}
 STEPS = 2000
 # A folder of files in memory, if the system has one: for stores of which a test asks nothing that takes a disk.
 IN_MEMORY = "/dev/shm" if os.path.isdir("/dev/shm") else None

@@ -7,6 +7,7 @@ from collections.abc import Callable
 from functools import cache
 
 from .decimals import Stop
+from .languages import has
 from .texts import FUNCTIONS, Atom
 
 Tree = tuple
@@ -30,14 +31,14 @@ SPECIALS = {"X": "X", "Y": "Y", "QUIT": "Q", "Q": "Q"}
 def label_of(text: str, language: int) -> str:
     """The label of a routine's line; empty if it has none."""
     found = NAME.match(text)
-    ends = " ;(" if language else " ;"
+    ends = " ;(" if has(language, "parameters") else " ;"
     return found[0] if found and len(found[0]) <= 31 and (found.end() == len(text) or text[found.end()] in ends) else ""
 
 
 def formals_of(text: str, language: int) -> tuple[list[str] | None, str]:
     """The names of a line's formal list, or None, and what stands after it and the label. Two equal names make it none."""
     rest = text[len(label_of(text, language)):]
-    if not language or not rest.startswith("("):
+    if not has(language, "parameters") or not rest.startswith("("):
         return None, rest
     inside, _, after = rest[1:].partition(")")
     names = inside.split(",") if inside else []
@@ -89,6 +90,10 @@ class Reader:
     def __init__(self, text: str, language: int) -> None:
         self.text, self.language = text, language
         self.at, self.depth = 0, 0
+
+    def has(self, form: str) -> bool:
+        """Whether the language has a form."""
+        return has(self.language, form)
 
     def refuse(self) -> None:
         raise Stop("ZSYNTAX")
@@ -176,7 +181,7 @@ class Reader:
             condition = self.expression()
         follows = self.text[self.at + 1:self.at + 2]
         has_arguments = self.next() == " " and follows not in ("", " ", ";")
-        if (name in NONE and has_arguments and not (name == "QUIT" and self.language)) or (name in NEEDS and not has_arguments):
+        if (name in NONE and has_arguments and not (name == "QUIT" and self.has("values of QUIT"))) or (name in NEEDS and not has_arguments):
             self.refuse()
         if not has_arguments:
             return name, condition, None
@@ -209,13 +214,13 @@ class Reader:
         if not word:
             return "variable", self.reference()
         kind = {"P": "piece", "PIECE": "piece", "E": "extract", "EXTRACT": "extract"}.get(word[1].upper())
-        if not kind or (kind == "extract" and not self.language):
+        if not kind or (kind == "extract" and not self.has("SET $EXTRACT")):
             self.refuse()
         self.at = word.end()
 
         def parts() -> Tree:
             found = [self.reference()]
-            most = 4 if kind == "piece" and self.language else 3
+            most = 4 if kind == "piece" and self.has("SET $PIECE of several") else 3
             while len(found) < most and self.takes(","):
                 found.append(self.expression())
             return found
@@ -241,7 +246,7 @@ class Reader:
         """An entry: label or empty, routine or None, actuals or None."""
         label = "" if self.next() == "^" else self.name()
         routine = self.name() if self.takes("^") else None
-        actuals = self.actuals() if self.language and self.takes("(") else None
+        actuals = self.actuals() if self.has("parameters") and self.takes("(") else None
         return label, routine, actuals
 
     def actuals(self) -> list[Tree]:
@@ -280,12 +285,13 @@ class Reader:
         return tuple(parts)
 
     def argument_of_write(self) -> Tree:
-        if self.language and self.takes("*"):
+        has_more = self.has("formats of WRITE")
+        if has_more and self.takes("*"):
             return "character", self.expression()
         forms = self.text[self.at:len(self.text)]
-        forms = re.match("[!#]*" if self.language else "!*", forms)[0]
+        forms = re.match("[!#]*" if has_more else "!*", forms)[0]
         self.at += len(forms)
-        column = self.expression() if self.language and self.takes("?") else None
+        column = self.expression() if has_more and self.takes("?") else None
         if forms or column:
             return "format", forms, column
         return "value", self.expression()
@@ -311,7 +317,7 @@ class Reader:
             found = OPERATOR.match(self.text, self.at)
             if not found:
                 return tree
-            operator = found[0] if found[0] != "**" or self.language else "*"
+            operator = found[0] if found[0] != "**" or self.has("**") else "*"
             self.at += len(operator)
             tree = "binary", operator, tree, self.operand()
 
@@ -336,14 +342,14 @@ class Reader:
 
     def dollar(self) -> Tree:
         self.at += 1
-        if self.language and self.takes("$"):
+        if self.has("functions") and self.takes("$"):
             label, routine, actuals = self.entry()
             return "function", (label, routine, actuals)
         word = self.found(re.compile("[A-Za-z]+")).upper()
         if not self.takes("("):
             if word in ("T", "TEST"):
                 return ("test",)
-            return ("special", SPECIALS[word]) if self.language and word in SPECIALS else self.refuse()
+            return ("special", SPECIALS[word]) if self.has("special variables") and word in SPECIALS else self.refuse()
         tree = self.inside(lambda: self.call(word))
         self.wants(")")
         return tree
@@ -368,7 +374,7 @@ class Reader:
         return condition, self.expression()
 
     def pattern(self) -> Tree:
-        if self.language and self.takes("@"):
+        if self.has("pattern indirection") and self.takes("@"):
             return "pattern by", self.inside(self.primary)
         return "pattern", self.atoms()
 
@@ -386,7 +392,7 @@ class Reader:
         bounds = (int(least or "0"), int(most) if most else None) if point else (int(least), int(least))
         if self.next() == '"':
             return Atom(*bounds, text=self.found(STRING)[1:-1].replace('""', '"'))
-        if self.language and self.takes("("):
+        if self.has("pattern alternation") and self.takes("("):
             return Atom(*bounds, choices=tuple(self.bracketed(self.atoms)))
         return Atom(*bounds, classes=self.found(re.compile("[ACELNPUacelnpu]+")))
 

@@ -8,6 +8,7 @@ from fractions import Fraction
 from functools import cache
 
 from .decimals import Stop, collation, rounded, value, whole, written
+from .languages import SINCE
 
 LONGEST = 4095
 CLASSES = {"A": "A-Za-z", "U": "A-Z", "L": "a-z", "N": "0-9", "C": r"\x00-\x1f\x7f", "P": r" -/:-@\[-`{-~", "E": r"\x00-\x7f"}
@@ -120,9 +121,9 @@ def justify(text: str, *sizes: str) -> str:
 
 def fixed(text: str, places: int) -> str:
     """A number with so many digits after its point, and one before it."""
-    if places < 0:
-        raise Stop("ZARG")
     number = value(text)
+    if not 0 <= places <= LONGEST:
+        raise Stop("ZARG" if places < 0 else "ZLONG")
     scaled = abs(Fraction(number)) * 10**places
     count = (2 * scaled.numerator + scaled.denominator) // (2 * scaled.denominator)
     digits = str(count).rjust(places + 1, "0")
@@ -204,5 +205,6 @@ def compared(left: str, operator: str, right: str) -> bool:
 
 # The functions of values: short word, whole word, how many arguments at least and at most, since which language, and what they give.
 FUNCTIONS = [("A", "ASCII", 1, 2, 0, ascii_code), ("C", "CHAR", 1, 255, 0, characters), ("E", "EXTRACT", 1, 3, 0, extract), ("F", "FIND", 2, 3, 0, find),
-             ("J", "JUSTIFY", 2, 2, 0, justify), ("J", "JUSTIFY", 3, 3, 1, justify), ("L", "LENGTH", 1, 2, 0, length), ("P", "PIECE", 2, 4, 0, piece),
-             ("TR", "TRANSLATE", 2, 3, 0, translate), ("RE", "REVERSE", 1, 1, 1, reverse), ("FN", "FNUMBER", 2, 3, 1, form_number)]
+             ("J", "JUSTIFY", 2, 2, 0, justify), ("J", "JUSTIFY", 3, 3, SINCE["$JUSTIFY of three"], justify), ("L", "LENGTH", 1, 2, 0, length), ("P", "PIECE", 2, 4, 0, piece),
+             ("TR", "TRANSLATE", 2, 3, 0, translate), ("RE", "REVERSE", 1, 1, SINCE["$REVERSE"], reverse),
+             ("FN", "FNUMBER", 2, 3, SINCE["$FNUMBER"], form_number)]

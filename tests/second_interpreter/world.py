@@ -21,13 +21,14 @@ _LINE = re.compile(rb"([1-9][0-9]{0,3}) (.*)", re.DOTALL)
 
 
 class World:
-    """A store in memory, and the sessions of terminals, by settings as the program takes them. Each account has this language."""
+    """A store in memory, and the sessions of terminals, by settings as the program takes them. If a language is given, all accounts have it."""
 
-    def __init__(self, settings: str, language: int = 0) -> None:
+    def __init__(self, settings: str, language: int | None = None) -> None:
         found = tomllib.loads(settings)
         self.accounts: dict[int, Account] = {}
         for one in found.get("account", []):
-            self.accounts |= dict.fromkeys(one["terminals"], Account(one["name"], one["steps"], language))
+            number = one.get("language", 0) if language is None else language
+            self.accounts |= dict.fromkeys(one["terminals"], Account(one["name"], one["steps"], number))
         self.grants = {(one["from"], one["to"], one["global"], one["mode"]) for one in found.get("grant", [])}
         self.store: dict[tuple[str, str], Tree] = {}
         self.sessions: dict[int, Session] = {}

@@ -238,14 +238,15 @@ def check_cells(page: Page) -> None:
 # ---- wording
 
 def check_lines(page: Page) -> None:
-    """No line of prose is too long that a person wrote; on the front page no line at all, and there are few of them."""
+    """No line of prose is too long that a person wrote; on the front page no line at all. Two pages have a length."""
     front = page.path == "README.md"
     for number, line in enumerate(page.lines, 1):
         prose = number not in page.fenced | page.made and not line.startswith("|")
         if (front or prose) and len(line) > LONGEST_LINE and " " in line.strip()[:LONGEST_LINE]:
             fault(page, number, f"a line of {len(line)} characters")
-    if front and len(page.lines) > 151:
-        fault(page, len(page.lines), "more than 150 lines")
+    most = {"README.md": 150, "docs/PERFORMANCE.md": 350}.get(page.path)
+    if most and len(page.lines) > most + 1:
+        fault(page, len(page.lines), f"more than {most} lines")
 
 
 def check_phrases(page: Page) -> None:

@@ -299,7 +299,8 @@ class Standby:
         """What the operator's page shows."""
         status = await self._status({})
         figures = figures_of(of_standby(status))
-        state = f"It stands by, {status['behind']} lines behind its leader" + (f", and waits: {status['fault']}" if status["fault"] else "")
+        lines = "1 line" if status["behind"] == 1 else f"{status['behind']} lines"
+        state = f"It stands by, {lines} behind its leader" + (f", and waits: {status['fault']}" if status["fault"] else "")
         return {"time": round(time.time()), "state": state, "alarms": alarms_of(figures), "figures": figures}
 
     async def _promote(self, request: dict[str, object]) -> Answered:

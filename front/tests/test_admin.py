@@ -3,16 +3,20 @@
 from __future__ import annotations
 
 import asyncio
+import contextlib
 import json
+import os
 import re
 import signal
 import stat
 import time
+from collections.abc import Callable
 from pathlib import Path
+from typing import Any
 
 import aiohttp
 import pytest
-from front import FRONT, Front, in_loop, until
+from front import FRONT, Front, at_rest, in_loop, until
 from mserve_front import figures
 from mserve_front.admin import ALARMS
 from mserve_front.gate_page import together
@@ -24,12 +28,30 @@ NAMES = re.compile(r"\bmfront_[a-z_]+")
 
 
 async def told(folder: Path, place: str = "/admin.json", host: str = "localhost:9100") -> aiohttp.ClientResponse:
-    """An answer of the operator's page, at the socket of a folder, once it is there."""
-    await until((folder / "admin.socket").exists, "the operator's socket")
-    connector = aiohttp.UnixConnector(path=str(folder / "admin.socket"))
-    async with aiohttp.ClientSession(connector=connector) as http, http.get(f"http://{host}{place}") as response:
-        await response.read()
-        return response
+    """An answer of the operator's page, at the socket of a folder, once somebody listens there."""
+    found: list[aiohttp.ClientResponse] = []
+
+    async def asks() -> bool:
+        connector = aiohttp.UnixConnector(path=str(folder / "admin.socket"))
+        with contextlib.suppress(aiohttp.ClientConnectionError):
+            async with aiohttp.ClientSession(connector=connector) as http, http.get(f"http://{host}{place}") as response:
+                await response.read()
+                found.append(response)
+        return bool(found)
+    await until(asks, "the operator's page")
+    return found[0]
+
+
+async def shows(folder: Path, holds: Callable[[dict[str, Any]], object], what: str) -> dict[str, Any]:
+    """What the operator's page has, once something holds of it."""
+    found: dict[str, Any] = {}
+
+    async def asks() -> object:
+        found.clear()
+        found.update(await (await told(folder)).json())
+        return holds(found)
+    await until(asks, what)
+    return found
 
 
 @in_loop()
@@ -110,6 +132,16 @@ async def test_the_operators_page_of_a_standby(start, tmp_path: Path) -> None:
     second = standby(start, tmp_path / "journal", admin={"socket": "admin.socket"})
     async with leader.person("ada") as ada:
         await ada.line("S ^X=1")
+        await caught_up(second, tmp_path / "journal")
+        # Its server is held up, so that it is behind by the line that comes now.
+        os.kill(second.child, signal.SIGSTOP)
+        try:
+            await ada.line("S ^X=2")
+            await shows(second.folder, lambda found: found["state"] == "It stands by, 1 line behind its leader", "a standby that is behind by a line")
+        finally:
+            os.kill(second.child, signal.SIGCONT)
+    # The end of ada's session comes after her sign-off.
+    await at_rest(leader.folder)
     await caught_up(second, tmp_path / "journal")
     found = await (await told(second.folder)).json()
     assert found["state"] == "It stands by, 0 lines behind its leader" and found["alarms"] == []

@@ -121,11 +121,13 @@ class Service:
     def _listen(self, made: Made) -> None:
         settings = self.settings
         self._doors.listen(settings.host, settings.port, made)
-        kind = "https" if settings.tls else "http"
-        tell(f"serving at {kind}://{f'[{settings.host}]' if ':' in settings.host else settings.host}:{settings.port}/")
         if settings.lines_port is not None:
             port = LinePort(self._sessions, self._signing, settings.limits, self._doors)
             self._doors.listen(settings.host, settings.lines_port, port.door)
+        # Both are there by now: who waits for the first of these may come at once.
+        kind = "https" if settings.tls else "http"
+        tell(f"serving at {kind}://{f'[{settings.host}]' if ':' in settings.host else settings.host}:{settings.port}/")
+        if settings.lines_port is not None:
             tell(f"lines at port {settings.lines_port}")
         if not settings.tls:
             tell("no certificate (listen.certificate, listen.key): listening at the loopback alone, without TLS")

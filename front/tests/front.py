@@ -42,7 +42,7 @@ Record = dict[str, Any]
 class Patience:
     """Seconds after which something that is waited for is missed. Long runs on a machine that has other work have more."""
 
-    seconds = 30.0
+    seconds = 60.0
 
 
 def in_loop(seconds: float = 180) -> Callable[[Callable[..., Awaitable[None]]], Callable[..., None]]:

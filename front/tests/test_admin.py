@@ -125,7 +125,7 @@ async def test_snapshots_that_nobody_has_verified_are_an_alarm(start, tmp_path: 
     assert "No snapshot was verified for two days." not in await alarms()
 
 
-@in_loop(100)
+@in_loop()
 async def test_the_operators_page_of_a_standby(start, tmp_path: Path) -> None:
     """How far it is behind its leader, and what it waits for. A reload leaves it there, and once it serves the page is a front's."""
     leader = leading(start, tmp_path / "journal")

@@ -7,7 +7,7 @@ import re
 from pathlib import Path
 
 import pytest
-from front import CHEAP, PASSWORD, SETTINGS, Front, Ran, in_loop, mjournal, tool, until
+from front import CHEAP, PASSWORD, SETTINGS, Front, Ran, in_loop, mjournal, stopped, tool, until
 from mserve_front.users import User, changed
 from running import PROGRAM
 from test_replay import held
@@ -82,7 +82,7 @@ async def test_an_account_gets_another_language(start, tmp_path: Path) -> None:
         assert status == 3 and "mserve: settings: Shape" in told, told
         assert await ada.told("D T^R") == "21"
     assert sum(record["event"] == "sign-on" for record in front.audit()) == 2
-    assert front.stop() == 0
+    await stopped(front)
     status, _, told = mjournal(front.folder / "journal")("replay", "--program", PROGRAM, "--store", tmp_path / "all")
     assert status == 0, told
     assert held(tmp_path / "all") == held(front.folder / "store.db")
@@ -111,7 +111,7 @@ async def test_settings_change_while_users_work(start, tmp_path: Path, count: in
     sign_ons = sum(record["event"] == "sign-on" for record in front.audit())
     # Each user signed on once for the work, once to look, and dora once: no change made anybody sign on again.
     assert sign_ons == 2 * 3 + 1
-    assert front.stop() == 0
+    await stopped(front)
     status, _, told = mjournal(front.folder / "journal")("replay", "--program", PROGRAM, "--store", tmp_path / "all")
     assert status == 0, told
     assert held(tmp_path / "all") == held(front.folder / "store.db")

@@ -15,7 +15,7 @@ from pathlib import Path
 import aiohttp
 import pytest
 from database import Cluster
-from front import FRONT, PASSWORD, Record, in_loop, toml, tool
+from front import FRONT, PASSWORD, Record, at_rest, in_loop, toml, tool
 from machines import HOSTS, Gate, Program, certificates, islands, ports
 from mserve_front.gate_command import settings_of
 from mserve_front.placement import BadPlacement, Placement
@@ -163,6 +163,8 @@ async def test_islands_on_three_machines(host: Callable[..., Gate], cluster: Pai
     shown = gates[1].does("list")[1].splitlines()
     assert "machine one 127.0.0.2:" in shown[0] and "island island0 three here C0A0 C0A1 C0A2" in shown
     assert "island island0 goes to three" in gates[0].told() and "island island0 is here" in gates[2].told()
+    for name in ("island0", "island2"):
+        await at_rest(gates[2].folder / "islands" / name)
     while cluster.does(ENDS) != cluster.replica.does(ENDS):
         await asyncio.sleep(0.05)
     for name in ("island0", "island2"):

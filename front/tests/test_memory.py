@@ -44,7 +44,7 @@ async def test_connections_that_send_all_that_is_taken_have_bounded_memory(start
             writer.transport.abort()
 
 
-@in_loop(120)
+@in_loop()
 async def test_replies_that_nobody_takes_are_bounded(start) -> None:
     front: Front = start(users={"ada": "CLINIC", "cleo": "LAB"})
     async with front.person("cleo") as cleo:

@@ -12,7 +12,7 @@ from pathlib import Path
 
 import pytest
 from database import Cluster, Wire
-from front import in_loop, tool
+from front import in_loop, stopped, tool
 from mserve_front import journal_table
 from mserve_front.journal import LogFault
 from mserve_front.journal_table import ANSWER, TableLog
@@ -58,7 +58,7 @@ async def test_a_way_that_stays_open_while_its_database_is_gone(start, tmp_path:
             assert time.monotonic() - began < BACK
             assert await ada.told("W ^X,^Y,^Z") == "111"
         assert "no answer within" in front.told()
-        await asyncio.to_thread(front.stop)
+        await stopped(front)
         await caught_up(second, JournalSettings(database=cluster.place))
         assert await asyncio.to_thread(second.stop) == 0
         assert "no answer within" in second.told()

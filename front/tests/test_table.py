@@ -17,7 +17,7 @@ from pathlib import Path
 
 import pytest
 from database import Cluster, Wire
-from front import Front, Ran, in_loop, tool, until
+from front import Front, Patience, Ran, in_loop, stopped, tool, until
 from mserve_front.control import asked
 from mserve_front.history import History
 from mserve_front.journal import LogFault, LogTaken, Tail
@@ -85,7 +85,7 @@ def mjournal(journal: JournalSettings) -> Callable[..., Ran]:
 
 def taken(journal: JournalSettings) -> tuple[TableLog, Tail]:
     """A writer that has the lock, with the end that it found. The database gives the lock back a moment after the last writer closed."""
-    end = time.monotonic() + 30
+    end = time.monotonic() + Patience.seconds
     while True:
         log = writer_of(journal)
         try:
@@ -215,7 +215,7 @@ async def test_a_database_that_is_away(start, tmp_path: Path) -> None:
         second.stop()
         assert "the journal cannot be read: database: " in second.told()
         assert "no line goes on until it can" in front.told() and "the journal is written again" in front.told()
-        front.stop()
+        await stopped(front)
         assert json.loads((second.folder / "store.db.at").read_text())["number"] > int(snapshot.name) - 10
         run = tool("mjournal", "--config", str(front.folder / "front.toml"))
         status, output, told = run("replay", "--store", tmp_path / "new")
@@ -271,8 +271,8 @@ async def test_a_database_that_is_away_for_a_minute(start, tmp_path: Path) -> No
             assert await ada.told("W ^X,^Y,^Z") == "111"
         for told in ("no line goes on until it can", "the journal is written again"):
             assert front.told().count(told) == 1
-        second.hears("the journal can be read again")
-        front.stop()
+        await asyncio.to_thread(second.hears, "the journal can be read again")
+        await stopped(front)
         await caught_up(second, JournalSettings(database=cluster.place))
         assert second.stop() == 0
         run = tool("mjournal", "--config", str(front.folder / "front.toml"))
@@ -329,7 +329,7 @@ async def test_connections_that_are_cut(start, tmp_path: Path) -> None:
                 assert time.monotonic() - began < BACK
             assert await ada.told("W ^X(2),^Y") == "11"
         assert "another front" not in front.told()
-        front.stop()
+        await stopped(front)
         wire.close()
         assert tool("mjournal", "--database", cluster.place)("replay", "--program", PROGRAM, "--store", tmp_path / "new")[0] == 0
         assert held(tmp_path / "new") == held(front.folder / "store.db")
@@ -384,7 +384,7 @@ async def test_a_database_whose_disk_is_full(start, tmp_path: Path) -> None:
             while "refused" in await ada.line("S ^Y=1"):
                 await asyncio.sleep(0.1)
             assert await ada.told("W ^X,^Y") == "11"
-        front.stop()
+        await stopped(front)
         run = tool("mjournal", "--config", str(front.folder / "front.toml"))
         assert run("replay", "--store", tmp_path / "new")[::2] == (0, "") and held(tmp_path / "new") == held(front.folder / "store.db")
 
@@ -404,7 +404,7 @@ async def test_leaders_that_are_killed(start, journal: JournalSettings, tmp_path
             assert "another front" in why
         await load.holds(second, number)
         leader = second
-    leader.stop()
+    await stopped(leader)
     assert mjournal(journal)("replay", "--program", PROGRAM, "--store", tmp_path / "all")[::2] == (0, "")
     assert held(tmp_path / "all") == held(leader.folder / "store.db")
 
@@ -475,7 +475,7 @@ async def test_synchronous_replication(start, tmp_path: Path) -> None:
             while "refused" in await ada.line("S ^Y=1"):
                 await asyncio.sleep(0.1)
             assert await ada.told("W ^X(19),^Y") == "11"
-        front.stop()
+        await stopped(front)
         run = tool("mjournal", "--database", second.place)
         assert run("replay", "--program", PROGRAM, "--store", tmp_path / "new")[::2] == (0, "")
         assert held(tmp_path / "new") == held(front.folder / "store.db")

@@ -57,7 +57,7 @@ class Service:
         self._sessions = Sessions(settings, self.metrics, self._audit, self._register, self._keeper.journal if self._keeper else None)
         if self._keeper is not None:
             self._keeper.answer("change", Changes(settings, self._sessions.server, (self._sessions, self._keeper.accounts)).take)
-        self._admin = Admin(settings, self._sessions, self.metrics)
+        self._admin = Admin(settings, self._sessions, self.metrics, self._keeper.behind if self._keeper else list)
         self._stopping = promoted.stopping if promoted else asyncio.Event()
         self._why = "stopping"
 
@@ -138,7 +138,7 @@ class Service:
         tasks = [asyncio.create_task(self._sessions.server.run()), asyncio.create_task(self._sweep()), asyncio.create_task(self._sessions.count()),
                  asyncio.create_task(self._admin.run()), asyncio.create_task(self._stopping.wait())]
         if self._keeper is not None:
-            tasks.append(asyncio.create_task(self._keeper.lost()))
+            tasks += [asyncio.create_task(self._keeper.lost()), asyncio.create_task(self._keeper.looks())]
         done, left = await asyncio.wait(tasks, return_when=asyncio.FIRST_COMPLETED)
         for task in left:
             task.cancel()

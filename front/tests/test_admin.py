@@ -17,9 +17,12 @@ from typing import Any
 import aiohttp
 import pytest
 from front import FRONT, Front, at_rest, in_loop, until
-from mserve_front import figures
-from mserve_front.admin import ALARMS
+from mserve_front import figures, standbys
+from mserve_front.admin import ALARMS, alarms_of
 from mserve_front.gate_page import together
+from mserve_front.places import last_line
+from mserve_front.settings import JournalSettings
+from mserve_front.standbys import SAYS, Behind, Said
 from test_standby import caught_up, leading, promoted, standby
 
 MONITORING = FRONT.parent / "packaging" / "monitoring"
@@ -153,6 +156,67 @@ async def test_the_operators_page_of_a_standby(start, tmp_path: Path) -> None:
     assert promoted(second)[0] == 0
     found = await (await told(second.folder)).json()
     assert found["state"] == "The server is up; 0 signed on" and found["users"] == []
+
+
+@pytest.mark.long
+@in_loop(200)
+async def test_a_leader_shows_how_far_its_standbys_are_behind(start, tmp_path: Path) -> None:
+    """On its page and in its figures. One whose server is held up is behind, one that is stopped in order is a standby no more, and one that is killed is not
+    heard of."""
+    leader = start(store="store.db", journal={"folder": str(tmp_path / "journal")}, admin={"socket": "admin.socket"})
+    second, third = standby(start, tmp_path / "journal"), standby(start, tmp_path / "journal")
+
+    async def seen(*lines: int) -> list[dict[str, Any]]:
+        found = await shows(leader.folder, lambda found: sorted(one["lines"] for one in found.get("standbys", [])) == list(lines), f"standbys behind by {lines}")
+        return found.get("standbys", [])
+    async with leader.person("ada") as ada:
+        await ada.line("S ^X=1")
+        assert len({one["standby"] for one in await seen(0, 0)}) == 2
+        os.kill(second.child, signal.SIGSTOP)
+        try:
+            for number in range(3):
+                await ada.line(f"S ^X={number}")
+            behind = max(await seen(0, 3), key=lambda one: one["lines"])
+            last = last_line(JournalSettings(tmp_path / "journal"))
+            assert behind["line"] == last - 3 and not behind["waits"]
+            async with ada.http.get("/metrics") as response:
+                figures = await response.text()
+            assert f'\nmfront_standbys_behind_lines{{standby="{behind["standby"]}"}} 3\n' in figures and "\nmfront_standbys 2\n" in figures
+        finally:
+            os.kill(second.child, signal.SIGCONT)
+        await seen(0, 0)
+        assert await asyncio.to_thread(third.stop) == 0
+        await seen(0)
+        second.process.kill()
+        await shows(leader.folder, lambda found: found["standbys"][0]["silent"] > 3 * SAYS, "a standby that says nothing")
+        assert [place.name for place in (tmp_path / "journal").glob("standby-*")] == [f"standby-{behind['standby']}"]
+
+
+def test_what_a_leader_makes_of_what_standbys_say(monkeypatch: pytest.MonkeyPatch) -> None:
+    """How long they are behind, and say nothing; which alarms that is; and when they are forgotten."""
+    clock = [1000.0]
+    monkeypatch.setattr(standbys.time, "monotonic", lambda: clock[0])
+    known = standbys.Standbys()
+
+    def looks(after: float, answered: int, *said: Said, have_left: bool = False) -> list[Behind]:
+        clock[0] += after
+        known.take([*(one.text() for one in said), "standby x", "mfront"], answered, have_left)
+        return known.behind(answered)
+
+    def alarms() -> list[str]:
+        return [alarm["what"] for alarm in alarms_of(standbys.most_of(known.behind(100)))]
+    assert looks(0, 10, Said("a", 10, False, 1)) == [Behind("a", 10, 0, 0.0, 0.0, False)]
+    assert looks(2, 50, Said("a", 10, False, 2)) == [Behind("a", 10, 40, 0.0, 0.0, False)]
+    assert looks(70, 100, Said("a", 10, False, 3), Said("b", 100, True, 999)) == [Behind("a", 10, 90, 70.0, 0.0, False), Behind("b", 100, 0, 0.0, 0.0, True)]
+    assert alarms() == ["A standby cannot go on.", "A standby is a minute behind."]
+    # What says the same again says nothing; one who is not there may have left, or not.
+    found = looks(61, 100, Said("a", 100, False, 4), Said("b", 100, True, 999))
+    assert found == [Behind("a", 100, 0, 0.0, 0.0, False), Behind("b", 100, 0, 0.0, 61.0, True)]
+    assert alarms() == ["A standby cannot go on.", "A standby has said nothing for a minute."]
+    assert [one.name for one in looks(1, 100, Said("a", 100, False, 5))] == ["a", "b"]
+    assert [one.name for one in looks(1, 100, Said("a", 100, False, 6), have_left=True)] == ["a"]
+    assert looks(standbys.FORGOTTEN + 1, 100) == [] and alarms() == []
+    assert standbys.said_in("standby a 1 0 \N{SUPERSCRIPT TWO}") is None and len(standbys.name_of("s", Path("c"))) <= 21
 
 
 def test_pictures_of_several_fronts_are_one() -> None:

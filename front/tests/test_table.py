@@ -7,6 +7,7 @@ import dataclasses
 import json
 import os
 import random
+import re
 import signal
 import statistics
 import time
@@ -21,10 +22,11 @@ from front import Front, Patience, Ran, in_loop, stopped, tool, until
 from mserve_front.control import asked
 from mserve_front.history import History
 from mserve_front.journal import LogFault, LogTaken, Tail
-from mserve_front.journal_table import TableLog, flush_of
+from mserve_front.journal_table import TableLog, connected, flush_of
 from mserve_front.places import reader_of, writer_of
 from mserve_front.records import BadJournal, Flush, LineRecord
 from mserve_front.settings import JournalSettings
+from mserve_front.standbys import said_in
 from running import PROGRAM
 from test_journal import flushes
 from test_replay import backup, held, works
@@ -425,6 +427,28 @@ async def test_a_table_that_has_lost_its_last_rows(cluster: Cluster, start, jour
     cluster.does(f"DELETE FROM mfront_journal WHERE name = '{journal.name}' AND sequence = ({last})")
     with pytest.raises(RuntimeError, match=r"store.db.head: the journal ends with flush \d+ and line \d+, and it went to flush .*: its end is missing"):
         front.again()
+
+
+@in_loop()
+async def test_a_leader_hears_of_its_standby(start, journal: JournalSettings) -> None:
+    """By the name of the standby's connection, which tells the journal and the line."""
+    front, second = two_fronts(start, table(journal))
+    async with front.person("ada") as ada:
+        await ada.line("S ^X=1")
+        last = await caught_up(second, journal)
+
+        async def is_heard() -> bool:
+            async with ada.http.get("/metrics") as response:
+                return re.search(r'^mfront_standbys_behind_lines\{standby="\S+-[0-9a-f]{8}"\} 0$', await response.text(), re.MULTILINE) is not None
+        await until(is_heard, "the standby in the figures of its leader")
+        log = writer_of(journal)
+        log._base = connected(str(journal.database))
+        assert [said_in(text).line for text in log.said()] == [last]
+        log.close()
+        other = TableLog(str(journal.database), "another")
+        other._base = connected(str(journal.database))
+        assert other.said() == []
+        other.close()
 
 
 def noted_in(head: Path) -> int:

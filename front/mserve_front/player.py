@@ -108,7 +108,7 @@ class Stage:
         self._player: Player | None = None
         self._due: deque[tuple[Answered, asyncio.Future[Answer]]] = deque()
         self.child: Child | None = None
-        # The server's next connection, for the one who serves with it after this: it takes a process to make, and then users would wait for that.
+        # The server's next connection, for the one who serves with it after this: users would wait for it then.
         self._ahead: asyncio.Task[socket.socket | None] | None = None
         self.at = 0
         self.open: set[int] = set()
@@ -121,9 +121,9 @@ class Stage:
             made.write(text)
             made.flush()
             self.child = await launched(self._program, self._settings or Path(made.name), self._store, self._connections)
-            self._player = await joined(self.child.port, Player, self.child.process, enclosed=self.child.enclosed)
-        if self._connections > 1 and self.child.enclosed:
-            self._ahead = asyncio.create_task(enclosure.connected(self.child.process.pid, self.child.port))
+            self._player = await joined(self.child.port, Player, self.child.process, ways=self.child.ways)
+        if self._connections > 1 and self.child.ways is not None:
+            self._ahead = asyncio.create_task(enclosure.connected(self.child.process, self.child.port, self.child.ways))
         self.open.clear()
 
     async def take(self, event: Event) -> None:

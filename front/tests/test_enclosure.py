@@ -77,7 +77,7 @@ async def test_nobody_enters_the_network_of_the_server(start) -> None:
     front: Front = start(tls=False)
     own, other = (os.readlink(f"/proc/{process}/ns/net") for process in (front.process.pid, front.child))
     assert own != other
-    for words in (["nsenter", "--user", "--net", "--target", str(front.child), "true"], [*HELPER, "connect", str(front.child), str(PORT)]):
+    for words in (["nsenter", "--user", "--net", "--target", str(front.child), "true"], [*HELPER, str(front.child), str(PORT)]):
         tried = as_nobody(*words)
         _, told = await asyncio.to_thread(tried.communicate)
         assert tried.returncode != 0 and "ermi" in told, told

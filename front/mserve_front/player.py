@@ -53,20 +53,33 @@ class Player(Connection):
         super().__init__(ROOM)
         self._reader.keep_digests()
         self._flying: deque[tuple[int, asyncio.Future[Answer]]] = deque()
+        # What is to be sent once who plays waits: each call of the system costs as much as all else that is done with a line.
+        self._unsent: list[bytes] = []
 
     def play(self, terminal: int, text: bytes) -> asyncio.Future[Answer]:
         """The answer of a line, once it comes. It ends by `Lost` if the server does."""
-        reply = asyncio.get_running_loop().create_future()
+        loop = asyncio.get_running_loop()
+        reply = loop.create_future()
         if self._transport is None or self._transport.is_closing():
             self._ends(reply)
             return reply
         self._flying.append((terminal, reply))
-        self._transport.write(Line(text).sent_by(terminal))
+        if not self._unsent:
+            loop.call_soon(self._send)
+        self._unsent.append(Line(text).sent_by(terminal))
         return reply
+
+    def _send(self) -> None:
+        """Sends what waits, at once."""
+        lines, self._unsent = self._unsent, []
+        if self._transport is not None:
+            self._transport.write(b"".join(lines))
 
     def close(self) -> None:
         """Ends the connection in order: the server reads its end."""
         if self._transport is not None:
+            if self._unsent:
+                self._send()
             self._transport.close()
 
     def connection_lost(self, error: Exception | None) -> None:

@@ -45,7 +45,7 @@ class Patience:
     seconds = 60.0
 
 
-def in_loop(seconds: float = 180) -> Callable[[Callable[..., Awaitable[None]]], Callable[..., None]]:
+def in_loop(seconds: float = 400) -> Callable[[Callable[..., Awaitable[None]]], Callable[..., None]]:
     """Runs a test that awaits, for so long at most: what hangs is to end, and what a busy machine delays is not."""
     def made(test: Callable[..., Awaitable[None]]) -> Callable[..., None]:
         @functools.wraps(test)

@@ -159,7 +159,7 @@ async def test_the_operators_page_of_a_standby(start, tmp_path: Path) -> None:
 
 
 @pytest.mark.long
-@in_loop(200)
+@in_loop()
 async def test_a_leader_shows_how_far_its_standbys_are_behind(start, tmp_path: Path) -> None:
     """On its page and in its figures. One whose server is held up is behind, one that is stopped in order is a standby no more, and one that is killed is not
     heard of."""

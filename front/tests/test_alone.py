@@ -89,7 +89,7 @@ def init(front: Path, folder: Path) -> Ran:
 
 
 @pytest.mark.long
-@in_loop(300)
+@in_loop()
 async def test_a_heavy_account_holds_nobody_up(alone: Path, certificate: tuple[Path, Path], tmp_path: Path) -> None:
     """Four accounts are three islands with what each had. A line of a million steps, again and again, is not noticed by another island."""
     status, _, told = tool("mgate")("init", alone.parent / "settings.toml", alone.parent / "store.db", "--config", tmp_path / "none.toml")
@@ -136,7 +136,7 @@ async def test_a_heavy_account_holds_nobody_up(alone: Path, certificate: tuple[P
     assert "this machine is alone" in gate.does("move", "LAB", "two")[2]
 
 
-@in_loop(180)
+@in_loop()
 async def test_an_operator_sees_all_islands_and_has_logs_opened_anew(alone: Path, certificate: tuple[Path, Path], tmp_path: Path) -> None:
     """The page of the gate has each island and what its front tells; a reload reads certificates, and opens each island's audit log, and ends nobody's
     session. The front's limits and characters are the islands' too."""

@@ -201,7 +201,7 @@ ATTACKS = [pipelines, half_open, malformed, wrong_sign_ons, pings, *(pytest.para
 
 @pytest.mark.alone
 @pytest.mark.parametrize("attack", ATTACKS, ids=lambda attack: attack.__name__)
-@in_loop(300)
+@in_loop()
 async def test_a_neighbour_is_served_during_an_attack(start, attack: Attack, count: int) -> None:
     front: Front = start()
     seconds = SECONDS * (count if count == 1 else count / 4)

@@ -21,7 +21,7 @@ def takes(front: Front) -> Ran:
     return tool("mfront")("change", "--config", front.folder / "front.toml")
 
 
-@in_loop(200)
+@in_loop()
 async def test_a_new_customer_ends_no_session(start, tmp_path: Path) -> None:
     settings = tmp_path / "settings.toml"
     settings.write_text(SETTINGS.read_text())
@@ -63,7 +63,7 @@ async def refused(front: Front, settings: Path) -> None:
         assert status == 3 and wanted in told, told
 
 
-@in_loop(200)
+@in_loop()
 async def test_an_account_gets_another_language(start, tmp_path: Path) -> None:
     """From the change on its lines and its routines are read in it; nobody signs on again, and a replay has the store."""
     settings = tmp_path / "settings.toml"
@@ -89,7 +89,7 @@ async def test_an_account_gets_another_language(start, tmp_path: Path) -> None:
 
 
 @pytest.mark.long
-@in_loop(300)
+@in_loop()
 async def test_settings_change_while_users_work(start, tmp_path: Path, count: int) -> None:
     """Each time more steps: nothing that was answered is lost, nothing runs twice, and a replay has the store."""
     settings, counting = tmp_path / "settings.toml", Counting()

@@ -568,7 +568,7 @@ def test_words_of_mjournal(told_of: Front, tmp_path: Path) -> None:
 
 
 @pytest.mark.long
-@in_loop(200)
+@in_loop()
 async def test_a_disk_that_is_full(certificate: tuple[Path, Path], tmp_path: Path) -> None:
     """No line goes on, users and the operator are told, and once there is room all goes on. What was answered is in the journal."""
     folder = tmp_path / "front"

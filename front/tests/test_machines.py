@@ -207,7 +207,7 @@ async def test_an_island_that_had_trouble_is_taken_over(host: Callable[..., Gate
 ENDS = "SELECT name, max(sequence) FROM mfront_journal GROUP BY name ORDER BY name"
 
 
-@in_loop(200)
+@in_loop()
 async def test_a_database_that_is_away(host: Callable[..., Gate], cluster: Pair, tmp_path: Path) -> None:
     """The gate and the fronts stay, lines are refused, and a machine that is started meanwhile says so; once it is there all goes on."""
     islands(tmp_path / "islands", 1)
@@ -235,7 +235,7 @@ async def test_a_database_that_is_away(host: Callable[..., Gate], cluster: Pair,
     user.close()
 
 
-@in_loop(200)
+@in_loop()
 async def test_what_a_gate_carries(host: Callable[..., Gate], tmp_path: Path) -> None:
     """The page's own protocol by a gate that is not the island's, wrong passwords, and peers without a certificate."""
     made, _ = islands(tmp_path / "islands", 1)
@@ -303,7 +303,7 @@ def token_config(folder: Path) -> Path:
 
 
 @pytest.mark.long
-@in_loop(200)
+@in_loop()
 async def test_commands_of_the_page(host: Callable[..., Gate], cluster: Pair, tmp_path: Path) -> None:
     """Those of docs/OPERATING.md that move a customer, and that take one whose machine is gone; and that machine comes back."""
     islands(tmp_path / "islands", 1)

@@ -57,7 +57,7 @@ def backup(front: Front, *words: object) -> Path:
     return Path(output.strip())
 
 
-@in_loop(200)
+@in_loop()
 async def test_stores_of_drawn_lines_are_made_anew(start, tmp_path: Path) -> None:
     """Snapshots are taken while users work; a replay to the number of each holds what it does, and so does one from each that is exact. Cleo's account
     has language 1, the others' have 0."""
@@ -86,7 +86,7 @@ async def test_stores_of_drawn_lines_are_made_anew(start, tmp_path: Path) -> Non
     assert (status, told) == (0, "") and held(tmp_path / "from") == held(tmp_path / "all")
 
 
-@in_loop(200)
+@in_loop()
 async def test_replay_to_a_moment(start, tmp_path: Path) -> None:
     front = start(store="store.db", journal={"folder": "journal"})
     async with front.person("ada") as ada:
@@ -121,7 +121,7 @@ async def test_replay_to_a_moment(start, tmp_path: Path) -> None:
     assert status == 3 and "comes before" in told
 
 
-@in_loop(200)
+@in_loop()
 async def test_a_reply_that_differs_stops_a_replay(start, tmp_path: Path) -> None:
     front = start(store="store.db", journal={"folder": "journal"})
     async with front.person("ada") as ada:
@@ -224,7 +224,7 @@ def has_open_line(front: Front) -> bool:
     return end.answered < end.next - 1
 
 
-@in_loop(200)
+@in_loop()
 async def test_a_server_that_is_killed_and_a_front_that_is(start, tmp_path: Path) -> None:
     """Both go on with the journal; the line that the server was at is told by a replay, which has what it did, and what was answered is there."""
     front = start(store="store.db", journal={"folder": "journal"})
@@ -258,7 +258,7 @@ async def test_a_server_that_is_killed_and_a_front_that_is(start, tmp_path: Path
     assert held(tmp_path / "new") == held(front.folder / "store.db")
 
 
-@in_loop(200)
+@in_loop()
 async def test_a_store_in_memory_begins_anew(start) -> None:
     front = start(journal={"folder": "journal"})
     async with front.person("ada") as ada:
@@ -273,7 +273,7 @@ async def test_a_store_in_memory_begins_anew(start) -> None:
     assert replay(front, "memory")[0] == 0
 
 
-@in_loop(200)
+@in_loop()
 async def test_a_snapshot_is_put_back_and_the_journal_expires(start, tmp_path: Path) -> None:
     front = start(store="store.db", journal={"folder": "journal", "roll": 4096})
     async with front.person("ada") as ada:
@@ -299,7 +299,7 @@ async def test_a_snapshot_is_put_back_and_the_journal_expires(start, tmp_path: P
     assert str(snapshot) in tool("mbackup")("list", front.folder)[1]
 
 
-@in_loop(200)
+@in_loop()
 async def test_snapshots_are_verified_by_a_replay(start, tmp_path: Path) -> None:
     """The latest one is what the journal gives from the one before; the front's figures tell it. One that is not is refused by the account that differs."""
     backups = tmp_path / "backups"
@@ -379,7 +379,7 @@ def test_snapshots_that_are_damaged(sound: Path, tmp_path: Path, harm: str) -> N
     assert status == 1 and str(snapshot) in told and len(told.splitlines()) == 1
 
 
-@in_loop(200)
+@in_loop()
 async def test_snapshots_that_cannot_be_taken(start, tmp_path: Path) -> None:
     front = start(store="store.db", journal={"folder": "journal"})
     words = ("take", "--config", front.folder / "front.toml")
@@ -389,7 +389,7 @@ async def test_snapshots_that_cannot_be_taken(start, tmp_path: Path) -> None:
     assert not [path for path in front.folder.iterdir() if path.name.startswith(".part")]
 
 
-@in_loop(200)
+@in_loop()
 async def test_a_journal_that_has_lost_lines_is_refused(start, tmp_path: Path) -> None:
     """The store says where it stands: a journal that ends before it, or another one, is not gone on with."""
     front = start(store="store.db", journal={"folder": "journal"})
@@ -427,7 +427,7 @@ async def test_a_journal_that_has_lost_lines_is_refused(start, tmp_path: Path) -
         assert await ada.told("W ^X") == "2"
 
 
-@in_loop(200)
+@in_loop()
 async def test_a_store_that_is_not_the_journals_last_is_refused(start, tmp_path: Path) -> None:
     """A leader that was killed is not started again once another one has served; and one without a note is not either."""
     front = start(store="store.db", journal={"folder": str(tmp_path / "journal")})
@@ -453,7 +453,7 @@ async def test_a_store_that_is_not_the_journals_last_is_refused(start, tmp_path:
         assert await ada.told("W ^X") == "2"
 
 
-@in_loop(200)
+@in_loop()
 async def test_a_journal_whose_first_start_failed(start) -> None:
     """The store's note names a journal that never had anything: the next start begins one."""
     front = start(store="store.db", journal={"folder": "journal"})
@@ -478,7 +478,7 @@ time.time_ns = lambda: own() + int(place.read_text()) * 10**9
 """
 
 
-@in_loop(200)
+@in_loop()
 async def test_clocks_that_step_back(start, tmp_path: Path) -> None:
     """While a front runs, at its restart, and on the machine that takes over: no time in the journal is before another, it is told, and nothing is lost."""
     (tmp_path / "sitecustomize.py").write_text(CLOCK)
@@ -512,7 +512,7 @@ async def test_clocks_that_step_back(start, tmp_path: Path) -> None:
     assert run("replay", "--program", PROGRAM, "--store", tmp_path / "new")[::2] == (0, "") and held(tmp_path / "new") == held(second.folder / "store.db")
 
 
-@in_loop(200)
+@in_loop()
 async def test_snapshots_and_stores_on_a_disk_that_is_full(tmp_path: Path) -> None:
     """They are refused, nothing of them is left, and users work on."""
     folder = tmp_path / "front"
@@ -539,7 +539,7 @@ async def test_snapshots_and_stores_on_a_disk_that_is_full(tmp_path: Path) -> No
     assert replay(front, "memory")[0] == 0
 
 
-@in_loop(200)
+@in_loop()
 async def test_a_second_front_is_refused(start, tmp_path: Path) -> None:
     front = start(store="store.db", journal={"folder": "journal"})
     with pytest.raises(RuntimeError, match="another front writes this journal"):

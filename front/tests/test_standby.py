@@ -104,7 +104,7 @@ async def test_a_standby_has_caught_up_once_it_has_run_all(start, tmp_path: Path
         await caught_up(second, tmp_path / "journal")
 
 
-@in_loop(200)
+@in_loop()
 async def test_a_standby_follows_and_is_promoted(start, tmp_path: Path) -> None:
     leader = leading(start, tmp_path / "journal")
     second = standby(start, tmp_path / "journal")
@@ -143,7 +143,7 @@ async def test_a_standby_follows_and_is_promoted(start, tmp_path: Path) -> None:
     assert mjournal(tmp_path / "journal")("replay", "--program", PROGRAM, "--store", "memory")[::2] == (0, "")
 
 
-@in_loop(200)
+@in_loop()
 async def test_a_standby_has_its_ports(start, tmp_path: Path) -> None:
     """Nobody can take them meanwhile. One that is taken when it starts is told, and taken at the promotion if that can be."""
     leader = leading(start, tmp_path / "journal")
@@ -162,7 +162,7 @@ async def test_a_standby_has_its_ports(start, tmp_path: Path) -> None:
         assert await ada.told("W ^X") == "1"
 
 
-@in_loop(200)
+@in_loop()
 async def test_a_standby_whose_store_differs_stands_still(start, tmp_path: Path) -> None:
     """A node was changed in its store: it is told at the next line that reads it, and nothing that was answered is lost without a word. It goes on once the
     leader has written all that its store holds."""
@@ -205,7 +205,7 @@ def changed_by_hand(store: Path) -> None:
     base.close()
 
 
-@in_loop(200)
+@in_loop()
 async def test_a_promotion_that_would_lose_lines(start, tmp_path: Path) -> None:
     """It is refused, with the lines, and done by force; others that follow go on with what is served then."""
     leader = leading(start, tmp_path / "journal")
@@ -236,7 +236,7 @@ async def test_a_promotion_that_would_lose_lines(start, tmp_path: Path) -> None:
     assert held(third.folder / "store.db") == held(second.folder / "store.db")
 
 
-@in_loop(200)
+@in_loop()
 async def test_a_standby_takes_over_once_the_leader_is_stopped(start, tmp_path: Path) -> None:
     """The promotion waits for that, so that nobody serves for a moment alone, as at an upgrade of the program: the standby is the new one."""
     leader, journal = leading(start, tmp_path / "journal"), tmp_path / "journal"
@@ -270,7 +270,7 @@ async def answers(front: Front) -> bool:
         return await ada.told("W ^X") == "2"
 
 
-@in_loop(200)
+@in_loop()
 async def test_a_leader_that_lives_is_fenced_off(start, tmp_path: Path) -> None:
     """It hangs, and the standby takes over by force. Once it goes on it acknowledges nothing, and ends; what the other one serves is not touched."""
     leader = leading(start, tmp_path / "journal")
@@ -301,7 +301,7 @@ async def test_a_leader_that_lives_is_fenced_off(start, tmp_path: Path) -> None:
     assert held(tmp_path / "all") == held(second.folder / "store.db")
 
 
-@in_loop(200)
+@in_loop()
 async def test_a_standby_that_is_killed_begins_with_a_snapshot(start, tmp_path: Path) -> None:
     leader = leading(start, tmp_path / "journal")
     async with leader.person("ada") as ada:
@@ -329,7 +329,7 @@ async def test_a_standby_that_is_killed_begins_with_a_snapshot(start, tmp_path: 
 
 
 @pytest.mark.long
-@in_loop(200)
+@in_loop()
 async def test_a_standby_that_cannot_go_on(start, tmp_path: Path) -> None:
     """Other settings are waited for."""
     leader = leading(start, tmp_path / "journal")
@@ -348,7 +348,7 @@ async def test_a_standby_that_cannot_go_on(start, tmp_path: Path) -> None:
         assert status == 3 and "no front that keeps a journal is there" in told and len(told.splitlines()) == 1
 
 
-@in_loop(200)
+@in_loop()
 async def test_a_journal_that_has_lost_its_end_is_refused(start, tmp_path: Path) -> None:
     """What is noted beside the store stays as it was, so that it is refused the next time too."""
     leader = leading(start, tmp_path / "journal")
@@ -387,7 +387,7 @@ def stands_by(front: Front) -> int:
     return int(re.search(r"standing by, after line (\d+) of the journal", front.told())[1])
 
 
-@in_loop(200)
+@in_loop()
 async def test_a_leader_that_was_stopped_stands_by(start, tmp_path: Path) -> None:
     """Without a snapshot: its store stands where the journal was then. It runs what the other one serves meanwhile and later, and takes over again."""
     leader = leading(start, tmp_path / "journal")
@@ -416,7 +416,7 @@ async def goes_on(leader: Front, second: Front, left: int, journal: Path) -> Non
 
 
 @pytest.mark.parametrize("alone", [pytest.param(True, marks=pytest.mark.long), False])
-@in_loop(200)
+@in_loop()
 async def test_a_leader_that_was_killed_stands_by(start, tmp_path: Path, alone: bool) -> None:
     """If all its lines were answered, its store stands after the last of them: whether nobody has served since (`alone`) or another one has."""
     leader = leading(start, tmp_path / "journal", roll=4096)
@@ -436,7 +436,7 @@ async def test_a_leader_that_was_killed_stands_by(start, tmp_path: Path, alone: 
     await goes_on(leader, second, left, tmp_path / "journal")
 
 
-@in_loop(200)
+@in_loop()
 async def test_a_leader_that_was_killed_at_work_does_not_stand_by(start, tmp_path: Path) -> None:
     """Lines were on their way, and may have been run: it is told which, and what can be done. The note beside the store stays."""
     load, journal = Load(SLOW), tmp_path / "journal"
@@ -560,7 +560,7 @@ def has_taken(front: Front, journal: Path) -> bool:
 
 
 @pytest.mark.long
-@in_loop(200)
+@in_loop()
 async def test_a_stop_during_a_promotion(start, tmp_path: Path) -> None:
     """The promotion is given up, and the standby ends as at any stop: another one takes over, and then this one in its turn."""
     load, journal = Load(SLOW), tmp_path / "journal"
@@ -593,7 +593,7 @@ async def test_a_stop_during_a_promotion(start, tmp_path: Path) -> None:
     await load.holds(second, 2)
 
 
-@in_loop(200)
+@in_loop()
 async def test_a_stop_between_a_promotion_and_the_service(start, tmp_path: Path) -> None:
     """One that the standby hears of when it is promoted already ends the service before it serves."""
     load, journal = Load(), tmp_path / "journal"

@@ -190,7 +190,7 @@ def log_key(journal: JournalSettings) -> int:
 
 
 @pytest.mark.long
-@in_loop(200)
+@in_loop()
 async def test_a_database_that_is_away(start, tmp_path: Path) -> None:
     """Lines are refused meanwhile and users told; then all goes on, and what was answered is in the journal."""
     async with own_cluster() as cluster:
@@ -246,7 +246,7 @@ async def waits_for_its_journal(second: Front, cluster: Cluster) -> None:
 
 
 @pytest.mark.long
-@in_loop(300)
+@in_loop()
 async def test_a_database_that_is_away_for_a_minute(start, tmp_path: Path) -> None:
     """A reply that cannot be noted is held back after half a minute, and noted once the database is there; nothing that was answered is lost."""
     async with own_cluster() as cluster:
@@ -283,7 +283,7 @@ async def test_a_database_that_is_away_for_a_minute(start, tmp_path: Path) -> No
         assert held(tmp_path / "new") == held(front.folder / "store.db") == held(second.folder / "store.db")
 
 
-@in_loop(200)
+@in_loop()
 async def test_a_front_goes_on_soon_after_its_database(start) -> None:
     """It goes on by its first attempts once the database is there, and its attempts are no more than four seconds apart: so within five, but for what the
     machine takes. That is measured between attempts, of which most have to be so, since a busy machine may hold one up."""
@@ -313,7 +313,7 @@ async def test_a_front_goes_on_soon_after_its_database(start) -> None:
 
 
 @pytest.mark.long
-@in_loop(200)
+@in_loop()
 async def test_connections_that_are_cut(start, tmp_path: Path) -> None:
     """The database does not see the end of the one that has the lock: the front has it end that one, and goes on by itself."""
     async with own_cluster() as cluster:
@@ -372,7 +372,7 @@ FULL = """CREATE FUNCTION full_disk() RETURNS trigger LANGUAGE plpgsql AS $$ BEG
     CREATE TRIGGER full_disk BEFORE INSERT ON mfront_journal FOR EACH ROW EXECUTE FUNCTION full_disk()"""
 
 
-@in_loop(200)
+@in_loop()
 async def test_a_database_whose_disk_is_full(start, tmp_path: Path) -> None:
     """It refuses rows, as PostgreSQL does then: no line goes on, users and the operator are told, and once there is room all goes on."""
     async with own_cluster() as cluster:
@@ -411,7 +411,7 @@ async def test_leaders_that_are_killed(start, journal: JournalSettings, tmp_path
     assert held(tmp_path / "all") == held(leader.folder / "store.db")
 
 
-@in_loop(200)
+@in_loop()
 async def test_a_table_that_has_lost_its_last_rows(cluster: Cluster, start, journal: JournalSettings) -> None:
     """No row tells that others came after it; what is noted beside the store does."""
     front = start(store="store.db", journal=table(journal))
@@ -462,7 +462,7 @@ def freed(journal: JournalSettings) -> None:
 
 
 @pytest.mark.long
-@in_loop(200)
+@in_loop()
 async def test_a_leader_that_was_killed_stands_by(start, journal: JournalSettings) -> None:
     """Its store stands after its last line, by the table, in which another one has written since."""
     leader, second = two_fronts(start, table(journal))
@@ -485,7 +485,7 @@ async def test_a_leader_that_was_killed_stands_by(start, journal: JournalSetting
 
 
 @pytest.mark.long
-@in_loop(200)
+@in_loop()
 async def test_synchronous_replication(start, tmp_path: Path) -> None:
     """The primary ends at once, its replica takes over, and the front goes on there with all that was answered."""
     async with own_cluster() as first, own_cluster(first) as second:

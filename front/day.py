@@ -1,7 +1,8 @@
 #!/usr/bin/python3
 # SPDX-License-Identifier: Apache-2.0
 """A long run at a small part of a machine: users count at a leader with a standby, each reply is held against a model, troubles of the matrix come, and
-snapshots are taken and verified by a replay. A day by default; SIGTERM ends it in order, and it says what it found.
+snapshots are taken and verified by a replay from the one before; then what the journal has before them goes. At the end the stores are held against a
+replay from the last one. A day by default; SIGTERM ends it in order, and it says what it found.
 
 The record has a line for each minute: lines, their waits, memory, open files, and processor time. Status 1 if something was not as it is to be."""
 from __future__ import annotations
@@ -62,6 +63,7 @@ class Day:
         self.pair.long = True
         self.stopping = asyncio.Event()
         self.troubles = self.snapshots = 0
+        self._verified: Path | None = None
         self._record, self._share, self._rng = record, share, random.Random(7)
         self._began = time.monotonic()
 
@@ -76,7 +78,7 @@ class Day:
                     await self._meets_trouble()
                 if stretch % SNAPSHOT == 0:
                     await self._is_backed_up()
-            await as_replayed(self.pair)
+            await as_replayed(self.pair, self._verified)
         except BaseException:
             print(self.pair.told(), flush=True)
             raise
@@ -127,8 +129,14 @@ class Day:
         status, output, told = await asyncio.to_thread(tool("mbackup"), "verify", folder, "--config", leader.folder / "front.toml")
         if status:
             raise ValueError(f"a snapshot that is not the journal's: {told}")
-        for old in sorted(path for path in folder.iterdir() if path.name.isdigit())[:-1]:
+        for old in sorted((path for path in folder.iterdir() if path.name.isdigit()), key=lambda path: int(path.name))[:-1]:
             shutil.rmtree(old)
+        self._verified = folder / made.name
+        # The journal of a day would be a thousand files and more, of which who follows looks at each all the time.
+        await self.pair.caught_up()
+        status, _, told = await asyncio.to_thread(tool("mjournal"), *self.pair.journal, "expire", self._verified)
+        if status:
+            raise ValueError(f"a journal that does not expire: {told}")
         self.snapshots += 1
         self._notes(snapshot=output.strip().rpartition("\n")[2])
 

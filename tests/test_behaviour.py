@@ -1,5 +1,6 @@
 # SPDX-License-Identifier: Apache-2.0
-"""How tools/behaviour.py runs tests in stages, over a small tree of tests with all marks: each case once, and without the long ones by `--quick`."""
+"""How tools/behaviour.py runs tests in stages, over a small tree of tests with all marks: each case once, and without the long ones by `--quick`; and which
+cases that failed have a second try."""
 from __future__ import annotations
 
 import shutil
@@ -70,6 +71,50 @@ def test_quick_leaves_out_long_cases_and_a_case_of_two_stages_is_told(top: Path,
     told = capfd.readouterr().out
     assert "behaviour: tests/test_all.py: pytest finds 5 cases, the stages ran 6: a mark hides some, or puts some into two\n" in told
     assert f"skipped, {sum(long for _, long in FILES.values())} left out\n" in told
+
+
+# A case that fails the first time, and one that always does. A process is started for them, by themselves or by a fixture, or none is.
+FAILS = """
+import pathlib, pytest, subprocess
+@pytest.fixture(scope="module")
+def server(): subprocess.run(["true"])
+def fails(name, always=False):
+    place = pathlib.Path(__file__).with_name(name)
+    was_there = place.exists()
+    place.touch()
+    assert was_there and not always, f"why {name} failed"
+"""
+ONCE = "def test_{0}(): subprocess.run(['true']); fails('{0}')\n"
+ALWAYS = "def test_always(): subprocess.run(['true']); fails('always', True)\n"
+BY_A_FIXTURE = "def test_by_a_fixture(server): fails('by_a_fixture')\n"
+WITHOUT = "def test_without_a_process(): fails('without')\n"
+
+
+def test_a_case_that_fails_once_has_a_second_try_and_one_that_time_is_no_matter_for_has_none(top: Path, capfd: pytest.CaptureFixture[str]) -> None:
+    """It is run alone. What fails at each try, has no process, or computes is a failure."""
+    append(top / "front" / "tests" / "test_some.py", FAILS + ONCE.format("once") + BY_A_FIXTURE + ALWAYS + WITHOUT)
+    append(top / "tests" / "test_all.py", FAILS + ONCE.format("computing") + "@pytest.mark.waits\n" + ONCE.format("waiting"))
+    totals = behaviour.run(False, ["--count=1"])
+    told = capfd.readouterr().out
+    assert totals.ended == {"passed": sum(count for count, _ in FILES.values()) + 3, "failed": 3}, told
+    again = {line.split(": ")[2].split(" (")[0] for line in told.splitlines() if line.startswith("behaviour: passed at the second try: ")}
+    assert again == {"front/tests/test_some.py::test_once", "front/tests/test_some.py::test_by_a_fixture", "tests/test_all.py::test_waiting"}
+    assert "behaviour: failed at the second try too: front/tests/test_some.py::test_always\n" in told
+    assert "behaviour: 3 passed at the second try, of 3 that may\n" in told
+    # Why each failed stands where it failed, and with its second try.
+    assert [told.count(f"E   AssertionError: why {name} failed\n") + told.count(f"E       AssertionError: why {name} failed\n")
+            for name in ("once", "by_a_fixture", "always")] == [2] * 3
+
+
+def test_more_cases_than_may_need_a_second_try_are_a_failure(top: Path, monkeypatch: pytest.MonkeyPatch, capfd: pytest.CaptureFixture[str]) -> None:
+    append(top / "front" / "tests" / "test_some.py", FAILS + "".join(ONCE.format(f"once{number}") for number in range(4)))
+    folder, stages = str(top), behaviour.stages
+    [part] = [part for part in stages(folder, True, [])[1].parts if part.name == "front some"]
+    monkeypatch.setattr(behaviour, "stages", lambda *_: [behaviour.Stage([part], behaviour.COMPUTES)])
+    monkeypatch.setattr(behaviour, "collected", lambda *_: behaviour.Collected(Counter({"front/tests/test_some.py": 6})))
+    totals = behaviour.run(True, [])
+    assert totals.ended == {"passed": 6, "failed": 1}, capfd.readouterr()
+    assert "behaviour: 4 passed at the second try, of 3 that may\n" in capfd.readouterr().out
 
 
 def at_once(stage: behaviour.Stage) -> list[str]:

@@ -64,13 +64,15 @@ def run(tasks: Tasks, tmp_path: Path, kit_of: Kit | None = None) -> tuple[dict, 
     return lanes(tasks), said
 
 
-def test_lowest_first_and_the_longest_chain_before_others(tmp_path: Path) -> None:
+def test_lowest_first_and_the_longest_chain_before_others(tmp_path: Path, monkeypatch: pytest.MonkeyPatch) -> None:
+    """Memory is for one at a time: which of two threads notes first that it has begun would be chance."""
+    monkeypatch.setattr(chain, "PAUSE", 0.01)
     tasks = Tasks()
-    tasks.add("low")
-    tasks.add("leaf", ("low",), lines=300)
-    tasks.add("long", ("low",), lines=200)
-    tasks.add("above", ("long",), lines=200)
-    given, said = run(tasks, tmp_path)
+    tasks.add("low", memory=6 * GIGABYTE)
+    tasks.add("leaf", ("low",), lines=300, memory=6 * GIGABYTE)
+    tasks.add("long", ("low",), lines=200, memory=6 * GIGABYTE)
+    tasks.add("above", ("long",), lines=200, memory=6 * GIGABYTE)
+    given, said = run(tasks, tmp_path, Kit(free=8 * GIGABYTE))
     names = [key[0] for key, _ in tasks.begun]
     assert names.index("low") == 0 and names.index("long") < names.index("leaf") and names.index("above") > names.index("long")
     assert all(given.values()) and len(said) == 4 and said[0].startswith("1 of 4: low proved in ")
@@ -186,5 +188,5 @@ def test_a_word_that_is_no_crate(capsys: pytest.CaptureFixture[str]) -> None:
 def test_a_build_takes_no_words() -> None:
     with pytest.raises(SystemExit, match="takes no words"):
         build.main(["mserve"])
-    ran = subprocess.run([sys.executable, Path(sources.TOP, "tools", "build.py"), "--help"], capture_output=True, text=True, timeout=20)
+    ran = subprocess.run([sys.executable, Path(sources.TOP, "tools", "build.py"), "--help"], capture_output=True, text=True, timeout=60)
     assert ran.returncode == 0 and ran.stdout.startswith("Proves and builds")

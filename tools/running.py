@@ -73,8 +73,8 @@ def ports_apart():
 
 
 def connected(port):
-    """A connection to a server that may be starting yet."""
-    end = time.monotonic() + 20
+    """A connection to a server that may be starting yet, however busy the machine is."""
+    end = time.monotonic() + 60
     while True:
         try:
             return socket.create_connection(("127.0.0.1", port), timeout=60)

@@ -72,7 +72,7 @@ class Server:
     def stop(self) -> None:
         """Ends the server as an operator does."""
         self.process.terminate()
-        self.process.wait(30)
+        self.process.wait(60)
 
 
 def start(store: str) -> Server:

@@ -26,7 +26,7 @@ class Terminal:
         """Types a text."""
         os.write(self._end, text.encode())
 
-    def wait(self, text: str, seconds: float = 30) -> str:
+    def wait(self, text: str, seconds: float = 60) -> str:
         """What was shown up to a text that has to come."""
         limit = time.monotonic() + seconds
         while text not in self.seen:
@@ -46,7 +46,7 @@ class Terminal:
         """Ends the input at the next prompt, and with it the shell."""
         self.wait(">")
         self.type("\x04")
-        assert self.process.wait(20) == 0
+        assert self.process.wait(60) == 0
 
 
 @contextmanager

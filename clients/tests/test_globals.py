@@ -350,7 +350,7 @@ def test_import_is_sent_ahead_in_full_lines(command: Command, tmp_path: Path) ->
     with socket.create_server(("127.0.0.1", 0)) as listener:
         peer = threading.Thread(target=peer_that_answers_at_the_end, args=(listener, count, seen), daemon=True)
         peer.start()
-        ran = command("mglobal", "--timeout", 20, listener.getsockname()[1], ALICE, "import", "in.zwr")
+        ran = command("mglobal", "--timeout", 50, listener.getsockname()[1], ALICE, "import", "in.zwr")
         peer.join(30)
     assert (ran.status, ran.output, ran.told) == (0, "2,000 nodes imported\n", "")
     longest = len(',^X(1999)="the text of 1999"')

@@ -235,7 +235,7 @@ def test_interrupt_while_a_reply_is_waited_for(server: Server, tmp_path: Path) -
             shell.answers("W A", "Ctrl-C gives up")
             shell.type("\x03")
             shell.wait("mshell: interrupted; the terminal's session could not be ended")
-            assert shell.process.wait(20) == 130
+            assert shell.process.wait(60) == 130
 
 
 def test_waiting_is_told(server: Server, tmp_path: Path) -> None:
@@ -251,7 +251,7 @@ def test_terminal_that_nobody_has(server: Server, tmp_path: Path) -> None:
     """It is said before a prompt comes, and the shell ends; lines from a pipe are answered one by one."""
     with opened(str(server.port), "77", "--no-history") as shell:
         shell.wait("77: ZTERM: terminal not in the settings. Use a terminal that the settings give to an account.")
-        assert shell.process.wait(20) == 1 and ">" not in shell.seen
+        assert shell.process.wait(60) == 1 and ">" not in shell.seen
 
 
 def test_terminal_that_nobody_has_while_another_has_the_server(server: Server, tmp_path: Path) -> None:
@@ -316,4 +316,4 @@ def test_shell_connects_again(own_server: Server, tmp_path: Path) -> None:
         own_server.process.wait()
         shell.answers(".routines", "waiting for the server")
         shell.type("\x03")
-        assert shell.process.wait(20) == 130
+        assert shell.process.wait(60) == 130

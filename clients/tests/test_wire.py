@@ -74,7 +74,7 @@ def test_pipeline_of_large_replies_does_not_stand_still() -> None:
 
     with socket.create_server(("127.0.0.1", 0)) as listener:
         threading.Thread(target=serve, args=(listener,), daemon=True).start()
-        with Connection(listener.getsockname()[1], 1, timeout=20) as connection:
+        with Connection(listener.getsockname()[1], 1, timeout=60) as connection:
             line = "W " + "1" * 40_000
             assert [len(reply.rest) for reply in connection.pipeline([line] * count)] == [size] * count
 
@@ -135,7 +135,7 @@ def test_time_out_while_another_client_is_served_and_after_it(server: Server) ->
             second.send("W A+1")
         first.close()
         # It is served now, and takes what time it needs.
-        second.timeout = 20
+        second.timeout = 60
         assert second.send("W A+2").rest == "3"
 
 

@@ -48,17 +48,18 @@ function alarm({ what, do: remedy }) {
 
 function show(found) {
   byId("state").textContent = `${found.state}; ${new Date(found.time * 1000).toLocaleTimeString()}`;
-  for (const [id, some] of [["islands", found.islands], ["accounts", found.accounts], ["users", found.users], ["pictures", found.points]]) {
+  for (const [id, some] of [["islands", found.islands], ["standbys", found.standbys], ["accounts", found.accounts], ["users", found.users], ["pictures", found.points]]) {
     byId(id).closest("section").hidden = !some;
   }
   byId("alarms").replaceChildren(...found.alarms.map(alarm));
   if (!found.alarms.length) {
     byId("alarms").append(Object.assign(document.createElement("li"), { className: "none", textContent: "None." }));
   }
-  const { points = [], accounts = [], users = [], islands = [] } = found;
+  const { points = [], accounts = [], users = [], islands = [], standbys = [] } = found;
   byId("pictures").replaceChildren(...PICTURES.map(([place, title]) => picture(points, place, title)));
   rows("islands", islands.map((one) => [one.island, one.machine, one.target ? `${one.state}, to ${one.target}` : one.state, one.accounts.join(" "), one.front,
     one.signed_on, one.lines, `${one.seconds.toFixed(1)} s`]));
+  rows("standbys", standbys.map((one) => [one.standby, one.line, one.lines, `${one.seconds.toFixed(0)} s`, `${one.silent.toFixed(0)} s ago`, one.waits ? "yes" : ""]));
   const all = accounts.reduce((sum, one) => sum + one.seconds, 0) || 1;
   const earlier = new Map((before?.accounts ?? []).map((one) => [one.account, one.lines]));
   const span = before ? Math.max(found.time - before.time, 1) : 1;

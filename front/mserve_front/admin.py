@@ -1,7 +1,7 @@
 # SPDX-License-Identifier: Apache-2.0
 """The operator's page, at a socket of its own that only the front's user and root may open: who is signed on, what each account uses, what waits, the
-journal and the backup, the last hour in pictures, and for each alarm what to do. A standby has it too, with how far it is behind its leader, and a gate has
-one of its islands."""
+journal and the backup, how far its standbys are behind, the last hour in pictures, and for each alarm what to do. A standby has it too, with how far it is
+behind its leader, and a gate has one of its islands."""
 from __future__ import annotations
 
 import asyncio
@@ -18,6 +18,7 @@ from .http_head import names_loopback
 from .metrics import Metrics
 from .sessions import Sessions
 from .settings import Settings
+from .standbys import Behind, most_of
 
 FOLDER = Path(__file__).resolve().parent.parent / "admin"
 FILES = {"/": ("index.html", "text/html"), "/admin.js": ("admin.js", "text/javascript"), "/admin.css": ("admin.css", "text/css")}
@@ -52,6 +53,10 @@ ALARMS = (
     Alarm("mfront_journal_open_lines", True, 64, "Lines stay without a reply.", "The server does not answer: look at its process."),
     Alarm("mfront_standby_fault", True, 0, "The standby cannot go on.", "mfront status says why, and docs/OPERATING.md what to do then."),
     Alarm("mfront_standby_behind_lines", True, 1000, "The standby is behind.", "Its disk or processor is slower: users would wait at a promotion."),
+    Alarm("mfront_standbys_waiting", True, 0, "A standby cannot go on.", "mfront status on its machine says why, and docs/OPERATING.md what to do then."),
+    Alarm("mfront_standbys_behind_seconds", True, 60, "A standby is a minute behind.", "Its disk or processor is slower: users would wait at a promotion."),
+    Alarm("mfront_standbys_silent_seconds", True, 60, "A standby has said nothing for a minute.", "See whether it runs, and reaches the journal. If it is gone "
+          "for good, docs/OPERATING.md says how its alarm ends."),
     Alarm("backup_verified_age_seconds", True, 172_800, "No snapshot was verified for two days.", "Run mbackup verify, and read what it says."),
 )
 
@@ -118,8 +123,10 @@ async def asked_here(request: web.Request, handler: Callable[[web.Request], Awai
 class Admin(Page):
     """The page of a front that serves."""
 
-    def __init__(self, settings: Settings, sessions: Sessions, metrics: Metrics) -> None:
+    def __init__(self, settings: Settings, sessions: Sessions, metrics: Metrics, behind: Callable[[], list[Behind]] = list) -> None:
+        """`behind` gives how far each standby is behind."""
         super().__init__(settings.admin, self.told)
+        self._behind = behind
         self._sessions = sessions
         self._metrics = metrics
         self._points: deque[list[float]] = deque(maxlen=POINTS)
@@ -143,14 +150,17 @@ class Admin(Page):
 
     async def told(self) -> Told:
         """All that the page shows."""
-        figures = self._figures()
+        standbys = self._behind()
+        figures = self._figures() | most_of(standbys)
         users = [{"user": one.user, "account": one.account, "terminal": one.terminal, "way": one.way, "from": one.address,
                   "seconds": round(time.monotonic() - one.began), "waits": one.carried > 0} for one in self._sessions]
         accounts = [{"account": account, "lines": lines, "seconds": round(taken, 3), "signed_on": sum(one["account"] == account for one in users)}
                     for account, (lines, taken) in sorted(self._sessions.server.shares.used().items())]
         state = f"The server is {'up' if figures['mfront_up'] else 'not up'}; {len(users)} signed on"
+        shown = [{"standby": one.name, "line": one.line, "lines": one.lines, "seconds": round(one.seconds, 1), "silent": round(one.silent, 1),
+                  "waits": one.waits} for one in standbys]
         return {"time": round(time.time()), "state": state, "users": users, "accounts": accounts, "alarms": alarms_of(figures), "figures": figures,
-                "points": list(self._points), "step": STEP}
+                "points": list(self._points), "step": STEP, **({"standbys": shown} if shown else {})}
 
     def _figures(self) -> dict[str, float]:
         server = self._sessions.server

@@ -81,15 +81,15 @@ class Connection(asyncio.BufferedProtocol):
 Kind = TypeVar("Kind", bound=Connection)
 
 
-async def joined(port: int, made: Callable[[], Kind], process: asyncio.subprocess.Process | None, patient: bool = True, enclosed: bool = False,
-                 ahead: socket.socket | None = None) -> Kind:
+async def joined(port: int, made: Callable[[], Kind], process: asyncio.subprocess.Process | None, patient: bool = True,
+                 ways: list[socket.socket] | None = None, ahead: socket.socket | None = None) -> Kind:
     """A connection to a server, which may be starting: the opening of a store takes time. Raises `NoStart` if its process ends, and at once if
-    nobody listens, unless it is `patient`. `enclosed` says that it is in a network of its own; `ahead` is a connection that was made already."""
+    nobody listens, unless it is `patient`. One in a network of its own has `ways`, sockets that are there; `ahead` is a connection that was made already."""
     loop, pause = asyncio.get_running_loop(), FIRST_PAUSE
     if ahead is not None:
         return (await loop.create_connection(made, sock=ahead))[1]
-    if enclosed and process is not None:
-        there = await enclosure.connected(process.pid, port)
+    if ways is not None and process is not None:
+        there = await enclosure.connected(process, port, ways)
         if there is None:
             await process.wait()
             raise NoStart(f"it ended with status {process.returncode} before it served")

@@ -1,15 +1,16 @@
 # SPDX-License-Identifier: Apache-2.0
-"""Run by itself (`enclosure.py`): starts a program in a network of its own, to which no other user of the machine has access, and connects to it there.
+"""Has a process in a network of its own, to which no other user of the machine has access; and, run by itself (`enclosure.py`), connects to one there.
 
-`start PARENT WORDS..` becomes the program; `connect PID PORT` gives a connection to it over the socket that is its standard input; `try` says by its
-status whether a network of one's own can be had. It imports little, so that it is soon there."""
+`PID PORT` gives a connection to a port in the network of a process over the socket that is the standard input. It imports little, so that it is soon there:
+`socket` would take as long as all the rest."""
+import _socket
 import ctypes
 import errno
 import os
-import socket
 import struct
 import sys
 import time
+from fcntl import ioctl
 
 CLONE_NEWUSER, CLONE_NEWNET = 0x10000000, 0x40000000
 PR_SET_PDEATHSIG, SIGKILL = 1, 9
@@ -40,20 +41,22 @@ def enclose():
     write("/proc/self/setgroups", "deny")
     write("/proc/self/uid_map", f"{user} {user} 1")
     write("/proc/self/gid_map", f"{group} {group} 1")
-    with socket.socket(socket.AF_INET, socket.SOCK_DGRAM) as any_socket:
-        from fcntl import ioctl
-        name = struct.pack("16sh22x", b"lo", 0)
-        flags = struct.unpack_from("16sh", ioctl(any_socket, SIOCGIFFLAGS, name))[1]
-        ioctl(any_socket, SIOCSIFFLAGS, struct.pack("16sh22x", b"lo", flags | IFF_UP))
+    any_socket = _socket.socket(_socket.AF_INET, _socket.SOCK_DGRAM)
+    name = struct.pack("16sh22x", b"lo", 0)
+    flags = struct.unpack_from("16sh", ioctl(any_socket.fileno(), SIOCGIFFLAGS, name))[1]
+    ioctl(any_socket.fileno(), SIOCSIFFLAGS, struct.pack("16sh22x", b"lo", flags | IFF_UP))
+    any_socket.close()
 
 
-def start(parent, words):
-    """Becomes the program, which ends with the parent."""
+def begin(parent, there, count):
+    """Has this process, a child that becomes a program, in a network of its own, and has it end with the parent. So many sockets that are in this network
+    are sent over another one: who has them connects by them."""
     enclose()
+    own = [_socket.socket(_socket.AF_INET, _socket.SOCK_STREAM) for _ in range(count)]
+    there.sendmsg([b"."], [(_socket.SOL_SOCKET, _socket.SCM_RIGHTS, struct.pack(f"{count}i", *(one.fileno() for one in own)))])
     checked(_libc.prctl(PR_SET_PDEATHSIG, SIGKILL, 0, 0, 0))
     if os.getppid() != parent:
-        sys.exit("the parent has ended")
-    os.execv(words[0], words)
+        raise OSError(errno.ESRCH, "the parent has ended")
 
 
 def network(process):
@@ -73,7 +76,7 @@ def connect(process, port):
         descriptor = os.open(f"/proc/{process}/ns/{kind}", os.O_RDONLY | os.O_CLOEXEC)
         checked(_libc.setns(descriptor, flag))
     while True:
-        made = socket.socket()
+        made = _socket.socket(_socket.AF_INET, _socket.SOCK_STREAM)
         try:
             made.connect(("127.0.0.1", port))
             break
@@ -85,18 +88,12 @@ def connect(process, port):
                 sys.exit("the program has ended")
             time.sleep(pause)
             pause = min(2 * pause, LONGEST_PAUSE)
-    with socket.socket(fileno=0) as there:
-        socket.send_fds(there, [b"."], [made.fileno()])
+    there = _socket.socket(fileno=0)
+    there.sendmsg([b"."], [(_socket.SOL_SOCKET, _socket.SCM_RIGHTS, struct.pack("i", made.fileno()))])
 
 
 if __name__ == "__main__":
-    act = sys.argv[1]
     try:
-        if act == "start":
-            start(int(sys.argv[2]), sys.argv[3:])
-        elif act == "connect":
-            connect(int(sys.argv[2]), int(sys.argv[3]))
-        else:
-            enclose()
+        connect(int(sys.argv[1]), int(sys.argv[2]))
     except OSError as error:
         sys.exit(f"mfront: the server's own network: {error}")

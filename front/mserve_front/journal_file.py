@@ -8,6 +8,7 @@ import fcntl
 import os
 import re
 import secrets
+import time
 from io import FileIO
 from pathlib import Path
 
@@ -15,10 +16,13 @@ from .faults import TAKEN
 from .folders import sync_folder
 from .journal import LogFault, LogTaken, Tail
 from .records import HEAD_SIZE, BadJournal, Flush, Torn, body_size, read_flush
+from .standbys import FORGOTTEN
 from .witness import JournalHead, Reached, lost, reached_in
 
 MARK = b"mfront1\n"
 READ = 1 << 20
+# What a standby says of itself, beside these files, and how long it is at most.
+WORDS, LONGEST_WORDS = "standby-", 100
 # The number of the first flush, and of files that begin with the same one which of them it is.
 NAME = re.compile(r"(\d{20})(?:-(\d+))?\.journal", re.ASCII)
 
@@ -64,6 +68,9 @@ def _is_marked(path: Path, data: bytes) -> bool:
 
 class FileLog:
     """The journal in a folder, as its one writer has it."""
+
+    # A standby that leaves takes its words with it, and one that is killed does not.
+    keeps_words = True
 
     def __init__(self, folder: Path, roll: int) -> None:
         """`roll` is the size after which the next file is begun."""
@@ -132,6 +139,19 @@ class FileLog:
                 self._path.unlink()
         self._leave()
         return self._last
+
+    def said(self) -> list[str]:
+        """What standbys say of themselves. One that was killed leaves its words there: after a day they count no more."""
+        found = []
+        try:
+            for place in self._folder.glob(f"{WORDS}*"):
+                # It may have left just now.
+                with contextlib.suppress(FileNotFoundError):
+                    if time.time() - place.stat().st_mtime < FORGOTTEN:
+                        found.append(place.read_bytes()[:LONGEST_WORDS].decode("ascii", "replace"))
+        except OSError as error:
+            raise LogFault(f"{self._folder}: {error.strerror}") from error
+        return found
 
     def close(self) -> None:
         """Gives the lock back."""
@@ -257,6 +277,18 @@ class FileReader:
             return []
         except OSError as error:
             raise LogFault(f"{self._folder}: {error.strerror}") from error
+
+    def says(self, name: str, text: str) -> None:
+        """Notes beside the files what a standby says of itself; nothing, once it leaves. Raises `LogFault`."""
+        place = self._folder / f"{WORDS}{name}"
+        try:
+            if text:
+                with open(os.open(place, os.O_WRONLY | os.O_CREAT | os.O_CLOEXEC, 0o600), "wb", buffering=0) as file:
+                    file.write(text.encode().ljust(LONGEST_WORDS - 1) + b"\n")
+            else:
+                place.unlink(missing_ok=True)
+        except OSError as error:
+            raise LogFault(f"{place}: {error.strerror}") from error
 
     def close(self) -> None:
         """Leaves the journal."""

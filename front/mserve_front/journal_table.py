@@ -168,6 +168,9 @@ def flush_of(name: str, sequence: int, data: bytes) -> Flush:
 class TableLog:
     """The journal in a table, as its one writer has it."""
 
+    # They are the names of the standbys' connections, and end with these.
+    keeps_words = False
+
     def __init__(self, place: str, name: str) -> None:
         self._place = place
         self._name = name
@@ -217,6 +220,15 @@ class TableLog:
         if not self._kept <= tail.sequence <= self._tried or tail.sequence > self._kept and tail.writer != self._writer:
             raise LogTaken("another front has written this journal, or the database has lost a part of it")
         return tail.sequence
+
+    def said(self) -> list[str]:
+        """What standbys say of themselves."""
+        if self._base is None:
+            raise LogFault("database: not connected")
+        with faults():
+            begin = said_of(self._name)
+            rows = self._base.execute("SELECT application_name FROM pg_stat_activity WHERE starts_with(application_name, %s)", (begin,)).fetchall()
+            return [str(row[0]).removeprefix(begin) for row in rows]
 
     def close(self) -> None:
         """Ends the connection, and the lock with it."""
@@ -274,6 +286,11 @@ def key_of(name: str) -> int:
     return zlib.crc32(name.encode()) - (1 << 31)
 
 
+def said_of(name: str) -> str:
+    """What the names of connections begin with by which standbys of a journal say where they are."""
+    return f"{zlib.crc32(name.encode()):08x} "
+
+
 class TableReader:
     """Reads the journal in a table from the flush on that a line stands in. Its writer may be writing meanwhile."""
 
@@ -295,6 +312,13 @@ class TableReader:
         except psycopg.Error as error:
             self.close()
             raise LogFault(told(error)) from error
+
+    def says(self, _: str, text: str) -> None:
+        """Names the connection by what a standby says of itself. Raises `LogFault`."""
+        # Another thread may read over it meanwhile, or have closed it.
+        if (base := self._base) is not None:
+            with faults():
+                base.execute("SELECT set_config('application_name', %s, false)", (f"{said_of(self._name)}{text}" if text else "mfront",))
 
     def close(self) -> None:
         """Ends the connection."""

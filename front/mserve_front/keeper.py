@@ -25,6 +25,7 @@ from .rows import packed
 from .server import Child, NoStart, Server, tell
 from .settings import Settings
 from .snapshots import SETTINGS, STORE, Manifest, copied
+from .standbys import LOOK, Behind, Standbys, figures_of
 from .standing import Standing, place_of, read_standing, write_standing
 from .starts import Known, held
 from .store_log import BadLog, changes, image
@@ -68,6 +69,7 @@ class Keeper:
         self.journal = Journal(writer_of(settings.journal), metrics, tell) if promoted is None else promoted.journal
         if promoted is not None:
             promoted.journal.count_in(metrics)
+        self.standbys = Standbys()
         self.accounts = ByAccount(settings.terminals)
         self.journal.handed = self.accounts.handed
         metrics.more += [self.accounts.text, self._figures]
@@ -133,6 +135,20 @@ class Keeper:
         with contextlib.suppress(NoAudit):
             self._audit.note(event, **what)
 
+    async def looks(self) -> None:
+        """Looks again and again at what standbys say of themselves."""
+        while True:
+            # While the journal cannot be written its thread is at that.
+            if self.journal.fault is None:
+                with contextlib.suppress(LogFault):
+                    texts, have_left = await self.journal.said()
+                    self.standbys.take(texts, self.journal.answered, have_left)
+            await asyncio.sleep(LOOK)
+
+    def behind(self) -> list[Behind]:
+        """How far each standby is behind."""
+        return self.standbys.behind(self.journal.answered)
+
     async def lost(self) -> None:
         """Raises `NoStart` once another front has taken the journal."""
         # The journal asks it too: a stop cancels this task, and not what it waits for.
@@ -186,7 +202,7 @@ class Keeper:
         """Figures of the journal, and of the backups."""
         journal, kept = self.journal, self._settings.journal
         faulty = 0.0 if journal.fault is None else time.monotonic() - journal.faulty
-        lines = of_journal(journal.next - 1 - journal.answered, journal.waiting, faulty, kept.folder)
+        lines = of_journal(journal.next - 1 - journal.answered, journal.waiting, faulty, kept.folder) + figures_of(self.behind())
         return lines if kept.backup is None else lines + of_backup(kept.backup)
 
     async def _status(self, _: dict[str, object]) -> Answered:

@@ -16,6 +16,9 @@ class Reader(Protocol):
     def more(self) -> list[Flush]:
         """The flushes that have come since. Raises `BadJournal` if one is damaged or missing, and `LogFault` if none can be had now."""
 
+    def says(self, name: str, text: str) -> None:
+        """Says beside the journal what a standby says of itself; nothing, once it leaves in order. Raises `LogFault`."""
+
     def close(self) -> None:
         """Leaves the journal."""
 

@@ -53,20 +53,33 @@ class Player(Connection):
         super().__init__(ROOM)
         self._reader.keep_digests()
         self._flying: deque[tuple[int, asyncio.Future[Answer]]] = deque()
+        # What is to be sent once who plays waits: each call of the system costs as much as all else that is done with a line.
+        self._unsent: list[bytes] = []
 
     def play(self, terminal: int, text: bytes) -> asyncio.Future[Answer]:
         """The answer of a line, once it comes. It ends by `Lost` if the server does."""
-        reply = asyncio.get_running_loop().create_future()
+        loop = asyncio.get_running_loop()
+        reply = loop.create_future()
         if self._transport is None or self._transport.is_closing():
             self._ends(reply)
             return reply
         self._flying.append((terminal, reply))
-        self._transport.write(Line(text).sent_by(terminal))
+        if not self._unsent:
+            loop.call_soon(self._send)
+        self._unsent.append(Line(text).sent_by(terminal))
         return reply
+
+    def _send(self) -> None:
+        """Sends what waits, at once."""
+        lines, self._unsent = self._unsent, []
+        if self._transport is not None:
+            self._transport.write(b"".join(lines))
 
     def close(self) -> None:
         """Ends the connection in order: the server reads its end."""
         if self._transport is not None:
+            if self._unsent:
+                self._send()
             self._transport.close()
 
     def connection_lost(self, error: Exception | None) -> None:
@@ -108,7 +121,7 @@ class Stage:
         self._player: Player | None = None
         self._due: deque[tuple[Answered, asyncio.Future[Answer]]] = deque()
         self.child: Child | None = None
-        # The server's next connection, for the one who serves with it after this: it takes a process to make, and then users would wait for that.
+        # The server's next connection, for the one who serves with it after this: users would wait for it then.
         self._ahead: asyncio.Task[socket.socket | None] | None = None
         self.at = 0
         self.open: set[int] = set()
@@ -121,9 +134,9 @@ class Stage:
             made.write(text)
             made.flush()
             self.child = await launched(self._program, self._settings or Path(made.name), self._store, self._connections)
-            self._player = await joined(self.child.port, Player, self.child.process, enclosed=self.child.enclosed)
-        if self._connections > 1 and self.child.enclosed:
-            self._ahead = asyncio.create_task(enclosure.connected(self.child.process.pid, self.child.port))
+            self._player = await joined(self.child.port, Player, self.child.process, ways=self.child.ways)
+        if self._connections > 1 and self.child.ways is not None:
+            self._ahead = asyncio.create_task(enclosure.connected(self.child.process, self.child.port, self.child.ways))
         self.open.clear()
 
     async def take(self, event: Event) -> None:

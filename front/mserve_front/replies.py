@@ -3,14 +3,13 @@
 from __future__ import annotations
 
 import hashlib
-import re
 from collections.abc import Callable
 from dataclasses import dataclass
 
 from mserve_client import BadReply, Reply
 from mserve_client.wire import shown
 
-_MARK = re.compile(rb"(\d+)([:\-.!])(.*)", re.DOTALL)
+_MARKS = frozenset((b":", b"-", b".", b"!"))
 # Bytes of a line that are kept in any case: those of a mark and a code among them.
 _KEPT = 32
 # What a line of output takes of the room, besides its bytes.
@@ -87,10 +86,11 @@ class ReplyReader:
     def _take(self, line: bytes) -> Answer | None:
         """The answer that a line of the wire ends, if it ends one."""
         terminal = self._turn()
-        found = _MARK.fullmatch(line)
-        if terminal is None or found is None or found[1] != b"%d" % terminal:
+        begin = b"" if terminal is None else b"%d" % terminal
+        place = len(begin)
+        mark, text = line[place:place + 1], line[place + 1:]
+        if not begin or not line.startswith(begin) or mark not in _MARKS:
             raise BadReply(f"this is no reply to terminal {terminal}: {line[:80]!r}")
-        mark, text = found[2], found[3]
         if mark in b".!":
             digest = b"" if self._digest is None else self._digest.digest()
             answer = Answer(Reply(tuple(self._lines), self._rest, text.decode("latin1") if mark == b"!" else None), self._cut, digest)

@@ -15,7 +15,7 @@ from pathlib import Path
 from typing import TYPE_CHECKING
 
 from .connection import HOST, NoStart, joined
-from .enclosure import PORT, can_enclose, enclosing
+from .enclosure import PORT, can_enclose, started
 from .faults import NoJournal
 from .lines import HALT, Line
 from .metrics import Metrics
@@ -65,13 +65,13 @@ class Fault:
 
 @dataclass(frozen=True, slots=True)
 class Child:
-    """A server that runs as a child of this process, and its port; `fresh` says that its store was made with it, and `enclosed` that it is in a network
-    of its own. `ahead` is a connection that is its next one, if one was made ahead."""
+    """A server that runs as a child of this process, and its port; `fresh` says that its store was made with it. `ways` are sockets in the network of its
+    own; None if it has none. `ahead` is a connection that is its next one, if one was made ahead."""
 
     process: asyncio.subprocess.Process
     port: int
     fresh: bool = False
-    enclosed: bool = False
+    ways: list[socket.socket] | None = None
     ahead: socket.socket | None = None
 
 
@@ -97,7 +97,7 @@ class Server:
         self.know(settings.terminals)
         self._process: asyncio.subprocess.Process | None = None
         self._port = settings.join or 0
-        self._enclosed = False
+        self._ways: list[socket.socket] | None = None
         self._ahead: socket.socket | None = None
         self._turns: Turns | None = None
         self.state = "starting"
@@ -189,7 +189,7 @@ class Server:
         """Starts the server for the first time, or takes the child that runs. Raises `NoStart` if it ends at once, as for settings or a store that it
         refuses."""
         if child is not None:
-            self._process, self._port, self._enclosed, self._ahead = child.process, child.port, child.enclosed, child.ahead
+            self._process, self._port, self._ways, self._ahead = child.process, child.port, child.ways, child.ahead
         elif self._settings.join is None:
             await self._launch()
         self._text = self._text or self._settings_text()
@@ -252,14 +252,14 @@ class Server:
         """Starts the child."""
         self._text = self._settings_text()
         child = await launched(self._settings.program, self._settings.server_settings, str(self._settings.store))
-        self._process, self._port, self._fresh, self._enclosed = child.process, child.port, child.fresh, child.enclosed
+        self._process, self._port, self._fresh, self._ways = child.process, child.port, child.fresh, child.ways
 
     async def _connect(self) -> None:
         """Connects, and has all terminals' sessions ended; then the server is up."""
         turns = await self._connected()
         try:
             # In its own network nobody else can have got its connection: it may be at a long line of before.
-            async with asyncio.timeout(None if self._enclosed else PATIENCE):
+            async with asyncio.timeout(None if self._ways is not None else PATIENCE):
                 await asyncio.gather(*(turns.ask(terminal, HALT) for terminal in self._terminals))
             await self._noted(turns)
         except (TimeoutError, Lost, Unsent, NoJournal) as error:
@@ -304,7 +304,7 @@ class Server:
         patient = self._process is not None or self.state != "starting"
         ahead, self._ahead = self._ahead, None
         return await joined(self._port, lambda: Turns(self._settings.limits.reply, self._metrics.timed, self.shares), self._process, patient,
-                            self._enclosed, ahead)
+                            self._ways, ahead)
 
 
 async def launched(program: Path, settings: Path, store: str, connections: int = CONNECTIONS) -> Child:
@@ -317,13 +317,13 @@ async def launched(program: Path, settings: Path, store: str, connections: int =
     if not enclosed:
         tell("no network of its own can be had for the server (user namespaces): other users of this machine can connect to its port")
     try:
-        process = await asyncio.create_subprocess_exec(*(enclosing(words) if enclosed else [*tied(shutil.which("setpriv")), *words]),
-                                                       stdin=asyncio.subprocess.DEVNULL, stdout=asyncio.subprocess.DEVNULL, start_new_session=True)
+        process, ways = await started(words) if enclosed else (await asyncio.create_subprocess_exec(
+            *tied(shutil.which("setpriv")), *words, stdin=asyncio.subprocess.DEVNULL, stdout=asyncio.subprocess.DEVNULL, start_new_session=True), None)
     except OSError as error:
         raise NoStart(f"{program}: {error.strerror}") from error
     # A line may compute for long.
     take_slices(OWN, process.pid)
-    return Child(process, port, fresh, enclosed)
+    return Child(process, port, fresh, ways)
 
 
 def tied(setpriv: str | None) -> Sequence[str]:

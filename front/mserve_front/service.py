@@ -57,7 +57,7 @@ class Service:
         self._sessions = Sessions(settings, self.metrics, self._audit, self._register, self._keeper.journal if self._keeper else None)
         if self._keeper is not None:
             self._keeper.answer("change", Changes(settings, self._sessions.server, (self._sessions, self._keeper.accounts)).take)
-        self._admin = Admin(settings, self._sessions, self.metrics)
+        self._admin = Admin(settings, self._sessions, self.metrics, self._keeper.behind if self._keeper else list)
         self._stopping = promoted.stopping if promoted else asyncio.Event()
         self._why = "stopping"
 
@@ -121,11 +121,13 @@ class Service:
     def _listen(self, made: Made) -> None:
         settings = self.settings
         self._doors.listen(settings.host, settings.port, made)
-        kind = "https" if settings.tls else "http"
-        tell(f"serving at {kind}://{f'[{settings.host}]' if ':' in settings.host else settings.host}:{settings.port}/")
         if settings.lines_port is not None:
             port = LinePort(self._sessions, self._signing, settings.limits, self._doors)
             self._doors.listen(settings.host, settings.lines_port, port.door)
+        # Both are there by now: who waits for the first of these may come at once.
+        kind = "https" if settings.tls else "http"
+        tell(f"serving at {kind}://{f'[{settings.host}]' if ':' in settings.host else settings.host}:{settings.port}/")
+        if settings.lines_port is not None:
             tell(f"lines at port {settings.lines_port}")
         if not settings.tls:
             tell("no certificate (listen.certificate, listen.key): listening at the loopback alone, without TLS")
@@ -136,7 +138,7 @@ class Service:
         tasks = [asyncio.create_task(self._sessions.server.run()), asyncio.create_task(self._sweep()), asyncio.create_task(self._sessions.count()),
                  asyncio.create_task(self._admin.run()), asyncio.create_task(self._stopping.wait())]
         if self._keeper is not None:
-            tasks.append(asyncio.create_task(self._keeper.lost()))
+            tasks += [asyncio.create_task(self._keeper.lost()), asyncio.create_task(self._keeper.looks())]
         done, left = await asyncio.wait(tasks, return_when=asyncio.FIRST_COMPLETED)
         for task in left:
             task.cancel()

@@ -7,6 +7,7 @@ from __future__ import annotations
 
 import asyncio
 import contextlib
+import itertools
 import signal
 import socket
 import time
@@ -29,6 +30,7 @@ from .player import NotYet, Stage, Stopped
 from .records import BadJournal, Flush, Held, LineRecord
 from .server import Fault, NoStart, tell
 from .settings import Settings
+from .standbys import SAYS, Said, name_of
 from .standing import Standing, forget_standing, place_of, read_standing, write_standing
 
 # What to do with a store of which nobody knows up to which line it has run the journal.
@@ -65,6 +67,7 @@ class Standby:
         self._idle = False
         self._follows = False
         self._places: dict[int, socket.socket] = {}
+        self._name = name_of(settings.store, settings.path)
 
     async def run(self) -> Promoted | None:
         """Follows until it is promoted, or stopped: then it is None. Raises `NoStart` if it cannot begin, or if it is stopped while its store is not as the
@@ -73,7 +76,7 @@ class Standby:
             ending.hear(number, self._stop)
         # It is there for a certificate and an audit log that are new: both are opened at a promotion.
         ending.hear(signal.SIGHUP, tell, "it stands by: certificate and audit log are opened once it serves")
-        promoted = None
+        promoted, saying = None, None
         try:
             self._hold_ports()
             await self._control.listen()
@@ -86,17 +89,32 @@ class Standby:
             if self._stopping.is_set():
                 return None
             self._follows = True
+            saying = asyncio.create_task(self._says())
             tell(f"standing by, after line {self._stage.at} of the journal")
             promoted = await self._follow()
             return promoted
         finally:
             self._control.close()
             await self._page.end()
+            if saying is not None:
+                saying.cancel()
+                await self._say("")
             await asyncio.to_thread(self._reader.close)
             if promoted is None:
                 await self._stage.end()
                 for place in self._places.values():
                     place.close()
+
+    async def _says(self) -> None:
+        """Says again and again where it is: so its leader's operator sees it too."""
+        for count in itertools.count():
+            await self._say(Said(self._name, self._stage.at, bool(self._fault.text or self._waits.text), count).text())
+            await asyncio.sleep(SAYS)
+
+    async def _say(self, text: str) -> None:
+        """Says a text beside the journal, if that can be."""
+        with contextlib.suppress(LogFault):
+            await asyncio.to_thread(self._reader.says, self._name, text)
 
     def _hold_ports(self) -> None:
         """Holds the ports that it is to serve at, where nobody has them: at a promotion it is late to hear that one is taken."""
@@ -299,7 +317,8 @@ class Standby:
         """What the operator's page shows."""
         status = await self._status({})
         figures = figures_of(of_standby(status))
-        state = f"It stands by, {status['behind']} lines behind its leader" + (f", and waits: {status['fault']}" if status["fault"] else "")
+        lines = "1 line" if status["behind"] == 1 else f"{status['behind']} lines"
+        state = f"It stands by, {lines} behind its leader" + (f", and waits: {status['fault']}" if status["fault"] else "")
         return {"time": round(time.time()), "state": state, "alarms": alarms_of(figures), "figures": figures}
 
     async def _promote(self, request: dict[str, object]) -> Answered:

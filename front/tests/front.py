@@ -25,6 +25,7 @@ FRONT = Path(__file__).resolve().parent.parent
 sys.path[:0] = [str(FRONT), str(FRONT.parent / "clients"), str(FRONT.parent / "tools")]
 
 import running  # noqa: E402
+from mserve_front.control import asked  # noqa: E402
 
 COMMAND = [sys.executable, str(FRONT / "mfront")]
 SETTINGS = FRONT / "tests" / "settings.toml"
@@ -41,10 +42,10 @@ Record = dict[str, Any]
 class Patience:
     """Seconds after which something that is waited for is missed. Long runs on a machine that has other work have more."""
 
-    seconds = 30.0
+    seconds = 60.0
 
 
-def in_loop(seconds: float = 180) -> Callable[[Callable[..., Awaitable[None]]], Callable[..., None]]:
+def in_loop(seconds: float = 400) -> Callable[[Callable[..., Awaitable[None]]], Callable[..., None]]:
     """Runs a test that awaits, for so long at most: what hangs is to end, and what a busy machine delays is not."""
     def made(test: Callable[..., Awaitable[None]]) -> Callable[..., None]:
         @functools.wraps(test)
@@ -320,6 +321,22 @@ async def lines_wait(person: Person, count: int) -> None:
         async with person.http.get("/metrics") as response:
             return f"\nmfront_lines_waiting {count}\n" in await response.text()
     await until(wait, f"{count} lines that wait for the server")
+
+
+async def at_rest(folder: Path) -> None:
+    """Waits until nothing comes any more by itself into the journal of the front that leads in a folder: each line has a reply there, and the session of each
+    terminal has ended. That comes after the answer to a sign-off. Those who were signed on have sent a line each."""
+    def rests() -> bool:
+        status = asked(folder / "mfront.control", {"ask": "status"}, 2 * Patience.seconds)
+        return status["state"] == "leader" and not status["open"] and status["answered"] == status["line"]
+    # Apart: what leads to the journal may be this test's own.
+    await until(lambda: asyncio.to_thread(rests), "the ends of all sessions in the journal")
+
+
+async def stopped(front: Front) -> None:
+    """Ends a front in order once its journal is at rest: a stop waits two seconds for the ends of sessions, and on a busy machine leaves them open."""
+    await at_rest(front.folder)
+    assert await asyncio.to_thread(front.stop) == 0
 
 
 async def given_back(person: Person) -> None:

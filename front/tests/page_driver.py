@@ -60,6 +60,19 @@ def is_shown(element: Any) -> bool:
         return False
 
 
+def clicked(found: Callable[[], Any]) -> None:
+    """Clicks on what is found, and finds it again if the page puts another in its place just then."""
+    from selenium.common.exceptions import StaleElementReferenceException
+
+    def is_clicked() -> bool:
+        try:
+            found().click()
+        except StaleElementReferenceException:
+            return False
+        return True
+    awaited(is_clicked, "an element that stays where it is")
+
+
 @pytest.fixture(scope="module")
 def page_front(certificate: tuple[Path, Path], tmp_path_factory: pytest.TempPathFactory) -> Iterator[Front]:
     """A front for all tests of a module. Its accounts have what the tests before have left. LAB has language 1."""
@@ -106,7 +119,7 @@ class Browser:
 
     def click(self, selector: str) -> None:
         """Clicks on an element."""
-        self.one(selector).click()
+        clicked(lambda: self.one(selector))
 
     def keys(self, *keys: str) -> None:
         """Types where the focus is."""
@@ -177,6 +190,10 @@ class Browser:
         """The row of the tree that begins with a text."""
         found = "return [...document.querySelectorAll('#tree .row')].find((row) => row.textContent.startsWith(arguments[0])) ?? null"
         return awaited(lambda: self.run(found, text), f"the row {text} among {self.rows()}")
+
+    def click_row(self, text: str) -> None:
+        """Clicks on the row of the tree that begins with a text."""
+        clicked(lambda: self.row(text))
 
     def picture(self, name: str) -> None:
         """Keeps a picture of the page."""

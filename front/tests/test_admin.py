@@ -3,19 +3,26 @@
 from __future__ import annotations
 
 import asyncio
+import contextlib
 import json
+import os
 import re
 import signal
 import stat
 import time
+from collections.abc import Callable
 from pathlib import Path
+from typing import Any
 
 import aiohttp
 import pytest
-from front import FRONT, Front, in_loop, until
-from mserve_front import figures
-from mserve_front.admin import ALARMS
+from front import FRONT, Front, at_rest, in_loop, until
+from mserve_front import figures, standbys
+from mserve_front.admin import ALARMS, alarms_of
 from mserve_front.gate_page import together
+from mserve_front.places import last_line
+from mserve_front.settings import JournalSettings
+from mserve_front.standbys import SAYS, Behind, Said
 from test_standby import caught_up, leading, promoted, standby
 
 MONITORING = FRONT.parent / "packaging" / "monitoring"
@@ -24,12 +31,30 @@ NAMES = re.compile(r"\bmfront_[a-z_]+")
 
 
 async def told(folder: Path, place: str = "/admin.json", host: str = "localhost:9100") -> aiohttp.ClientResponse:
-    """An answer of the operator's page, at the socket of a folder, once it is there."""
-    await until((folder / "admin.socket").exists, "the operator's socket")
-    connector = aiohttp.UnixConnector(path=str(folder / "admin.socket"))
-    async with aiohttp.ClientSession(connector=connector) as http, http.get(f"http://{host}{place}") as response:
-        await response.read()
-        return response
+    """An answer of the operator's page, at the socket of a folder, once somebody listens there."""
+    found: list[aiohttp.ClientResponse] = []
+
+    async def asks() -> bool:
+        connector = aiohttp.UnixConnector(path=str(folder / "admin.socket"))
+        with contextlib.suppress(aiohttp.ClientConnectionError):
+            async with aiohttp.ClientSession(connector=connector) as http, http.get(f"http://{host}{place}") as response:
+                await response.read()
+                found.append(response)
+        return bool(found)
+    await until(asks, "the operator's page")
+    return found[0]
+
+
+async def shows(folder: Path, holds: Callable[[dict[str, Any]], object], what: str) -> dict[str, Any]:
+    """What the operator's page has, once something holds of it."""
+    found: dict[str, Any] = {}
+
+    async def asks() -> object:
+        found.clear()
+        found.update(await (await told(folder)).json())
+        return holds(found)
+    await until(asks, what)
+    return found
 
 
 @in_loop()
@@ -103,13 +128,23 @@ async def test_snapshots_that_nobody_has_verified_are_an_alarm(start, tmp_path: 
     assert "No snapshot was verified for two days." not in await alarms()
 
 
-@in_loop(100)
+@in_loop()
 async def test_the_operators_page_of_a_standby(start, tmp_path: Path) -> None:
     """How far it is behind its leader, and what it waits for. A reload leaves it there, and once it serves the page is a front's."""
     leader = leading(start, tmp_path / "journal")
     second = standby(start, tmp_path / "journal", admin={"socket": "admin.socket"})
     async with leader.person("ada") as ada:
         await ada.line("S ^X=1")
+        await caught_up(second, tmp_path / "journal")
+        # Its server is held up, so that it is behind by the line that comes now.
+        os.kill(second.child, signal.SIGSTOP)
+        try:
+            await ada.line("S ^X=2")
+            await shows(second.folder, lambda found: found["state"] == "It stands by, 1 line behind its leader", "a standby that is behind by a line")
+        finally:
+            os.kill(second.child, signal.SIGCONT)
+    # The end of ada's session comes after her sign-off.
+    await at_rest(leader.folder)
     await caught_up(second, tmp_path / "journal")
     found = await (await told(second.folder)).json()
     assert found["state"] == "It stands by, 0 lines behind its leader" and found["alarms"] == []
@@ -121,6 +156,67 @@ async def test_the_operators_page_of_a_standby(start, tmp_path: Path) -> None:
     assert promoted(second)[0] == 0
     found = await (await told(second.folder)).json()
     assert found["state"] == "The server is up; 0 signed on" and found["users"] == []
+
+
+@pytest.mark.long
+@in_loop()
+async def test_a_leader_shows_how_far_its_standbys_are_behind(start, tmp_path: Path) -> None:
+    """On its page and in its figures. One whose server is held up is behind, one that is stopped in order is a standby no more, and one that is killed is not
+    heard of."""
+    leader = start(store="store.db", journal={"folder": str(tmp_path / "journal")}, admin={"socket": "admin.socket"})
+    second, third = standby(start, tmp_path / "journal"), standby(start, tmp_path / "journal")
+
+    async def seen(*lines: int) -> list[dict[str, Any]]:
+        found = await shows(leader.folder, lambda found: sorted(one["lines"] for one in found.get("standbys", [])) == list(lines), f"standbys behind by {lines}")
+        return found.get("standbys", [])
+    async with leader.person("ada") as ada:
+        await ada.line("S ^X=1")
+        assert len({one["standby"] for one in await seen(0, 0)}) == 2
+        os.kill(second.child, signal.SIGSTOP)
+        try:
+            for number in range(3):
+                await ada.line(f"S ^X={number}")
+            behind = max(await seen(0, 3), key=lambda one: one["lines"])
+            last = last_line(JournalSettings(tmp_path / "journal"))
+            assert behind["line"] == last - 3 and not behind["waits"]
+            async with ada.http.get("/metrics") as response:
+                figures = await response.text()
+            assert f'\nmfront_standbys_behind_lines{{standby="{behind["standby"]}"}} 3\n' in figures and "\nmfront_standbys 2\n" in figures
+        finally:
+            os.kill(second.child, signal.SIGCONT)
+        await seen(0, 0)
+        assert await asyncio.to_thread(third.stop) == 0
+        await seen(0)
+        second.process.kill()
+        await shows(leader.folder, lambda found: found["standbys"][0]["silent"] > 3 * SAYS, "a standby that says nothing")
+        assert [place.name for place in (tmp_path / "journal").glob("standby-*")] == [f"standby-{behind['standby']}"]
+
+
+def test_what_a_leader_makes_of_what_standbys_say(monkeypatch: pytest.MonkeyPatch) -> None:
+    """How long they are behind, and say nothing; which alarms that is; and when they are forgotten."""
+    clock = [1000.0]
+    monkeypatch.setattr(standbys.time, "monotonic", lambda: clock[0])
+    known = standbys.Standbys()
+
+    def looks(after: float, answered: int, *said: Said, have_left: bool = False) -> list[Behind]:
+        clock[0] += after
+        known.take([*(one.text() for one in said), "standby x", "mfront"], answered, have_left)
+        return known.behind(answered)
+
+    def alarms() -> list[str]:
+        return [alarm["what"] for alarm in alarms_of(standbys.most_of(known.behind(100)))]
+    assert looks(0, 10, Said("a", 10, False, 1)) == [Behind("a", 10, 0, 0.0, 0.0, False)]
+    assert looks(2, 50, Said("a", 10, False, 2)) == [Behind("a", 10, 40, 0.0, 0.0, False)]
+    assert looks(70, 100, Said("a", 10, False, 3), Said("b", 100, True, 999)) == [Behind("a", 10, 90, 70.0, 0.0, False), Behind("b", 100, 0, 0.0, 0.0, True)]
+    assert alarms() == ["A standby cannot go on.", "A standby is a minute behind."]
+    # What says the same again says nothing; one who is not there may have left, or not.
+    found = looks(61, 100, Said("a", 100, False, 4), Said("b", 100, True, 999))
+    assert found == [Behind("a", 100, 0, 0.0, 0.0, False), Behind("b", 100, 0, 0.0, 61.0, True)]
+    assert alarms() == ["A standby cannot go on.", "A standby has said nothing for a minute."]
+    assert [one.name for one in looks(1, 100, Said("a", 100, False, 5))] == ["a", "b"]
+    assert [one.name for one in looks(1, 100, Said("a", 100, False, 6), have_left=True)] == ["a"]
+    assert looks(standbys.FORGOTTEN + 1, 100) == [] and alarms() == []
+    assert standbys.said_in("standby a 1 0 \N{SUPERSCRIPT TWO}") is None and len(standbys.name_of("s", Path("c"))) <= 21
 
 
 def test_pictures_of_several_fronts_are_one() -> None:

@@ -10,16 +10,17 @@ import statistics
 import time
 from collections.abc import Iterator
 from pathlib import Path
+from typing import Any
 
 import pytest
-from front import PASSWORD, Front, Person, Ran, in_loop, mjournal, toml, tool, until
+from front import PASSWORD, Front, Person, Ran, at_rest, in_loop, mjournal, toml, tool, until
 from machines import Gate, Program
 from measured import slices, started_by
 from mserve_front.settings import read_settings, read_toml
 from mserve_front.slices import SHORT
 from mserve_front.users import load
 from running import ISLANDS, PROGRAM
-from test_admin import told
+from test_admin import shows
 from test_password import NEW, changed
 from test_replay import held
 
@@ -88,7 +89,7 @@ def init(front: Path, folder: Path) -> Ran:
 
 
 @pytest.mark.long
-@in_loop(300)
+@in_loop()
 async def test_a_heavy_account_holds_nobody_up(alone: Path, certificate: tuple[Path, Path], tmp_path: Path) -> None:
     """Four accounts are three islands with what each had. A line of a million steps, again and again, is not noticed by another island."""
     status, _, told = tool("mgate")("init", alone.parent / "settings.toml", alone.parent / "store.db", "--config", tmp_path / "none.toml")
@@ -121,6 +122,8 @@ async def test_a_heavy_account_holds_nobody_up(alone: Path, certificate: tuple[P
         await changes(gate, lisa, tmp_path)
         for program in (hugo, lisa, cleo):
             program.close()
+        for name in ("HEAVY", "LIGHT", "LAB"):
+            await at_rest(tmp_path / "islands" / name)
     finally:
         gate.stop()
     for name in ("HEAVY", "LIGHT", "LAB"):
@@ -133,7 +136,7 @@ async def test_a_heavy_account_holds_nobody_up(alone: Path, certificate: tuple[P
     assert "this machine is alone" in gate.does("move", "LAB", "two")[2]
 
 
-@in_loop(180)
+@in_loop()
 async def test_an_operator_sees_all_islands_and_has_logs_opened_anew(alone: Path, certificate: tuple[Path, Path], tmp_path: Path) -> None:
     """The page of the gate has each island and what its front tells; a reload reads certificates, and opens each island's audit log, and ends nobody's
     session. The front's limits and characters are the islands' too."""
@@ -146,17 +149,14 @@ async def test_an_operator_sees_all_islands_and_has_logs_opened_anew(alone: Path
             await program.signed_on()
         assert lisa.record["text"] == "utf-8" and await lisa.told("S A=5") == ""
 
-        async def all_serve() -> bool:
-            return all(one["front"].startswith("The server is up") for one in (await (await told(tmp_path)).json())["islands"])
-        await until(all_serve, "the fronts of all islands")
-        found = await (await told(tmp_path)).json()
+        found = await shows(tmp_path, lambda found: all(one["front"].startswith("The server is up") for one in found["islands"]), "the fronts of all islands")
         assert found["state"] == "Machine one: 3 of 3 islands are here"
         assert sorted((one["island"], one["state"], one["accounts"], one["front"]) for one in found["islands"]) == [
             ("HEAVY", "here", ["HEAVY"], "The server is up; 0 signed on"), ("LAB", "here", ["LAB", "CLINIC"], "The server is up; 1 signed on"),
             ("LIGHT", "here", ["LIGHT"], "The server is up; 1 signed on")]
         assert sorted((one["user"], one["account"]) for one in found["users"]) == [("cleo", "CLINIC"), ("lisa", "LIGHT")]
         assert all(one["lines"] > 0 for one in found["accounts"] if one["account"] == "LIGHT")
-        assert "LIGHT: No snapshot was verified for two days." in [alarm["what"] for alarm in found["alarms"]]
+        assert "LIGHT: No snapshot was verified for two days." in alarms(found)
         assert read_settings(tmp_path / "islands" / "LIGHT" / "front.toml", False).limits.rows == 30
         await snapshot(tmp_path)
         await own_password(gate, tmp_path)
@@ -166,8 +166,7 @@ async def test_an_operator_sees_all_islands_and_has_logs_opened_anew(alone: Path
         assert len(fronts) == 3
         os.kill(front, signal.SIGSTOP)
         try:
-            found = await (await told(tmp_path)).json()
-            assert [alarm["what"].partition(": ")[2] for alarm in found["alarms"]].count("its front does not answer.") == 1
+            await shows(tmp_path, lambda found: [what.partition(": ")[2] for what in alarms(found)].count("its front does not answer.") == 1, "an alarm")
         finally:
             os.kill(front, signal.SIGCONT)
         for program in (lisa, cleo):
@@ -183,8 +182,13 @@ async def snapshot(folder: Path) -> None:
     for words in (["take", island / "backup", "--end-sessions"], ["verify", island / "backup"]):
         status, _, why = await asyncio.to_thread(tool("mbackup"), *words, "--config", island / "front.toml")
         assert status == 0, why
-    found = [alarm["what"] for alarm in (await (await told(folder)).json())["alarms"]]
-    assert "LIGHT: No snapshot was verified for two days." not in found and "LAB: No snapshot was verified for two days." in found
+    old = ": No snapshot was verified for two days."
+    await shows(folder, lambda found: f"LAB{old}" in alarms(found) and f"LIGHT{old}" not in alarms(found), "no alarm of the one that is verified")
+
+
+def alarms(found: dict[str, Any]) -> list[str]:
+    """The alarms that a page shows."""
+    return [alarm["what"] for alarm in found["alarms"]]
 
 
 async def own_password(gate: Alone, folder: Path) -> None:
@@ -195,12 +199,19 @@ async def own_password(gate: Alone, folder: Path) -> None:
         assert (await changed(lab.http, "wrong", NEW))[0] == 403
         assert (await changed(lab.http, PASSWORD, NEW))[0] == 204
         # The gate gives each island its users again, and the front looks at the proof each second.
-        await asyncio.sleep(2.5)
+        files = folder / "users.json", folder / "islands" / "LAB" / "users.json"
+        await until(lambda: len({load(path)["lab"].hash for path in files}) == 1, "the new password at the island")
+        await asyncio.sleep(1.5)
         assert await lab.told("W A") == "1"
-    of_machine, of_island = (load(path)["lab"].hash for path in (folder / "users.json", folder / "islands" / "LAB" / "users.json"))
-    assert of_machine == of_island
     lab = Person(gate, "lab")
-    assert [(await lab.sign_on(password))[0] for password in (PASSWORD, NEW)] == [401, 200]
+
+    async def is_refused() -> bool:
+        status, _ = await lab.sign_on(PASSWORD)
+        if status == 200:
+            await lab.sign_off()
+        return status == 401
+    await until(is_refused, "a refusal of the password of before", 0.5)
+    assert (await lab.sign_on(NEW))[0] == 200
     await lab.sign_off()
     await lab.http.close()
 

@@ -201,7 +201,7 @@ ATTACKS = [pipelines, half_open, malformed, wrong_sign_ons, pings, *(pytest.para
 
 @pytest.mark.alone
 @pytest.mark.parametrize("attack", ATTACKS, ids=lambda attack: attack.__name__)
-@in_loop(300)
+@in_loop()
 async def test_a_neighbour_is_served_during_an_attack(start, attack: Attack, count: int) -> None:
     front: Front = start()
     seconds = SECONDS * (count if count == 1 else count / 4)
@@ -221,7 +221,7 @@ async def test_a_neighbour_is_served_during_an_attack(start, attack: Attack, cou
 
 
 @pytest.mark.long
-@in_loop(120)
+@in_loop()
 async def test_wrong_tries_keep_nobody_out(start) -> None:
     """Of one's own name from elsewhere, and of other names."""
     front: Front = start()
@@ -236,7 +236,7 @@ async def test_wrong_tries_keep_nobody_out(start) -> None:
         assert await attack.wait() == 0
 
 
-@in_loop(120)
+@in_loop()
 async def test_a_flood_of_right_passwords_takes_no_more_than_its_turns(start) -> None:
     front: Front = start()
     people = [front.person("ada") for _ in range(60)]

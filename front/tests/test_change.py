@@ -7,7 +7,7 @@ import re
 from pathlib import Path
 
 import pytest
-from front import CHEAP, PASSWORD, SETTINGS, Front, Ran, in_loop, mjournal, tool, until
+from front import CHEAP, PASSWORD, SETTINGS, Front, Ran, in_loop, mjournal, stopped, tool, until
 from mserve_front.users import User, changed
 from running import PROGRAM
 from test_replay import held
@@ -21,7 +21,7 @@ def takes(front: Front) -> Ran:
     return tool("mfront")("change", "--config", front.folder / "front.toml")
 
 
-@in_loop(200)
+@in_loop()
 async def test_a_new_customer_ends_no_session(start, tmp_path: Path) -> None:
     settings = tmp_path / "settings.toml"
     settings.write_text(SETTINGS.read_text())
@@ -63,7 +63,7 @@ async def refused(front: Front, settings: Path) -> None:
         assert status == 3 and wanted in told, told
 
 
-@in_loop(200)
+@in_loop()
 async def test_an_account_gets_another_language(start, tmp_path: Path) -> None:
     """From the change on its lines and its routines are read in it; nobody signs on again, and a replay has the store."""
     settings = tmp_path / "settings.toml"
@@ -82,14 +82,14 @@ async def test_an_account_gets_another_language(start, tmp_path: Path) -> None:
         assert status == 3 and "mserve: settings: Shape" in told, told
         assert await ada.told("D T^R") == "21"
     assert sum(record["event"] == "sign-on" for record in front.audit()) == 2
-    assert front.stop() == 0
+    await stopped(front)
     status, _, told = mjournal(front.folder / "journal")("replay", "--program", PROGRAM, "--store", tmp_path / "all")
     assert status == 0, told
     assert held(tmp_path / "all") == held(front.folder / "store.db")
 
 
 @pytest.mark.long
-@in_loop(300)
+@in_loop()
 async def test_settings_change_while_users_work(start, tmp_path: Path, count: int) -> None:
     """Each time more steps: nothing that was answered is lost, nothing runs twice, and a replay has the store."""
     settings, counting = tmp_path / "settings.toml", Counting()
@@ -111,7 +111,7 @@ async def test_settings_change_while_users_work(start, tmp_path: Path, count: in
     sign_ons = sum(record["event"] == "sign-on" for record in front.audit())
     # Each user signed on once for the work, once to look, and dora once: no change made anybody sign on again.
     assert sign_ons == 2 * 3 + 1
-    assert front.stop() == 0
+    await stopped(front)
     status, _, told = mjournal(front.folder / "journal")("replay", "--program", PROGRAM, "--store", tmp_path / "all")
     assert status == 0, told
     assert held(tmp_path / "all") == held(front.folder / "store.db")

@@ -12,7 +12,7 @@ from collections.abc import Callable
 from pathlib import Path
 
 import pytest
-from front import COMMAND, FRONT, PASSWORD, SETTINGS, in_loop, toml, tool, write_users
+from front import COMMAND, FRONT, PASSWORD, SETTINGS, Patience, in_loop, toml, tool, write_users
 from running import PROGRAM
 
 Run = Callable[..., subprocess.CompletedProcess[str]]
@@ -26,7 +26,7 @@ def command(tmp_path: Path) -> Run:
     (tmp_path / "front.toml").write_text(toml(good()))
 
     def run(*words: str, stdin: str = "", **more: object) -> subprocess.CompletedProcess[str]:
-        return subprocess.run([*COMMAND, *words], input=stdin, capture_output=True, text=True, timeout=30, cwd=tmp_path, **more)
+        return subprocess.run([*COMMAND, *words], input=stdin, capture_output=True, text=True, timeout=2 * Patience.seconds, cwd=tmp_path, **more)
     return run
 
 
@@ -257,7 +257,7 @@ def test_file_is_replaced_whole(command: Run, tmp_path: Path) -> None:
     write_users(tmp_path / "users.json", {"ada": "CLINIC"})
     before = (tmp_path / "users.json").read_bytes()
     limited = ["bash", "-c", 'ulimit -f 0; trap "" XFSZ; exec "$@"', "-", *COMMAND, "user", "remove", "ada", *CONFIG]
-    done = subprocess.run(limited, capture_output=True, text=True, timeout=30, cwd=tmp_path)
+    done = subprocess.run(limited, capture_output=True, text=True, timeout=2 * Patience.seconds, cwd=tmp_path)
     assert done.returncode == 2 and "cannot be written" in done.stderr
     assert (tmp_path / "users.json").read_bytes() == before and os.listdir(tmp_path) in (["front.toml", "users.json"], ["users.json", "front.toml"])
 
@@ -265,5 +265,5 @@ def test_file_is_replaced_whole(command: Run, tmp_path: Path) -> None:
 def test_a_reload_that_comes_before_it_is_heard_of_ends_nothing() -> None:
     """logrotate sends it whenever it runs, also while a front begins."""
     code = "import asyncio, os, signal\nfrom mserve_front import ending\nasync def work():\n    os.kill(os.getpid(), signal.SIGHUP)\n    return 7\nprint(ending.run(work()))"
-    done = subprocess.run([COMMAND[0], "-c", code], capture_output=True, text=True, cwd=FRONT, timeout=30)
+    done = subprocess.run([COMMAND[0], "-c", code], capture_output=True, text=True, cwd=FRONT, timeout=2 * Patience.seconds)
     assert (done.returncode, done.stdout) == (0, "7\n"), done.stderr

@@ -54,7 +54,7 @@ def as_nobody(*words: str) -> subprocess.Popen[str]:
 
 @pytest.mark.alone
 @pytest.mark.long
-@in_loop(120)
+@in_loop()
 async def test_nobody_reaches_the_server_also_while_it_is_started_again(start, tmp_path) -> None:
     """The intruder tries each port of the machine, those of other tests too."""
     front: Front = start(tls=False, store=str(tmp_path / "store"))
@@ -72,18 +72,18 @@ async def test_nobody_reaches_the_server_also_while_it_is_started_again(start, t
         assert (found, told) == ("0\n", "")
 
 
-@in_loop(120)
+@in_loop()
 async def test_nobody_enters_the_network_of_the_server(start) -> None:
     front: Front = start(tls=False)
     own, other = (os.readlink(f"/proc/{process}/ns/net") for process in (front.process.pid, front.child))
     assert own != other
-    for words in (["nsenter", "--user", "--net", "--target", str(front.child), "true"], [*HELPER, "connect", str(front.child), str(PORT)]):
+    for words in (["nsenter", "--user", "--net", "--target", str(front.child), "true"], [*HELPER, str(front.child), str(PORT)]):
         tried = as_nobody(*words)
         _, told = await asyncio.to_thread(tried.communicate)
         assert tried.returncode != 0 and "ermi" in told, told
 
 
-@in_loop(120)
+@in_loop()
 async def test_the_server_ends_with_who_started_it(start) -> None:
     front: Front = start(tls=False)
     child = front.child

@@ -180,7 +180,7 @@ def test_drawn_frames_end_the_connection_or_are_answered(fuzzed: tuple[Front, st
     """Each record that comes is a reply to a number that was sent, or an event; and the next connection is served."""
     front, _ = fuzzed
 
-    @in_loop(60)
+    @in_loop()
     async def run() -> None:
         async with front.person("cleo") as cleo:
             transport = cleo.socket._response.connection.transport

@@ -11,7 +11,7 @@ from pathlib import Path
 from types import SimpleNamespace
 
 import pytest
-from front import PASSWORD, Front, in_loop, until, write_users
+from front import PASSWORD, Front, Patience, in_loop, until, write_users
 from mserve_front import islands as islands_module
 from mserve_front.doors import Doors
 from mserve_front.gate import Gate
@@ -74,7 +74,7 @@ class Running:
             for part in parts:
                 writer.write(part)
                 await asyncio.sleep(0.2)
-            async with asyncio.timeout(5):
+            async with asyncio.timeout(Patience.seconds):
                 return await reader.read(2000)
         finally:
             writer.close()

@@ -5,13 +5,14 @@ from __future__ import annotations
 
 import asyncio
 import contextlib
+import functools
 import json
 import random
 import subprocess
 import time
 from collections import Counter
 
-from front import COMMAND, Front, Record, in_loop
+from front import COMMAND, Front, Record, in_loop, until
 
 SIGN_ONS, WORKERS = 300, 12
 USERS = {"ada": "CLINIC", "ben": "CLINIC", "cleo": "LAB", "dan": "LAB", "dora": "SHORT", "eve": "SHORT"}
@@ -61,6 +62,15 @@ class Visitor:
                 return record
 
 
+async def knows(front: Front, user: str, token: str) -> bool:
+    """Whether a front has read a user's token by now: it looks once a second."""
+    reader, writer = await asyncio.open_connection("localhost", front.lines_port)
+    writer.write(f"{user} {token}\n".encode())
+    record = json.loads(await reader.readuntil(b"\n"))
+    writer.close()
+    return "error" not in record
+
+
 @in_loop(1500)
 async def test_terminals_are_handed_from_user_to_user(start, count: int) -> None:
     front: Front = start(tls=False, users=USERS, limits={"sessions_of_user": 100})
@@ -68,7 +78,7 @@ async def test_terminals_are_handed_from_user_to_user(start, count: int) -> None
     for user in USERS:
         done = subprocess.run([*COMMAND, "token", "add", user, "--config", front.folder / "front.toml"], capture_output=True, text=True, check=True)
         tokens[user] = done.stdout.strip()
-    await asyncio.sleep(2)
+    await asyncio.gather(*(until(functools.partial(knows, front, user, token), f"the token of {user}", 1.0) for user, token in tokens.items()))
     rng, seen, wanted = random.Random(5), Counter(), SIGN_ONS * count
     end = time.monotonic() + 1400
 

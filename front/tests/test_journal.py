@@ -15,7 +15,7 @@ from dataclasses import dataclass
 from pathlib import Path
 
 import pytest
-from front import COMMAND, Front, in_loop, mjournal, small_disk, until
+from front import COMMAND, Front, Patience, in_loop, mjournal, small_disk, stopped, until
 from mserve_front import journal as journal_module
 from mserve_front import journal_file, witness
 from mserve_front.faults import HeldBack, NoJournal
@@ -521,8 +521,8 @@ def told_of(tmp_path_factory: pytest.TempPathFactory) -> Front:
                 await ada.line(f"S ^X({number})={number},A=$G(A)+{number} W A")
                 await cleo.line(f'S ^RESULT({number})="é\t"' if number == 7 else f"S ^RESULT({number})={number}")
             assert await ada.told('W ^|"LAB"|RESULT(3),B') == "M6"
+        await stopped(front)
     asyncio.run(lines())
-    front.stop()
     return front
 
 
@@ -568,7 +568,7 @@ def test_words_of_mjournal(told_of: Front, tmp_path: Path) -> None:
 
 
 @pytest.mark.long
-@in_loop(200)
+@in_loop()
 async def test_a_disk_that_is_full(certificate: tuple[Path, Path], tmp_path: Path) -> None:
     """No line goes on, users and the operator are told, and once there is room all goes on. What was answered is in the journal."""
     folder = tmp_path / "front"
@@ -611,8 +611,8 @@ def test_settings_of_the_journal(tmp_path: Path) -> None:
     for text, told in (('folder = 1', "journal.folder: is to be a text"), ('folder = "j"\ndatabase = "d"', "journal.database: is not for a journal"),
                        ('folder = "j"\nroll = 1', "journal.roll: is to be a whole number"), ('speed = 1', "journal.speed: there is no such key")):
         (tmp_path / "front.toml").write_text(good + text)
-        done = subprocess.run([*COMMAND, "check", "--config", tmp_path / "front.toml"], capture_output=True, text=True, timeout=30)
+        done = subprocess.run([*COMMAND, "check", "--config", tmp_path / "front.toml"], capture_output=True, text=True, timeout=2 * Patience.seconds)
         assert done.returncode == 2 and told in done.stderr
     (tmp_path / "front.toml").write_text(good)
-    done = subprocess.run([*COMMAND, "--follow", "--config", tmp_path / "front.toml"], capture_output=True, text=True, timeout=30)
+    done = subprocess.run([*COMMAND, "--follow", "--config", tmp_path / "front.toml"], capture_output=True, text=True, timeout=2 * Patience.seconds)
     assert done.returncode == 2 and "a standby follows a journal" in done.stderr

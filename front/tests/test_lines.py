@@ -75,7 +75,7 @@ def test_longer_lines_are_refused() -> None:
         assert refused.value.code == "ZLINE"
 
 
-@in_loop(120)
+@in_loop()
 async def test_every_byte_at_every_place_over_the_web_socket(lasting: Front) -> None:
     """Each byte at each place of a line is answered as the program answers that line alone, or refused; and the neighbour sees nothing."""
     line = b'W "2 S ^Y=1"'
@@ -101,7 +101,7 @@ async def send_all(person: Person, lines: list[str]) -> None:
         await person.send(line)
 
 
-@in_loop(120)
+@in_loop()
 async def test_every_byte_at_every_place_over_the_line_port(lasting: Front) -> None:
     """On this port a line feed ends a line, so it makes two of one, both at the user's own terminal."""
     line = b'W "1001 S ^Z=1"'

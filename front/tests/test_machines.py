@@ -15,7 +15,7 @@ from pathlib import Path
 import aiohttp
 import pytest
 from database import Cluster
-from front import FRONT, PASSWORD, Record, in_loop, toml, tool
+from front import FRONT, PASSWORD, Record, at_rest, in_loop, toml, tool
 from machines import HOSTS, Gate, Program, certificates, islands, ports
 from mserve_front.gate_command import settings_of
 from mserve_front.placement import BadPlacement, Placement
@@ -163,6 +163,8 @@ async def test_islands_on_three_machines(host: Callable[..., Gate], cluster: Pai
     shown = gates[1].does("list")[1].splitlines()
     assert "machine one 127.0.0.2:" in shown[0] and "island island0 three here C0A0 C0A1 C0A2" in shown
     assert "island island0 goes to three" in gates[0].told() and "island island0 is here" in gates[2].told()
+    for name in ("island0", "island2"):
+        await at_rest(gates[2].folder / "islands" / name)
     while cluster.does(ENDS) != cluster.replica.does(ENDS):
         await asyncio.sleep(0.05)
     for name in ("island0", "island2"):
@@ -205,7 +207,7 @@ async def test_an_island_that_had_trouble_is_taken_over(host: Callable[..., Gate
 ENDS = "SELECT name, max(sequence) FROM mfront_journal GROUP BY name ORDER BY name"
 
 
-@in_loop(200)
+@in_loop()
 async def test_a_database_that_is_away(host: Callable[..., Gate], cluster: Pair, tmp_path: Path) -> None:
     """The gate and the fronts stay, lines are refused, and a machine that is started meanwhile says so; once it is there all goes on."""
     islands(tmp_path / "islands", 1)
@@ -233,7 +235,7 @@ async def test_a_database_that_is_away(host: Callable[..., Gate], cluster: Pair,
     user.close()
 
 
-@in_loop(200)
+@in_loop()
 async def test_what_a_gate_carries(host: Callable[..., Gate], tmp_path: Path) -> None:
     """The page's own protocol by a gate that is not the island's, wrong passwords, and peers without a certificate."""
     made, _ = islands(tmp_path / "islands", 1)
@@ -301,7 +303,7 @@ def token_config(folder: Path) -> Path:
 
 
 @pytest.mark.long
-@in_loop(200)
+@in_loop()
 async def test_commands_of_the_page(host: Callable[..., Gate], cluster: Pair, tmp_path: Path) -> None:
     """Those of docs/OPERATING.md that move a customer, and that take one whose machine is gone; and that machine comes back."""
     islands(tmp_path / "islands", 1)

@@ -21,7 +21,7 @@ def memory(front: Front) -> float:
     return int(Path(f"/proc/{front.process.pid}/status").read_text().partition("VmRSS:")[2].split()[0]) / 1000
 
 
-@in_loop(280)
+@in_loop()
 async def test_connections_that_send_all_that_is_taken_have_bounded_memory(start, count: int) -> None:
     """Each has a head that does not end, and as much after it as the system takes. By what one takes, all that may be there stay in bounds."""
     resource.setrlimit(resource.RLIMIT_NOFILE, (resource.getrlimit(resource.RLIMIT_NOFILE)[1],) * 2)
@@ -44,7 +44,7 @@ async def test_connections_that_send_all_that_is_taken_have_bounded_memory(start
             writer.transport.abort()
 
 
-@in_loop(120)
+@in_loop()
 async def test_replies_that_nobody_takes_are_bounded(start) -> None:
     front: Front = start(users={"ada": "CLINIC", "cleo": "LAB"})
     async with front.person("cleo") as cleo:

@@ -81,7 +81,7 @@ class Operator:
         return made
 
 
-@in_loop(200)
+@in_loop()
 async def test_commands_of_the_page(start) -> None:
     front = start(store="store", journal={"folder": "journal"})
     operator = Operator(front)

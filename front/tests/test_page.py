@@ -41,9 +41,9 @@ def test_two_users_at_once(browsers: Opened) -> None:  # noqa: F811
     assert "✓" in cleo.line("S ^OWN=1")
     ada.part("globals")
     ada.click("#globals-search")
-    ada.row("^VISIT").click()
-    ada.row('"Lovelace, Ada"').click()
-    ada.row("20261126").click()
+    ada.click_row("^VISIT")
+    ada.click_row('"Lovelace, Ada"')
+    ada.click_row("20261126")
     assert ada.one("#node-name").text == '^VISIT("Lovelace, Ada",20261126)'
     assert ada.one("#node-text").get_attribute("value") == "check-up"
     ada.picture("two-users-tree")
@@ -111,7 +111,7 @@ def test_node_is_changed_and_killed_after_a_question(browsers: Opened) -> None: 
     ada.line('S ^N(1)="old",^N(1,2)="below",^N(2)="two"')
     ada.part("globals")
     ada.one("#globals-name").send_keys("^N\n")
-    ada.row("1").click()
+    ada.click_row("1")
     text = ada.one("#node-text")
     text.clear()
     text.send_keys('new "text"\nof two lines')
@@ -130,7 +130,7 @@ def test_node_is_changed_and_killed_after_a_question(browsers: Opened) -> None: 
     ada.notice('^N(1,"Lovelace, Ada") is set.')
     assert ada.line('W $L(^N(1,"Lovelace, Ada")),$D(%m)') == "6000"
     ada.row('"Lovelace, Ada"')
-    ada.row("1").click()
+    ada.click_row("1")
     ada.click("#node-kill")
     assert "Kill ^N(1)?" in ada.one("dialog").text and "all nodes below" in ada.one("dialog").text
     ada.picture("question")
@@ -168,7 +168,7 @@ def test_tree_loads_as_it_is_opened(browsers: Opened) -> None:  # noqa: F811
         ada.run("const all = document.querySelectorAll('#tree .rest'); all[all.length - 1].click()")
         ada.until(lambda count=count: f"{count}={count}" in ada.rows(), f"child {count}")
     assert ada.rows()[before:before + 120] == [f"{number}={number}" for number in range(1, 121)] and "more…" not in ada.rows()
-    ada.row("7=").click()
+    ada.click_row("7=")
     ada.until(lambda: ada.rows()[before + 6:before + 9] == ["7=7", "1=7", "8=8"], "the node below ^BIG(7)")
 
 
@@ -231,7 +231,7 @@ def test_markup_stays_text(browsers: Opened) -> None:  # noqa: F811
     ada.line(f'S M="{quoted}" S ^MARK(M)=M,^MARK(M,M)=M,^ROUTINE("MARK",1)="MARK ;"_M')
     ada.part("globals")
     ada.one("#globals-name").send_keys("^MARK\n")
-    ada.row('"<img').click()
+    ada.click_row('"<img')
     ada.until(lambda: ada.one("#node-text").get_attribute("value") == MARKUP, "the text of the node")
     ada.picture("markup")
     ada.click("#node-kill")
@@ -331,8 +331,8 @@ def test_320_pixels(browsers: Opened, scheme: str) -> None:  # noqa: F811
     seen(ada, f"320-{scheme}-terminal")
     ada.part("globals")
     ada.one("#globals-name").send_keys("^NARROW\n")
-    ada.row('"a long').click()
-    ada.row("1=").click()
+    ada.click_row('"a long')
+    ada.click_row("1=")
     seen(ada, f"320-{scheme}-globals")
     ada.click("#node-kill")
     seen(ada, f"320-{scheme}-question")
@@ -381,7 +381,7 @@ def test_fields_and_targets_of_a_phone(browsers: Opened) -> None:  # noqa: F811
     ben.run("document.querySelector('#connection').className = 'open'")
     ben.part("globals")
     ben.one("#globals-name").send_keys("^PHONE\n")
-    ben.row("1=").click()
+    ben.click_row("1=")
     ben.one("#node-text")
     fits_fingers(ben, 10)
     ben.click("#node-kill")
@@ -437,8 +437,9 @@ def test_ones_own_password_is_changed(browsers: Opened) -> None:  # noqa: F811
     here.click("#change-password")
     for texts, why in (((PASSWORD, chosen, "another of mine 8"), "The two new passwords differ."), (("not this one", chosen, chosen), "not right"),
                        ((PASSWORD, "ben ben ben ben", "ben ben ben ben"), "password")):
+        before = here.texts("dialog #about")
         fill_passwords(here, *texts)
-        here.until(lambda why=why: any(why in text for text in here.texts("dialog #about")), f"why it is not taken: {why}")
+        here.until(lambda why=why, before=before: (told := here.texts("dialog #about")) != before and any(why in text for text in told), f"why not: {why}")
     here.click("#show-passwords")
     assert {here.one(f"#{name}-password").get_attribute("type") for name in ("old", "new", "again")} == {"text"}
     fill_passwords(here, PASSWORD, chosen, chosen)
@@ -466,7 +467,7 @@ def test_pictures_of_a_wide_page(browsers: Opened, scheme: str) -> None:  # noqa
     ada.line('S ^WIDE(1)="one",^WIDE("two",3)=3 W NONE')
     ada.part("globals")
     ada.one("#globals-name").send_keys("^WIDE\n")
-    ada.row("1=").click()
+    ada.click_row("1=")
     ada.picture(f"wide-{scheme}")
     for part in ("globals", "routines"):
         ada.part(part)
@@ -529,7 +530,8 @@ def test_what_was_not_saved_is_kept_for_its_user_alone(browsers: Opened, page_fr
     signed_off_with_draft(ben, page_front, "another password 1")
     ben.sign_on("ben", "another password 1")
     ben.part("routines")
-    assert ben.one("#source").get_attribute("value") == "DRAFT ; first\n ; not saved" and ben.one("#source-state").text == "not saved"
+    ben.until(lambda: ben.one("#source").get_attribute("value") == "DRAFT ; first\n ; not saved", "what was not saved")
+    ben.until(lambda: ben.one("#source-state").text == "not saved", "the word for it")
     signed_off_with_draft(ben, page_front, PASSWORD)
     ben.sign_on("cleo")
     ben.part("routines")

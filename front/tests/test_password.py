@@ -16,7 +16,7 @@ async def changed(http: ClientSession, old: object, new: object) -> tuple[int, s
         return response.status, await response.text()
 
 
-@in_loop(90)
+@in_loop()
 async def test_a_user_changes_their_own_password(start) -> None:
     """The session in which that is done goes on; others of the user, and tokens, end; others' do not."""
     front: Front = start()

@@ -7,10 +7,14 @@ import json
 import signal
 import ssl
 import subprocess
+import time
 import warnings
 
 import pytest
-from front import COMMAND, PASSWORD, Front, Record, in_loop, until
+from front import COMMAND, PASSWORD, Front, Patience, Record, in_loop, until
+
+# Seconds after which a token that is not used gives its terminal back.
+IDLE = 4
 
 
 class Program:
@@ -139,14 +143,16 @@ async def test_lines_with_a_token(start) -> None:
 
 @in_loop()
 async def test_the_terminal_of_a_token_is_given_back_after_its_idle_time(start) -> None:
-    front = start(limits={"token_idle": 4})
+    front = start(limits={"token_idle": IDLE})
     token = await new_token(front)
     async with front.person().http as http:
+        used = time.monotonic()
         assert await posted(http, token, "S N=1") == (200, {"output": [], "rest": "", "code": None, "volatile": True, "new": True})
         async with Program(front, f"ada {PASSWORD}") as first, Program(front, f"ben {token}") as wrong, Program(front, f"ben {PASSWORD}") as second:
             assert first.record["user"] == "ada" and wrong.record == {"error": "wrong name or password"} and second.record["user"] == "ben"
             async with Program(front, f"ada {token}") as third:
-                assert third.record == {"error": "all terminals of CLINIC are in use"}
+                # A machine that is busy may come to this after the token's time.
+                assert third.record == {"error": "all terminals of CLINIC are in use"} or time.monotonic() - used > IDLE
                 await until(third.signed_on, "the terminal of the token", 0.2)
                 assert third.record["user"] == "ada" and (await third.line("W $D(N)"))["rest"] == "0"
                 assert await posted(http, token, "W 1") == (503, {"error": "all terminals of CLINIC are in use"})
@@ -154,7 +160,7 @@ async def test_the_terminal_of_a_token_is_given_back_after_its_idle_time(start) 
         assert (await posted(http, token, "W $D(N)"))[1] == {"output": [], "rest": "0", "code": None, "volatile": True, "new": True}
 
 
-@in_loop(120)
+@in_loop()
 async def test_a_connection_of_one_who_is_not_signed_on_is_ended_in_order_after_many_requests(start) -> None:
     """An answer says that it is the last one. Those of a program with a token go on."""
     front = start()
@@ -198,7 +204,7 @@ async def test_health_and_figures(start) -> None:
                   'mfront_lines_total{code="none"}': "2", 'mfront_lines_total{code="M9"}': "1", 'mfront_lines_total{code="M6"}': "1",
                   'mfront_lines_total{code="refused ZCHAR"}': "1", "mfront_lines_waiting": "0", "mfront_child_restarts_total": "0"}
         assert wanted.items() <= figures.items()
-        assert 0 < float(figures["mfront_longest_wait_seconds"]) < 10
+        assert 0 < float(figures["mfront_longest_wait_seconds"]) < 2 * Patience.seconds
         assert int(figures['mfront_wait_seconds_bucket{le="+Inf"}']) == int(figures["mfront_wait_seconds_count"]) > 4
         names = {line.split()[2] for line in text.splitlines() if line.startswith("# TYPE")}
         assert all(line.split("{")[0].split(" ")[0].removesuffix("_bucket").removesuffix("_sum").removesuffix("_count") in names
@@ -249,6 +255,9 @@ async def test_audit_log(start) -> None:
         front.hears("certificate and audit log opened again")
         await ada.line("W B")
     records = [json.loads(line) for line in (front.folder / "audit.old").read_text().splitlines()]
+    # Refused lines are counted once a second, so perhaps before the log was moved.
+    counted = [record for record in [*records, *front.audit()] if record["event"] == "refused lines" and record["user"] == "ada"]
+    records = [record for record in records if record["event"] != "refused lines"]
     assert all(record.pop("time").endswith("+00:00") for record in records)
     mine = {"user": "ada", "account": "CLINIC", "terminal": ada.record["terminal"], "way": "page", "from": "127.0.0.1"}
     assert [record for record in records if record.get("user") == "ada"] == [
@@ -256,7 +265,7 @@ async def test_audit_log(start) -> None:
         {"event": "refused", "user": "ada", "from": "127.0.0.1"}]
     assert "SECRET" not in (front.folder / "audit.old").read_text() and PASSWORD not in (front.folder / "audit.old").read_text()
     assert [record["code"] for record in front.audit() if record["event"] == "line"] == ["M6"]
-    assert [record["count"] for record in front.audit() if record["event"] == "refused lines" and record["user"] == "ada"] == [1]
+    assert [record["count"] for record in counted] == [1]
     assert (front.folder / "audit.log").stat().st_mode & 0o777 == 0o600
 
 

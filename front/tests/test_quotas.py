@@ -46,7 +46,7 @@ async def others_go_on(slow: Person, other: Person) -> None:
 
 
 @pytest.mark.long
-@in_loop(120)
+@in_loop()
 async def test_an_account_over_its_quota_of_rows_is_slowed_and_told(start) -> None:
     """By each way in; another account is not met by it. With fewer rows it goes on as before."""
     front: Front = start(store="store", limits={"rows": 150})
@@ -73,7 +73,7 @@ async def test_an_account_over_its_quota_of_rows_is_slowed_and_told(start) -> No
     assert [(one["account"], list(one["over"])) for one in front.audit() if one["event"] == "quota"] == [("CLINIC", ["rows"]), ("CLINIC", [])]
 
 
-@in_loop(120)
+@in_loop()
 async def test_an_account_over_its_quota_of_memory_is_slowed_until_its_sessions_end(start) -> None:
     front: Front = start(limits={"memory": 100_000_000})
     async with front.person("cleo") as cleo:
@@ -126,7 +126,7 @@ async def test_who_waits_for_a_turn_goes_on_once_the_account_is_within_its_quota
         await asyncio.gather(*waiting)
 
 
-@in_loop(120)
+@in_loop()
 async def test_a_line_that_fills_the_memory_is_answered_zmem_and_others_go_on(start) -> None:
     """Its variables are gone; the front and the server stay."""
     front: Front = start(before=["prlimit", f"--as={MEMORY}"], limits={"memory": 4 * MEMORY})
@@ -141,7 +141,7 @@ async def test_a_line_that_fills_the_memory_is_answered_zmem_and_others_go_on(st
         assert front.child == child and not cleo.events and not ada.events
 
 
-@in_loop(120)
+@in_loop()
 async def test_a_store_that_is_as_long_as_files_may_be_answers_zstore_and_is_read_on(start) -> None:
     front: Front = start(before=["prlimit", f"--fsize={FILE}"], store="store")
     child = front.child
@@ -159,7 +159,7 @@ async def test_a_store_that_is_as_long_as_files_may_be_answers_zstore_and_is_rea
         assert all(path.stat().st_size <= FILE for path in front.folder.iterdir() if path.is_file())
 
 
-@in_loop(120)
+@in_loop()
 async def test_no_line_goes_on_while_the_audit_log_is_full(certificate: tuple[Path, Path], tmp_path: Path) -> None:
     """Nobody signs on, and lines are refused with a word of its own. What had happened before is noted once there is room, so nothing goes unnoted."""
     folder = tmp_path / "front"

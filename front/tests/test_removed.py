@@ -66,7 +66,7 @@ async def test_a_connection_does_not_join_or_leave_a_session_that_has_ended(tmp_
     assert len(asked) == released == 1
 
 
-@in_loop(120)
+@in_loop()
 async def test_a_user_who_signs_on_all_the_time_is_gone_once_removed(start) -> None:
     front: Front = start()
     people = [front.person("ada") for _ in range(4)]
@@ -105,7 +105,7 @@ async def test_a_user_who_signs_on_all_the_time_is_gone_once_removed(start) -> N
         await person.http.close()
 
 
-@in_loop(120)
+@in_loop()
 async def test_another_password_ends_tokens_and_sessions(start) -> None:
     front: Front = start()
     token = await new_token(front, "ada")

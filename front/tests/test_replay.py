@@ -16,7 +16,7 @@ from datetime import UTC, datetime
 from pathlib import Path
 
 import pytest
-from front import FRONT, MIXED, SETTINGS, Front, Person, Ran, in_loop, mjournal, small_disk, tool
+from front import FRONT, MIXED, SETTINGS, Front, Person, Ran, at_rest, in_loop, mjournal, small_disk, stopped, tool, until
 from mserve_front.journal_file import FileLog, files_of
 from mserve_front.places import end_of
 from mserve_front.records import Flush, LineRecord, ReplyRecord, StartRecord
@@ -57,7 +57,7 @@ def backup(front: Front, *words: object) -> Path:
     return Path(output.strip())
 
 
-@in_loop(200)
+@in_loop()
 async def test_stores_of_drawn_lines_are_made_anew(start, tmp_path: Path) -> None:
     """Snapshots are taken while users work; a replay to the number of each holds what it does, and so does one from each that is exact. Cleo's account
     has language 1, the others' have 0."""
@@ -73,7 +73,7 @@ async def test_stores_of_drawn_lines_are_made_anew(start, tmp_path: Path) -> Non
         # Events are read with the reply that comes after them.
         assert (await ada.told("W $RE(12)"), await cleo.told("W $RE(12)")) == ("ZSYNTAX", "21")
         assert await ada.told("W 5") == "5" and [event["event"] for event in ada.events] == ["restarted"]
-    assert front.stop() == 0
+    await stopped(front)
     status, output, told = replay(front, tmp_path / "all")
     assert (status, told) == (0, ""), told
     assert held(tmp_path / "all") == held(front.folder / "store.db")
@@ -86,7 +86,7 @@ async def test_stores_of_drawn_lines_are_made_anew(start, tmp_path: Path) -> Non
     assert (status, told) == (0, "") and held(tmp_path / "from") == held(tmp_path / "all")
 
 
-@in_loop(200)
+@in_loop()
 async def test_replay_to_a_moment(start, tmp_path: Path) -> None:
     front = start(store="store.db", journal={"folder": "journal"})
     async with front.person("ada") as ada:
@@ -95,7 +95,7 @@ async def test_replay_to_a_moment(start, tmp_path: Path) -> None:
         moment = datetime.now(UTC).isoformat()
         await asyncio.sleep(0.05)
         await ada.line("K ^X")
-    front.stop()
+    await stopped(front)
     assert replay(front, tmp_path / "then", "--to", moment)[0] == 0
     assert held(tmp_path / "then")["CLINIC"].nodes == 1 and held(front.folder / "store.db") == {}
     number, last = json.loads((tmp_path / "then.at").read_text())["number"], end_of(JournalSettings(front.folder / "journal")).answered
@@ -113,7 +113,7 @@ async def test_replay_to_a_moment(start, tmp_path: Path) -> None:
         assert await ada.told("W ^X") == "1"
         snapshot = await asyncio.to_thread(backup, front, "--end-sessions")
         await ada.line("S ^Y=1")
-    front.stop()
+    await stopped(front)
     # What the store held when it was put back is in the journal: a replay over it goes on with that.
     assert replay(front, tmp_path / "over")[::2] == (0, "") and held(tmp_path / "over") == held(front.folder / "store.db")
     assert replay(front, tmp_path / "after", "--from", snapshot)[0] == 0
@@ -121,7 +121,7 @@ async def test_replay_to_a_moment(start, tmp_path: Path) -> None:
     assert status == 3 and "comes before" in told
 
 
-@in_loop(200)
+@in_loop()
 async def test_a_reply_that_differs_stops_a_replay(start, tmp_path: Path) -> None:
     front = start(store="store.db", journal={"folder": "journal"})
     async with front.person("ada") as ada:
@@ -129,7 +129,7 @@ async def test_a_reply_that_differs_stops_a_replay(start, tmp_path: Path) -> Non
         snapshot = await asyncio.to_thread(backup, front, "--end-sessions")
         for line in ("W ^Y", "S ^Z=^X", "W ^X", *["W 1"] * 50):
             await ada.line(line)
-    front.stop()
+    await stopped(front)
     number = int(snapshot.name) + 3
     with sqlite3.connect(snapshot / "store") as base:
         base.execute("UPDATE node SET v = x'32' WHERE rowid = 1")
@@ -218,7 +218,13 @@ def test_language_that_changes(tmp_path: Path) -> None:
     assert "line 1, of terminal 1, is answered otherwise" in mjournal(folder)("replay", "--program", PROGRAM, "--store", tmp_path / "other")[2]
 
 
-@in_loop(200)
+def has_open_line(front: Front) -> bool:
+    """Whether a front's journal has a line without a reply."""
+    end = end_of(JournalSettings(front.folder / "journal"))
+    return end.answered < end.next - 1
+
+
+@in_loop()
 async def test_a_server_that_is_killed_and_a_front_that_is(start, tmp_path: Path) -> None:
     """Both go on with the journal; the line that the server was at is told by a replay, which has what it did, and what was answered is there."""
     front = start(store="store.db", journal={"folder": "journal"})
@@ -227,8 +233,10 @@ async def test_a_server_that_is_killed_and_a_front_that_is(start, tmp_path: Path
         for _ in range(20):
             await ada.send("S ^N=^N+1 F I=1:1:300000 S A=I")
             await ben.send("F I=1:1:300000 S A=I")
-        # While a reply of the one is noted, a line of the other is run: so one is on its way.
         assert (await ada.next())["code"] is None
+        # However slow this process is: a server that is held up answers no more of what they send, so that a line of one of them is on its way.
+        os.kill(front.child, signal.SIGSTOP)
+        await until(lambda: has_open_line(front), "a line without a reply")
         front.kill_child()
         records = [await ada.next() for _ in range(19)]
         for _ in range(20):
@@ -243,14 +251,14 @@ async def test_a_server_that_is_killed_and_a_front_that_is(start, tmp_path: Path
     front.again()
     async with front.person("ada") as ada:
         assert await ada.told("W ^M") == "1"
-    front.stop()
+    await stopped(front)
     assert re.search(" 3 starts, [1-9] without a reply", mjournal(front.folder / "journal")("verify")[1])
     status, _, told = replay(front, tmp_path / "new")
     assert status == 0 and "had no reply when the leader's server ended: what the leader's store held then is in the journal" in told
     assert held(tmp_path / "new") == held(front.folder / "store.db")
 
 
-@in_loop(200)
+@in_loop()
 async def test_a_store_in_memory_begins_anew(start) -> None:
     front = start(journal={"folder": "journal"})
     async with front.person("ada") as ada:
@@ -261,11 +269,11 @@ async def test_a_store_in_memory_begins_anew(start) -> None:
         assert await ada.told("W $D(^X)") == "0"
         status, _, told = await asyncio.to_thread(tool("mbackup"), "take", front.folder, "--config", front.folder / "front.toml")
         assert status == 3 and "the store is in memory" in told
-    front.stop()
+    await stopped(front)
     assert replay(front, "memory")[0] == 0
 
 
-@in_loop(200)
+@in_loop()
 async def test_a_snapshot_is_put_back_and_the_journal_expires(start, tmp_path: Path) -> None:
     front = start(store="store.db", journal={"folder": "journal", "roll": 4096})
     async with front.person("ada") as ada:
@@ -277,7 +285,7 @@ async def test_a_snapshot_is_put_back_and_the_journal_expires(start, tmp_path: P
         assert snapshot == open_one
         await ada.line("S ^Y=1")
         await ada.line("S ^Y=2")
-    front.stop()
+    await stopped(front)
     before = len(files_of(front.folder / "journal"))
     assert tool("mjournal", "--folder", str(front.folder / "journal"))("expire", snapshot)[0] == 0
     assert len(files_of(front.folder / "journal")) < before
@@ -291,7 +299,7 @@ async def test_a_snapshot_is_put_back_and_the_journal_expires(start, tmp_path: P
     assert str(snapshot) in tool("mbackup")("list", front.folder)[1]
 
 
-@in_loop(200)
+@in_loop()
 async def test_snapshots_are_verified_by_a_replay(start, tmp_path: Path) -> None:
     """The latest one is what the journal gives from the one before; the front's figures tell it. One that is not is refused by the account that differs."""
     backups = tmp_path / "backups"
@@ -371,24 +379,24 @@ def test_snapshots_that_are_damaged(sound: Path, tmp_path: Path, harm: str) -> N
     assert status == 1 and str(snapshot) in told and len(told.splitlines()) == 1
 
 
-@in_loop(200)
+@in_loop()
 async def test_snapshots_that_cannot_be_taken(start, tmp_path: Path) -> None:
     front = start(store="store.db", journal={"folder": "journal"})
     words = ("take", "--config", front.folder / "front.toml")
     assert "there is no such folder" in tool("mbackup")(*words, tmp_path / "none")[2]
-    front.stop()
+    await stopped(front)
     assert "no front that keeps a journal is there" in tool("mbackup")(*words, front.folder)[2]
     assert not [path for path in front.folder.iterdir() if path.name.startswith(".part")]
 
 
-@in_loop(200)
+@in_loop()
 async def test_a_journal_that_has_lost_lines_is_refused(start, tmp_path: Path) -> None:
     """The store says where it stands: a journal that ends before it, or another one, is not gone on with."""
     front = start(store="store.db", journal={"folder": "journal"})
     async with front.person("ada") as ada:
         await ada.line("S ^X=1")
         await ada.line("S ^X=2")
-    front.stop()
+    await stopped(front)
     [(_, path)] = files_of(front.folder / "journal")
     data = path.read_bytes()
     path.write_bytes(data[:-200])
@@ -419,7 +427,7 @@ async def test_a_journal_that_has_lost_lines_is_refused(start, tmp_path: Path) -
         assert await ada.told("W ^X") == "2"
 
 
-@in_loop(200)
+@in_loop()
 async def test_a_store_that_is_not_the_journals_last_is_refused(start, tmp_path: Path) -> None:
     """A leader that was killed is not started again once another one has served; and one without a note is not either."""
     front = start(store="store.db", journal={"folder": str(tmp_path / "journal")})
@@ -445,7 +453,7 @@ async def test_a_store_that_is_not_the_journals_last_is_refused(start, tmp_path:
         assert await ada.told("W ^X") == "2"
 
 
-@in_loop(200)
+@in_loop()
 async def test_a_journal_whose_first_start_failed(start) -> None:
     """The store's note names a journal that never had anything: the next start begins one."""
     front = start(store="store.db", journal={"folder": "journal"})
@@ -458,7 +466,7 @@ async def test_a_journal_whose_first_start_failed(start) -> None:
     front.again()
     async with front.person("ada") as ada:
         assert await ada.told("S ^X=1 W ^X") == "1"
-    front.stop()
+    await stopped(front)
     # It begins with what the store held.
     assert replay(front, "memory")[0] == 0
 
@@ -470,7 +478,7 @@ time.time_ns = lambda: own() + int(place.read_text()) * 10**9
 """
 
 
-@in_loop(200)
+@in_loop()
 async def test_clocks_that_step_back(start, tmp_path: Path) -> None:
     """While a front runs, at its restart, and on the machine that takes over: no time in the journal is before another, it is told, and nothing is lost."""
     (tmp_path / "sitecustomize.py").write_text(CLOCK)
@@ -484,12 +492,12 @@ async def test_clocks_that_step_back(start, tmp_path: Path) -> None:
         assert await ada.told("S ^X=2 W ^X") == "2"
         assert "the clock stepped back by 3600 s: the journal keeps the time of its last record" in front.told()
         assert tool("mbackup")("check", await asyncio.to_thread(backup, front))[0] == 0
-    front.stop()
+    await stopped(front)
     front.again()
     async with front.person("ada") as ada:
         assert await ada.told("S ^X=^X+1 W ^X") == "3"
     assert re.search("the clock stepped back by 35\\d\\d s", front.told())
-    front.stop()
+    await stopped(front)
     assert tool("mfront")("promote", "--config", second.folder / "front.toml")[0] == 0
     second.hears("serving at")
     async with second.person("ada") as ada:
@@ -497,14 +505,14 @@ async def test_clocks_that_step_back(start, tmp_path: Path) -> None:
         (tmp_path / "seconds").write_text("1")
         assert await ada.told("S ^X=^X+1 W ^X") == "5"
     assert re.search("the clock stepped back by 35\\d\\d s", second.told())
-    second.stop()
+    await stopped(second)
     run = mjournal(tmp_path / "journal")
     times = [line.split()[1] for line in run("grep", "--user", "ada")[1].splitlines()]
     assert len(times) == 5 and times == sorted(times) and len(set(times)) == 3
     assert run("replay", "--program", PROGRAM, "--store", tmp_path / "new")[::2] == (0, "") and held(tmp_path / "new") == held(second.folder / "store.db")
 
 
-@in_loop(200)
+@in_loop()
 async def test_snapshots_and_stores_on_a_disk_that_is_full(tmp_path: Path) -> None:
     """They are refused, nothing of them is left, and users work on."""
     folder = tmp_path / "front"
@@ -519,6 +527,7 @@ async def test_snapshots_and_stores_on_a_disk_that_is_full(tmp_path: Path) -> No
             assert status == 3 and "No space left on device" in told and len(told.splitlines()) == 1 and list(seen.iterdir()) == []
             snapshot = await asyncio.to_thread(backup, front)
             assert await ada.told("S ^Y=1 W $D(^X(59))") == "1"
+        await at_rest(folder)
         status, _, told = tool("mbackup")("restore", snapshot, seen / "store")
         assert status == 1 and "No space left on device" in told and list(seen.iterdir()) == []
         # A disk of its own for a process of its own: SQLite wants a path that leads there from the root.
@@ -530,7 +539,7 @@ async def test_snapshots_and_stores_on_a_disk_that_is_full(tmp_path: Path) -> No
     assert replay(front, "memory")[0] == 0
 
 
-@in_loop(200)
+@in_loop()
 async def test_a_second_front_is_refused(start, tmp_path: Path) -> None:
     front = start(store="store.db", journal={"folder": "journal"})
     with pytest.raises(RuntimeError, match="another front writes this journal"):

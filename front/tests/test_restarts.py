@@ -13,7 +13,7 @@ from typing import Protocol
 
 import aiohttp
 import pytest
-from front import Front, Patience, Person, Record, in_loop, mjournal, until
+from front import Front, Patience, Person, Record, in_loop, mjournal, stopped, until
 from running import PROGRAM
 from test_replay import held
 from test_standby import leading, standby, takes_over
@@ -148,7 +148,7 @@ async def test_a_standby_goes_on_after_trouble_at_its_leader(start, tmp_path: Pa
     await counting.end()
     assert await asyncio.to_thread(takes_over, second) == ""
     await counting.seen_by(second)
-    await asyncio.to_thread(second.stop)
+    await stopped(second)
     status, _, told = mjournal(journal)("replay", "--program", PROGRAM, "--store", tmp_path / "all")
     assert status == 0, told
     assert held(tmp_path / "all") == held(second.folder / "store.db")

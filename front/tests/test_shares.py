@@ -126,11 +126,12 @@ def test_lines_that_may_take_long(line: bytes, wanted: bool) -> None:
     assert may_take_long(line) == wanted
 
 
-LIMITS = {"sign_on": 2, "token_idle": 2, "idle": 2, "absent": 2, "heartbeat": 1}
+# Clocks that are soon over, and not so soon that a busy machine takes as long for a sign-on; and seconds that are longer than any of them.
+LIMITS, LONGER = {"sign_on": 4, "token_idle": 4, "idle": 4, "absent": 4, "heartbeat": 2}, 8
 
 
 @pytest.mark.long
-@in_loop(120)
+@in_loop()
 async def test_variables_last_while_a_line_waits_for_the_server_for_longer_than_any_clock(start) -> None:
     """By a token, by the page and at the line port: each of these was signed off as idle, and `W A` gave M6."""
     front = start(limits=LIMITS)
@@ -142,7 +143,7 @@ async def test_variables_last_while_a_line_waits_for_the_server_for_longer_than_
     async with front.person("ada").http as http, front.person("ada") as ada, Program(front, f"ben {PASSWORD}") as ben:
         assert (await by_token("S A=7"))["code"] is None
         assert (await ada.told("S A=7"), (await ben.line("S A=7"))["code"]) == ("", None)
-        async with busy(front, 6):
+        async with busy(front, LONGER):
             waiting = asyncio.create_task(by_token("W A"))
             await ada.send("W A")
             ben.writer.write(b"W A\n")
@@ -152,7 +153,7 @@ async def test_variables_last_while_a_line_waits_for_the_server_for_longer_than_
         assert not ada.events
 
 
-@in_loop(120)
+@in_loop()
 async def test_a_sign_on_does_not_wait_for_the_server(start) -> None:
     """By each way, while it is at a line of somebody else; and the page is connected at once."""
     front = start(limits=LIMITS)
@@ -162,12 +163,12 @@ async def test_a_sign_on_does_not_wait_for_the_server(start) -> None:
             async with front.person("ben") as ben, Program(front, f"cleo {PASSWORD}") as cleo:
                 assert ben.record["terminal"] != ada.record["terminal"] and cleo.record["account"] == "LAB"
                 await ben.send("W 1")
-                await asyncio.sleep(4)
+                await asyncio.sleep(LONGER)
                 os.kill(front.child, signal.SIGCONT)
                 assert (await ben.next())["rest"] == "1"
 
 
-@in_loop(120)
+@in_loop()
 async def test_a_sign_on_waits_for_a_terminal_that_is_being_given_back(start) -> None:
     """For as long as the server is at a line of somebody else: it is not told that all are in use, and not cut off."""
     front = start(users={"dora": "SHORT", "dan": "SHORT"}, limits=LIMITS)
@@ -176,7 +177,7 @@ async def test_a_sign_on_waits_for_a_terminal_that_is_being_given_back(start) ->
         assert (await dora.sign_on())[0] == 200
         await dora.connect()
         await dora.told("S A=1")
-        async with busy(front, 5):
+        async with busy(front, LONGER):
             await dora.send("S A=2")
             assert await dora.sign_off() == 204
             waiting = asyncio.create_task(dan.sign_on())

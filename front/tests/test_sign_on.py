@@ -10,7 +10,7 @@ from collections.abc import Iterator
 
 import aiohttp
 import pytest
-from front import PASSWORD, Front, busy, given_back, in_loop, lines_wait, until, write_users
+from front import PASSWORD, Front, Patience, busy, given_back, in_loop, lines_wait, until, write_users
 from mserve_front.slowdown import Slowdown, network_of
 from mserve_front.users import HASHER, Register
 from test_programs import Program
@@ -141,7 +141,7 @@ async def test_all_terminals_in_use(start) -> None:
 @in_loop()
 async def test_nobody_meets_what_somebody_before_left(start) -> None:
     """Locals and locks are gone after a sign-off, a lost connection, a new one, and a connection of a program that ended."""
-    front = start(users={"dora": "SHORT", "dan": "SHORT"}, limits={"absent": 2})
+    front = start(users={"dora": "SHORT", "dan": "SHORT"}, limits={"absent": 5})
     async with front.person("dora") as dora:
         assert await dora.told('S A=1 L +^X:0 W $T') == "1"
     async with front.person("dan") as dan:
@@ -180,13 +180,13 @@ async def test_lock_of_a_lost_connection_is_given_back(lasting: Front) -> None:
 @in_loop()
 async def test_idle_users_are_signed_off(start) -> None:
     """So long after the last line, and not after the sign-on."""
-    front = start(limits={"idle": 3})
+    front = start(limits={"idle": 6})
     async with front.person() as ada:
         await asyncio.sleep(1)
         began = time.monotonic()
         assert await ada.told("S A=1 W A") == "1"
         assert (await ada.event()) == {"event": "signed-off", "why": "idle"}
-        assert 2.5 < time.monotonic() - began < 15
+        assert 5.5 < time.monotonic() - began < Patience.seconds
         with pytest.raises(ConnectionError):
             await ada.event()
         async with ada.http.get("/session") as response:
@@ -241,7 +241,7 @@ async def test_users_file_that_is_broken_leaves_the_users(start) -> None:
         assert await ada.told("W 1") == "1"
 
 
-@in_loop(90)
+@in_loop()
 async def test_wrong_passwords_slow_down_a_user(start) -> None:
     """Each pause is longer than the one before; meanwhile even the right password is not looked at, and others sign on."""
     front = start()
@@ -257,7 +257,9 @@ async def test_wrong_passwords_slow_down_a_user(start) -> None:
                     assert response.status == 401
                     tried += 1
         assert pauses == sorted(pauses) and tried >= 4 + 2
-        assert (await ada.sign_on())[0] == 429
+        over = time.monotonic() + pauses[-1]
+        # A machine that is busy may come to this after the pause.
+        assert (await ada.sign_on())[0] == 429 or time.monotonic() > over
         assert (await cleo.sign_on())[0] == 200
         await asyncio.sleep(pauses[-1] + 0.1)
         assert (await ada.sign_on())[0] == 200
@@ -265,7 +267,7 @@ async def test_wrong_passwords_slow_down_a_user(start) -> None:
 
 
 @pytest.mark.long
-@in_loop(90)
+@in_loop()
 async def test_wrong_passwords_slow_down_an_address(start) -> None:
     """Attempts of one address at many names, at once: after twenty there is one a second, and a user of that address with the right password waits for
     the turn of their name, and is not refused."""

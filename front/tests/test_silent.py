@@ -12,7 +12,7 @@ from pathlib import Path
 
 import pytest
 from database import Cluster, Wire
-from front import in_loop, tool
+from front import in_loop, stopped, tool
 from mserve_front import journal_table
 from mserve_front.journal import LogFault
 from mserve_front.journal_table import ANSWER, TableLog
@@ -30,7 +30,7 @@ PATIENCE = 120.0
 
 @pytest.mark.long
 @pytest.mark.parametrize("keeps", [False, True], ids=["refuses", "keeps"])
-@in_loop(300)
+@in_loop()
 async def test_a_way_that_stays_open_while_its_database_is_gone(start, tmp_path: Path, keeps: bool) -> None:
     """What stands between keeps its connections open and says nothing, and takes new ones or not: users are told, and all goes on soon after the database
     is back. The standby hears of it too."""
@@ -58,7 +58,7 @@ async def test_a_way_that_stays_open_while_its_database_is_gone(start, tmp_path:
             assert time.monotonic() - began < BACK
             assert await ada.told("W ^X,^Y,^Z") == "111"
         assert "no answer within" in front.told()
-        await asyncio.to_thread(front.stop)
+        await stopped(front)
         await caught_up(second, JournalSettings(database=cluster.place))
         assert await asyncio.to_thread(second.stop) == 0
         assert "no answer within" in second.told()
@@ -72,7 +72,7 @@ SLOW = """CREATE FUNCTION slow_disk() RETURNS trigger LANGUAGE plpgsql AS $$ BEG
 
 
 @pytest.mark.long
-@in_loop(200)
+@in_loop()
 async def test_a_database_that_is_slow_is_waited_for_up_to_a_bound(monkeypatch: pytest.MonkeyPatch) -> None:
     """It says, over another connection, that it is at the statement."""
     async with own_cluster() as cluster:  # noqa: F811

@@ -17,7 +17,7 @@ from pathlib import Path
 
 import aiohttp
 import pytest
-from front import SETTINGS, Front, Person, Ran, in_loop, mjournal, tool, until
+from front import SETTINGS, Front, Patience, Person, Ran, in_loop, mjournal, stopped, tool, until
 from mserve_front.control import Refused, asked
 from mserve_front.places import end_of, last_line
 from mserve_front.service import Service
@@ -55,10 +55,10 @@ def promoted(front: Front) -> Ran:
 
 def asks_promotion(control: Path) -> dict[str, object]:
     """Asks a standby for its promotion, again while it has not begun: its socket is there before that."""
-    until = time.monotonic() + 10
+    until = time.monotonic() + Patience.seconds
     while True:
         try:
-            return asked(control, {"ask": "promote"}, 30)
+            return asked(control, {"ask": "promote"}, 4 * Patience.seconds)
         except Refused as error:
             if "it has not begun" not in str(error) or time.monotonic() > until:
                 raise
@@ -76,15 +76,19 @@ def takes_over(front: Front) -> str:
 
 
 async def caught_up(front: Front, journal: Path | JournalSettings) -> int:
-    """Waits until a standby has run all lines of a journal, in a folder or anywhere, and says so."""
-    last = last_line(JournalSettings(journal) if isinstance(journal, Path) else journal)
-    # Apart: what leads to the journal may be this test's own.
-    while (status := await asyncio.to_thread(asked, front.folder / "mfront.control", {"ask": "status"}, 30))["line"] < last or not status["caught up"]:
+    """Waits until a standby has run all lines of a journal, in a folder or anywhere, and says so, and gives the last of them. Lines that come meanwhile are
+    waited for too; those that come after it are not: `at_rest` says that none does."""
+    settings = JournalSettings(journal) if isinstance(journal, Path) else journal
+    while True:
+        # Apart: what leads to the journal may be this test's own.
+        last = await asyncio.to_thread(last_line, settings)
+        status = await asyncio.to_thread(asked, front.folder / "mfront.control", {"ask": "status"}, 2 * Patience.seconds)
+        if status["line"] >= last and status["caught up"]:
+            return last
         await asyncio.sleep(0.02)
-    return last
 
 
-@in_loop(100)
+@in_loop()
 async def test_a_standby_has_caught_up_once_it_has_run_all(start, tmp_path: Path) -> None:
     """What the journal holds when the question comes is run by then, or the answer says that it is not."""
     leader = leading(start, tmp_path / "journal")
@@ -100,7 +104,7 @@ async def test_a_standby_has_caught_up_once_it_has_run_all(start, tmp_path: Path
         await caught_up(second, tmp_path / "journal")
 
 
-@in_loop(200)
+@in_loop()
 async def test_a_standby_follows_and_is_promoted(start, tmp_path: Path) -> None:
     leader = leading(start, tmp_path / "journal")
     second = standby(start, tmp_path / "journal")
@@ -115,8 +119,7 @@ async def test_a_standby_follows_and_is_promoted(start, tmp_path: Path) -> None:
         await caught_up(second, tmp_path / "journal")
         shown = tool("mfront")("status", "--config", second.folder / "front.toml")[1]
         assert re.match(r"state standby, line \d+, behind 0, seconds 0.0, reported 0, caught up True\n$", shown)
-    leader.stop()
-    # its stop may send lines of its own, as a HALT
+    await stopped(leader)
     last = await caught_up(second, tmp_path / "journal")
     stored = held(leader.folder / "store.db")
     status, output, told = promoted(second)
@@ -129,7 +132,7 @@ async def test_a_standby_follows_and_is_promoted(start, tmp_path: Path) -> None:
         snapshot = await asyncio.to_thread(backup, second)
         assert tool("mbackup")("check", snapshot)[0] == 0
         assert [record["line"] for record in second.audit() if record["event"] == "promoted"] == [last]
-    second.stop()
+    await stopped(second)
     assert stored == held(second.folder / "store.db")
     # Nor is it taken later: its store has not run what came since. The other one goes on.
     with pytest.raises(RuntimeError, match="stands after line .*, and another front has served since"):
@@ -140,7 +143,7 @@ async def test_a_standby_follows_and_is_promoted(start, tmp_path: Path) -> None:
     assert mjournal(tmp_path / "journal")("replay", "--program", PROGRAM, "--store", "memory")[::2] == (0, "")
 
 
-@in_loop(200)
+@in_loop()
 async def test_a_standby_has_its_ports(start, tmp_path: Path) -> None:
     """Nobody can take them meanwhile. One that is taken when it starts is told, and taken at the promotion if that can be."""
     leader = leading(start, tmp_path / "journal")
@@ -153,13 +156,13 @@ async def test_a_standby_has_its_ports(start, tmp_path: Path) -> None:
     assert f"127.0.0.1, port {leader.port}: Address already in use: it cannot serve as long as that is so" in third.told()
     async with leader.person("ada") as ada:
         assert await ada.told("S ^X=1 W ^X") == "1"
-    leader.stop()
+    await asyncio.to_thread(leader.stop)
     assert takes_over(third) == ""
     async with third.person("ada") as ada:
         assert await ada.told("W ^X") == "1"
 
 
-@in_loop(200)
+@in_loop()
 async def test_a_standby_whose_store_differs_stands_still(start, tmp_path: Path) -> None:
     """A node was changed in its store: it is told at the next line that reads it, and nothing that was answered is lost without a word. It goes on once the
     leader has written all that its store holds."""
@@ -202,7 +205,7 @@ def changed_by_hand(store: Path) -> None:
     base.close()
 
 
-@in_loop(200)
+@in_loop()
 async def test_a_promotion_that_would_lose_lines(start, tmp_path: Path) -> None:
     """It is refused, with the lines, and done by force; others that follow go on with what is served then."""
     leader = leading(start, tmp_path / "journal")
@@ -227,13 +230,13 @@ async def test_a_promotion_that_would_lose_lines(start, tmp_path: Path) -> None:
     second.hears("serving at")
     async with second.person("ada") as ada:
         assert await ada.told("W ^X") == "9"
+    await stopped(second)
     await caught_up(third, tmp_path / "journal")
-    second.stop()
     assert takes_over(third) == ""
     assert held(third.folder / "store.db") == held(second.folder / "store.db")
 
 
-@in_loop(200)
+@in_loop()
 async def test_a_standby_takes_over_once_the_leader_is_stopped(start, tmp_path: Path) -> None:
     """The promotion waits for that, so that nobody serves for a moment alone, as at an upgrade of the program: the standby is the new one."""
     leader, journal = leading(start, tmp_path / "journal"), tmp_path / "journal"
@@ -267,7 +270,7 @@ async def answers(front: Front) -> bool:
         return await ada.told("W ^X") == "2"
 
 
-@in_loop(200)
+@in_loop()
 async def test_a_leader_that_lives_is_fenced_off(start, tmp_path: Path) -> None:
     """It hangs, and the standby takes over by force. Once it goes on it acknowledges nothing, and ends; what the other one serves is not touched."""
     leader = leading(start, tmp_path / "journal")
@@ -293,12 +296,12 @@ async def test_a_leader_that_lives_is_fenced_off(start, tmp_path: Path) -> None:
         assert await ben.told("S ^X=^X+1 W ^X") == "3"
         with pytest.raises(RuntimeError, match="another front writes this journal"):
             leader.again()
-    second.stop()
+    await stopped(second)
     assert mjournal(tmp_path / "journal")("replay", "--program", PROGRAM, "--store", tmp_path / "all")[::2] == (0, "")
     assert held(tmp_path / "all") == held(second.folder / "store.db")
 
 
-@in_loop(200)
+@in_loop()
 async def test_a_standby_that_is_killed_begins_with_a_snapshot(start, tmp_path: Path) -> None:
     leader = leading(start, tmp_path / "journal")
     async with leader.person("ada") as ada:
@@ -319,14 +322,14 @@ async def test_a_standby_that_is_killed_begins_with_a_snapshot(start, tmp_path: 
     await caught_up(second, tmp_path / "journal")
     async with leader.person("ada") as ada:
         assert await ada.told("W ^X") == "2"
-    leader.stop()
+    await stopped(leader)
     assert promoted(second)[0] == 0
     async with second.person("ada") as ada:
         assert await ada.told("W ^X") == "2"
 
 
 @pytest.mark.long
-@in_loop(200)
+@in_loop()
 async def test_a_standby_that_cannot_go_on(start, tmp_path: Path) -> None:
     """Other settings are waited for."""
     leader = leading(start, tmp_path / "journal")
@@ -345,7 +348,7 @@ async def test_a_standby_that_cannot_go_on(start, tmp_path: Path) -> None:
         assert status == 3 and "no front that keeps a journal is there" in told and len(told.splitlines()) == 1
 
 
-@in_loop(200)
+@in_loop()
 async def test_a_journal_that_has_lost_its_end_is_refused(start, tmp_path: Path) -> None:
     """What is noted beside the store stays as it was, so that it is refused the next time too."""
     leader = leading(start, tmp_path / "journal")
@@ -354,11 +357,10 @@ async def test_a_journal_that_has_lost_its_end_is_refused(start, tmp_path: Path)
         await ada.line("S ^X=1")
         shutil.copytree(tmp_path / "journal", tmp_path / "shorter")
         await ada.line("S ^X=^X+1")
+    await stopped(leader)
     await caught_up(second, tmp_path / "journal")
     second.stop()
-    # The line that ends ada's session may have come meanwhile.
     line = read_standing(second.folder / "store.db").number
-    leader.stop()
     shutil.rmtree(tmp_path / "journal")
     shutil.move(tmp_path / "shorter", tmp_path / "journal")
     stored, note = held(second.folder / "store.db"), (second.folder / "store.db.at").read_bytes()
@@ -385,7 +387,7 @@ def stands_by(front: Front) -> int:
     return int(re.search(r"standing by, after line (\d+) of the journal", front.told())[1])
 
 
-@in_loop(200)
+@in_loop()
 async def test_a_leader_that_was_stopped_stands_by(start, tmp_path: Path) -> None:
     """Without a snapshot: its store stands where the journal was then. It runs what the other one serves meanwhile and later, and takes over again."""
     leader = leading(start, tmp_path / "journal")
@@ -393,7 +395,7 @@ async def test_a_leader_that_was_stopped_stands_by(start, tmp_path: Path) -> Non
     async with leader.person("ada") as ada, leader.person("ben") as ben:
         await asyncio.gather(works(ada, 3, 40), works(ben, 4, 40))
         await ada.line("K ^X S ^X=1,A=5")
-    leader.stop()
+    await stopped(leader)
     left = last_line(JournalSettings(tmp_path / "journal"))
     assert takes_over(second) == ""
     await goes_on(leader, second, left, tmp_path / "journal")
@@ -405,8 +407,8 @@ async def goes_on(leader: Front, second: Front, left: int, journal: Path) -> Non
         assert await ada.told("S ^X=^X+1 W ^X,$D(A)") == "20"
         assert stands_by(leader) == left
         assert await ada.told("S ^X=^X+1 W ^X") == "3"
+    await stopped(second)
     await caught_up(leader, journal)
-    second.stop()
     assert held(leader.folder / "store.db") == held(second.folder / "store.db")
     assert takes_over(leader) == ""
     async with leader.person("ada") as ada:
@@ -414,7 +416,7 @@ async def goes_on(leader: Front, second: Front, left: int, journal: Path) -> Non
 
 
 @pytest.mark.parametrize("alone", [pytest.param(True, marks=pytest.mark.long), False])
-@in_loop(200)
+@in_loop()
 async def test_a_leader_that_was_killed_stands_by(start, tmp_path: Path, alone: bool) -> None:
     """If all its lines were answered, its store stands after the last of them: whether nobody has served since (`alone`) or another one has."""
     leader = leading(start, tmp_path / "journal", roll=4096)
@@ -434,7 +436,7 @@ async def test_a_leader_that_was_killed_stands_by(start, tmp_path: Path, alone: 
     await goes_on(leader, second, left, tmp_path / "journal")
 
 
-@in_loop(200)
+@in_loop()
 async def test_a_leader_that_was_killed_at_work_does_not_stand_by(start, tmp_path: Path) -> None:
     """Lines were on their way, and may have been run: it is told which, and what can be done. The note beside the store stays."""
     load, journal = Load(SLOW), tmp_path / "journal"
@@ -485,7 +487,9 @@ class Load:
         people = [front.person(name) for name in ("ada", "ben", "ada")]
         for person in people:
             await person.__aenter__()
-        work = asyncio.gather(*map(self.user, people))
+        answered, work = len(self.answered), asyncio.gather(*map(self.user, people))
+        # However busy the machine is, they have had some answers by then.
+        await until(lambda: len(self.answered) > answered + 3, "users who work")
         await asyncio.sleep(seconds)
         if journal is not None:
             # All that was sent may be answered just now. A server that is held up answers no more of what the users send.
@@ -537,10 +541,10 @@ async def test_leaders_that_are_killed(start, tmp_path: Path, count: int) -> Non
         without.append(time.monotonic() - killed)
         await load.holds(second, number)
         leader = second
-    assert len(load.answered) > 3 * KILLED * count
+    assert len(load.answered) > 3 * KILLED * count, "each time four at least"
     print(f"{len(without)} leaders killed, {len(load.answered)} nodes answered, each there and set once; from a kill to the first answer of the standby, which "
           f"is promoted at once: median {statistics.median(without) * 1000:.0f} ms, longest {max(without) * 1000:.0f} ms")
-    leader.stop()
+    await stopped(leader)
     status, output, told = mjournal(journal)("replay", "--program", PROGRAM, "--store", tmp_path / "all")
     assert (status, told) == (0, "") and held(tmp_path / "all") == held(leader.folder / "store.db")
 
@@ -556,7 +560,7 @@ def has_taken(front: Front, journal: Path) -> bool:
 
 
 @pytest.mark.long
-@in_loop(200)
+@in_loop()
 async def test_a_stop_during_a_promotion(start, tmp_path: Path) -> None:
     """The promotion is given up, and the standby ends as at any stop: another one takes over, and then this one in its turn."""
     load, journal = Load(SLOW), tmp_path / "journal"
@@ -583,13 +587,13 @@ async def test_a_stop_during_a_promotion(start, tmp_path: Path) -> None:
     third = standby(start, journal)
     assert takes_over(third) == ""
     await load.holds(third, 1)
-    third.stop()
+    await stopped(third)
     second.again()
     assert takes_over(second) == ""
     await load.holds(second, 2)
 
 
-@in_loop(200)
+@in_loop()
 async def test_a_stop_between_a_promotion_and_the_service(start, tmp_path: Path) -> None:
     """One that the standby hears of when it is promoted already ends the service before it serves."""
     load, journal = Load(), tmp_path / "journal"

@@ -7,6 +7,7 @@ import dataclasses
 import json
 import os
 import random
+import re
 import signal
 import statistics
 import time
@@ -17,14 +18,15 @@ from pathlib import Path
 
 import pytest
 from database import Cluster, Wire
-from front import Front, Ran, in_loop, tool, until
+from front import Front, Patience, Ran, in_loop, stopped, tool, until
 from mserve_front.control import asked
 from mserve_front.history import History
 from mserve_front.journal import LogFault, LogTaken, Tail
-from mserve_front.journal_table import TableLog, flush_of
+from mserve_front.journal_table import TableLog, connected, flush_of
 from mserve_front.places import reader_of, writer_of
 from mserve_front.records import BadJournal, Flush, LineRecord
 from mserve_front.settings import JournalSettings
+from mserve_front.standbys import said_in
 from running import PROGRAM
 from test_journal import flushes
 from test_replay import backup, held, works
@@ -85,7 +87,7 @@ def mjournal(journal: JournalSettings) -> Callable[..., Ran]:
 
 def taken(journal: JournalSettings) -> tuple[TableLog, Tail]:
     """A writer that has the lock, with the end that it found. The database gives the lock back a moment after the last writer closed."""
-    end = time.monotonic() + 30
+    end = time.monotonic() + Patience.seconds
     while True:
         log = writer_of(journal)
         try:
@@ -188,7 +190,7 @@ def log_key(journal: JournalSettings) -> int:
 
 
 @pytest.mark.long
-@in_loop(200)
+@in_loop()
 async def test_a_database_that_is_away(start, tmp_path: Path) -> None:
     """Lines are refused meanwhile and users told; then all goes on, and what was answered is in the journal."""
     async with own_cluster() as cluster:
@@ -215,7 +217,7 @@ async def test_a_database_that_is_away(start, tmp_path: Path) -> None:
         second.stop()
         assert "the journal cannot be read: database: " in second.told()
         assert "no line goes on until it can" in front.told() and "the journal is written again" in front.told()
-        front.stop()
+        await stopped(front)
         assert json.loads((second.folder / "store.db.at").read_text())["number"] > int(snapshot.name) - 10
         run = tool("mjournal", "--config", str(front.folder / "front.toml"))
         status, output, told = run("replay", "--store", tmp_path / "new")
@@ -244,7 +246,7 @@ async def waits_for_its_journal(second: Front, cluster: Cluster) -> None:
 
 
 @pytest.mark.long
-@in_loop(300)
+@in_loop()
 async def test_a_database_that_is_away_for_a_minute(start, tmp_path: Path) -> None:
     """A reply that cannot be noted is held back after half a minute, and noted once the database is there; nothing that was answered is lost."""
     async with own_cluster() as cluster:
@@ -271,8 +273,8 @@ async def test_a_database_that_is_away_for_a_minute(start, tmp_path: Path) -> No
             assert await ada.told("W ^X,^Y,^Z") == "111"
         for told in ("no line goes on until it can", "the journal is written again"):
             assert front.told().count(told) == 1
-        second.hears("the journal can be read again")
-        front.stop()
+        await asyncio.to_thread(second.hears, "the journal can be read again")
+        await stopped(front)
         await caught_up(second, JournalSettings(database=cluster.place))
         assert second.stop() == 0
         run = tool("mjournal", "--config", str(front.folder / "front.toml"))
@@ -281,7 +283,7 @@ async def test_a_database_that_is_away_for_a_minute(start, tmp_path: Path) -> No
         assert held(tmp_path / "new") == held(front.folder / "store.db") == held(second.folder / "store.db")
 
 
-@in_loop(200)
+@in_loop()
 async def test_a_front_goes_on_soon_after_its_database(start) -> None:
     """It goes on by its first attempts once the database is there, and its attempts are no more than four seconds apart: so within five, but for what the
     machine takes. That is measured between attempts, of which most have to be so, since a busy machine may hold one up."""
@@ -311,7 +313,7 @@ async def test_a_front_goes_on_soon_after_its_database(start) -> None:
 
 
 @pytest.mark.long
-@in_loop(200)
+@in_loop()
 async def test_connections_that_are_cut(start, tmp_path: Path) -> None:
     """The database does not see the end of the one that has the lock: the front has it end that one, and goes on by itself."""
     async with own_cluster() as cluster:
@@ -329,7 +331,7 @@ async def test_connections_that_are_cut(start, tmp_path: Path) -> None:
                 assert time.monotonic() - began < BACK
             assert await ada.told("W ^X(2),^Y") == "11"
         assert "another front" not in front.told()
-        front.stop()
+        await stopped(front)
         wire.close()
         assert tool("mjournal", "--database", cluster.place)("replay", "--program", PROGRAM, "--store", tmp_path / "new")[0] == 0
         assert held(tmp_path / "new") == held(front.folder / "store.db")
@@ -370,7 +372,7 @@ FULL = """CREATE FUNCTION full_disk() RETURNS trigger LANGUAGE plpgsql AS $$ BEG
     CREATE TRIGGER full_disk BEFORE INSERT ON mfront_journal FOR EACH ROW EXECUTE FUNCTION full_disk()"""
 
 
-@in_loop(200)
+@in_loop()
 async def test_a_database_whose_disk_is_full(start, tmp_path: Path) -> None:
     """It refuses rows, as PostgreSQL does then: no line goes on, users and the operator are told, and once there is room all goes on."""
     async with own_cluster() as cluster:
@@ -384,7 +386,7 @@ async def test_a_database_whose_disk_is_full(start, tmp_path: Path) -> None:
             while "refused" in await ada.line("S ^Y=1"):
                 await asyncio.sleep(0.1)
             assert await ada.told("W ^X,^Y") == "11"
-        front.stop()
+        await stopped(front)
         run = tool("mjournal", "--config", str(front.folder / "front.toml"))
         assert run("replay", "--store", tmp_path / "new")[::2] == (0, "") and held(tmp_path / "new") == held(front.folder / "store.db")
 
@@ -404,12 +406,12 @@ async def test_leaders_that_are_killed(start, journal: JournalSettings, tmp_path
             assert "another front" in why
         await load.holds(second, number)
         leader = second
-    leader.stop()
+    await stopped(leader)
     assert mjournal(journal)("replay", "--program", PROGRAM, "--store", tmp_path / "all")[::2] == (0, "")
     assert held(tmp_path / "all") == held(leader.folder / "store.db")
 
 
-@in_loop(200)
+@in_loop()
 async def test_a_table_that_has_lost_its_last_rows(cluster: Cluster, start, journal: JournalSettings) -> None:
     """No row tells that others came after it; what is noted beside the store does."""
     front = start(store="store.db", journal=table(journal))
@@ -427,6 +429,28 @@ async def test_a_table_that_has_lost_its_last_rows(cluster: Cluster, start, jour
         front.again()
 
 
+@in_loop()
+async def test_a_leader_hears_of_its_standby(start, journal: JournalSettings) -> None:
+    """By the name of the standby's connection, which tells the journal and the line."""
+    front, second = two_fronts(start, table(journal))
+    async with front.person("ada") as ada:
+        await ada.line("S ^X=1")
+        last = await caught_up(second, journal)
+
+        async def is_heard() -> bool:
+            async with ada.http.get("/metrics") as response:
+                return re.search(r'^mfront_standbys_behind_lines\{standby="\S+-[0-9a-f]{8}"\} 0$', await response.text(), re.MULTILINE) is not None
+        await until(is_heard, "the standby in the figures of its leader")
+        log = writer_of(journal)
+        log._base = connected(str(journal.database))
+        assert [said_in(text).line for text in log.said()] == [last]
+        log.close()
+        other = TableLog(str(journal.database), "another")
+        other._base = connected(str(journal.database))
+        assert other.said() == []
+        other.close()
+
+
 def noted_in(head: Path) -> int:
     """The number of the last flush that is noted beside a store."""
     return int(json.loads(head.read_bytes())["sequence"])
@@ -438,7 +462,7 @@ def freed(journal: JournalSettings) -> None:
 
 
 @pytest.mark.long
-@in_loop(200)
+@in_loop()
 async def test_a_leader_that_was_killed_stands_by(start, journal: JournalSettings) -> None:
     """Its store stands after its last line, by the table, in which another one has written since."""
     leader, second = two_fronts(start, table(journal))
@@ -461,7 +485,7 @@ async def test_a_leader_that_was_killed_stands_by(start, journal: JournalSetting
 
 
 @pytest.mark.long
-@in_loop(200)
+@in_loop()
 async def test_synchronous_replication(start, tmp_path: Path) -> None:
     """The primary ends at once, its replica takes over, and the front goes on there with all that was answered."""
     async with own_cluster() as first, own_cluster(first) as second:
@@ -475,7 +499,7 @@ async def test_synchronous_replication(start, tmp_path: Path) -> None:
             while "refused" in await ada.line("S ^Y=1"):
                 await asyncio.sleep(0.1)
             assert await ada.told("W ^X(19),^Y") == "11"
-        front.stop()
+        await stopped(front)
         run = tool("mjournal", "--database", second.place)
         assert run("replay", "--program", PROGRAM, "--store", tmp_path / "new")[::2] == (0, "")
         assert held(tmp_path / "new") == held(front.folder / "store.db")

@@ -148,7 +148,7 @@ def test_replies_however_their_bytes_are_cut() -> None:
             reader.feed(b"3.\n", take)
 
 
-@in_loop(120)
+@in_loop()
 async def test_a_flood_of_one_user_delays_another_by_a_line_at_most(start) -> None:
     """One user sends long lines without a pause; another waits for one of these each time, or for two if the replies to both come at once. They are counted,
     since a busy machine may keep anybody waiting."""
@@ -166,7 +166,7 @@ async def test_a_flood_of_one_user_delays_another_by_a_line_at_most(start) -> No
         front.kill_child()
 
 
-@in_loop(60)
+@in_loop()
 async def test_child_that_is_killed_in_the_middle(start, tmp_path) -> None:
     """What was sent and not answered is unknown; nothing is sent twice; what was answered stays; all are told."""
     front = start(store=str(tmp_path / "store.db"))
@@ -201,7 +201,7 @@ async def metrics(front: Front) -> dict[str, str]:
         return dict(line.rsplit(" ", 1) for line in (await response.text()).splitlines() if not line.startswith("#"))
 
 
-@in_loop(90)
+@in_loop()
 async def test_child_that_is_killed_again_and_again(start, tmp_path) -> None:
     """Each line that was answered ran once, each unknown one at most once, and each refused one never."""
     front = start(store=str(tmp_path / "store.db"))

@@ -14,7 +14,7 @@ from running import PROGRAM
 
 
 @pytest.mark.long
-@in_loop(300)
+@in_loop()
 async def test_a_version_hands_over_to_another(tmp_path: Path) -> None:
     program = tmp_path / "mserve-of-another-version"
     program.write_text(f'#!/bin/sh\nexec {PROGRAM} "$@"\n')

@@ -98,8 +98,10 @@ class Pair(Troubled):
         assert await asyncio.to_thread(self.leader.process.wait, 2 * Patience.seconds) == 0
         await self._taken_over()
         self._change_places()
-        put_aside(self.second.folder / "store.db")
-        await asyncio.to_thread(self.second.again)
+        store = self.second.folder / "store.db"
+        put_aside(store)
+        # The beginning of a long journal may be gone.
+        await asyncio.to_thread(self.begins_with_a_snapshot if self.long and not store.exists() else self.second.again)
 
     async def _taken_over(self) -> None:
         """The standby is promoted. A database gives the lock back a moment after the leader's end."""

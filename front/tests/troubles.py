@@ -145,10 +145,10 @@ async def _befalls_or_tells(troubled: Troubled, counting: Counting, number: int,
         raise
 
 
-async def as_replayed(troubled: Troubled) -> None:
-    """Ends all, and holds the stores against one of the journal's lines."""
+async def as_replayed(troubled: Troubled, snapshot: Path | None = None) -> None:
+    """Ends all, and holds the stores against one of the journal's lines, or of those after a snapshot."""
     stores = await troubled.ends()
-    status, _, told = await asyncio.to_thread(replayed, troubled)
+    status, _, told = await asyncio.to_thread(replayed, troubled, () if snapshot is None else ("--from", snapshot))
     assert status == 0, told
     wanted = held(troubled.folder / "all")
     assert [held(place) == wanted for place in stores] == [True] * len(stores)
@@ -167,8 +167,8 @@ async def befalls(troubled: Troubled, counting: Counting, combination: tuple[str
     await counting.seen_by(troubled)
 
 
-def replayed(troubled: Troubled) -> tuple[int, str, str]:
-    """Replays the journal into a store."""
-    words = [FRONT / "mjournal", *troubled.journal, "replay", "--program", PROGRAM, "--store", troubled.folder / "all"]
+def replayed(troubled: Troubled, more: Sequence[object] = ()) -> tuple[int, str, str]:
+    """Replays the journal into a store, by further words."""
+    words = [FRONT / "mjournal", *troubled.journal, "replay", "--program", PROGRAM, "--store", troubled.folder / "all", *more]
     done = subprocess.run([sys.executable, *map(str, words)], capture_output=True, text=True, timeout=3000)
     return done.returncode, done.stdout, done.stderr

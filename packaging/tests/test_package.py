@@ -25,6 +25,8 @@ MAKE = TOP / "packaging" / "make_deb.py"
 PYTHON = "/usr/bin/python3"
 PASSWORD = "correct horse battery"
 UNITS = ("mserve.service", "mfront.service", "mgate.service")
+# Seconds for what is to be there, however busy the machine is.
+PATIENCE = 120
 # The highest exposure, of 10, that `systemd-analyze security` may find.
 MOST_EXPOSURE = 2.0
 DATA = re.compile(r"/(?:var/lib/mserve|var/log/mserve|etc/mserve/(?:key|certificate)\.pem|etc/mserve$)")
@@ -71,7 +73,7 @@ class Root:
 
     def _await_own(self) -> None:
         """Waits until the namespaces are there: what is mounted before would be mounted for the whole machine."""
-        end = time.monotonic() + 30
+        end = time.monotonic() + PATIENCE
         while any(os.readlink(f"/proc/{self._holder.pid}/ns/{kind}") == os.readlink(f"/proc/self/ns/{kind}") for kind in ("mnt", "net")):
             if self._holder.poll() is not None or time.monotonic() > end:
                 self.end()
@@ -221,14 +223,14 @@ def ended(*processes: subprocess.Popen[bytes] | None) -> None:
     for process in processes:
         if process is not None:
             process.terminate()
-            assert process.wait(30) in (0, -15)
+            assert process.wait(PATIENCE) in (0, -15)
 
 
 def joined(root: Root) -> None:
     """The server runs by its own unit: mshell speaks to it over the same store, and then the front joins it."""
     server, front = started(root, "mserve.service"), None
     try:
-        end = time.monotonic() + 30
+        end = time.monotonic() + PATIENCE
         while subprocess.run(root.words("mshell --plain 9000 1 </dev/null"), capture_output=True).returncode:
             assert time.monotonic() < end, "the server does not answer"
             time.sleep(0.2)
@@ -242,7 +244,7 @@ def joined(root: Root) -> None:
 
 def awaited(root: Root) -> None:
     """Waits for the front's answer."""
-    end = time.monotonic() + 30
+    end = time.monotonic() + PATIENCE
     while subprocess.run(root.words("curl -skf https://localhost:8443/health"), capture_output=True).returncode:
         assert time.monotonic() < end, "the front does not answer"
         time.sleep(0.2)

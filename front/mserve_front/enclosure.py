@@ -22,6 +22,9 @@ from . import enclosed
 HELPER = [sys.executable, "-I", "-S", str(Path(__file__).with_name("enclosed.py"))]
 # The port of a server in its own network, where all are free, and how many connections to it are made by sockets that it has left.
 LOOPBACK, PORT, WAYS = "127.0.0.1", 9000, 4
+# How a server is started. It has the signals that Python ignores ignored too: a file that is as long as it may be, or a peer that is gone, is an answer of
+# the system to it, and not its end.
+APART = {"stdin": asyncio.subprocess.DEVNULL, "stdout": asyncio.subprocess.DEVNULL, "start_new_session": True, "restore_signals": False}
 # Seconds between two attempts to connect: the first and the longest; and what says that nobody listens yet: a socket that was refused is aborted once more.
 FIRST_PAUSE, LONGEST_PAUSE = 0.002, 0.1
 NOT_YET = (ConnectionRefusedError, ConnectionAbortedError)
@@ -64,9 +67,7 @@ async def started(words: Sequence[str]) -> tuple[asyncio.subprocess.Process, lis
     with here, there:
         try:
             # The child is there by a fork, and does it before it becomes the program: a program between them would take as long as the server's whole start.
-            process = await asyncio.create_subprocess_exec(
-                *words, stdin=asyncio.subprocess.DEVNULL, stdout=asyncio.subprocess.DEVNULL, start_new_session=True,
-                preexec_fn=functools.partial(enclosed.begin, os.getpid(), there, WAYS))
+            process = await asyncio.create_subprocess_exec(*words, **APART, preexec_fn=functools.partial(enclosed.begin, os.getpid(), there, WAYS))
         except subprocess.SubprocessError as error:
             raise OSError(errno.EPERM, "it could not have a network of its own") from error
         ways = [socket.socket(fileno=number) for number in socket.recv_fds(here, 1, WAYS)[1]]

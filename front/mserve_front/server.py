@@ -15,7 +15,7 @@ from pathlib import Path
 from typing import TYPE_CHECKING
 
 from .connection import HOST, NoStart, joined
-from .enclosure import PORT, can_enclose, started
+from .enclosure import APART, PORT, can_enclose, started
 from .faults import NoJournal
 from .lines import HALT, Line
 from .metrics import Metrics
@@ -317,8 +317,7 @@ async def launched(program: Path, settings: Path, store: str, connections: int =
     if not enclosed:
         tell("no network of its own can be had for the server (user namespaces): other users of this machine can connect to its port")
     try:
-        process, ways = await started(words) if enclosed else (await asyncio.create_subprocess_exec(
-            *tied(shutil.which("setpriv")), *words, stdin=asyncio.subprocess.DEVNULL, stdout=asyncio.subprocess.DEVNULL, start_new_session=True), None)
+        process, ways = await started(words) if enclosed else (await asyncio.create_subprocess_exec(*tied(shutil.which("setpriv")), *words, **APART), None)
     except OSError as error:
         raise NoStart(f"{program}: {error.strerror}") from error
     # A line may compute for long.

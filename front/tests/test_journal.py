@@ -25,7 +25,7 @@ from mserve_front.journal_file import MARK, FileLog, FileReader, files_of, tail_
 from mserve_front.lines import Line
 from mserve_front.metrics import Metrics
 from mserve_front.records import BadJournal, BeginRecord, Flush, Held, LineRecord, ReplyRecord, RowsRecord, StartRecord, read_flush
-from mserve_front.turns import Turns, Unsent
+from mserve_front.turns import Lost, Turns, Unsent
 from test_turns import Peer
 
 
@@ -479,7 +479,7 @@ async def test_lines_whose_connection_ends_while_they_wait_for_the_disk_are_not_
     history = History()
     began = list(history.take(kept.log.flushes))[-1]
     assert isinstance(began, Began) and [line.number for line in began.unknown] == [1] and [line.number for line in began.unsent] == [2]
-    assert first.done()
+    assert isinstance(first.exception(), Lost)
 
 
 @in_loop()

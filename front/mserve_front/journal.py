@@ -52,10 +52,7 @@ class Tail:
 
 
 class Log(Protocol):
-    """What keeps flushes. Its calls wait for the disk or the network, and are made from one thread. `keeps_words` says that what a standby says of itself
-    stays there until it leaves in order."""
-
-    keeps_words: bool
+    """What keeps flushes. Its calls wait for the disk or the network, and are made from one thread."""
 
     def take(self, force: bool = False) -> Tail:
         """Takes the journal for this process, with `force` from another one, and gives its end. Raises `LogTaken`, `LogFault` or `BadJournal`."""
@@ -65,9 +62,6 @@ class Log(Protocol):
 
     def mend(self) -> int:
         """Gets ready to go on after a fault, and gives the number of the last flush that is kept: one that failed may be. Raises as `append` does."""
-
-    def said(self) -> list[str]:
-        """What standbys say of themselves. Raises `LogFault`."""
 
     def close(self) -> None:
         """Gives the journal back."""
@@ -245,10 +239,6 @@ class Journal:
             await asyncio.wait([self._work], timeout=RETRY / 4)
         if self.fault is not None:
             raise NoJournal(self.fault)
-
-    async def said(self) -> tuple[list[str], bool]:
-        """What standbys say of themselves, and whether one of whom there is no word has left in order. Raises `LogFault`."""
-        return await self._in_thread(self._log.said), self._log.keeps_words
 
     async def mended(self) -> None:
         """Waits until the journal can be written, where it cannot."""

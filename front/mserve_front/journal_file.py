@@ -69,9 +69,6 @@ def _is_marked(path: Path, data: bytes) -> bool:
 class FileLog:
     """The journal in a folder, as its one writer has it."""
 
-    # A standby that leaves takes its words with it, and one that is killed does not.
-    keeps_words = True
-
     def __init__(self, folder: Path, roll: int) -> None:
         """`roll` is the size after which the next file is begun."""
         self._folder = folder
@@ -140,19 +137,6 @@ class FileLog:
         self._leave()
         return self._last
 
-    def said(self) -> list[str]:
-        """What standbys say of themselves. One that was killed leaves its words there: after a day they count no more."""
-        found = []
-        try:
-            for place in self._folder.glob(f"{WORDS}*"):
-                # It may have left just now.
-                with contextlib.suppress(FileNotFoundError):
-                    if time.time() - place.stat().st_mtime < FORGOTTEN:
-                        found.append(place.read_bytes()[:LONGEST_WORDS].decode("ascii", "replace"))
-        except OSError as error:
-            raise LogFault(f"{self._folder}: {error.strerror}") from error
-        return found
-
     def close(self) -> None:
         """Gives the lock back."""
         self._leave()
@@ -202,6 +186,21 @@ def _locked(path: Path, force: bool) -> int:
             raise
         # Another one took its place meanwhile.
         os.close(found)
+
+
+def said_in(folder: Path) -> list[str]:
+    """What standbys say of themselves beside the journal in a folder. One that leaves takes its words with it; those of one that was killed count no more
+    after a day. Raises `LogFault`."""
+    found = []
+    try:
+        for place in folder.glob(f"{WORDS}*"):
+            # It may have left just now.
+            with contextlib.suppress(FileNotFoundError):
+                if time.time() - place.stat().st_mtime < FORGOTTEN:
+                    found.append(place.read_bytes()[:LONGEST_WORDS].decode("ascii", "replace"))
+    except OSError as error:
+        raise LogFault(f"{folder}: {error.strerror}") from error
+    return found
 
 
 def tail_of(folder: Path, whole: bool = True) -> Tail:

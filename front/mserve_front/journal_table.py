@@ -168,9 +168,6 @@ def flush_of(name: str, sequence: int, data: bytes) -> Flush:
 class TableLog:
     """The journal in a table, as its one writer has it."""
 
-    # They are the names of the standbys' connections, and end with these.
-    keeps_words = False
-
     def __init__(self, place: str, name: str) -> None:
         self._place = place
         self._name = name
@@ -220,15 +217,6 @@ class TableLog:
         if not self._kept <= tail.sequence <= self._tried or tail.sequence > self._kept and tail.writer != self._writer:
             raise LogTaken("another front has written this journal, or the database has lost a part of it")
         return tail.sequence
-
-    def said(self) -> list[str]:
-        """What standbys say of themselves."""
-        if self._base is None:
-            raise LogFault("database: not connected")
-        with faults():
-            begin = said_of(self._name)
-            rows = self._base.execute("SELECT application_name FROM pg_stat_activity WHERE starts_with(application_name, %s)", (begin,)).fetchall()
-            return [str(row[0]).removeprefix(begin) for row in rows]
 
     def close(self) -> None:
         """Ends the connection, and the lock with it."""
@@ -286,9 +274,18 @@ def key_of(name: str) -> int:
     return zlib.crc32(name.encode()) - (1 << 31)
 
 
-def said_of(name: str) -> str:
+def begin_of(name: str) -> str:
     """What the names of connections begin with by which standbys of a journal say where they are."""
     return f"{zlib.crc32(name.encode()):08x} "
+
+
+def said_in(place: str, name: str) -> list[str]:
+    """What standbys say of themselves: by the names of their connections, which end with these. It is asked over a connection of its own, so that whoever
+    writes finds a fault of the database as if nobody had asked. Raises `LogFault`."""
+    begin = begin_of(name)
+    with faults(), opened(place) as base:
+        rows = base.execute("SELECT application_name FROM pg_stat_activity WHERE starts_with(application_name, %s)", (begin,)).fetchall()
+    return [str(row[0]).removeprefix(begin) for row in rows]
 
 
 class TableReader:
@@ -299,6 +296,7 @@ class TableReader:
         self._name = name
         self._line = line
         self._base: Answered | None = None
+        self._voice: Answered | None = None
         self._expected: int | None = None
 
     def more(self) -> list[Flush]:
@@ -310,18 +308,36 @@ class TableReader:
         except psycopg.errors.UndefinedTable:
             return []
         except psycopg.Error as error:
-            self.close()
+            self._leave()
             raise LogFault(told(error)) from error
 
     def says(self, _: str, text: str) -> None:
-        """Names the connection by what a standby says of itself. Raises `LogFault`."""
-        # Another thread may read over it meanwhile, or have closed it.
-        if (base := self._base) is not None:
-            with faults():
-                base.execute("SELECT set_config('application_name', %s, false)", (f"{said_of(self._name)}{text}" if text else "mfront",))
+        """Names a connection by what a standby says of itself. It is one of its own, so that who reads finds a fault of the database as if nothing had been
+        said. Raises `LogFault`."""
+        if not text:
+            self._hush()
+            return
+        try:
+            self._voice = self._voice or opened(self._place)
+            self._voice.execute("SELECT set_config('application_name', %s, false)", (f"{begin_of(self._name)}{text}",))
+        except psycopg.Error as error:
+            self._hush()
+            raise LogFault(told(error)) from error
+
+    def _hush(self) -> None:
+        """Says nothing any more."""
+        voice, self._voice = self._voice, None
+        if voice is not None:
+            with contextlib.suppress(psycopg.Error):
+                voice.close()
 
     def close(self) -> None:
-        """Ends the connection."""
+        """Ends the connections."""
+        self._hush()
+        self._leave()
+
+    def _leave(self) -> None:
+        """Ends the connection that it reads by."""
         if self._base is not None:
             with contextlib.suppress(psycopg.Error):
                 self._base.close()

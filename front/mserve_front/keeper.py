@@ -19,13 +19,13 @@ from .faults import NoJournal
 from .figures import ByAccount, of_backup, of_journal
 from .journal import Journal, LogFault, LogTaken, Tail
 from .metrics import Metrics
-from .places import writer_of
+from .places import said_beside, writer_of
 from .records import BadJournal, Held
 from .rows import packed
 from .server import Child, NoStart, Server, tell
 from .settings import Settings
 from .snapshots import SETTINGS, STORE, Manifest, copied
-from .standbys import LOOK, Behind, Standbys, figures_of
+from .standbys import LOOK, SELDOM, Behind, Standbys, figures_of
 from .standing import Standing, place_of, read_standing, write_standing
 from .starts import Known, held
 from .store_log import BadLog, changes, image
@@ -137,13 +137,15 @@ class Keeper:
 
     async def looks(self) -> None:
         """Looks again and again at what standbys say of themselves."""
+        kept = self._settings.journal
+        in_files = kept.folder is not None
         while True:
-            # While the journal cannot be written its thread is at that.
+            # Apart: it waits for the disk or the network. While the journal cannot be written there is nothing to be seen.
             if self.journal.fault is None:
                 with contextlib.suppress(LogFault):
-                    texts, have_left = await self.journal.said()
-                    self.standbys.take(texts, self.journal.answered, have_left)
-            await asyncio.sleep(LOOK)
+                    texts = await asyncio.to_thread(said_beside, kept)
+                    self.standbys.take(texts, self.journal.answered, in_files)
+            await asyncio.sleep(LOOK if in_files else SELDOM)
 
     def behind(self) -> list[Behind]:
         """How far each standby is behind."""

@@ -48,6 +48,14 @@ def end_of(settings: JournalSettings) -> Tail:
     return journal_table.end_of(str(settings.database), settings.name)
 
 
+def said_beside(settings: JournalSettings) -> list[str]:
+    """What standbys say of themselves beside a journal. Raises `LogFault`."""
+    if settings.folder is not None:
+        return journal_file.said_in(settings.folder)
+    from . import journal_table
+    return journal_table.said_in(str(settings.database), settings.name)
+
+
 def last_line(settings: JournalSettings) -> int:
     """The number of the last line of a journal; 0 if it has none. Raises as `end_of` does."""
     return end_of(settings).next - 1

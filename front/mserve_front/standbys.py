@@ -15,11 +15,11 @@ from pathlib import Path
 
 from .metrics import family
 
-# Seconds between two times that a standby says where it is, and between two looks of its leader.
-SAYS, LOOK = 1.0, 2.0
+# Seconds between two times that a standby says where it is, and between two looks of its leader: at files, and at a database, which takes a connection.
+SAYS, LOOK, SELDOM = 1.0, 2.0, 15.0
 # Seconds after which one that says nothing any more is no standby of this journal any more.
 FORGOTTEN = 86_400.0
-# How many looks are kept: by them it is known when a line had its reply. They are ten minutes.
+# How many looks are kept: by them it is known when a line had its reply. They are ten minutes, and of a database an hour and more.
 LOOKS = 300
 # What the text begins with, and how many characters of a machine's name it has: a database keeps 63.
 WORD, HOST = "standby", 12

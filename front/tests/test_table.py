@@ -22,8 +22,8 @@ from front import Front, Patience, Ran, in_loop, stopped, tool, until
 from mserve_front.control import asked
 from mserve_front.history import History
 from mserve_front.journal import LogFault, LogTaken, Tail
-from mserve_front.journal_table import TableLog, connected, flush_of
-from mserve_front.places import reader_of, writer_of
+from mserve_front.journal_table import TableLog, flush_of
+from mserve_front.places import reader_of, said_beside, writer_of
 from mserve_front.records import BadJournal, Flush, LineRecord
 from mserve_front.settings import JournalSettings
 from mserve_front.standbys import said_in
@@ -429,6 +429,7 @@ async def test_a_table_that_has_lost_its_last_rows(cluster: Cluster, start, jour
         front.again()
 
 
+@pytest.mark.long
 @in_loop()
 async def test_a_leader_hears_of_its_standby(start, journal: JournalSettings) -> None:
     """By the name of the standby's connection, which tells the journal and the line."""
@@ -441,14 +442,8 @@ async def test_a_leader_hears_of_its_standby(start, journal: JournalSettings) ->
             async with ada.http.get("/metrics") as response:
                 return re.search(r'^mfront_standbys_behind_lines\{standby="\S+-[0-9a-f]{8}"\} 0$', await response.text(), re.MULTILINE) is not None
         await until(is_heard, "the standby in the figures of its leader")
-        log = writer_of(journal)
-        log._base = connected(str(journal.database))
-        assert [said_in(text).line for text in log.said()] == [last]
-        log.close()
-        other = TableLog(str(journal.database), "another")
-        other._base = connected(str(journal.database))
-        assert other.said() == []
-        other.close()
+        assert [said_in(text).line for text in said_beside(journal)] == [last]
+        assert said_beside(dataclasses.replace(journal, name="another")) == []
 
 
 def noted_in(head: Path) -> int:

@@ -72,12 +72,24 @@ class Draw:
         """A variable with these subscripts."""
         return joined([name, "(", joined(subscripts, ","), ")"]) if subscripts else (name, name)
 
+    def later(self, depth: int) -> Pair:
+        """An expression of a later language, whose own nest this deep at most."""
+        special = self.drawn.choice(["$I", "$IO", "$J", "$JOB", "$P", "$PRINCIPAL", "$S", "$STORAGE", "$j", "$io"])
+        return self.drawn.choice([
+            lambda: (special, special),
+            lambda: joined(["(", self.expression(depth), self.drawn.choice(["**2)", "**3)", "**-1)", "**0)"])]),
+            lambda: joined(["$FN(", self.expression(depth), self.drawn.choice([',""', ',","', ',"T"', ',"P,"', ",I"]), self.drawn.choice([")", ",0)", ",2)", ",I)"])]),
+            lambda: joined(["$J(", self.expression(depth), self.drawn.choice([",1", ",5", ",I"]), self.drawn.choice([",0)", ",2)", ",I)"])]),
+            lambda: joined([self.drawn.choice(["$RE(", "$REVERSE(", "$re("]), self.expression(depth), ")"]),
+        ])()
+
     def expression(self, depth: int) -> Pair:
         """An expression that nests this deep at most."""
         if self.language and depth > 0 and self.drawn.randrange(4) == 0:
-            if self.drawn.randrange(2):
-                return joined(["$J(", self.expression(depth - 1), self.drawn.choice([",1", ",5", ",I"]), self.drawn.choice([",0)", ",2)", ",I)"])])
-            return joined([self.drawn.choice(["$RE(", "$REVERSE(", "$re("]), self.expression(depth - 1), ")"])
+            if self.drawn.randrange(3) == 0:
+                question, pattern = self.drawn.choice(["?", "'?"]), self.drawn.choice(["1N", ".E", "1.A.N", '1"x".E'])
+                return joined(["(", self.expression(depth - 1), (question + pattern, f"{question}@{self.operand(pattern)}"), ")"])
+            return self.later(depth - 1)
         form = self.drawn.randrange(14) if depth > 0 else 0
         if form <= 3:
             text = self.drawn.choice(["1", "2", "1", "2", "0", "5", '"x"', '"xy"', "I", "N", ".5"])
@@ -112,8 +124,15 @@ class Draw:
         """One to three of a kind."""
         return [draw() for _ in range(self.drawn.choice([1, 1, 2, 3]))]
 
+    def part(self) -> Pair:
+        """A part of a variable, as SET takes it in language 1."""
+        places = [",", self.drawn.choice(["1", "2", "3", "0", "N"]), ",", self.drawn.choice(["1", "2", "4", "-1", "I"]), ")"]
+        return joined(["$E(", self.reference(1), *places] if self.drawn.randrange(2) else ["$P(", self.reference(1), ",", quoted("y"), *places])
+
     def assignment(self) -> Pair:
         """An argument of SET."""
+        if self.language and self.drawn.randrange(4) == 0:
+            return joined([self.part(), "=", self.expression(2)])
         form = self.drawn.randrange(6)
         if form == 0:
             target = joined(["$P(", self.reference(1), ",", quoted("y"), ",", self.drawn.choice(["1", "2", "3"]), ")"])

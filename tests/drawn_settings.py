@@ -47,7 +47,10 @@ TEXTS = [
     'S ^ROUTINE("R",2)="B S ^{g}({i})=$REVERSE(""{v}"") W ^{g}({i}) Q"', 'D B^R', 'D B^R',
     # of language 1, in the line, in a text that it runs, and in names that it looks up
     'W $RE("{v}")', 'S ^{g}({i})=$RE({v}_$G(^{g}({i})))', 'W $L($RE(^|"{o}"|{g}({i})))', 'X "S A=$RE({v}) W A"', 'S A="$RE({v})" W @A',
-    'S A="^{g}($RE({i}))" W $G(@A,"-")', 'W $J($RE({v}),6,2)', 'S ^{g}({i})=$J($RE({v})/7,9,3) W ^{g}({i})',
+    'W $J,$IO,$P', 'S ^{g}($J)={v} W $G(^|"{o}"|{g}($J))', 'H {v} W $RE({v})', 'S A="{v}" H @A W $RE(A)',
+    'S A="^{g}($RE({i}))" W $G(@A,"-")', 'W $J($RE({v}),6,2)', 'W ^{g}({i})?@$RE("N.")', 'W $RE("{v}")?@$G(^{g}({i}),".E")', 'S ^{g}({i})=$RE({v})**{i} W ^{g}({i})**-1', 'X "W 2**$RE({v})"', 'S ^{g}({i})=$J($RE({v})/7,9,3) W ^{g}({i})',
+    'W $FN($RE({v}_1234),",T",2)', 'S ^{g}({i})=$FN($RE({v})*7777,"P,") W ^{g}({i})',
+    'S $E(^{g}({i}),2,3)=$RE({v}) W ^{g}({i})', 'S $P(^|"{o}"|{g}({i}),",",2,3)=$RE({v})', 'S $E(^|"{o}"|{g}({i}),0)=$RE({v}) W $D(^({i}))',
 ]
 # What a line has that is in language 1 alone: where it is reached, language 0 ends by ZSYNTAX.
 LATER = b"$RE("

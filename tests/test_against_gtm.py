@@ -72,4 +72,5 @@ def test_each_form_is_drawn() -> None:
     for language in OF_LANGUAGE:
         drawn = session(Random(2), language)
         assert drawn[:len(BEGIN)] == BEGIN and drawn[-len(SHOW):] == SHOW and len(drawn) >= len(BEGIN) + len(SHOW) + 5
-    assert "$RE" not in "".join(line for seed in range(50) for line in session(Random(seed), 0)) and "$RE" in "".join(session(Random(2), 1))
+    played = ["".join(line for seed in range(50) for line in session(Random(seed), language)) for language in OF_LANGUAGE]
+    assert ["$RE" in lines for lines in played] == [False, True]

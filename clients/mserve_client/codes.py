@@ -18,6 +18,7 @@ class Code:
 
 CODES = {
     "M1": Code("naked indicator undefined", "Variables", "Name the global: ^X(2) for ^(2)."),
+    "M2": Code("format of $FNUMBER in conflict", "Languages", "P has brackets in the place of a sign: leave out +, - and T beside it."),
     "M4": Code("no true condition in $SELECT", "Functions", "End the list with 1:value."),
     "M6": Code("undefined local variable", "Variables", "SET it before, or read it by $GET(A). A session that ended took its variables along."),
     "M7": Code("undefined global variable", "Variables", "SET it before, or read it by $GET(^X(1)). $DATA(^X(1)) says whether there is a value."),
@@ -26,6 +27,8 @@ CODES = {
     "M13": Code("line not found", "Routines, and texts that are run",
                 "`.routines` lists what is there. A label alone is sought in the running routine only."),
     "M15": Code("undefined index of FOR", "Commands", "The body of the loop killed its index."),
+    "M28": Code("exponent with a fraction", "Languages", "The exponent of ** is a whole number: X**(N\\1)."),
+    "M94": Code("zero to the power zero", "Languages", "Look at both operands of ** first."),
     "ZARG": Code("argument out of its range", "Functions",
                  "$ORDER wants a subscript and the direction 1 or -1; SET $PIECE a delimiter and a place of 1 to 500."),
     "ZCHAR": Code("character over 127", "Values", "Values and lines are ASCII: write another character."),

@@ -29,7 +29,14 @@ NAME = "[A-Za-z%][A-Za-z0-9]{0,30}(?![A-Za-z0-9])"
 OF_VALUES = {"A ASCII": (1, 2), "C CHAR": (1, 255), "E EXTRACT": (1, 3), "F FIND": (2, 3), "J JUSTIFY": (2, 2), "L LENGTH": (1, 2), "P PIECE": (2, 4),
              "TR TRANSLATE": (2, 3)}
 # Those that a later language has, or has with other counts.
-OF_VALUES_SINCE = {1: {"J JUSTIFY": (2, 3), "RE REVERSE": (1, 1)}}
+OF_VALUES_SINCE = {1: {"FN FNUMBER": (2, 3), "J JUSTIFY": (2, 3), "RE REVERSE": (1, 1)}}
+# The special variables, and those that a later language has.
+SPECIALS, SPECIALS_SINCE = ["T TEST"], {1: ["I IO", "J JOB", "P PRINCIPAL", "S STORAGE"]}
+# The language that has HANG, whose letter is that of HALT too.
+HANG_SINCE = 1
+# The functions that SET may assign to: how many values at least and at most after the variable.
+TARGETS = {"P PIECE": (1, 2)}
+TARGETS_SINCE = {1: {"P PIECE": (1, 3), "E EXTRACT": (0, 2)}}
 # A line that a language takes, and none before it.
 NEW_LINES = {1: "W $RE(1)"}
 # The functions of a variable: how many values at most after it.
@@ -131,6 +138,12 @@ ENTRY = all_of(mark("entry", any_of(all_of(text(r"\^"), text(NAME, "name")),
                                     all_of(text(NAME, "entry"), perhaps(all_of(text(r"\^", "more"), text(NAME, "name")))))), rule("condition"))
 
 
+def expression(operator: str) -> Step:
+    """Operands, and operators that this pattern finds, or patterns, after them."""
+    return all_of(rule("operand"), ["many", any_of(all_of(text(operator, "operator"), rule("operand")),
+                                                   all_of(text(r"'?\?"), rule("pattern")))])
+
+
 def of_values(language: int) -> dict[str, tuple[int, int]]:
     """The functions of values that a language has."""
     found = dict(OF_VALUES)
@@ -139,44 +152,74 @@ def of_values(language: int) -> dict[str, tuple[int, int]]:
     return found
 
 
+def specials(language: int) -> list[str]:
+    """The special variables that a language has."""
+    return [*SPECIALS, *[words for since, more in SPECIALS_SINCE.items() if since <= language for words in more]]
+
+
+def halts(language: int) -> list[Step]:
+    """HALT, and HANG if the language has it."""
+    if language < HANG_SINCE:
+        return [command("H HALT", None, True)]
+    seconds = listed(rule("expression"))
+    return [command("H", seconds, True), command("HALT", None, True), command("HANG", seconds, False)]
+
+
+def target(words: str, least: int, most: int) -> Step:
+    """A function of a variable that SET assigns to, with so many values after the variable."""
+    further: list[Step] = []
+    for _ in range(most - least):
+        further = [perhaps(all_of(text(","), inner("expression"), *further))]
+    return all_of(text(rf"\${either(words)}\(", "target"), inner("variable"), *[text(",", "comma"), inner("expression")] * least, *further,
+                  text(r"\)", f"close ${words.split()[-1]} of SET"))
+
+
+def targets(language: int) -> Step:
+    """What SET assigns to: a part of a variable, or a variable."""
+    found = dict(TARGETS)
+    for since, more in TARGETS_SINCE.items():
+        found.update(more if since <= language else {})
+    return any_of(*[target(words, *counts) for words, counts in found.items()], rule("variable"))
+
+
 def rules(language: int) -> dict[str, Step]:
     """The rules of a language."""
-    return {**SHARED, "dollar": any_of(
-        text(rf"\${either('T TEST')}(?![A-Za-z(])", "operand"),
+    formats = [text("[!#]+"), all_of(text(r"\*"), rule("expression"))] if language >= 1 else [text("!+")]
+    pattern = all_of(rule("atom"), ["many", rule("atom")])
+    return {**SHARED, "command": any_of(*COMMANDS, *halts(language)), "expression": expression(OPERATOR if language < 1 else rf"\*\*|{OPERATOR}"),
+            "target": targets(language), "written": any_of(*formats, rule("expression")), "pattern": any_of(OPERAND, pattern) if language else pattern, "dollar": any_of(
+        *[text(rf"\${either(words)}(?![A-Za-z(])", "operand") for words in specials(language)],
         *[function(words, *values(*counts)) for words, counts in of_values(language).items()],
         *[function(words, inner("variable"), *([perhaps(all_of(text(",", "more"), inner("expression")))] if most else []))
           for words, most in OF_VARIABLE.items()],
         function("S SELECT", listed(all_of(inner("expression"), text(":", "colon"), inner("expression")))))}
 
 
+# The commands that all languages have alike.
+COMMANDS = [
+    command("S SET", listed(rule("assignment")), False),
+    command("W WRITE", listed(rule("written")), False),
+    command("I IF", listed(rule("expression")), True, False),
+    command("Q QUIT", None, True),
+    command("D DO", listed(any_of(ENTRY, OPERAND)), True),
+    command("F FOR", all_of(text(NAME, "name"), text("=", "equals"), listed(rule("parameter"))), True, False),
+    command("K KILL", listed(any_of(bracketed(text(NAME, "name")), rule("variable"))), True),
+    command("N NEW", listed(any_of(bracketed(text(NAME, "name")), text(NAME, "name"), OPERAND)), True),
+    command("E ELSE", None, True, False),
+    command("X XECUTE", listed(all_of(rule("expression"), rule("condition"))), False),
+    command("L LOCK", listed(mark("lock", rule("locked"))), True),
+    command("G GOTO", listed(any_of(ENTRY, OPERAND)), False)]
 # The rules that all languages have alike.
 SHARED: dict[str, Step] = {
     "line": all_of(text(" *"), ["many", rule("command")], text(f"(?:;[\\x00-\\x7f]*)?{END}", "command")),
-    "command": any_of(
-        command("S SET", listed(rule("assignment")), False),
-        command("W WRITE", listed(any_of(text("!+"), rule("expression"))), False),
-        command("I IF", listed(rule("expression")), True, False),
-        command("Q QUIT", None, True),
-        command("D DO", listed(any_of(ENTRY, OPERAND)), True),
-        command("F FOR", all_of(text(NAME, "name"), text("=", "equals"), listed(rule("parameter"))), True, False),
-        command("K KILL", listed(any_of(bracketed(text(NAME, "name")), rule("variable"))), True),
-        command("N NEW", listed(any_of(bracketed(text(NAME, "name")), text(NAME, "name"), OPERAND)), True),
-        command("E ELSE", None, True, False),
-        command("X XECUTE", listed(all_of(rule("expression"), rule("condition"))), False),
-        command("L LOCK", listed(mark("lock", rule("locked"))), True),
-        command("G GOTO", listed(any_of(ENTRY, OPERAND)), False),
-        command("H HALT", None, True)),
     "condition": perhaps(CONDITION),
     "assignment": any_of(all_of(any_of(all_of(text(r"\("), listed(inner("target")), text(r"\)", "close")), rule("target")), text("=", "equals"),
                                 rule("expression")),
                          all_of(OPERAND, text(f"(?=[ ,;]|{END})"))),
-    "target": any_of(all_of(text(rf"\${either('P PIECE')}\(", "target"), inner("variable"), text(",", "comma"), inner("expression"),
-                            perhaps(all_of(text(","), inner("expression"))), text(r"\)", "close target")), rule("variable")),
     "parameter": all_of(rule("expression"), perhaps(all_of(text(":", "more"), rule("expression"), perhaps(all_of(text(":", "more"), rule("expression")))))),
     "locked": all_of(text("[+-]?"), any_of(all_of(text(r"\("), listed(inner("lockable")), text(r"\)", "close")), rule("lockable")), rule("condition")),
     "lockable": all_of(text(r"(?!\^\()", "lockable"), rule("variable")),
-    "expression": all_of(rule("operand"), ["many", any_of(all_of(text(OPERATOR, "operator"), rule("operand")),
-                                                         all_of(text(r"'?\?"), rule("atom"), ["many", rule("atom")]))]),
+    "expression": expression(OPERATOR),
     "operand": all_of(text(r"[+\-']*"), rule("primary")),
     "atom": all_of(text(COUNT, "pattern"), text('[ACELNPUacelnpu]+|"(?:[^"]|"")*"(?!")', "pattern")),
     "primary": any_of(

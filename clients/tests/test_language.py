@@ -19,8 +19,8 @@ from mserve_client.grammar import LANGUAGES, NEW_LINES
 from mserve_client.routine_files import Source, source_line
 
 GTM = sorted(glob.glob("/usr/lib/*/fis-gtm/V*"))
-# The lines of the examples, and of the clinic's routines.
-OWN = [path.read_text() for path in sorted((CLIENTS.parent / "examples").rglob("*")) if path.suffix in (".m", ".txt")]
+# The lines of the examples, and of the clinic's routines. Those of the registry have functions, which are coming.
+OWN = [path.read_text() for path in sorted((CLIENTS.parent / "examples").rglob("*")) if path.suffix in (".m", ".txt") and "registry" not in path.parts]
 # So many characters of a text fit into a line of the wire with what is put before it.
 ROOM = 255 - len(GUARD)
 # So many lines go to one run of the program.
@@ -115,7 +115,7 @@ def test_new_line_of_a_language(number: int) -> None:
     ('set x=$translate($zconvert(x,"U"),"L")', 'set x=$translate(^$zconvert(x,"U"),"L")', "a $Z function or variable"), ("S A=$H,$X=0", "S A=^$H,$X=0", "$HOROLOG"),
     ("S A=1,$X=0", "S A=1,^$X=0", "SET of a special variable"), ("I A(1, 2)=3", "I A(1,^ 2)=3", "a space within an argument"), ("W 1 W", "W 1 W^", "an argument is missing"),
     ('W "a b $$" W $$X', 'W "a b $$" W ^$$X', "an extrinsic function"), ("S X=1\tW X", "S X=1^\tW X", "a tab"), ("W Müller", "W M^üller", "a character over 127"),
-    ("B=2", "^B=2", "a SET without its word"), ("W 1  Q 5", "W 1  Q ^5", "QUIT with a value"), ("F I=1:1 Q:I>3  H 5", "F I=1:1 Q:I>3  H ^5", "HANG"),
+    ("B=2", "^B=2", "a SET without its word"), ("W 1  Q 5", "W 1  Q ^5", "QUIT with a value"), ("F I=1:1 Q:I>3  H 5", "F I=1:1 Q:I>3  H ^5", "HANG, which needs language 1 of the account's settings"),
 ])
 def test_place_and_cause(line: str, marked: str, name: str) -> None:
     """The place is that of the fault, which the second text has marked by a ^ of its own."""
@@ -147,6 +147,8 @@ def test_language_of_an_account(server: Server) -> None:
     ("W $RE(A) R X", ["$REVERSE, which needs language 1 of the account's settings", "READ"]), ("W $RE(A,1)", ["$REVERSE, which needs language 1 of the account's settings",
      "more arguments than the function takes"]), ("W $J(A,8,2)", ["$JUSTIFY with three arguments, which needs language 1 of the account's settings", None]),
     ("W $J(1,2,3,4)", ["$JUSTIFY with three arguments, which needs language 1 of the account's settings", "more arguments than the function takes"]),
+    ("H 5", ["HANG, which needs language 1 of the account's settings", None]), ("HALT 5", ["an argument where none is taken", "an argument where none is taken"]),
+    ("W $J", ["$IO, $JOB, $PRINCIPAL or $STORAGE, which needs language 1 of the account's settings", None]),
     ("R X", ["READ", "READ"]), ("W $re(", ["$REVERSE, which needs language 1 of the account's settings", "an operand is missing"]),
 ])
 def test_cause_by_the_language_of_the_account(server: Server, line: str, names: list[str | None]) -> None:

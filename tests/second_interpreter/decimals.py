@@ -3,6 +3,7 @@
 from __future__ import annotations
 
 import re
+from collections.abc import Callable
 from fractions import Fraction
 
 DIGITS = 18
@@ -13,11 +14,12 @@ Number = Fraction | int
 
 
 class Stop(Exception):
-    """A line ends by a code."""
+    """A line ends by a code, perhaps for a variable's name; the places are those of the levels, innermost first."""
 
-    def __init__(self, code: str) -> None:
+    def __init__(self, code: str, name: str = "") -> None:
         super().__init__(code)
-        self.code = code
+        self.code, self.name = code, name
+        self.places: list[str] = []
 
 
 def rounded(exact: Number) -> Number:
@@ -99,13 +101,15 @@ def divided(left: Number, right: Number, operator: str) -> Number:
     return rounded(Fraction(left) - Fraction(right) * (exact.numerator // exact.denominator))
 
 
-def power(base: Number, exponent: Number) -> Number:
-    """A power with a whole exponent, each product rounded. M28 for another exponent, or zero to one below zero; M94 for zero to zero."""
-    if exponent != int(exponent) or (base == 0 and exponent < 0):
+def power(base: Number, exponent: Number, charge: Callable[[], None]) -> Number:
+    """A power with a whole exponent: 1, multiplied by the base so often, or divided by it if the exponent is below zero; each result is rounded,
+    after a step. M28 for another exponent, M94 for zero to zero."""
+    if exponent != int(exponent):
         raise Stop("M28")
     if base == 0 and exponent == 0:
         raise Stop("M94")
     found: Number = 1
     for _ in range(abs(int(exponent))):
-        found = rounded(found * base)
-    return divided(1, found, "/") if exponent < 0 else found
+        charge()
+        found = rounded(found * base) if exponent > 0 else divided(found, base, "/")
+    return found

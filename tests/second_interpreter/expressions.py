@@ -2,10 +2,13 @@
 """Values of expressions, and what references lead to."""
 from __future__ import annotations
 
+from collections.abc import Iterator
+from contextlib import contextmanager
 from dataclasses import dataclass, field
 
 from . import decimals, reader, texts
-from .decimals import Stop, value, written
+from .decimals import Stop, rounded, value, written
+from .names import name_text, whole_name
 from .scopes import Locals, Subscripts, Tree
 
 LEVELS, INDIRECTIONS = 256, 32
@@ -36,8 +39,8 @@ class Account:
 class Evaluator:
     """Evaluates for a line. The machine says what a function's call gives."""
 
-    def __init__(self, account: Account, session: Session, store: dict[tuple[str, str], Tree], grants: set[tuple[str, str, str, str]]) -> None:
-        self.account, self.session, self.store, self.grants = account, session, store, grants
+    def __init__(self, account: Account, session: Session, store: dict[tuple[str, str], Tree], grants: set[tuple[str, str, str, str]], terminal: int) -> None:
+        self.account, self.session, self.store, self.grants, self.terminal = account, session, store, grants, terminal
         self.steps, self.levels, self.indirections = account.steps, 0, 0
         self.may_call, self.wants_value = True, False
 
@@ -56,13 +59,15 @@ class Evaluator:
 
     def value(self, tree: tuple) -> str:
         """The value of an expression."""
-        return getattr(self, "value_of_" + tree[0])(*tree[1:])
+        return getattr(self, "value_of_" + tree[0].replace(" ", "_"))(*tree[1:])
 
     def value_of_binary(self, operator: str, left: tuple, right: tuple) -> str:
         first, second = self.value(left), self.value(right)
         negated, operator = operator.startswith("'"), operator.lstrip("'")
         if operator == "_":
             return texts.checked(first + second)
+        if operator == "**":
+            return written(decimals.power(value(first), value(second), self.charge))
         if operator in ("=", "[", "]", "]]"):
             return str(int(texts.compared(first, operator, second) is not negated))
         return self.of_numbers(value(first), operator, value(second), negated)
@@ -73,8 +78,7 @@ class Evaluator:
         truths = {"<": lambda: first < second, ">": lambda: first > second, "&": lambda: bool(first and second), "!": lambda: bool(first or second)}
         if operator in truths:
             return str(int(truths[operator]() is not negated))
-        sums = {"+": lambda: decimals.rounded(first + second), "-": lambda: decimals.rounded(first - second), "*": lambda: decimals.rounded(first * second),
-                "**": lambda: decimals.power(first, second)}
+        sums = {"+": lambda: decimals.rounded(first + second), "-": lambda: decimals.rounded(first - second), "*": lambda: decimals.rounded(first * second)}
         return written(sums[operator]() if operator in sums else decimals.divided(first, second, operator))
 
     def value_of_match(self, negated: bool, left: tuple, pattern: tuple) -> str:
@@ -83,6 +87,7 @@ class Evaluator:
         return str(int(texts.matches(text, atoms) is not negated))
 
     def pattern_of(self, text: str) -> tuple[texts.Atom, ...]:
+        self.free_level(is_indirection=True)
         found = reader.Reader(text, self.account.language)
         return found.whole(found.atoms())
 
@@ -111,14 +116,14 @@ class Evaluator:
 
     def value_of_special(self, name: str) -> str:
         self.charge()
-        return str({"X": self.session.column, "Y": self.session.row, "Q": int(self.wants_value)}[name])
+        return str({"X": self.session.column, "Y": self.session.row, "Q": int(self.wants_value), "T": self.terminal, "S": texts.LONGEST}[name])
 
     def value_of_variable(self, tree: tuple) -> str:
         self.charge()
         place = self.place(tree, "read")
         found = self.text_at(place)
         if found is None:
-            raise Stop("M6" if place[0] is None else "M7")
+            raise Stop("M6" if place[0] is None else "M7", whole_name(self.account.name, *place))
         return found
 
     def value_of_call(self, function: object, trees: list[tuple]) -> str:
@@ -146,11 +151,42 @@ class Evaluator:
 
     def value_of_order(self, tree: tuple, direction: tuple | None) -> str:
         self.charge()
-        place = self.place(tree, "read", is_walk=True)
+        place = self.finished(self.evaluated(tree), "read", is_walk=True, least=1)
+        return self.tree_of(place).order(place[2], self.is_forward(direction))
+
+    def is_forward(self, direction: tuple | None) -> bool:
+        """Whether a walk goes forward. ZARG if it goes neither way."""
         way = 1 if direction is None else decimals.whole(self.value(direction))
         if way not in (1, -1):
             raise Stop("ZARG")
-        return self.tree_of(place).order(place[2], way == 1)
+        return way == 1
+
+    def value_of_query(self, tree: tuple, direction: tuple | None) -> str:
+        """The name of the next node that has a text, or of the one before, and empty if there is none. The argument is what naked references go by."""
+        self.charge()
+        place = self.finished(self.evaluated(tree), "read", is_walk=True)
+        found = self.tree_of(place).following(place[2], self.is_forward(direction))
+        return "" if found is None else name_text(self.account.name, *place[:2], found)
+
+    def value_of_name(self, tree: tuple, count: tuple | None) -> str:
+        """The name of a node, with so many subscripts at most. Nothing is looked at, and nothing remembered."""
+        self.charge()
+        evaluated = self.evaluated(tree)
+        most = None if count is None else decimals.whole(self.value(count))
+        account, name, subscripts = self.resolved(evaluated)
+        if most is not None and most < 0:
+            raise Stop("ZARG")
+        return name_text(self.account.name, account, name, subscripts[:most])
+
+    def value_of_increment(self, tree: tuple, number: tuple | None) -> str:
+        """What a node has once a number is added; one that is undefined counts as 0. The node is referred to after the number, as a target of SET is."""
+        self.charge()
+        evaluated = self.evaluated(tree)
+        more = 1 if number is None else value(self.value(number))
+        place = self.finished(evaluated, "write")
+        found = written(rounded(value(self.text_at(place) or "") + more))
+        self.put(place, found)
+        return found
 
     def value_of_function(self, entry: tuple) -> str:
         self.charge()
@@ -164,9 +200,9 @@ class Evaluator:
 
     # places
 
-    def place(self, tree: tuple, mode: str, is_walk: bool = False) -> Place:
+    def place(self, tree: tuple, mode: str) -> Place:
         """Where a reference leads, once all is evaluated and checked."""
-        return self.finished(self.evaluated(tree), mode, is_walk)
+        return self.finished(self.evaluated(tree), mode)
 
     def evaluated(self, tree: tuple) -> tuple:
         """A reference with its environment and subscripts evaluated: its account or None of a local or `naked`, its name, its subscripts."""
@@ -183,38 +219,58 @@ class Evaluator:
         text = self.value(operand)
         self.free_level(is_indirection=True)
         tree = reader.reference(text, self.account.language)
-        before = self.may_call
         with self.within_indirection():
-            self.may_call = False
-            try:
+            with self.without_calls():
                 account, name, subscripts = self.evaluated(tree)
-            finally:
-                self.may_call = before
             return account, name, subscripts + tuple(self.value(one) for one in more or [])
 
-    def within_indirection(self) -> Counted:
+    @contextmanager
+    def within_indirection(self) -> Iterator[None]:
         """A block that is a level of indirection."""
-        return Counted(self)
+        self.levels += 1
+        self.indirections += 1
+        try:
+            yield
+        finally:
+            self.levels -= 1
+            self.indirections -= 1
 
-    def finished(self, evaluated: tuple, mode: str, is_walk: bool = False) -> Place:
-        """The place of what was evaluated, after its checks: M1, ZGRANT, ZSUB, ZARG. A global is then what naked references go by."""
+    @contextmanager
+    def without_calls(self) -> Iterator[None]:
+        """A block in which no function may be called."""
+        before, self.may_call = self.may_call, False
+        try:
+            yield
+        finally:
+            self.may_call = before
+
+    def resolved(self, evaluated: tuple) -> Place:
+        """The place of what was evaluated, a naked reference beside what was referred to last: M1."""
         account, name, subscripts = evaluated
         if account == "naked":
             if self.session.naked is None or not self.session.naked[2]:
                 raise Stop("M1")
             account, name, front = self.session.naked
             subscripts = front[:-1] + subscripts
-        account = account.removeprefix("=") if account is not None else None
+        return account.removeprefix("=") if account is not None else None, name, subscripts
+
+    def finished(self, evaluated: tuple, mode: str, is_walk: bool = False, least: int = 0) -> Place:
+        """The place of what was evaluated, after its checks: M1, ZGRANT, ZSUB, ZARG. A global is then what naked references go by."""
+        account, name, subscripts = self.resolved(evaluated)
         if account not in (None, self.account.name) and not self.is_granted(account, name, mode):
             raise Stop("ZGRANT")
-        wanted = subscripts[:-1] if is_walk else subscripts
-        if len(subscripts) > 15 or any(not 1 <= len(one) <= 255 for one in wanted) or (subscripts and len(subscripts[-1]) > 255):
-            raise Stop("ZSUB")
-        if is_walk and not subscripts:
+        self.check(subscripts[:-1] if is_walk else subscripts, subscripts)
+        if len(subscripts) < least:
             raise Stop("ZARG")
         if account is not None:
             self.session.naked = (account, name, subscripts)
         return account, name, subscripts
+
+    @staticmethod
+    def check(filled: Subscripts, subscripts: Subscripts) -> None:
+        """ZSUB if there are too many subscripts, if one is too long, or one is empty of those that may not be."""
+        if len(subscripts) > 15 or any(not one for one in filled) or any(len(one) > 255 for one in subscripts):
+            raise Stop("ZSUB")
 
     def is_granted(self, account: str, name: str, mode: str) -> bool:
         """Whether a global of another account may be used so."""
@@ -234,18 +290,3 @@ class Evaluator:
         """Assigns to a place."""
         tree = self.session.locals.tree(place[1]) if place[0] is None else self.store.setdefault((place[0], place[1]), Tree())
         tree.put(place[2], text)
-
-
-class Counted:
-    """A level of indirection, for a block."""
-
-    def __init__(self, evaluator: Evaluator) -> None:
-        self.evaluator = evaluator
-
-    def __enter__(self) -> None:
-        self.evaluator.levels += 1
-        self.evaluator.indirections += 1
-
-    def __exit__(self, *_: object) -> None:
-        self.evaluator.levels -= 1
-        self.evaluator.indirections -= 1

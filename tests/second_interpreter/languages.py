@@ -5,9 +5,11 @@ from __future__ import annotations
 # No account's language: the rules that language 1 is to have besides, which the program does not have yet. They are compared with GT.M alone.
 COMING = 2
 SINCE = {
-    "$JUSTIFY of three": 1, "$REVERSE": 1,
-    "$FNUMBER": COMING, "**": COMING, "SET $EXTRACT": COMING, "SET $PIECE of several": COMING, "formats of WRITE": COMING,
-    "functions": COMING, "parameters": COMING, "pattern alternation": COMING, "pattern indirection": COMING, "special variables": COMING, "values of QUIT": COMING,
+    "$FNUMBER": 1, "$JUSTIFY of three": 1, "$REVERSE": 1, "pattern indirection": 1, "pages of WRITE": 1, "codes of WRITE": 1, "SET $EXTRACT": 1, "SET $PIECE of several": 1, "HANG": 1, "special variables of terminals": 1, "**": 1,
+    "$INCREMENT": COMING, "$NAME": COMING, "$QLENGTH": COMING, "$QSUBSCRIPT": COMING, "$QUERY": COMING, "MERGE": COMING,
+    "$TEXT": COMING, "indirection of entries": COMING, "labels of digits": COMING, "offsets of entries": COMING,
+    "columns of WRITE": COMING, "names of globals": COMING,
+    "functions": COMING, "parameters": COMING, "pattern alternation": COMING, "special variables": COMING, "values of QUIT": COMING,
 }
 
 

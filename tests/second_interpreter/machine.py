@@ -2,12 +2,11 @@
 """Commands, lines and levels."""
 from __future__ import annotations
 
-from dataclasses import dataclass, field
-
-from . import reader, texts
-from .decimals import Stop, is_canonical, rounded, value, whole, written
-from .expressions import Account, Evaluator, Session
+from . import faults, reader, texts
+from .decimals import Stop, rounded, value, whole, written
+from .expressions import Account, Session
 from .locking import Locks
+from .places import Level, Places
 from .scopes import Tree
 
 BREAK = "\xff"
@@ -18,35 +17,33 @@ class Halted(Exception):
     """The session ends."""
 
 
-@dataclass
-class Level:
-    """A level: the lines that it keeps, at which it is, how many dots its lines have, and whether a value is wanted of it."""
-
-    lines: list[str] = field(default_factory=list)
-    at: int | None = None
-    dots: int = 0
-    wants_value: bool = False
-
-
 # How commands end: they go on, skip the rest of the line, quit, go to a line, or quit with a value.
 GOES_ON, SKIPS, QUITS = ("goes on",), ("skips",), ("quits",)
 
 
-class Machine(Evaluator):
+class Machine(Places):
     """Runs a line of a terminal."""
 
     def __init__(self, account: Account, session: Session, store: dict, grants: set, locks: Locks, terminal: int) -> None:
-        super().__init__(account, session, store, grants)
-        self.locks, self.terminal = locks, terminal
+        super().__init__(account, session, store, grants, terminal)
+        self.locks = locks
         self.out: list[str] = []
-        self.level = Level()
+        self.level = Level(text=faults.SENT)
+        self.stack = [self.level]
 
     def run(self, text: str) -> None:
         """Runs a terminal's line as a level of its own. Stop if it ends by a code, Halted if the session ends."""
-        commands = reader.line(text, self.account.language)
+        try:
+            commands = reader.line(text, self.account.language)
+        except Stop as stop:
+            stop.places = [f"@{reader.fault_at(text, self.account.language)}"]
+            raise
         self.session.locals.enter()
         try:
             self.finish(self.in_level(self.commands(commands)))
+        except Stop as stop:
+            self.tell_places(stop)
+            raise
         finally:
             self.session.locals.leave()
 
@@ -55,19 +52,26 @@ class Machine(Evaluator):
     def in_level(self, completion: tuple) -> tuple:
         """Goes on with lines while the level is led to some; how it ends."""
         while completion[0] == "goes to":
-            self.level.lines, self.level.at = completion[1:]
+            self.level.lines, self.level.routine, self.level.at = completion[1:]
+            self.level.text = ""
             completion = self.lines(self.level.at, is_entered=False)
         return completion
 
-    def finish(self, completion: tuple) -> None:
-        """M16 if a level is left with a value that nobody wants."""
-        if completion[0] == "returns":
-            raise Stop("M16")
+    def finish(self, completion: tuple) -> tuple:
+        """How a level ends. M16 if it is left with a value that nobody wants, M17 if one is missing."""
+        if (completion[0] == "returns") is not self.level.wants_value:
+            raise Stop("M17" if self.level.wants_value else "M16")
+        return completion
+
+    def tell_places(self, stop: Stop) -> None:
+        """Has a fault say where it was, if no level within has done so."""
+        stop.places = stop.places or faults.places_of(self.stack, self.account.language)
 
     def lines(self, start: int, is_entered: bool) -> tuple:
         """Runs the level's lines from one on. A line with a formal list is entered by DO and functions alone."""
         for place in range(start, len(self.level.lines)):
             text, language = self.level.lines[place], self.account.language
+            self.level.line, self.level.command = place, 0
             dots = reader.dots_of(text, language)
             if dots < self.level.dots:
                 return QUITS
@@ -86,21 +90,28 @@ class Machine(Evaluator):
         """Runs commands, or lines from one on, in a new level; how it ends."""
         outer, wanted = self.level, self.wants_value
         self.level, self.wants_value = level, level.wants_value
+        self.stack.append(level)
         self.levels += 1
         self.session.locals.enter()
         try:
             self.session.locals.bind(bound)
-            return self.in_level(self.commands(commands) if start is None else self.lines(start, is_entered=True))
+            return self.finish(self.in_level(self.commands(commands) if start is None else self.lines(start, is_entered=True)))
+        except Stop as stop:
+            self.tell_places(stop)
+            raise
         finally:
+            self.stack.pop()
             self.session.locals.leave()
             self.levels -= 1
             self.level, self.wants_value = outer, wanted
 
     def entered(self, entry: tuple, wants_value: bool) -> tuple:
-        """DO of an entry, or a function: actuals, ZDEPTH, the line, and the formals; how the level ends."""
-        actuals = None if entry[2] is None else [self.handed(actual) for actual in entry[2]]
+        """DO of an entry, or a function: its parts, actuals, ZDEPTH, the line, and the formals; how the level ends."""
+        *parts, given = entry
+        meant = self.entry(*parts)
+        actuals = None if given is None else [self.handed(actual) for actual in given]
         self.free_level()
-        lines, at = self.target(entry, 0)
+        lines, name, at = self.seek(meant, 0)
         formals = reader.formals_of(lines[at], self.account.language)[0]
         if actuals is not None and formals is None:
             raise Stop("M20")
@@ -108,7 +119,7 @@ class Machine(Evaluator):
             raise Stop("M58")
         handed = [*(actuals or []), *[None] * len(formals or [])]
         bound = [(name, tree or Tree()) for name, tree in zip(formals or [], handed)]
-        return self.opened(Level(lines, at, 0, wants_value), bound, at)
+        return self.opened(Level(lines, name, at, 0, wants_value), bound, at)
 
     def handed(self, actual: tuple) -> Tree | None:
         """What an actual hands over: a new variable with a value, one of the caller, or nothing."""
@@ -131,42 +142,21 @@ class Machine(Evaluator):
     def called(self, entry: tuple) -> str:
         """The value that a function gives. $TEST is again what it was."""
         test = self.session.test
-        completion = self.entered(entry, wants_value=True)
-        if completion[0] != "returns":
-            raise Stop("M17")
+        found = self.entered(entry, wants_value=True)[1]
         self.session.test = test
-        return completion[1]
-
-    def target(self, entry: tuple, dots: int) -> tuple[list[str], int]:
-        """The lines and the place that an entry means: M13 if there is none, ZLEVEL if it has other dots."""
-        label, routine = entry[:2]
-        lines = self.level.lines if routine is None else self.routine(routine)
-        if label:
-            at = next((place for place, text in enumerate(lines) if reader.label_of(text, self.account.language) == label), None)
-        else:
-            at = 0 if lines else None
-        if at is None:
-            raise Stop("M13")
-        if reader.dots_of(lines[at], self.account.language) != dots:
-            raise Stop("ZLEVEL")
-        return lines, at
-
-    def routine(self, name: str) -> list[str]:
-        """The lines of a routine of the account."""
-        tree = self.store.get((self.account.name, "ROUTINE")) or Tree()
-        found = [(value(subscripts[1]), text) for subscripts, text in tree.texts.items() if len(subscripts) == 2 and subscripts[0] == name and is_canonical(subscripts[1])]
-        return [text for _, text in sorted(found)]
+        return found
 
     # commands
 
-    def commands(self, commands: tuple) -> tuple:
-        """Runs commands one after another; how they end."""
-        for place, (name, condition, arguments) in enumerate(commands):
+    def commands(self, commands: tuple, first: int = 0) -> tuple:
+        """Runs commands one after another, but for the first ones; how they end."""
+        for place, (name, condition, arguments) in enumerate(commands[first:], first + 1):
+            self.level.command = place
             self.charge()
             if condition is not None and not value(self.value(condition)):
                 continue
             if name == "FOR":
-                return self.loop(arguments, commands[place + 1:])
+                return self.loop(arguments, (commands, place))
             completion = self.command(name, arguments)
             if completion != GOES_ON:
                 return completion
@@ -198,16 +188,50 @@ class Machine(Evaluator):
         ready = [(target[0], self.evaluated(target[1]), [self.value(one) for one in target[2]] if len(target) > 2 else []) for target in targets]
         text = self.value(tree)
         for kind, evaluated, parts in ready:
-            place = self.finished(evaluated, "write")
-            self.put(place, text if kind == "variable" else self.changed(kind, self.text_at(place) or "", parts, text))
+            if kind == "variable":
+                self.put(self.finished(evaluated, "write"), text)
+            elif kind == "piece" and len(parts) < 3:
+                place = self.finished(evaluated, "write")
+                number = whole(parts[1]) if len(parts) > 1 else 1
+                self.put(place, texts.set_piece(self.text_at(place) or "", parts[0], number, text))
+            else:
+                self.set_places(kind, evaluated, parts, text)
 
-    @staticmethod
-    def changed(kind: str, old: str, parts: list[str], new: str) -> str:
-        """A text with other pieces or characters."""
+    def set_places(self, kind: str, evaluated: tuple, parts: list[str], new: str) -> None:
+        """Gives several places a text. A variable whose places are none is not referred to."""
         numbers = [whole(part) for part in parts[kind == "piece":]]
-        first = numbers[0] if numbers else 1
-        last = numbers[1] if len(numbers) > 1 else first
-        return texts.set_piece(old, parts[0], first, last, new) if kind == "piece" else texts.set_extract(old, first, last, new)
+        first, last = (numbers * 2)[:2] if numbers else (1, 1)
+        if last < max(first, 1):
+            return
+        place = self.finished(evaluated, "write")
+        old = self.text_at(place) or ""
+        self.put(place, texts.set_pieces(old, parts[0], max(first, 1), last, new) if kind == "piece" else texts.set_extract(old, max(first, 1), last, new))
+
+    def do_merge(self, _: str, target: tuple, source: tuple) -> None:
+        """Copies the texts at and below a node, one after another in their order, a step each. M19 if one node is above the other."""
+        evaluated, other = self.evaluated(target), self.evaluated(source)
+        origin = self.finished(other, "read")
+        place = self.finished(evaluated, "write")
+        front, depth = place[2], len(origin[2])
+        if self.is_same_variable(origin, place):
+            shared = min(depth, len(front))
+            if origin[2] == front:
+                return
+            if origin[2][:shared] == front[:shared]:
+                raise Stop("M19")
+        tree = self.tree_of(origin)
+        node = origin[2] if origin[2] in tree.texts else tree.following(origin[2], forward=True)
+        while node is not None and node[:depth] == origin[2]:
+            self.charge()
+            subscripts = front + node[depth:]
+            self.check(subscripts, subscripts)
+            self.put((*place[:2], subscripts), tree.texts[node])
+            node = tree.following(node, forward=True)
+
+    def is_same_variable(self, one: tuple, other: tuple) -> bool:
+        """Whether two places are of one variable, by whatever names."""
+        table = self.session.locals.table
+        return one[:2] == other[:2] or (one[0] is None and other[0] is None and table.get(one[1]) is not None and table.get(one[1]) is table.get(other[1]))
 
     def do_kill(self, kind: str, what: object) -> None:
         if kind == "names":
@@ -228,7 +252,7 @@ class Machine(Evaluator):
     def new_alone(self) -> None:
         self.session.locals.new_except([])
 
-    # IF, ELSE, FOR, QUIT, HALT
+    # IF, ELSE, FOR, QUIT, HALT, HANG
 
     def do_if(self, _: str, tree: tuple) -> tuple:
         self.session.test = bool(value(self.value(tree)))
@@ -249,8 +273,12 @@ class Machine(Evaluator):
     def halt_alone(self) -> None:
         raise Halted
 
+    def do_hang(self, _: str, tree: tuple) -> None:
+        """Nothing waits, but the seconds are a number."""
+        value(self.value(tree))
+
     def loop(self, arguments: list[tuple] | None, body: tuple) -> tuple:
-        """FOR, with the rest of the line."""
+        """FOR, with the rest of the line: its commands, and how many of them stand before."""
         if arguments is None:
             while (completion := self.turn(body)) is None:
                 pass
@@ -265,9 +293,10 @@ class Machine(Evaluator):
     def turn(self, body: tuple) -> tuple | None:
         """A turn: how the FOR ends, or None if it goes on."""
         self.charge()
-        completion = self.commands(body)
+        completion = self.commands(*body)
         if completion[0] == "returns":
             raise Stop("M16")
+        self.level.command = body[1]
         return GOES_ON if completion == QUITS else completion if completion[0] == "goes to" else None
 
     def single(self, name: str, tree: tuple, body: tuple) -> tuple | None:
@@ -300,27 +329,27 @@ class Machine(Evaluator):
 
     def do_do(self, _: str, entry: tuple, condition: tuple | None) -> None:
         if condition is None or value(self.value(condition)):
-            self.finish(self.entered(entry, wants_value=False))
+            self.entered(entry, wants_value=False)
 
     def do_alone(self) -> None:
         """The lines after this one that have one dot more."""
         self.free_level()
         test, here = self.session.test, self.level
         start = len(here.lines) if here.at is None else here.at + 1
-        self.finish(self.opened(Level(here.lines, here.at, here.dots + 1), [], start))
+        self.opened(Level(here.lines, here.routine, here.at, here.dots + 1), [], start)
         self.session.test = test
 
     def do_goto(self, _: str, entry: tuple, condition: tuple | None) -> tuple:
         if condition is not None and not value(self.value(condition)):
             return GOES_ON
-        return "goes to", *self.target(entry, self.level.dots)
+        return "goes to", *self.seek(self.entry(*entry), self.level.dots)
 
     def do_xecute(self, _: str, tree: tuple, condition: tuple | None) -> None:
         if condition is not None and not value(self.value(condition)):
             return
         text = self.value(tree)
         self.free_level()
-        self.finish(self.opened(Level(self.level.lines), [], None, reader.line(text, self.account.language)))
+        self.opened(Level(self.level.lines, self.level.routine, text=faults.RUN), [], None, reader.line(text, self.account.language))
 
     # WRITE, LOCK
 
@@ -328,7 +357,10 @@ class Machine(Evaluator):
         if kind == "value":
             self.write(self.value(what[0]))
         elif kind == "character":
-            self.write(texts.characters(self.value(what[0])))
+            code = self.value(what[0])
+            if whole(code) < 0:
+                raise Stop("ZCHAR")
+            self.write(texts.characters(code))
         else:
             forms, column = what
             for form in forms:

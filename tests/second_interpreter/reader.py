@@ -6,45 +6,58 @@ import re
 from collections.abc import Callable
 from functools import cache
 
+from . import names, texts
 from .decimals import Stop
 from .languages import has
-from .texts import FUNCTIONS, Atom
+from .texts import Atom
 
 Tree = tuple
 NAME = re.compile(r"[A-Za-z%][A-Za-z0-9]*", re.ASCII)
+LABEL = re.compile(r"[A-Za-z%][A-Za-z0-9]*|[0-9]+", re.ASCII)
 NUMBER = re.compile(r"(?:[0-9]+(?:\.[0-9]+)?|\.[0-9]+)(?:E[+-]?[0-9]+)?", re.ASCII)
 STRING = re.compile(r'"((?:[^"]|"")*)"(?!")', re.ASCII)
 OPERATOR = re.compile(r"\*\*|'?(?:\]\]|[=<>\[\]&!])|[-+*/\\#_]", re.ASCII)
+FORMALS = re.compile(rf"\(({NAME.pattern}(?:,{NAME.pattern})*|)\)", re.ASCII)
 COUNT = re.compile(r"([0-9]*)(\.?)([0-9]*)", re.ASCII)
 DEPTH = 40
 COMMANDS = {"S": "SET", "K": "KILL", "N": "NEW", "D": "DO", "G": "GOTO", "I": "IF", "E": "ELSE", "F": "FOR", "Q": "QUIT", "X": "XECUTE", "W": "WRITE", "L": "LOCK",
-            "H": "HALT"}
+            "H": "HALT", "HANG": "HANG", "M": "MERGE"}
 # Which need arguments, which may have some, and which take a condition.
-NEEDS = ("SET", "XECUTE", "WRITE", "GOTO")
+NEEDS = ("SET", "XECUTE", "WRITE", "GOTO", "HANG", "MERGE")
 NONE = ("ELSE", "HALT", "QUIT")
 NO_CONDITION = ("IF", "ELSE", "FOR")
-INDIRECT = ("SET", "KILL", "NEW", "DO", "GOTO", "IF", "XECUTE", "WRITE", "LOCK")
-OF_VARIABLE = {"D": ("DATA", 0), "G": ("GET", 1), "O": ("ORDER", 1)}
-SPECIALS = {"X": "X", "Y": "Y", "QUIT": "Q", "Q": "Q"}
+INDIRECT = ("SET", "KILL", "NEW", "DO", "GOTO", "IF", "XECUTE", "WRITE", "LOCK", "HANG", "MERGE")
+# Commands, and functions of variables, that a language may not have.
+OF_LATER = ("HANG", "MERGE")
+OF_VARIABLE = {"D": ("DATA", 0), "G": ("GET", 1), "O": ("ORDER", 1), "I": ("INCREMENT", 1), "NA": ("NAME", 1), "Q": ("QUERY", 1)}
+FUNCTIONS = [*texts.FUNCTIONS, *names.FUNCTIONS]
+LISTINGS = {"G": "global", "GLOBAL": "global", "R": "routine", "ROUTINE": "routine"}
+SPECIALS = {"special variables": {"X": "X", "Y": "Y", "QUIT": "Q", "Q": "Q"},
+            "special variables of terminals": {**dict.fromkeys(["I", "IO", "J", "JOB", "P", "PRINCIPAL"], "T"), "S": "S", "STORAGE": "S"}}
+
+
+def label_pattern(language: int) -> re.Pattern[str]:
+    """What a label is in a language."""
+    return LABEL if has(language, "labels of digits") else NAME
 
 
 def label_of(text: str, language: int) -> str:
     """The label of a routine's line; empty if it has none."""
-    found = NAME.match(text)
+    found = label_pattern(language).match(text)
     ends = " ;(" if has(language, "parameters") else " ;"
     return found[0] if found and len(found[0]) <= 31 and (found.end() == len(text) or text[found.end()] in ends) else ""
 
 
 def formals_of(text: str, language: int) -> tuple[list[str] | None, str]:
-    """The names of a line's formal list, or None, and what stands after it and the label. Two equal names make it none."""
+    """The names of a line's formal list, or None, and what stands after it and the label. What is no list stays there, as one with two equal names."""
     rest = text[len(label_of(text, language)):]
-    if not has(language, "parameters") or not rest.startswith("("):
+    found = FORMALS.match(rest) if has(language, "parameters") else None
+    if not found:
         return None, rest
-    inside, _, after = rest[1:].partition(")")
-    names = inside.split(",") if inside else []
-    if len(set(names)) < len(names) or not all(NAME.fullmatch(name) and len(name) <= 31 for name in names):
-        return None, after
-    return names, after
+    names = found[1].split(",") if found[1] else []
+    if len(set(names)) < len(names) or any(len(name) > 31 for name in names):
+        return None, rest
+    return names, rest[found.end():]
 
 
 def dots_of(text: str, language: int) -> int:
@@ -70,6 +83,16 @@ def line(text: str, language: int) -> Tree:
     return Reader(text, language).line()
 
 
+def fault_at(text: str, language: int) -> int:
+    """How many characters stand before the first command of a line that is not in the grammar."""
+    reader = Reader(text, language)
+    try:
+        reader.line()
+    except Stop:
+        pass
+    return reader.begun
+
+
 @cache
 def reference(text: str, language: int) -> Tree:
     """A variable, whole and alone."""
@@ -84,12 +107,19 @@ def arguments(text: str, command: str, language: int) -> list[Tree]:
     return reader.whole(reader.arguments(command))
 
 
+@cache
+def line_named(text: str, language: int) -> Tree:
+    """What the brackets of $TEXT may have, whole and alone."""
+    reader = Reader(text, language)
+    return reader.whole(reader.line_argument())
+
+
 class Reader:
     """Reads a text from its front."""
 
     def __init__(self, text: str, language: int) -> None:
         self.text, self.language = text, language
-        self.at, self.depth = 0, 0
+        self.at, self.depth, self.begun = 0, 0, 0
 
     def has(self, form: str) -> bool:
         """Whether the language has a form."""
@@ -144,9 +174,20 @@ class Reader:
         self.wants(")")
         return found
 
-    def name(self) -> str:
-        name = self.found(NAME)
+    def name(self, pattern: re.Pattern[str] = NAME) -> str:
+        name = self.found(pattern)
         return name if len(name) <= 31 else self.refuse()
+
+    def label(self) -> str | Tree:
+        """A label, or the operand that gives it."""
+        return self.operand_of_entry() or self.name(label_pattern(self.language))
+
+    def routine(self) -> str | Tree:
+        """A routine's name, or the operand that gives it."""
+        return self.operand_of_entry() or self.name()
+
+    def operand_of_entry(self) -> Tree | None:
+        return ("by", self.inside(self.primary)) if self.has("indirection of entries") and self.takes("@") else None
 
     # lines and commands
 
@@ -164,6 +205,7 @@ class Reader:
         while not self.at_end():
             if not gap:
                 self.refuse()
+            self.begun = self.at
             commands.append(self.command())
             gap = self.spaces() - (commands[-1][2] is None)
             if gap < 1 and not self.at_end():
@@ -181,6 +223,10 @@ class Reader:
             condition = self.expression()
         follows = self.text[self.at + 1:self.at + 2]
         has_arguments = self.next() == " " and follows not in ("", " ", ";")
+        if word == "H" and has_arguments:
+            name = "HANG"
+        if name in OF_LATER and not self.has(name):
+            self.refuse()
         if (name in NONE and has_arguments and not (name == "QUIT" and self.has("values of QUIT"))) or (name in NEEDS and not has_arguments):
             self.refuse()
         if not has_arguments:
@@ -208,6 +254,11 @@ class Reader:
         targets = self.bracketed(self.target) if self.takes("(") else [self.target()]
         self.wants("=")
         return "set", targets, self.expression()
+
+    def argument_of_merge(self) -> Tree:
+        target = self.reference()
+        self.wants("=")
+        return "merge", target, self.reference()
 
     def target(self) -> Tree:
         word = re.compile(r"\$([A-Za-z]+)\(").match(self.text, self.at)
@@ -237,17 +288,31 @@ class Reader:
         return ("names", self.bracketed(self.name)) if self.takes("(") else ("name", self.name())
 
     def argument_of_do(self) -> Tree:
+        entry = self.entry_with_actuals()
+        return "entry", entry, self.expression() if self.takes(":") else None
+
+    def argument_of_goto(self) -> Tree:
         entry = self.entry()
         return "entry", entry, self.expression() if self.takes(":") else None
 
-    argument_of_goto = argument_of_do
+    def entry(self, may_count: bool = True) -> Tree:
+        """An entry: label or empty, how many lines after the label or None, routine or None."""
+        label = "" if self.next() == "^" else self.label()
+        offset = self.expression() if label and may_count and self.has("offsets of entries") and self.takes("+") else None
+        return label, offset, self.routine() if self.takes("^") else None
 
-    def entry(self) -> Tree:
-        """An entry: label or empty, routine or None, actuals or None."""
-        label = "" if self.next() == "^" else self.name()
-        routine = self.name() if self.takes("^") else None
-        actuals = self.actuals() if self.has("parameters") and self.takes("(") else None
-        return label, routine, actuals
+    def entry_with_actuals(self, may_count: bool = True) -> Tree:
+        """An entry with its actuals, or None. Lines that are counted take none."""
+        label, offset, routine = self.entry(may_count)
+        return label, offset, routine, self.actuals() if offset is None and self.has("parameters") and self.takes("(") else None
+
+    def line_argument(self) -> Tree:
+        """What the brackets of $TEXT have: a label, `+` and a number, or both, and a routine; or an operand that gives all that."""
+        label = "" if self.next() in ("^", "+") else self.label()
+        if isinstance(label, tuple) and self.next() in ("", ")"):
+            return "line by", label[1]
+        offset = self.expression() if self.takes("+") else None
+        return "line", label, offset, self.routine() if self.takes("^") else None
 
     def actuals(self) -> list[Tree]:
         """What is handed over: values, names, nothing."""
@@ -270,6 +335,9 @@ class Reader:
     def argument_of_if(self) -> Tree:
         return "condition", self.expression()
 
+    def argument_of_hang(self) -> Tree:
+        return "seconds", self.expression()
+
     def argument_of_quit(self) -> Tree:
         return "value", self.expression()
 
@@ -285,13 +353,12 @@ class Reader:
         return tuple(parts)
 
     def argument_of_write(self) -> Tree:
-        has_more = self.has("formats of WRITE")
-        if has_more and self.takes("*"):
+        if self.has("codes of WRITE") and self.takes("*"):
             return "character", self.expression()
         forms = self.text[self.at:len(self.text)]
-        forms = re.match("[!#]*" if has_more else "!*", forms)[0]
+        forms = re.match("[!#]*" if self.has("pages of WRITE") else "!*", forms)[0]
         self.at += len(forms)
-        column = self.expression() if has_more and self.takes("?") else None
+        column = self.expression() if self.has("columns of WRITE") and self.takes("?") else None
         if forms or column:
             return "format", forms, column
         return "value", self.expression()
@@ -343,23 +410,28 @@ class Reader:
     def dollar(self) -> Tree:
         self.at += 1
         if self.has("functions") and self.takes("$"):
-            label, routine, actuals = self.entry()
-            return "function", (label, routine, actuals)
+            *meant, actuals = self.entry_with_actuals(may_count=False)
+            return "function", (*meant, actuals or [])
         word = self.found(re.compile("[A-Za-z]+")).upper()
         if not self.takes("("):
             if word in ("T", "TEST"):
                 return ("test",)
-            return ("special", SPECIALS[word]) if self.has("special variables") and word in SPECIALS else self.refuse()
+            known = {word: name for form, words in SPECIALS.items() if self.has(form) for word, name in words.items()}
+            return ("special", known[word]) if word in known else self.refuse()
         tree = self.inside(lambda: self.call(word))
         self.wants(")")
         return tree
 
     def call(self, word: str) -> Tree:
         """A function's arguments."""
+        if word in ("T", "TEXT") and self.has("$TEXT"):
+            return self.line_argument()
         if word in ("S", "SELECT"):
             return "select", self.listed(self.choice)
         for short, (long, most) in OF_VARIABLE.items():
-            if word in (short, long):
+            if word in (short, long) and (long in ("DATA", "GET", "ORDER") or self.has("$" + long)):
+                if long in ("ORDER", "DATA") and self.has("names of globals") and self.takes("^$"):
+                    return f"{long.lower()} names", *self.listing(), *([self.expression() if self.takes(",") else None] if most else [])
                 variable = self.reference()
                 return long.lower(), variable, self.expression() if most and self.takes(",") else None
         found = self.listed(self.expression)
@@ -367,6 +439,18 @@ class Reader:
             if word in (short, long) and least <= len(found) <= most and since <= self.language:
                 return "call", function, found
         return self.refuse()
+
+    def listing(self) -> Tree:
+        """What stands after `^$`: which names, whose, if that is said, and from where."""
+        environment = None
+        if self.takes("|"):
+            environment = self.inside(self.expression)
+            self.wants("|")
+        kind = LISTINGS.get(self.found(re.compile("[A-Za-z]+")).upper()) or self.refuse()
+        self.wants("(")
+        subscript = self.inside(self.expression)
+        self.wants(")")
+        return kind, environment, subscript
 
     def choice(self) -> Tree:
         condition = self.expression()

@@ -61,6 +61,35 @@ class Tree:
             return ""
         return written(front[place][1]) if front[place][0] == 1 else front[place][1]
 
+    def following(self, subscripts: Subscripts, forward: bool) -> Subscripts | None:
+        """The next node that has a text, in the order of subscripts, or the one before; a node stands before those below it."""
+        return self._after(subscripts) if forward else self._before(subscripts)
+
+    def _after(self, at: Subscripts) -> Subscripts | None:
+        """The first node below one, or else the next beside it, or beside one above it."""
+        at = at if at and not at[-1] else (*at, "")
+        while at:
+            found = self.order(at, forward=True)
+            at = (*at[:-1], found) if found else at[:-1]
+            if found and at in self.texts:
+                return at
+            at = (*at, "") if found else at
+        return None
+
+    def _before(self, at: Subscripts) -> Subscripts | None:
+        """The last node at or below the one before it, or else the one above it."""
+        while at:
+            found = self.order(at, forward=False)
+            at = at[:-1]
+            while found:
+                at = (*at, found)
+                found = self.order((*at, ""), forward=False)
+                if not found:
+                    return at
+            if at in self.texts:
+                return at
+        return None
+
 
 class Locals:
     """Names with the trees that they lead to, and levels: what each has to put back when it ends."""

@@ -151,32 +151,40 @@ def reverse(text: str) -> str:
     return text[::-1]
 
 
-def form_number(text: str, codes: str, *places: str) -> str:
-    """$FNUMBER: `,` parts thousands, `+` shows a plus, `-` no minus, `T` puts the sign after, `P` a negative number in brackets. M2 if they conflict."""
-    codes = codes.upper()
-    digits = [whole(place) for place in places]
+def form_number(text: str, letters: str, *places: str) -> str:
+    """$FNUMBER: `,` parts thousands, `+` shows a plus, `-` no minus, `T` puts the sign after, `P` a negative number in brackets.
+
+    ZARG for places below 0, and for a character that is none of these; M2 if they conflict; ZLONG."""
     number = value(text)
-    if "P" in codes and set(codes) & set("+-T"):
+    count = whole(places[0]) if places else 0
+    letters = letters.upper()
+    if count < 0 or set(letters) - set(",+-TP"):
+        raise Stop("ZARG")
+    if "P" in letters and set(letters) & set("+-T"):
         raise Stop("M2")
-    shown = (fixed(text, digits[0]) if digits else written(rounded(number))).lstrip("-")
-    before, point, after = shown.partition(".")
-    if "," in codes:
+    shown = fixed(text, count) if places else written(rounded(number))
+    is_below, is_zero = shown.startswith("-"), not set(shown) & set("123456789")
+    before, point, after = shown.lstrip("-").partition(".")
+    if "," in letters:
         before = re.sub(r"(?<=\d)(?=(?:\d{3})+$)", ",", before)
     shown = before + point + after
-    if "P" in codes:
-        return f"({shown})" if number < 0 else f" {shown} "
-    sign = "-" if number < 0 and "-" not in codes else "+" if number > 0 and "+" in codes else ""
-    if "T" in codes:
-        return shown + (sign or " ")
-    return sign + shown
+    sign = "-" if is_below and "-" not in letters else "+" if not is_below and not is_zero and "+" in letters else ""
+    if "P" in letters:
+        return checked(f"({shown})" if is_below else f" {shown} ")
+    return checked(shown + (sign or " ") if "T" in letters else sign + shown)
 
 
-def set_piece(text: str, delimiter: str, first: int, last: int, new: str) -> str:
-    """A text with other pieces. ZARG for a place out of 1 to 500, or no delimiter."""
-    if not 1 <= first <= 500 or not delimiter or last > 500:
+def set_piece(text: str, delimiter: str, place: int, new: str) -> str:
+    """A text with another piece. ZARG for a place below 1."""
+    if place < 1:
         raise Stop("ZARG")
-    if last < first:
-        return text
+    return set_pieces(text, delimiter, place, place, new)
+
+
+def set_pieces(text: str, delimiter: str, first: int, last: int, new: str) -> str:
+    """A text with another piece in place of some. ZARG for a first place above 500, or no delimiter."""
+    if first > 500 or not delimiter:
+        raise Stop("ZARG")
     pieces = text.split(delimiter)
     pieces += [""] * (first - len(pieces))
     return checked(delimiter.join([*pieces[:first - 1], new, *pieces[last:]]))
@@ -184,9 +192,7 @@ def set_piece(text: str, delimiter: str, first: int, last: int, new: str) -> str
 
 def set_extract(text: str, first: int, last: int, new: str) -> str:
     """A text with other characters at some places; spaces fill up."""
-    if last < first or last < 1:
-        return text
-    begin = max(first, 1) - 1
+    begin = first - 1
     if begin > LONGEST:
         raise Stop("ZLONG")
     return checked(text[:begin].ljust(begin) + new + text[last:])

@@ -7,7 +7,9 @@ import sys
 import threading
 import tomllib
 from collections.abc import Callable
+from typing import TypeVar
 
+from . import faults
 from .decimals import Stop
 from .expressions import Account, Session
 from .locking import Locks
@@ -17,14 +19,16 @@ from .scopes import Tree
 LONGEST_LINE, LONGEST_WIRE = 255, 260
 # A level takes some twenty calls of Python, and there are 256 of them.
 STACK, CALLS = 512 * 1024 * 1024, 100_000
+Found = TypeVar("Found")
 _LINE = re.compile(rb"([1-9][0-9]{0,3}) (.*)", re.DOTALL)
 
 
 class World:
-    """A store in memory, and the sessions of terminals, by settings as the program takes them. If a language is given, all accounts have it."""
+    """A store in memory, and the sessions of terminals, by settings as the program takes them. If a language is given, all accounts have it. Faults may say where they were."""
 
-    def __init__(self, settings: str, language: int | None = None) -> None:
+    def __init__(self, settings: str, language: int | None = None, detail: bool = False) -> None:
         found = tomllib.loads(settings)
+        self.detail = detail
         self.accounts: dict[int, Account] = {}
         for one in found.get("account", []):
             number = one.get("language", 0) if language is None else language
@@ -35,7 +39,7 @@ class World:
         self.locks = Locks()
 
     def line(self, terminal: int, text: str) -> tuple[str, str]:
-        """What a line writes, with a character 255 for each line's end, and the code that ends it, or nothing."""
+        """What a line writes, with a character 255 for each line's end, and the code that ends it, or nothing; if details are wanted, with where that was."""
         account = self.accounts.get(terminal)
         for refused, code in ((account is None, "ZTERM"), (len(text) > LONGEST_LINE, "ZLINE"), (not text.isascii(), "ZCHAR")):
             if refused:
@@ -45,7 +49,7 @@ class World:
         try:
             machine.run(text)
         except Stop as stop:
-            code = stop.code
+            code = stop.code + (faults.detail(f"{terminal}!{stop.code}", stop, len(self.locks.held.get(terminal, ()))) if self.detail else "")
         except Halted:
             del self.sessions[terminal]
             self.locks.release(terminal)
@@ -65,20 +69,21 @@ class World:
         if len(line) > LONGEST_WIRE or found is None:
             return b"?!ZLINE\n" if len(line) > LONGEST_WIRE else b"?!ZWIRE\n"
         out, code = self.line(int(found[1]), found[2].decode("latin1"))
-        *whole, rest = re.sub(r"[\x00-\x1f\x7f\\]", lambda one: f"\\{ord(one[0]):02X}", out).split(BREAK)
+        *whole, rest = faults.escaped(out).split(BREAK)
         parts = [f":{text}" for text in whole] + [f"-{rest}"] * bool(rest) + [f"!{code}" if code else "."]
         return "".join(f"{int(found[1])}{part}\n" for part in parts).encode("ascii")
 
 
-def deep(run: Callable[[], bytes]) -> bytes:
+def deep(run: Callable[[], Found]) -> Found:
     """What a call gives, with room for as many levels as a line may open."""
-    found: list[object] = []
+    found: list[Found] = []
+    failed: list[BaseException] = []
 
     def caught() -> None:
         try:
             found.append(run())
         except BaseException as error:
-            found.append(error)
+            failed.append(error)
     before, calls = threading.stack_size(STACK), sys.getrecursionlimit()
     sys.setrecursionlimit(CALLS)
     try:
@@ -88,6 +93,6 @@ def deep(run: Callable[[], bytes]) -> bytes:
     finally:
         threading.stack_size(before)
         sys.setrecursionlimit(calls)
-    if isinstance(found[0], BaseException):
-        raise found[0]
+    if failed:
+        raise failed[0]
     return found[0]

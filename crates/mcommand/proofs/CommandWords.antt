@@ -22,7 +22,7 @@ pub use Rattle.moperator.specs.declared.code.Code.TheVariants.{Zmem}
 pub use Rattle.mspec.proofs.ListPlaces.{next_item, none_left}
 pub use Rattle.mspec.specs.Act.{Act, Gives, Text, ask, give, set_test, write, ◌>>=◌, ◌>>◌}
 pub use Rattle.mspec.specs.Plan.{Answer, Give_back, Op, Release, Take}
-pub use Rattle.mspec.specs.TextFunctions.{set_piece_of}
+pub use Rattle.mspec.specs.TextFunctions.{set_piece_of, set_range_of}
 pub use Rattle.mnodes.proofs.Doubting.{Doubts-same, Doubts-then, undoubted}
 pub use Rattle.mnodes.specs.Doubt.{Doubts}
 pub use Rattle.mnodes.specs.Over.{DoubtsOver}

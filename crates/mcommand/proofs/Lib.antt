@@ -1,6 +1,7 @@
 -- SPDX-License-Identifier: Apache-2.0
 mod CommandWords
 pub mod Calls
+pub mod Characters
 pub mod Targets
 pub mod Labels
 pub mod Locking

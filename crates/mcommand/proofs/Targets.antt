@@ -1,57 +1,60 @@
 -- SPDX-License-Identifier: Apache-2.0
 -- Targets of SET.
-use Rattle.mcommand.proofs.CommandWords.{◌≡◌, List, [], ◌∷◌, Option, Result, Ok, Err, refl, sym, subst, IsErr, IsErrAnd, set_piece_of, Text, Act, ◌>>=◌, ◌>>◌, give, TargetTree, ExprTree, one, several, variable, local, exprs, no_exprs, outcome, Evaluated, Place, at_local, of_local, read_or, put_at, value, values, evaluated, Yields, Answers, Ghosts, fault_of, Code, Zmem, put_act, Parts, Prepared, Does, prepared_view, ℤ}
+use Rattle.mcommand.proofs.CommandWords.{◌≡◌, List, [], ◌∷◌, Option, Result, Ok, Err, refl, sym, subst, IsErr, IsErrAnd, ap, set_piece_of, set_range_of, Text, Act, ◌>>=◌, ◌>>◌, give, TargetTree, ExprTree, one, several, variable, local, exprs, no_exprs, outcome, Evaluated, Place, at_local, of_local, read_or, put_at, value, values, evaluated, Answers, Ghosts, fault_of, Code, Zmem, put_act, Parts, Prepared, Does, prepared_view, ℤ}
 use Rattle.mspec.specs.Code as spec
-use Rattle.mmeaning.specs.Functions.{as_whole_or_none}
+use Rattle.mgrammar.specs.Functions.{ValueFunctionTree, FunctionTree, function_of}
+use Rattle.mmeaning.specs.Functions.{text_at}
+use Rattle.mtree.specs.Functions.{IsValueWord}
 use Rattle.mmeaning.specs.LineMeaning as meaning
 use Rattle.mtext.specs.declared.fault.TextFault.{TextFault}
 use Rattle.mtext.specs.declared.fault.TextFault.TheVariants as fault
 use Rattle.moperator.specs.Faults.{fault_code}
 use Rattle.mcommand.proofs.Calls.{does_then, does_failed, does_stopped, does_yielded, does_gives, does_wanting}
 
--- a piece, once its place is a number
-abbrev piece_given : Place → (d x : Text) → Option ℤ → Text → Act (Unit {0})
-piece_given p d x n old = outcome (set_piece_of old d n x) >>= put_at p
+-- the text at a place becomes one that is made of it
+abbrev pub made_put : (Text → Result Text spec.Code) → Place → Act (Unit {0})
+made_put made p = read_or [] p >>= λ old. outcome (made old) >>= put_at p
 
--- and before that
-abbrev pub piece_put : (d x : Text) → Option Text → Place → Act (Unit {0})
-piece_put d x place p = as_whole_or_none place >>= λ n. read_or [] p >>= piece_given p d x n
+-- that of a piece, and of a range
+abbrev pub with_piece : (x : Text) → List Text → Option ℤ → Text → Result Text spec.Code
+with_piece x xs n old = set_piece_of old (text_at 0 xs) n x
+
+abbrev pub with_range : (x : Text) → Option Text → (from to : Option ℤ) → Text → Result Text spec.Code
+with_range x d from to old = set_range_of old d from to x
+
+-- a word that a function of values has
+pub named_is : (x w : Text) (f : ValueFunctionTree) (v : Evaluated) (xs : List Text) → IsValueWord w f → ◌≡◌ {A = Act (Unit {0})} (meaning.named_part x (function_of w) v xs) (meaning.part_assigned x f v xs)
+named_is x w f v xs is = ap (λ (o : Option FunctionTree). meaning.named_part x o v xs) is.2
 
 -- a local variable with one subscript
 abbrev node_of : Text → ExprTree → TargetTree
 node_of name s = variable (local name (exprs s no_exprs))
 
 module _ {S : Type 0} {g : Ghosts S} where
-  -- ---- pieces
+  -- ---- parts
 
   text_made : (wanted : Result Text spec.Code) (t : Text) (parts : Parts S) → Answers wanted (Ok t) → Does g (λ i. outcome wanted) (λ (t : Text). t) parts (Ok t) parts
   text_made wanted t parts e = subst (λ w. Does g (λ i. outcome w) (λ (t : Text). t) parts (Ok t) parts) (sym e) (does_gives t (λ t. t) t refl)
 
   refused_by : (wanted : Result Text spec.Code) (f : TextFault) (parts : Parts S) → Answers wanted (Err f) → Does g (λ i. outcome wanted) (λ (t : Text). t) parts (Err (fault_code f)) parts
   refused_by wanted fault.Arg parts e = subst (λ w. Does g (λ i. outcome w) (λ (t : Text). t) parts (Err (fault_code fault.Arg)) parts) (sym e) (does_yielded (record { ends = λ s. refl }))
+  refused_by wanted fault.Format parts e = subst (λ w. Does g (λ i. outcome w) (λ (t : Text). t) parts (Err (fault_code fault.Format)) parts) (sym e) (does_yielded (record { ends = λ s. refl }))
   refused_by wanted fault.TooLong parts e = subst (λ w. Does g (λ i. outcome w) (λ (t : Text). t) parts (Err (fault_code fault.TooLong)) parts) (sym e) (does_yielded (record { ends = λ s. refl }))
   refused_by wanted fault.Memory parts e = does_yielded (record { ends = tt })
 
-  module _ (p : Place) (d x : Text) where
-    pub piece_number_failed : (place : Option Text) (e : Code) {parts : Parts S} {r : Result (Unit {0}) Code} → Yields fault_of (as_whole_or_none place) (λ (n : Option ℤ). n) (Err e) → IsErr r × IsErrAnd r (λ x. x ≡ e) → Does g (λ i. piece_put d x place p) (λ (u : Unit {0}). u) parts r parts
-    piece_number_failed place e number h = does_stopped (λ i n. read_or [] p >>= piece_given p d x n) (does_yielded number) h
+  module _ (made : Text → Result Text spec.Code) (p : Place) where
+    pub made_read_failed : {e : Code} {parts new : Parts S} {r : Result (Unit {0}) Code} → Does g (λ i. read_or [] p) (λ (t : Text). t) parts (Err e) new → IsErr r × IsErrAnd r (λ x. x ≡ e) → Does g (λ i. made_put made p) (λ (u : Unit {0}). u) parts r new
+    made_read_failed found h = does_stopped (λ i old. outcome (made old) >>= put_at p) found h
 
-    module _ (place : Option Text) (n : Option ℤ) {parts : Parts S} (number : Yields fault_of (as_whole_or_none place) (λ (n : Option ℤ). n) (Ok n)) where
-      pub piece_read : {new : Parts S} {r : Result (Unit {0}) Code} → Does g (λ i. read_or [] p >>= piece_given p d x n) (λ u. u) parts r new → Does g (λ i. piece_put d x place p) (λ u. u) parts r new
-      piece_read k = does_then (λ i n. read_or [] p >>= piece_given p d x n) (does_yielded number) k
+    module _ (old : Text) {parts mid : Parts S} (found : Does g (λ i. read_or [] p) (λ (t : Text). t) parts (Ok old) mid) where
+      pub made_wanting : {r : Result (Unit {0}) Code} → IsErr r × IsErrAnd r (λ e. e ≡ Zmem) → Does g (λ i. made_put made p) (λ (u : Unit {0}). u) parts r mid
+      made_wanting {r = r} h = does_then (λ i old. outcome (made old) >>= put_at p) found (does_wanting (λ i. outcome (made old) >>= put_at p) (λ u. u) r h refl refl refl refl)
 
-      pub piece_read_failed : {e : Code} {new : Parts S} {r : Result (Unit {0}) Code} → Does g (λ i. read_or [] p) (λ (t : Text). t) parts (Err e) new → IsErr r × IsErrAnd r (λ x. x ≡ e) → Does g (λ i. piece_put d x place p) (λ (u : Unit {0}). u) parts r new
-      piece_read_failed found h = piece_read (does_stopped (λ i. piece_given p d x n) found h)
+      pub made_assigned : (text : Text) (new : Parts S) (r : Result (Unit {0}) Code) → Answers (made old) (Ok text) → Does g (λ i. put_at p text) (λ (u : Unit {0}). u) mid r new → Does g (λ i. made_put made p) (λ u. u) parts r new
+      made_assigned text new r made_is k = does_then (λ i old. outcome (made old) >>= put_at p) found (does_then (λ i. put_at p) (text_made (made old) text mid made_is) k)
 
-      module _ (old : Text) {mid : Parts S} (found : Does g (λ i. read_or [] p) (λ (t : Text). t) parts (Ok old) mid) where
-        pub piece_wanting : {r : Result (Unit {0}) Code} → IsErr r × IsErrAnd r (λ e. e ≡ Zmem) → Does g (λ i. piece_put d x place p) (λ (u : Unit {0}). u) parts r mid
-        piece_wanting {r = r} h = piece_read (does_then (λ i. piece_given p d x n) found (does_wanting (λ i. piece_given p d x n old) (λ u. u) r h refl refl refl refl))
-
-        pub piece_assigned : (made : Text) (new : Parts S) (r : Result (Unit {0}) Code) → Answers (set_piece_of old d n x) (Ok made) → Does g (λ i. put_at p made) (λ (u : Unit {0}). u) mid r new → Does g (λ i. piece_put d x place p) (λ u. u) parts r new
-        piece_assigned made new r made_is k = piece_read (does_then (λ i. piece_given p d x n) found (does_then (λ i. put_at p) (text_made (set_piece_of old d n x) made mid made_is) k))
-
-        pub piece_refused : (f : TextFault) (r : Result (Unit {0}) Code) → Answers (set_piece_of old d n x) (Err f) → IsErr r × IsErrAnd r (λ e. e ≡ fault_code f) → Does g (λ i. piece_put d x place p) (λ u. u) parts r mid
-        piece_refused f r refused e = piece_read (does_then (λ i. piece_given p d x n) found (does_stopped (λ i. put_at p) (refused_by (set_piece_of old d n x) f mid refused) e))
+      pub made_refused : (f : TextFault) (r : Result (Unit {0}) Code) → Answers (made old) (Err f) → IsErr r × IsErrAnd r (λ e. e ≡ fault_code f) → Does g (λ i. made_put made p) (λ u. u) parts r mid
+      made_refused f r refused e = does_then (λ i old. outcome (made old) >>= put_at p) found (does_stopped (λ i. put_at p) (refused_by (made old) f mid refused) e)
 
   -- ---- one target
 

@@ -1,9 +1,10 @@
 // SPDX-License-Identifier: Apache-2.0
-//! What the arguments of commands that run no text do: SET, KILL, IF, LOCK and WRITE, postconditionals, and the parameters of FOR.
+//! What the arguments of commands that run no text do: SET, KILL, IF, LOCK, WRITE and HANG, postconditionals, and the parameters of FOR.
 #![tactic(auto)]
 
 mod condition;
 mod for_parameter;
+mod hang;
 mod kill;
 mod lock;
 mod parts;

@@ -3,19 +3,19 @@
 ghost use Rattle.std.specs.Prelude.{[], map, option_map};
 ghost use Rattle.mgrammar.specs.Grammar.{one, variable, local, exprs, no_exprs};
 ghost use Rattle.mmeaning.specs.LineMeaning as meaning;
-ghost use Rattle.mtree.specs.Tree.{expr_tree, piece_tree, target_tree, destination_tree};
+ghost use Rattle.mtree.specs.Tree.{expr_tree, part_tree, target_tree, value_function_tree, destination_tree};
 ghost use Rattle.meval.specs.Places.{pending_view};
 ghost use Rattle.mcommand.specs.Does.{Does};
 ghost use Rattle.mcommand.specs.Prepared.{prepared_view};
 
 use crate::parts::Parts;
-use meval::Pending;
+use meval::{Pending, Values};
 use mgrant::Mode;
 use mnodes::NodeStore;
 use mnum::{Bytes7, Name};
-use moperator::{Code, whole_number};
-use mtext::set_piece;
-use mtree::{Destination, Expr, PieceTarget, Reference, Target};
+use moperator::{Code, text_at, whole_at};
+use mtext::{has_places, set_piece, set_range};
+use mtree::{Destination, Expr, PartTarget, Reference, Target, ValueFunction, ValueWord};
 use mvalue::Value;
 use std::alloc::Global;
 
@@ -24,38 +24,23 @@ use std::alloc::Global;
 pub(crate) enum Prepared<'t> {
     // A variable.
     Whole(Pending<'t>),
-    // A piece of a variable, with its delimiter and its place.
-    Part(Pending<'t>, Bytes7, Option<Value>),
+    // A part of a variable, with its function's word and the values after the variable.
+    Part(&'t ValueWord, Pending<'t>, Values),
 }
 
 impl<'a, S: NodeStore> Parts<'a, S> {
-    // The value of an expression, if there is one.
-    fn optional_value(&mut self, alloc: Global, e: &Option<Expr>) -> Result<Option<Value>, Code>
-        ensures { Does S.NodeStore (λ i. meaning.optional_value i (option_map expr_tree e.now)) (λ value. value) self.old result self.new }
-    {
-        match e {
-            None => Ok(None),
-            Some(e) => {
-                let value = self.eval.eval(alloc, e)?;
-                Ok(Some(value))
-            }
-        }
-    }
-
-    // What a piece of a variable evaluates. Kept out of line, since it is rare.
+    // What a part of a variable evaluates. Kept out of line, since it is rare.
     #[inline(never)]
     fn prepared_part<'t>(
         &mut self,
         alloc: Global,
-        part: &'t PieceTarget,
+        part: &'t PartTarget,
     ) -> Result<Prepared<'t>, Code>
-        ensures { Does S.NodeStore (λ i. meaning.prepared i (piece_tree part.now)) prepared_view self.old result self.new }
+        ensures { Does S.NodeStore (λ i. meaning.prepared i (part_tree part.now)) prepared_view self.old result self.new }
     {
         let pending = self.eval.evaluated(alloc, &part.reference)?;
-        let delimiter = self.eval.eval(alloc, &part.delimiter)?;
-        let place = self.optional_value(alloc, &part.place)?;
-        let delimiter = delimiter.into_text(alloc)?;
-        Ok(Prepared::Part(pending, delimiter, place))
+        let values = self.eval.values(alloc, &part.more)?;
+        Ok(Prepared::Part(&part.word, pending, values))
     }
 
     // What a target evaluates.
@@ -67,7 +52,7 @@ impl<'a, S: NodeStore> Parts<'a, S> {
                 let pending = self.eval.evaluated(alloc, reference)?;
                 Ok(Prepared::Whole(pending))
             }
-            Target::Piece(part) => self.prepared_part(alloc, part),
+            Target::Part(part) => self.prepared_part(alloc, part),
         }
     }
 
@@ -88,22 +73,98 @@ impl<'a, S: NodeStore> Parts<'a, S> {
     }
 
     // Gives a piece of a variable a value.
-    fn set_part(
+    fn assign_piece(
         &mut self,
         alloc: Global,
         pending: Pending,
-        delimiter: &Bytes7,
-        place: &Option<Value>,
+        values: &[Value],
         value: &Value,
     ) -> Result<(), Code>
-        ensures { Does S.NodeStore (λ i. meaning.assigned value.now (meaning.part (pending_view pending.entry) delimiter.now place.now)) (λ u. u) self.old result self.new }
+        ensures { Does S.NodeStore (λ i. meaning.piece_assigned value.now (pending_view pending.entry) values.now) (λ u. u) self.old result self.new }
     {
         let left = self.eval.resolved(alloc, Mode::Write, pending)?;
-        let place = whole_number(place)?;
+        let place = whole_at(values, 1)?;
+        let old = self.eval.text_or_empty(alloc, &left)?;
+        let delimiter = text_at(alloc, values, 0)?;
+        let shown = value.shown(alloc)?;
+        let new = set_piece(alloc, &old, delimiter.as_text(), place, shown.as_text())?;
+        self.eval.put(alloc, &left, Value::of_text(new))
+    }
+
+    // Gives characters of a variable, or pieces by a delimiter, a value. It stays alone if they are none.
+    fn assign_range(
+        &mut self,
+        alloc: Global,
+        pending: Pending,
+        delimiter: Option<&Bytes7>,
+        from: Option<i64>,
+        to: Option<i64>,
+        value: &Value,
+    ) -> Result<(), Code>
+        ensures { Does S.NodeStore (λ i. meaning.range_assigned value.now (pending_view pending.entry) (option_map (λ d. d.now) delimiter.entry) from to) (λ u. u) self.old result self.new }
+    {
+        if !has_places(from, to) {
+            return Ok(());
+        }
+        let left = self.eval.resolved(alloc, Mode::Write, pending)?;
         let old = self.eval.text_or_empty(alloc, &left)?;
         let shown = value.shown(alloc)?;
-        let new = set_piece(alloc, &old, delimiter, place, shown.as_text())?;
+        let new = set_range(alloc, &old, delimiter, from, to, shown.as_text())?;
         self.eval.put(alloc, &left, Value::of_text(new))
+    }
+
+    // Gives several pieces of a variable a value.
+    fn assign_pieces(
+        &mut self,
+        alloc: Global,
+        pending: Pending,
+        values: &[Value],
+        value: &Value,
+    ) -> Result<(), Code>
+        ensures { Does S.NodeStore (λ i. meaning.pieces_assigned value.now (pending_view pending.entry) values.now) (λ u. u) self.old result self.new }
+    {
+        let from = whole_at(values, 1)?;
+        let to = whole_at(values, 2)?;
+        let delimiter = text_at(alloc, values, 0)?;
+        self.assign_range(alloc, pending, Some(delimiter.as_text()), from, to, value)
+    }
+
+    // Gives characters of a variable a value.
+    fn assign_characters(
+        &mut self,
+        alloc: Global,
+        pending: Pending,
+        values: &[Value],
+        value: &Value,
+    ) -> Result<(), Code>
+        ensures { Does S.NodeStore (λ i. meaning.characters_assigned value.now (pending_view pending.entry) values.now) (λ u. u) self.old result self.new }
+    {
+        let from = whole_at(values, 0)?;
+        let to = whole_at(values, 1)?;
+        self.assign_range(alloc, pending, None, from, to, value)
+    }
+
+    // Gives a part of a variable a value.
+    fn assign_part(
+        &mut self,
+        alloc: Global,
+        function: ValueFunction,
+        pending: Pending,
+        values: &[Value],
+        value: &Value,
+    ) -> Result<(), Code>
+        ensures { Does S.NodeStore (λ i. meaning.part_assigned value.now (value_function_tree function) (pending_view pending.entry) values.now) (λ u. u) self.old result self.new }
+    {
+        match function {
+            ValueFunction::Piece => {
+                if values.len() > 2 {
+                    return self.assign_pieces(alloc, pending, values, value);
+                }
+                self.assign_piece(alloc, pending, values, value)
+            }
+            ValueFunction::Extract => self.assign_characters(alloc, pending, values, value),
+            _ => Err(Code::Zsyntax),
+        }
     }
 
     // Gives a target a value.
@@ -115,8 +176,8 @@ impl<'a, S: NodeStore> Parts<'a, S> {
                 let place = self.eval.resolved(alloc, Mode::Write, pending)?;
                 self.eval.put(alloc, &place, value)
             }
-            Prepared::Part(pending, delimiter, place) => {
-                self.set_part(alloc, pending, &delimiter, &place, &value)
+            Prepared::Part(word, pending, values) => {
+                self.assign_part(alloc, word.function(), pending, values.as_slice(), &value)
             }
         }
     }

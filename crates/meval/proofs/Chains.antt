@@ -29,7 +29,7 @@ both_known : (o : Arithmetic) (a : ℤ) (y : Option ℤ) → ◌≡◌ {A = Act 
 both_known o a None = refl
 both_known o a (Some b) = refl
 
-left_known : (o : Arithmetic) (left : Num) (y : Text) → ◌≡◌ {A = Act Text} (binary (operator_tree o) (number_text (units left)) y) (as_number y >>= calculated o (units left))
+pub left_known : (o : Arithmetic) (left : Num) (y : Text) → ◌≡◌ {A = Act Text} (binary (operator_tree o) (number_text (units left)) y) (as_number y >>= calculated o (units left))
 left_known o left y =
     wants_numbers o (number_text (units left)) y
     ∙ ap (λ (x : Option ℤ). both x (numeric_value significant_digits y) >>= (λ n. calculated o n.0 n.1)) (number_again left)

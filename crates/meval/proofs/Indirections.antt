@@ -32,6 +32,26 @@ not_free found b none when = false_from_ne_true b (λ is. false≢true (subst Is
 pub is_free : {X : Type 0} {x : X} (found : Option X) (b : Bool) → found ≡ Some x → IsSome found ↔ IsTrue b → b ≡ true
 is_free found b some when = when.0 (subst IsSome (sym some) refl)
 
+-- ---- after the check of the depth
+
+module _ {S A Y : Type 0} {g : Ghosts S} {j : Y → A} where
+  -- one too deep
+  pub deep_fails : {mid : Eval S} (q : Inside → Act A) → is_indirection_free (depth_of mid.depth) ≡ false → Evaluates g (λ i. an_indirection_free i.depth >> q i) j mid (Err code.Zdepth) mid
+  deep_fails {mid = mid} q full = record {
+    at = λ sure out locks. rw full (did_fail spec.Zdepth j code.Zdepth refl);
+    doubt = Doubts-same _;
+    keeps = keeps_itself _;
+    depth = refl;
+  }
+
+  pub free_then : {mid new : Eval S} {r : Result Y Code} (q : Inside → Act A) → is_indirection_free (depth_of mid.depth) ≡ true → Evaluates g q j mid r new → Evaluates g (λ i. an_indirection_free i.depth >> q i) j mid r new
+  free_then {mid = mid} q free d = record {
+    at = λ sure out locks. rw free (d.at sure out locks);
+    doubt = d.doubt;
+    keeps = d.keeps;
+    depth = d.depth;
+  }
+
 module _ {S Y : Type 0} {g : Ghosts S} {j : Y → Evaluated} where
   -- the subscripts after a reference are evaluated after its own
   pub evaluates_behind : {old new : Eval S} {r : Result Y Code} (es : ExprsTree) (v : Evaluated)
@@ -42,21 +62,7 @@ module _ {S Y : Type 0} {g : Ghosts S} {j : Y → Evaluated} where
 
   -- one too deep
   pub evaluates_deep : {mid : Eval S} (subscripts : ExprsTree) (x : Text) → is_indirection_free (depth_of mid.depth) ≡ false → Evaluates g (λ i. named_by i subscripts x) j mid (Err code.Zdepth) mid
-  evaluates_deep {mid = mid} subscripts x full = record {
-    at = λ sure out locks. rw full (did_fail spec.Zdepth j code.Zdepth refl);
-    doubt = Doubts-same _;
-    keeps = keeps_itself _;
-    depth = refl;
-  }
-
-  -- what stops after the check of the depth
-  free_then : {mid new : Eval S} {r : Result Y Code} (q : Inside → Act Evaluated) → is_indirection_free (depth_of mid.depth) ≡ true → Evaluates g q j mid r new → Evaluates g (λ i. an_indirection_free i.depth >> q i) j mid r new
-  free_then {mid = mid} q free d = record {
-    at = λ sure out locks. rw free (d.at sure out locks);
-    doubt = d.doubt;
-    keeps = d.keeps;
-    depth = d.depth;
-  }
+  evaluates_deep subscripts x full = deep_fails (λ i. read_so spec.Zsyntax (λ l. ref_in l x) >>= (λ r. i.find (indirected i.depth) r subscripts)) full
 
   -- one whose text names no variable, or for whose tree memory runs out
   pub evaluates_unnamed : {R : Type 0} {mid : Eval S} {e : Code} {r : Result Y Code} {f : R → ReferenceTree} (subscripts : ExprsTree) (x : Text) → is_indirection_free (depth_of mid.depth) ≡ true

@@ -9,4 +9,5 @@ pub mod Indirections
 pub mod Locks
 pub mod LocalVariables
 pub mod Chains
+pub mod PowerRuns
 pub mod EvalLaws

@@ -73,8 +73,17 @@ select_is word choices = ap primary_tree (sym (primary.rolls-Select word choices
 pub apply_is : (b : Binary) (o : Operand) → tail_tree (tail.Apply b o) ≡ grammar.apply (binary_tree b) (operand_tree o)
 apply_is b o = ap tail_tree (sym (tail.rolls-Apply b o)) ∙ fold-roll-Tail PrimaryTree ReferenceTree TailTree ChoiceTree ExprTree OperandTree PrimaryTree primary_layer reference_layer tail_layer choice_layer expr_layer operand_layer referring_layer _
 
+pub raise_is : (o : Operand) → tail_tree (tail.Raise o) ≡ grammar.raise (operand_tree o)
+raise_is o = ap tail_tree (sym (tail.rolls-Raise o)) ∙ fold-roll-Tail PrimaryTree ReferenceTree TailTree ChoiceTree ExprTree OperandTree PrimaryTree primary_layer reference_layer tail_layer choice_layer expr_layer operand_layer referring_layer _
+
 pub matches_is : (atoms : Vec Atom Global) → tail_tree (tail.Matches atoms) ≡ grammar.matches (map atom_tree atoms.items)
 matches_is atoms = ap tail_tree (sym (tail.rolls-Matches atoms)) ∙ fold-roll-Tail PrimaryTree ReferenceTree TailTree ChoiceTree ExprTree OperandTree PrimaryTree primary_layer reference_layer tail_layer choice_layer expr_layer operand_layer referring_layer _
 
 pub matches_not_is : (atoms : Vec Atom Global) → tail_tree (tail.MatchesNot atoms) ≡ grammar.matches_not (map atom_tree atoms.items)
 matches_not_is atoms = ap tail_tree (sym (tail.rolls-MatchesNot atoms)) ∙ fold-roll-Tail PrimaryTree ReferenceTree TailTree ChoiceTree ExprTree OperandTree PrimaryTree primary_layer reference_layer tail_layer choice_layer expr_layer operand_layer referring_layer _
+
+pub matches_indirect_is : (operand : Box Primary Global) → tail_tree (tail.MatchesIndirect operand) ≡ grammar.matches_indirect (primary_tree operand.value)
+matches_indirect_is operand = ap tail_tree (sym (tail.rolls-MatchesIndirect operand)) ∙ fold-roll-Tail PrimaryTree ReferenceTree TailTree ChoiceTree ExprTree OperandTree PrimaryTree primary_layer reference_layer tail_layer choice_layer expr_layer operand_layer referring_layer _
+
+pub matches_not_indirect_is : (operand : Box Primary Global) → tail_tree (tail.MatchesNotIndirect operand) ≡ grammar.matches_not_indirect (primary_tree operand.value)
+matches_not_indirect_is operand = ap tail_tree (sym (tail.rolls-MatchesNotIndirect operand)) ∙ fold-roll-Tail PrimaryTree ReferenceTree TailTree ChoiceTree ExprTree OperandTree PrimaryTree primary_layer reference_layer tail_layer choice_layer expr_layer operand_layer referring_layer _

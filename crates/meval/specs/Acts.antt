@@ -1,15 +1,30 @@
 -- SPDX-License-Identifier: Apache-2.0
 -- What calls of the evaluation do, for acts that the meaning has inside larger ones.
-use Rattle.std.specs.Prelude.{ℤ, pos, Bool, [], slice_get, unwrap_or}
+use Rattle.std.specs.Prelude.{ℤ, pos, Bool, [], map, slice_get, unwrap_or}
 use Rattle.mspec.specs.Trees.{Direction}
-use Rattle.mspec.specs.Act.{Text, Act, ◌>>=◌, give}
+use Rattle.mspec.specs.Act.{Text, Act, ◌>>=◌, give, give_some}
 use Rattle.mgrammar.specs.Grammar.{ExprTree, ExprsTree, OperandTree, PrimaryTree, ReferenceTree}
 use Rattle.mgrammar.specs.Functions.{get_function, order_function}
-use Rattle.mmeaning.specs.Operators.{as_number, as_truth}
+use Rattle.mspec.specs.Code.{Zsyntax}
+use Rattle.mgrammar.specs.Matching.{atom_of}
+use Rattle.mgrammar.specs.IndirectTexts.{pattern_of}
+use Rattle.mmeaning.specs.Operators.{as_number, as_truth, matching}
 use Rattle.mmeaning.specs.Functions.{whole_text, call_value}
 use Rattle.mspec.specs.LockConflict.{LockName}
 use Rattle.mmeaning.specs.Variables.{Evaluated, Place, reading, writing, ordering, resolve, named_lock, read_at, read_or, put_at, status_at, next_at, data_number, direction_of, variable_function_value}
-use Rattle.mmeaning.specs.Expression.{Inside, value, values, operand_value, primary_value, evaluated}
+use Rattle.mmeaning.specs.Expression.{Inside, value, values, operand_value, primary_value, matches_text, evaluated}
+
+-- whether a value matches the pattern that a text is, if an indirection is free
+abbrev pub matches_read : Text → Text → Act Bool
+matches_read x t = do
+  atoms ← give_some Zsyntax (pattern_of t)
+  matching (map atom_of atoms) x
+
+-- whether it matches the one that a primary's text is
+abbrev pub matches_act : Inside → PrimaryTree → Text → Act Bool
+matches_act i p x = do
+  t ← primary_value i p
+  matches_text i x t
 
 -- whether an expression is true
 abbrev pub truth : Inside → ExprTree → Act Bool

@@ -3,7 +3,7 @@
 use Rattle.std.specs.Prelude.{◌≡◌, ◌≤◌, ℕ, Bool, true, not, List, Result, Ok, Err}
 use Rattle.mspec.specs.Access.{name_at, language_at}
 use Rattle.mspec.specs.LockConflict.{Locks}
-use Rattle.mspec.specs.Act.{Text, Node, Act, given_language}
+use Rattle.mspec.specs.Act.{Text, Node, Act, given_to}
 use Rattle.mmeaning.specs.Expression as meaning
 use Rattle.mmeaning.specs.Expression.{Inside, inside}
 use Rattle.mmeaning.specs.Transition.{is_lost}
@@ -24,7 +24,7 @@ standing_of e = record {
   settings = e.settings.now;
   terminal = e.terminal;
   account = name_at e.settings.now e.account;
-  given = given_language (language_at e.settings.now e.account);
+  given = given_to e.terminal (language_at e.settings.now e.account);
 }
 
 -- a node of the account's own global

@@ -1,7 +1,7 @@
 // SPDX-License-Identifier: Apache-2.0
 // The evaluation of expressions.
 ghost use Rattle.std.specs.Prelude.{◌≡◌, ◌≢◌, ◌≤◌, ◌<◌, [], drop, length, map, Some, Err, IfOk, IfErr, IsErr, IsTrue};
-ghost use Rattle.mgrammar.specs.Grammar.{global, indirect, extended, tails_of, exprs_of, choices_of};
+ghost use Rattle.mgrammar.specs.Grammar.{global, indirect, extended, raise, tails_of, exprs_of, choices_of};
 ghost use Rattle.mmeaning.specs.Expression as meaning;
 ghost use Rattle.mmeaning.specs.LineMeaning as line;
 ghost use Rattle.mnum.specs.Num.{units};
@@ -17,7 +17,7 @@ use crate::depth::Depth;
 use crate::global_reference::GlobalReference;
 use crate::owner::Owner;
 use crate::place::{Pending, bracketed};
-use crate::reading_reference::read_reference;
+use crate::reading_reference::{read_pattern, read_reference};
 use crate::session::Session;
 use crate::shortcuts::at_hand;
 use crate::value_list::Values;
@@ -265,9 +265,13 @@ impl<'a, S: NodeStore> Eval<'a, S> {
         Ok(front.extended(alloc, values)?)
     }
 
-    // The values of expressions.
+    /// The values of expressions, one after another.
+    ///
+    /// # Errors
+    ///
+    /// The code of the first that has one.
     #[cycle(eval)]
-    pub(crate) fn values(&mut self, alloc: Global, exprs: &[Expr]) -> Result<Values, Code>
+    pub fn values(&mut self, alloc: Global, exprs: &[Expr]) -> Result<Values, Code>
         ensures { Evaluates S.NodeStore (λ i. meaning.values i [] (exprs_of (map expr_tree exprs.now))) (λ values. values) self.old result self.new }
     {
         if let [e] = exprs {
@@ -328,6 +332,26 @@ impl<'a, S: NodeStore> Eval<'a, S> {
         Ok(())
     }
 
+    // Whether a value matches the pattern that an operand's text is.
+    #[cycle(eval)]
+    #[inline(never)]
+    fn matches_indirect(
+        &mut self,
+        alloc: Global,
+        operand: &Primary,
+        value: &Value,
+    ) -> Result<bool, Code>
+        ensures { Evaluates S.NodeStore (λ i. acts.matches_act i (primary_tree operand.now) value.now) (λ b. b) self.old result self.new }
+    {
+        let given = self.primary(alloc, operand)?;
+        let Some(_) = self.depth.indirected() else {
+            return Err(Code::Zdepth);
+        };
+        let text = given.into_text(alloc)?;
+        let atoms = read_pattern(alloc, text.as_bytes())?;
+        matching(alloc, &atoms, value)
+    }
+
     // What is done with the value to the left, which becomes the result. It is changed in place: a value that is moved right after it is
     // written has to be waited for.
     #[cycle(eval)]
@@ -350,7 +374,28 @@ impl<'a, S: NodeStore> Eval<'a, S> {
                 *left = Value::of_truth(!matches);
                 Ok(())
             }
+            Tail::Raise(operand) => self.raised(alloc, left, operand),
+            Tail::MatchesIndirect(operand) => {
+                let matches = self.matches_indirect(alloc, operand, left)?;
+                *left = Value::of_truth(matches);
+                Ok(())
+            }
+            Tail::MatchesNotIndirect(operand) => {
+                let matches = self.matches_indirect(alloc, operand, left)?;
+                *left = Value::of_truth(!matches);
+                Ok(())
+            }
         }
+    }
+
+    // What `**` does with the value to the left. It is kept out of line, so that the other operators need not clear its stack space.
+    #[cycle(eval)]
+    #[inline(never)]
+    fn raised(&mut self, alloc: Global, left: &mut Value, operand: &Operand) -> Result<(), Code>
+        ensures { Evaluates S.NodeStore (λ i. meaning.tail_value i left.old (raise (operand_tree operand.now))) (λ _. left.new) self.old result self.new }
+    {
+        let right = self.operand(alloc, operand)?;
+        self.raise(left, &right)
     }
 
     // What is done with the value to the left, one step after another.

@@ -12,6 +12,7 @@ mod lookups;
 mod open_levels;
 mod owner;
 mod place;
+mod powers;
 mod reading_reference;
 mod referring;
 mod resolving;

@@ -1,16 +1,18 @@
 // SPDX-License-Identifier: Apache-2.0
-// The text of an indirection by its tree.
+// The text of a name or pattern indirection by its tree.
+ghost use Rattle.std.specs.Prelude.{map};
 ghost use Rattle.mspec.specs.Code.{Zsyntax};
 ghost use Rattle.mspec.specs.Act.{give_some};
+ghost use Rattle.mgrammar.specs.IndirectTexts.{pattern_of};
 ghost use Rattle.mgrammar.specs.Languages.{ref_in};
 ghost use Rattle.mmeaning.specs.Yields.{Yields};
-ghost use Rattle.mtree.specs.Tree.{reference_tree};
+ghost use Rattle.mtree.specs.Tree.{atom_tree, reference_tree};
 ghost use Rattle.moperator.specs.Codes.{fault_of};
 
 use mnum::{Bytes7, Name};
 use moperator::Code;
-use mparse::{ParseFault, parse_ref};
-use mtree::{Reference, since_reference};
+use mparse::{ParseFault, parse_pattern, parse_ref};
+use mtree::{Atom, Reference, since_reference};
 use std::alloc::Global;
 
 // The variable that a text names in a language. A name alone is not parsed: it is a local variable in each.
@@ -35,6 +37,17 @@ fn parsed(alloc: Global, language: u32, text: &[u8]) -> Result<Reference, Code>
         } else {
             Ok(reference)
         },
+        Err(ParseFault::Syntax) => Err(Code::Zsyntax),
+        Err(ParseFault::Memory) => Err(Code::Zmem),
+    }
+}
+
+// The pattern that a text is, in each language that has pattern indirection.
+pub fn read_pattern(alloc: Global, text: &[u8]) -> Result<Vec<Atom>, Code>
+    ensures { Yields fault_of (give_some Zsyntax (pattern_of text.now)) (λ atoms. map atom_tree atoms.items) result }
+{
+    match parse_pattern(alloc, text) {
+        Ok(atoms) => Ok(atoms),
         Err(ParseFault::Syntax) => Err(Code::Zsyntax),
         Err(ParseFault::Memory) => Err(Code::Zmem),
     }

@@ -17,6 +17,7 @@ use crate::place::Place;
 use mnodes::NodeStore;
 use mnum::{Bytes7, Name, Num};
 use moperator::{Code, number_of};
+use mspec::limits::MAX_TEXT;
 use mtree::{SpecialVariable, special_of};
 use mvalue::Value;
 use std::alloc::{AllocError, Global};
@@ -149,12 +150,23 @@ impl<'a, S: NodeStore> Eval<'a, S> {
         Ok(())
     }
 
+    // The number of its line's terminal.
+    fn terminal_number(&self) -> Value
+        ensures { Evaluates S.NodeStore (λ i. variables.terminal_number) (λ v. v) self.now (Ok result) self.now }
+    {
+        Value::of_whole(self.terminal as i64)
+    }
+
     // The value of a special variable.
     pub(crate) fn special(&mut self, word: &Bytes7) -> Result<Value, Code>
         ensures { Evaluates S.NodeStore (λ i. variables.special_value (special_of word.now)) (λ v. v) self.old result self.new }
     {
         match special_of(word.as_bytes()) {
             Some(SpecialVariable::Test) => Ok(Value::of_truth(self.session.test)),
+            Some(SpecialVariable::Io) => Ok(self.terminal_number()),
+            Some(SpecialVariable::Job) => Ok(self.terminal_number()),
+            Some(SpecialVariable::Principal) => Ok(self.terminal_number()),
+            Some(SpecialVariable::Storage) => Ok(Value::of_whole(MAX_TEXT as i64)),
             None => Err(Code::Zsyntax),
         }
     }

@@ -96,7 +96,8 @@ fn argument<'t, S: NodeStore>(
     parts.eval.depth = position.depth;
     match arg {
         Arg::Assign(destination, e) => done(parts.setting(alloc, destination, e)),
-        Arg::Breaks(count) => done(parts.breaks(*count)),
+        Arg::Formats(run) => done(parts.formats(run.as_bytes())),
+        Arg::Coded(e) => done(parts.coding(alloc, e)),
         Arg::Value(e) => done(parts.showing(alloc, e)),
         Arg::KillOne(reference) => done(parts.killing(alloc, reference)),
         Arg::KillOthers(names) => {
@@ -113,6 +114,7 @@ fn argument<'t, S: NodeStore>(
         Arg::GoTo(entry, condition) => over(going(alloc, parts, position, entry, condition)),
         Arg::Executed(e, condition) => enters(parts.holds(alloc, condition), Entrance::Text(e)),
         Arg::Lock(kind, names, timeout) => done(parts.locking(alloc, *kind, names, timeout)),
+        Arg::HangFor(seconds) => done(parts.hanging(alloc, seconds)),
         Arg::Indirect(keyword, operand) => {
             Ok(Progress::Stops(Entrance::Indirect(*keyword, operand)))
         }

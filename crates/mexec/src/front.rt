@@ -73,6 +73,8 @@ fn bare<'t, S: NodeStore>(
             over(Ok(Completion::GoOn))
         }
         Keyword::Halt => over(Ok(Completion::Halts)),
+        Keyword::Hang => over(Ok(Completion::GoOn)),
+        Keyword::HaltOrHang => over(Ok(Completion::Halts)),
     }
 }
 

@@ -30,8 +30,15 @@ fn bounds(keyword: Keyword) -> (usize, Option<usize>)
     ensures { result ≡ ((command_row (keyword_tree keyword)).least, (command_row (keyword_tree keyword)).most) }
 {
     match keyword {
-        Keyword::Set | Keyword::Write | Keyword::Goto | Keyword::Execute => (1, None),
-        Keyword::Kill | Keyword::New | Keyword::If | Keyword::Do | Keyword::Lock => (0, None),
+        Keyword::Set | Keyword::Write | Keyword::Goto | Keyword::Execute | Keyword::Hang => {
+            (1, None)
+        }
+        Keyword::Kill
+        | Keyword::New
+        | Keyword::If
+        | Keyword::Do
+        | Keyword::Lock
+        | Keyword::HaltOrHang => (0, None),
         Keyword::Else | Keyword::Quit | Keyword::Halt => (0, Some(0)),
         Keyword::For => (0, Some(1)),
     }
@@ -59,7 +66,9 @@ pub fn takes_condition(keyword: Keyword) -> bool
         | Keyword::Goto
         | Keyword::Execute
         | Keyword::Lock
-        | Keyword::Halt => true,
+        | Keyword::Halt
+        | Keyword::Hang
+        | Keyword::HaltOrHang => true,
         Keyword::If | Keyword::Else | Keyword::For => false,
     }
 }

@@ -1,6 +1,6 @@
 -- SPDX-License-Identifier: Apache-2.0
 -- The grammar on examples, as proved equations: texts with their trees, and how deep brackets may lie.
-use Rattle.mgrammar.proofs.GrammarWords.{ℕ, zero, suc, List, [], ◌∷◌, ◌++◌, Option, Some, None, rules, codes, plus, minus, negate, equals, less, greater, contains, follows, sorts_after, both, either, add, subtract, multiply, divide, divide_whole, remainder, join, is, is_not, CountTree, RepeatedTree, classes, copies, AtomTree, OperandTree, ExprTree, expr, TailTree, tails_of, apply, matches, matches_not, operand, number, text, special, reference, bracket, call, select, refer, ReferenceTree, local, global, naked, no_exprs, exprs_of, choices_of, variable, piece, DestinationTree, one, several, once, onward, until, assign, breaks, shown, kill_one, kill_others, new_one, new_others, tested, loop, set_word, kill_word, new_word, if_word, else_word, for_word, quit_word, write_word, LineTree, line_at, replicate}
+use Rattle.mgrammar.proofs.GrammarWords.{ℕ, zero, suc, List, [], ◌∷◌, ◌++◌, Option, Some, None, rules, codes, plus, minus, negate, equals, less, greater, contains, follows, sorts_after, both, either, add, subtract, multiply, divide, divide_whole, remainder, join, is, is_not, CountTree, RepeatedTree, classes, copies, AtomTree, OperandTree, ExprTree, expr, TailTree, tails_of, apply, matches, matches_not, raise, operand, number, text, special, reference, bracket, call, select, refer, ReferenceTree, local, global, naked, no_exprs, exprs_of, choices_of, variable, part, DestinationTree, one, several, once, onward, until, assign, formats, shown, kill_one, kill_others, new_one, new_others, tested, loop, set_word, kill_word, new_word, if_word, else_word, for_word, quit_word, write_word, LineTree, line_at, replicate}
 use Rattle.mgrammar.proofs.Computing.{reads}
 use Rattle.mgrammar.proofs.ShortTrees.{IsRead, HaveNone, plain, named, command, conditional, of_commands}
 
@@ -68,7 +68,7 @@ record Read : Type 0 where
   two_commands : IsRead (codes " s A=\"x\"\"y\"  w A,!!;c") (record {
     lead = 1;
     commands = (command set_word (codes "s") (assign (one (variable (named (codes "A")))) (alone (plain (text (codes "x\"y")))) ∷ []), 2)
-        ∷ (command write_word (codes "w") (shown (alone (name (codes "A"))) ∷ breaks 2 ∷ []), 0) ∷ [];
+        ∷ (command write_word (codes "w") (shown (alone (name (codes "A"))) ∷ formats (codes "!!") ∷ []), 0) ∷ [];
     comment = Some (codes "c");
   })
   -- signs, a name with `%`, and a word in full
@@ -90,6 +90,10 @@ record Read : Type 0 where
   arithmetic_operators : IsRead (codes "W 1-2/3\\4#5") (
       written (taken (digits (codes "1")) (apply subtract (digits (codes "2")) ∷ apply divide (digits (codes "3"))
       ∷ apply divide_whole (digits (codes "4")) ∷ apply remainder (digits (codes "5")) ∷ [])))
+  -- `**` is one operator: the longest
+  powers : IsRead (codes "W 2*3**-4*5") (
+      written (taken (digits (codes "2")) (apply multiply (digits (codes "3"))
+      ∷ raise (operand (minus ∷ []) (number (codes "4"))) ∷ apply multiply (digits (codes "5")) ∷ [])))
   -- `]]` is one operator: the longest
   truth_operators : IsRead (codes "W 1=2<3>4[5]6]]7&8!9") (
       written (taken (digits (codes "1")) (apply (is equals) (digits (codes "2")) ∷ apply (is less) (digits (codes "3"))
@@ -123,10 +127,10 @@ record Read : Type 0 where
       written (alone (plain (select (codes "S")
       (choices_of ((alone (name (codes "A")), alone (digits (codes "1"))) ∷ (alone (digits (codes "1")), alone (digits (codes "2"))) ∷ []))))))
   piece_set : IsRead (codes "S $P(A,1,2)=3") (
-      assigned (one (piece (codes "P") (named (codes "A")) (alone (digits (codes "1"))) (Some (alone (digits (codes "2"))))))
+      assigned (one (part (codes "P") (named (codes "A")) (exprs_of (alone (digits (codes "1")) ∷ alone (digits (codes "2")) ∷ []))))
       (alone (digits (codes "3"))))
   several_set : IsRead (codes "S (A,$PIECE(B,1))=3") (
-      assigned (several (variable (named (codes "A")) ∷ piece (codes "PIECE") (named (codes "B")) (alone (digits (codes "1"))) None ∷ []))
+      assigned (several (variable (named (codes "A")) ∷ part (codes "PIECE") (named (codes "B")) (exprs_of (alone (digits (codes "1")) ∷ [])) ∷ []))
       (alone (digits (codes "3"))))
   -- variables with subscripts, functions of them, and control of flow
   subscripts : IsRead (codes "S L(10,A(\"\"))=L(1)") (
@@ -134,7 +138,7 @@ record Read : Type 0 where
       ∷ alone (plain (reference (local (codes "A") (exprs_of (alone (plain (text [])) ∷ []))))) ∷ [])))))
       (alone (plain (reference (local (codes "L") (exprs_of (one_digit (codes "1") ∷ [])))))))
   piece_of_subscripts : IsRead (codes "S $p(L(1),2)=3") (
-      assigned (one (piece (codes "p") (local (codes "L") (exprs_of (one_digit (codes "1") ∷ []))) (one_digit (codes "2")) None))
+      assigned (one (part (codes "p") (local (codes "L") (exprs_of (one_digit (codes "1") ∷ []))) (exprs_of (one_digit (codes "2") ∷ []))))
       (one_digit (codes "3")))
   -- the word of a special variable ends where no letter follows
   specials : IsRead (codes "W $T_'$test") (written (taken (plain (special (codes "T"))) (apply join (operand (negate ∷ []) (special (codes "test"))) ∷ [])))
@@ -151,7 +155,7 @@ record Read : Type 0 where
             (assign (one (variable (named (codes "A")))) (one_digit (codes "1")) ∷ []),
         1,
       )
-      ∷ (conditional write_word (codes "W") (taken (name (codes "A")) (apply (is equals) (digits (codes "1")) ∷ [])) (breaks 1 ∷ []), 1)
+      ∷ (conditional write_word (codes "W") (taken (name (codes "A")) (apply (is equals) (digits (codes "1")) ∷ [])) (formats (codes "!") ∷ []), 1)
       ∷ (conditional quit_word (codes "Q") (alone (name (codes "A"))) [], 2)
       ∷ (command quit_word (codes "quit") [], 0) ∷ []))
   removals : IsRead (codes "K L(9),(A,B) kill  N:A L,(A) new") (
@@ -188,7 +192,7 @@ record Read : Type 0 where
   -- within the brackets of a list, and as the variable of a $PIECE
   several_globals : IsRead (codes "S (^X,$P(^(1),2))=3") (
       assigned (several (variable (global (codes "X") no_exprs)
-      ∷ piece (codes "P") (naked_digit (codes "1")) (one_digit (codes "2")) None ∷ []))
+      ∷ part (codes "P") (naked_digit (codes "1")) (exprs_of (one_digit (codes "2") ∷ [])) ∷ []))
       (one_digit (codes "3")))
   global_removals : IsRead (codes "K ^X(1),^(2)")
       (of_commands ((command kill_word (codes "K") (kill_one (one_global (codes "1")) ∷ kill_one (naked_digit (codes "2")) ∷ []), 0) ∷ []))

@@ -12,7 +12,7 @@ record Refused : Type 0 where
   -- numbers: `E` belongs to one only if a digit, or a sign and a digit, follows
   no_numbers : HaveNone (codes "W 1..5" ∷ codes "W 1." ∷ codes "W ." ∷ codes "W 1E" ∷ codes "W 1E+" ∷ codes "W 1E5E5" ∷ codes "W 1A" ∷ [])
   -- operators
-  no_operators : HaveNone (codes "W 1+" ∷ codes "W *1" ∷ codes "W 1'2" ∷ codes "W 1'+2" ∷ codes "W 1]]]2" ∷ codes "W 1@2" ∷ [])
+  no_operators : HaveNone (codes "W 1+" ∷ codes "W 1*" ∷ codes "W **1" ∷ codes "W 1'2" ∷ codes "W 1'+2" ∷ codes "W 1]]]2" ∷ codes "W 1@2" ∷ [])
   -- patterns: a count has at most four digits, and something that it counts
   no_patterns : HaveNone (
       codes "W 1?00001N" ∷ codes "W 1?1.00001N" ∷ codes "W 1?N" ∷ codes "W 1?1" ∷ codes "W 1?" ∷ codes "W 1?1X" ∷ codes "W 1?\"a\"" ∷ codes "W 1'?" ∷
@@ -25,7 +25,7 @@ record Refused : Type 0 where
       codes "W $L" ∷ codes "W $ST(1)" ∷ codes "W $L(1" ∷ [])
   -- left sides of a SET
   no_targets : HaveNone (
-      codes "S A=" ∷ codes "S 1=2" ∷ codes "S ()=1" ∷ codes "S $L(A)=1" ∷ codes "S $P(A)=1" ∷ codes "S $P(1,2)=1" ∷ codes "S $P(A,1,2,3)=1" ∷
+      codes "S A=" ∷ codes "S 1=2" ∷ codes "S ()=1" ∷ codes "S $L(A)=1" ∷ codes "S $P(A)=1" ∷ codes "S $P(1,2)=1" ∷ codes "S $P(A,1,2,3,4)=1" ∷
       codes "S (A=1" ∷ codes "S (A,1)=1" ∷ codes "S ((A))=1" ∷ codes "S (A)" ∷ [])
   -- subscripts, functions of a variable and special variables
   no_variables : HaveNone (

@@ -1,15 +1,17 @@
 -- SPDX-License-Identifier: Apache-2.0
 -- Languages on examples, as proved equations: which of them has a text, wherever in it the form stands that is not of all.
-use Rattle.mgrammar.proofs.GrammarWords.{◌≡◌, ℕ, List, [], ◌∷◌, Some, None, Bool, true, false, map, rules, codes, text, call, exprs, no_exprs, shown, set_argument, write_word}
+use Rattle.mgrammar.proofs.GrammarWords.{◌≡◌, ℕ, List, [], ◌∷◌, Some, None, Bool, true, false, map, rules, codes, text, call, expr, exprs, no_exprs, tail, no_tails, reference, matches_indirect, matches_not_indirect, number, coded, formats, shown, set_argument, write_word}
 use Rattle.std.specs.Prelude.{is_some}
 use Rattle.mgrammar.specs.Languages.{line_in, routine_line_in, ref_in, args_in}
+use Rattle.mgrammar.specs.IndirectTexts.{pattern_of}
 use Rattle.mgrammar.proofs.Computing.{reads_in}
-use Rattle.mgrammar.proofs.ShortTrees.{only, of_one}
+use Rattle.mgrammar.proofs.ShortTrees.{only, plain, named, of_one}
 
 -- the tree of a text, by its first language and by later ones
 record IsRead : Type 0 where
   never_earlier : line_in 0 (codes "W $RE(\"abc\")") ≡ None
   from_its_language : line_in 1 (codes "W $RE(\"abc\")") ≡ Some (of_one write_word (codes "W") (shown (only (call (codes "RE") (exprs (only (text (codes "abc"))) no_exprs))) ∷ []))
+  formats_read : line_in 1 (codes "W #!,*1") ≡ Some (of_one write_word (codes "W") (formats (codes "#!") ∷ coded (only (number (codes "1"))) ∷ []))
   and_later : line_in 2 (codes "w $reverse(\"abc\")") ≡ Some (of_one write_word (codes "w") (shown (only (call (codes "reverse") (exprs (only (text (codes "abc"))) no_exprs))) ∷ []))
 
 is_read : IsRead
@@ -40,14 +42,54 @@ has_ref n t = is_some (ref_in n t)
 abbrev has_args : ℕ → List ℕ → Bool
 has_args n t = is_some (args_in set_argument n t)
 
+-- the tree of a match with a pattern that a text is
+record IsMatched : Type 0 where
+  matched : line_in 1 (codes "W A?@B") ≡ Some (of_one write_word (codes "W") (shown (expr (plain (reference (named (codes "A")))) (tail (matches_indirect (reference (named (codes "B")))) no_tails)) ∷ []))
+  not_matched : line_in 1 (codes "W A'?@B") ≡ Some (of_one write_word (codes "W") (shown (expr (plain (reference (named (codes "A")))) (tail (matches_not_indirect (reference (named (codes "B")))) no_tails)) ∷ []))
+
+is_matched : IsMatched
+unfolding reads_in
+is_matched = search rules
+
+-- texts of patterns, read whole, and texts that are none
+record AreTexts : Type 0 where
+  patterns : map (λ t. is_some (pattern_of t)) (codes "1N" ∷ codes ".A1\"x\"" ∷ codes "3.1N" ∷ codes "1.NAP.e" ∷ []) ≡ true ∷ true ∷ true ∷ true ∷ []
+  none : map (λ t. is_some (pattern_of t)) ([] ∷ codes "N" ∷ codes "1" ∷ codes "1N " ∷ codes "1N=1" ∷ codes "?1N" ∷ codes "@B" ∷ codes "00001N" ∷ []) ≡ false ∷ false ∷ false ∷ false ∷ false ∷ false ∷ false ∷ false ∷ []
+
+are_texts : AreTexts
+unfolding reads_in
+are_texts = search rules
+
 record Languages : Type 0 where
   -- in an operand, in brackets, in subscripts, in calls, in choices and in an environment
   expressions : AreOfOne has_line (
       codes "W 1+$RE(A)" ∷ codes "W (1_$RE(A))" ∷ codes "W A(1,$RE(A))" ∷ codes "W ^A($RE(A))" ∷ codes "W ^($RE(A))" ∷ codes "W $L($RE(A))" ∷
       codes "W $RE($L(A))" ∷ codes "W $S(1:$RE(A))" ∷ codes "W $S($RE(A):1)" ∷ codes "W $G(A($RE(A)))" ∷ codes "W $G(A,$RE(A))" ∷ codes "W ^|$RE(A)|X" ∷
       codes "W ^|A|X($RE(A))" ∷ codes "W @$RE(A)" ∷ codes "W @A@($RE(A))" ∷ [])
+  -- special variables, by each of their words
+  specials : AreOfOne has_line (
+      codes "W $I" ∷ codes "W $io" ∷ codes "W $J" ∷ codes "W $JOB" ∷ codes "W $p" ∷ codes "W $PRINCIPAL" ∷ codes "W $S" ∷ codes "W $STORAGE" ∷
+      codes "S ^A($J,$T)=1" ∷ codes "W $S($S:1)" ∷ codes "W $P($P,1)" ∷ [])
+  -- the seconds of HANG, by each of its words
+  seconds : AreOfOne has_line (
+      codes "H 5" ∷ codes "h A,.5" ∷ codes "HANG 5" ∷ codes "hang:A 1" ∷ codes "H:A 1 W 2" ∷ codes "H @A" ∷ codes "HANG @A,1" ∷ [])
   -- a third value of $JUSTIFY
   values : AreOfOne has_line (codes "W $J(A,1,2)" ∷ codes "W $justify(A,1,2)" ∷ codes "W 1,$J(A,1,$J(B,1))" ∷ codes "I $L($J(A,1,2))" ∷ [])
+  -- `**`
+  powers : AreOfOne has_line (codes "W 2**3" ∷ codes "W A*B**-C" ∷ codes "W (1**A)_2" ∷ codes "W $L(A**'B)" ∷ codes "S A(2**A)=1" ∷ codes "Q:A**2" ∷ [])
+  -- a number in a format
+  formats : AreOfOne has_line (codes "W $FN(A,B)" ∷ codes "W $fnumber(A,\",\",2)" ∷ codes "S A=$FN($FN(A,B),C,2)" ∷ [])
+  -- of SET, characters of a variable, and pieces of several places
+  targets : AreOfOne has_line (
+      codes "S $E(A)=1" ∷ codes "S $extract(A,1)=1" ∷ codes "S $E(^A(1),1,2)=1" ∷ codes "S (A,$E(^(1),1,2))=1" ∷ codes "S $P(A,1,2,3)=1" ∷ codes "S (A,$piece(@A,1,2,3))=1" ∷
+      codes "S $P(A($RE(A)),1)=1" ∷ [])
+  no_targets : AreOfNone has_line (
+      codes "S $E()=1" ∷ codes "S $E(A,1,2,3)=1" ∷ codes "S $P(A)=1" ∷ codes "S $P(A,1,2,3,4)=1" ∷ codes "S $E(\"A\",1)=1" ∷ codes "S $E(A" ∷ codes "S $L(A)=1" ∷ codes "S $E=1" ∷ [])
+  -- formats of WRITE, and characters by their codes
+  outputs : AreOfOne has_line (codes "W #" ∷ codes "W !#!,1" ∷ codes "W *65" ∷ codes "W 1,*A+1,!" ∷ codes "W:A #" ∷ [])
+  -- a pattern that a text is; and a form within its operand
+  patterns : AreOfOne has_line (
+      codes "W A?@B" ∷ codes "W A'?@B" ∷ codes "W A?@\"1N\"=1" ∷ codes "W A?@@B@(1)" ∷ codes "W A?@(B_1)?@B" ∷ codes "W A?@$RE(B)" ∷ codes "W A(B?@C)" ∷ [])
   -- in each kind of argument, in a condition, and in whichever command of a line
   arguments : AreOfOne has_line (
       codes "S A=$RE(A)" ∷ codes "S A($RE(A))=1" ∷ codes "S $P(A,$RE(A))=1" ∷ codes "S $P(A,1,$RE(A))=1" ∷ codes "S (A,B($RE(A)))=1" ∷ codes "K A($RE(A))" ∷
@@ -58,9 +100,17 @@ record Languages : Type 0 where
   references : AreOfOne has_ref (codes "A($RE(A))" ∷ codes "@$RE(A)" ∷ [])
   argument_texts : AreOfOne has_args (codes "A=$RE(A)" ∷ codes "A=1,B=$RE(A)" ∷ [])
   -- in a string and in a comment it is no form
-  all_the_same : AreOfBoth has_line (codes "W \"$RE(A)\"" ∷ codes "W 1 ;$RE(A)" ∷ codes "S RE=1,REVERSE=2" ∷ codes "W $J(A,1),$J($P(A,B,1,2),3)" ∷ [])
-  -- of one value, by either of its words
-  no_forms : AreOfNone has_line (codes "W $J(A)" ∷ codes "W $J(A,1,2,3)" ∷ codes "W $RE()" ∷ codes "W $RE(1,2)" ∷ codes "W $RE" ∷ codes "W $REV(1)" ∷ codes "S $RE(A)=1" ∷ [])
+  all_the_same : AreOfBoth has_line (
+      codes "W \"$RE(A)\"" ∷ codes "W 1 ;$RE(A)" ∷ codes "S RE=1,REVERSE=2" ∷ codes "W $J(A,1),$J($P(A,B,1,2),3)" ∷ codes "W !!,1#2,1*2,!" ∷
+      codes "S $P(A,1)=1,$P(A,1,2)=$E(A,1,2)" ∷ codes "W $T,$TEST" ∷ codes "H" ∷ codes "h:A  W 1" ∷ codes "HALT" ∷ codes "HALT:A" ∷ [])
+  -- an operand is a primary, and one alone
+  no_patterns : AreOfNone has_line (codes "W A?@" ∷ codes "W A?@+B" ∷ codes "W A?@B@(1)" ∷ codes "W A?@@B@" ∷ codes "W A?1N@B" ∷ codes "W A?@1N" ∷ [])
+  -- of one value, by either of its words; a word before a bracket is a function's
+  no_forms : AreOfNone has_line (
+      codes "W $I(1)" ∷ codes "W $JO" ∷ codes "W $IOS" ∷ codes "S $I=1" ∷ codes "S $J=1" ∷ codes "HANG" ∷ codes "HANG:A" ∷ codes "HALT 1" ∷ codes "H 1," ∷ codes "H 1:A" ∷
+      codes "W $J(A)" ∷ codes "W $J(A,1,2,3)" ∷ codes "W $FN(A)" ∷ codes "W $FN(A,B,1,2)" ∷ codes "W $RE()" ∷ codes "W $RE(1,2)" ∷ codes "W $RE" ∷ codes "W $REV(1)" ∷ codes "S $RE(A)=1" ∷
+      codes "W 2**" ∷ codes "W **2" ∷ codes "W 2***3" ∷ codes "W 2** 3" ∷ codes "W 2* *3" ∷ codes "W 2'**3" ∷
+      codes "W !*1" ∷ codes "W *" ∷ codes "W *1!" ∷ codes "W #A" ∷ codes "W !A" ∷ codes "W *1#" ∷ codes "W #@A" ∷ [])
 
 languages : Languages
 unfolding reads_in

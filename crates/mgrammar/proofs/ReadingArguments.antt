@@ -1,11 +1,12 @@
 -- SPDX-License-Identifier: Apache-2.0
 -- What is read of an argument of each form is spelled so, and what is spelled so is read. Those of SET stand in ReadingTargets.
-use Rattle.mgrammar.proofs.GrammarWords.{FormTree, Read, cond, ◌≡◌, ℕ, zero, suc, ◌<◌, Bool, true, false, eqb, List, [], ◌∷◌, ◌++◌, length, Option, Some, None, refl, sym, ap, subst, ◌∙◌, append_assoc, arith, replicate, eqb-true, nat_tests, length-replicate, is_name_rest, AllAre, IsName, ExprTree, ReferenceTree, ParameterTree, once, onward, until, ArgTree, breaks, shown, kill_one, kill_others, new_one, new_others, tested, loop, kill_argument, new_argument, if_argument, for_argument, write_argument, spell_expr, spell_reference, spell_list, spell_names, spell_parameter, spell_arg, max_depth, WellExpr, WellReference, WellList, WellParameter, WellPlain, ◌>>=◌, run_of, after_run, name_at, past, list_at, expr_at, readers_at, reference_with, is_bang, write_argument_by, write_argument_at, names_at, kill_argument_at, new_argument_at, if_argument_at, limit_by, increment_by, parameter_at, for_argument_at}
-use Rattle.mgrammar.proofs.ReadingBasics.{IsRead, Takes, Again, Stops, Begins, Begins-stops, Begins-append, Begins-weaker, bind_some, some_is, run_parts, run_again, past_takes, not_past, name_takes, name_again}
+use Rattle.mgrammar.proofs.GrammarWords.{FormTree, Read, cond, ◌≡◌, ℕ, zero, suc, ◌<◌, Bool, true, false, eqb, List, [], ◌∷◌, ◌++◌, length, Option, Some, None, refl, ap, subst, ◌∙◌, append_assoc, arith, replicate, eqb-true, nat_tests, length-replicate, is_name_rest, AllAre, IsName, ExprTree, ReferenceTree, ParameterTree, once, onward, until, ArgTree, formats, coded, shown, kill_one, kill_others, new_one, new_others, tested, hang_for, loop, kill_argument, new_argument, if_argument, hang_argument, for_argument, write_argument, spell_expr, spell_reference, spell_list, spell_names, spell_parameter, spell_arg, max_depth, WellExpr, WellReference, WellList, WellParameter, WellPlain, ◌>>=◌, run_of, after_run, name_at, past, list_at, expr_at, readers_at, reference_with, write_argument_by, write_argument_at, names_at, kill_argument_at, new_argument_at, if_argument_at, hang_argument_at, limit_by, increment_by, parameter_at, for_argument_at, is_format, value_by, sym}
+use Rattle.mgrammar.proofs.ReadingBasics.{IsRead, Takes, Again, Stops, Begins, Begins-stops, Begins-append, Begins-weaker, bind_some, some_is, run_parts, run_again, past_takes, not_past, name_takes, name_again, Stops-weaker}
 use Rattle.mgrammar.proofs.ReadingLists.{joined_by, listed_or_one, bracketed_again, is_comma, list_takes, list_again}
 use Rattle.mgrammar.proofs.ReadingReferences.{OperandEnds, Ends, begins_reference, name_begins_reference, reference_takes, reference_again, reference_begins}
 use Rattle.mgrammar.proofs.ReadingPrimaries.{reference_tests}
 use Rattle.mgrammar.proofs.ReadingExprs.{begins_operand, expr_begins, inner_takes, within_takes, below_takes, inner_again, within_again, below_again, expr_takes, expr_again}
+use Rattle.mgrammar.proofs.ReadingOperators.{is_operator, no_format}
 use Rattle.mgrammar.proofs.ReadingTargets.{variable_begins, is_equals}
 
 -- ---- short forms
@@ -32,10 +33,14 @@ is_caret c = eqb c 94
 
 -- what may follow an argument
 abbrev pub Follows : List ℕ → Type 0
-Follows rest = Ends rest × Stops is_bang rest × Stops is_colon rest × Stops is_caret rest × Stops is_equals rest
+Follows rest = Ends rest × Stops is_colon rest × Stops is_caret rest × Stops is_equals rest
 
-not_bang : (c : ℕ) → begins_operand c ≡ true → is_bang c ≡ false
-not_bang c h = grind (arith, nat_tests)
+operand_tests : (c : ℕ) → begins_operand c ≡ true → (is_format c ≡ false) × (eqb c 42 ≡ false)
+operand_tests c h = (grind (arith, nat_tests), grind (arith, nat_tests))
+
+-- what begins an expression does not go on with a kind of characters that no operand begins with
+operand_stops : (q : ℕ → Bool) (e : ExprTree) (rest : List ℕ) → ((c : ℕ) → begins_operand c ≡ true → q c ≡ false) → WellExpr max_depth e → Stops q (spell_expr e ++ rest)
+operand_stops q e rest f w = Begins-stops begins_operand q (spell_expr e ++ rest) f (Begins-append begins_operand (spell_expr e) rest (expr_begins max_depth e w))
 
 no_run : (p : ℕ → Bool) (cs : List ℕ) → Stops p cs → run_of p cs ≡ []
 no_run p [] s = refl
@@ -49,32 +54,41 @@ pub copies_are : (a n : ℕ) → eqb a a ≡ true → AllAre (λ c. eqb c a) (re
 copies_are a zero h = tt
 copies_are a (suc n) h = (h, copies_are a n h)
 
--- as write_argument_takes, where this run of `!` is in front
-write_argument_takes_by : (r cs : List ℕ) (x : ArgTree × List ℕ) → run_of is_bang cs ≡ r → write_argument_by r cs ≡ Some x → (cs ≡ spell_arg x.0 ++ x.1) × WellPlain write_argument x.0
-write_argument_takes_by [] cs x h e =
+-- as write_argument_takes, where no format is in front
+value_takes : (cs : List ℕ) (o : Option (List ℕ)) (x : ArgTree × List ℕ) → past 42 cs ≡ o → value_by cs o ≡ Some x → IsRead spell_arg (WellPlain write_argument) cs x
+value_takes cs None x h e =
     let b = bind_some (expr_at max_depth cs) (λ y. Some (shown y.0, y.1)) x e in
     let t = whole_takes cs b.0 b.1 in
     subst (IsRead spell_arg (WellPlain write_argument) cs) (some_is (shown b.0.0, b.0.1) x b.2) t
-write_argument_takes_by (b ∷ bs) cs x h e =
-    let r = run_parts is_bang cs in
-    let copies : b ∷ bs ≡ replicate (length (b ∷ bs)) 33 = all_copies 33 (b ∷ bs) (subst (AllAre is_bang) h r.1) in
-    let parts : cs ≡ replicate (length (b ∷ bs)) 33 ++ after_run is_bang cs = r.0 ∙ ap (λ (y : List ℕ). y ++ after_run is_bang cs) (h ∙ copies) in
-    let long : 0 < length (b ∷ bs) = omega arith in
-    subst (IsRead spell_arg (WellPlain write_argument) cs) (some_is (breaks (length (b ∷ bs)), after_run is_bang cs) x e) (parts, long)
+value_takes cs (Some rest) x h e =
+    let b = bind_some (expr_at max_depth rest) (λ y. Some (coded y.0, y.1)) x e in
+    let t = whole_takes rest b.0 b.1 in
+    subst (IsRead spell_arg (WellPlain write_argument) cs) (some_is (coded b.0.0, b.0.1) x b.2) (past_takes 42 cs rest h ∙ ap (λ (y : List ℕ). 42 ∷ y) t.0, t.1)
+
+-- where this run of formats is in front
+write_argument_takes_by : (r cs : List ℕ) (x : ArgTree × List ℕ) → run_of is_format cs ≡ r → write_argument_by r cs ≡ Some x → IsRead spell_arg (WellPlain write_argument) cs x
+write_argument_takes_by [] cs x h e = value_takes cs (past 42 cs) x refl e
+write_argument_takes_by (f ∷ fs) cs x h e =
+    let r = run_parts is_format cs in
+    let parts : cs ≡ (f ∷ fs) ++ after_run is_format cs = r.0 ∙ ap (λ (y : List ℕ). y ++ after_run is_format cs) h in
+    let long : 0 < length (f ∷ fs) = omega arith in
+    subst (IsRead spell_arg (WellPlain write_argument) cs) (some_is (formats (f ∷ fs), after_run is_format cs) x e) (parts, (long, subst (AllAre is_format) h r.1))
 
 pub write_argument_takes : Takes spell_arg (WellPlain write_argument) write_argument_at
 unfolding write_argument_at
-write_argument_takes cs x e = write_argument_takes_by (run_of is_bang cs) cs x refl e
+write_argument_takes cs x e = write_argument_takes_by (run_of is_format cs) cs x refl e
 
 pub write_argument_again : Again spell_arg (WellPlain write_argument) Follows write_argument_at
 unfolding write_argument_at
-write_argument_again (breaks zero) rest w s = absurd (omega arith)
-write_argument_again (breaks (suc n)) rest w s =
-    let r = run_again is_bang (replicate n 33) rest (copies_are 33 n refl) s.1 in
-    rw (r.0, r.1, length-replicate {A = ℕ} n 33) refl
+write_argument_again (formats []) rest w s = absurd (let none = w.0 in omega (arith, none))
+write_argument_again (formats (f ∷ fs)) rest w s =
+    let r = run_again is_format (f ∷ fs) rest w.1 (Stops-weaker is_operator is_format rest no_format s.0.1) in
+    rw (r.0, r.1) refl
+write_argument_again (coded e) rest w s = rw (whole_again e rest w s.0) refl
 write_argument_again (shown e) rest w s =
-    let none : run_of is_bang (spell_expr e ++ rest) ≡ [] = no_run is_bang (spell_expr e ++ rest) (Begins-stops begins_operand is_bang (spell_expr e ++ rest) not_bang (Begins-append begins_operand (spell_expr e) rest (expr_begins max_depth e w))) in
-    rw (none, whole_again e rest w s.0) refl
+    let none = no_run is_format (spell_expr e ++ rest) (operand_stops is_format e rest (λ c h. (operand_tests c h).0) w) in
+    let no_code = not_past 42 (spell_expr e ++ rest) (operand_stops (λ c. eqb c 42) e rest (λ c h. (operand_tests c h).1) w) in
+    rw (none, no_code, whole_again e rest w s.0) refl
 write_argument_again a rest w s = absurd w
 
 -- ---- names in brackets
@@ -160,6 +174,19 @@ pub if_argument_again : Again spell_arg (WellPlain if_argument) Ends if_argument
 unfolding if_argument_at
 if_argument_again (tested e) rest w s = rw (whole_again e rest w s) refl
 if_argument_again a rest w s = absurd w
+
+-- ---- seconds of HANG
+
+pub hang_argument_takes : Takes spell_arg (WellPlain hang_argument) hang_argument_at
+unfolding hang_argument_at
+hang_argument_takes cs x e =
+    let b = bind_some (expr_at max_depth cs) (λ y. Some (hang_for y.0, y.1)) x e in
+    subst (IsRead spell_arg (WellPlain hang_argument) cs) (some_is (hang_for b.0.0, b.0.1) x b.2) (whole_takes cs b.0 b.1)
+
+pub hang_argument_again : Again spell_arg (WellPlain hang_argument) Ends hang_argument_at
+unfolding hang_argument_at
+hang_argument_again (hang_for e) rest w s = rw (whole_again e rest w s) refl
+hang_argument_again a rest w s = absurd w
 
 -- ---- parameters of FOR
 
@@ -264,6 +291,10 @@ new_argument_begins a w = absurd w
 pub if_argument_begins : (a : ArgTree) → WellPlain if_argument a → Begins begins_operand (spell_arg a)
 if_argument_begins (tested e) w = expr_begins max_depth e w
 if_argument_begins a w = absurd w
+
+pub hang_argument_begins : (a : ArgTree) → WellPlain hang_argument a → Begins begins_operand (spell_arg a)
+hang_argument_begins (hang_for e) w = expr_begins max_depth e w
+hang_argument_begins a w = absurd w
 
 pub for_argument_begins : (a : ArgTree) → WellPlain for_argument a → Begins begins_operand (spell_arg a)
 for_argument_begins (loop index parameters) w = Begins-append begins_operand index (61 ∷ spell_list spell_parameter parameters) (names_begin index w.0)

@@ -1,13 +1,13 @@
 -- SPDX-License-Identifier: Apache-2.0
 -- What is read as a command is spelled so, and what is spelled so is read.
-use Rattle.mgrammar.proofs.GrammarWords.{◌≡◌, ℕ, zero, suc, ◌≤◌, Bool, true, false, not, eqb, cond, List, [], ◌∷◌, ◌++◌, length, Option, Some, None, inl, inr, refl, sym, ap, subst, ◌∙◌, append_assoc, arith, drop, ◌||◌, eqb-true, and_parts, nat_tests, is_letter, is_name_rest, AllAre, ExprTree, expr, no_tails, operand, PrimaryTree, reference, indirect, no_exprs, ArgTree, breaks, shown, kill_one, tested, loop, executed, locked, indirect_args, anew, lock_one, CommandTree, KeywordTree, for_word, FormTree, set_argument, kill_argument, new_argument, if_argument, for_argument, write_argument, do_argument, goto_argument, xecute_argument, lock_argument, no_argument, spell_expr, spell_arg, spell_args, spell_condition, spell_list, spell_more, spell_command, keyword_of, form_of, takes_args, takes_condition, max_depth, bare_arg, WellAll, WellList, WellExpr, WellBelow, WellOptional, WellPlain, WellArg, WellCondition, WellCommand, ◌>>=◌, run_of, after_run, past, list_at, is_bang, kill_argument_at, new_argument_at, if_argument_at, write_argument_at, do_argument_at, goto_argument_at, xecute_argument_at, lock_argument_at, arg_at, has_args, args_at, postcondition_by, postcondition_at, command_by, command_at}
+use Rattle.mgrammar.proofs.GrammarWords.{◌≡◌, ℕ, zero, suc, ◌≤◌, Bool, true, false, not, eqb, cond, List, [], ◌∷◌, ◌++◌, length, Option, Some, None, inl, inr, refl, sym, ap, subst, ◌∙◌, append_assoc, arith, drop, ◌||◌, eqb-true, and_parts, nat_tests, is_letter, is_name_rest, AllAre, ExprTree, expr, no_tails, operand, PrimaryTree, reference, indirect, no_exprs, ArgTree, formats, coded, shown, kill_one, tested, loop, executed, locked, hang_for, indirect_args, anew, lock_one, CommandTree, KeywordTree, for_word, FormTree, set_argument, kill_argument, new_argument, if_argument, for_argument, write_argument, do_argument, goto_argument, xecute_argument, lock_argument, hang_argument, no_argument, spell_expr, spell_arg, spell_args, spell_condition, spell_list, spell_more, spell_command, keyword_of, form_of, takes_args, takes_condition, max_depth, bare_arg, WellAll, WellList, WellExpr, WellBelow, WellOptional, WellPlain, WellArg, WellCondition, WellCommand, ◌>>=◌, run_of, after_run, past, list_at, kill_argument_at, new_argument_at, if_argument_at, write_argument_at, do_argument_at, goto_argument_at, xecute_argument_at, lock_argument_at, hang_argument_at, arg_at, has_args, args_at, postcondition_by, postcondition_at, command_by, command_at, is_format}
 use Rattle.mgrammar.proofs.ReadingBasics.{Takes, Again, Stops, Stops-weaker, Begins, Begins-append, Begins-weaker, goes_on, bind_some, chosen, some_is, run_parts, run_again, not_past}
 use Rattle.mgrammar.proofs.ReadingLists.{is_comma, one_again, list_takes, list_again}
 use Rattle.mgrammar.proofs.ReadingReferences.{Ends, operand_ends, name_or_open, bare_well}
 use Rattle.mgrammar.proofs.ReadingPrimaries.{not_on}
 use Rattle.mgrammar.proofs.ReadingExprs.{begins_operand, expr_begins}
 use Rattle.mgrammar.proofs.ReadingTargets.{set_argument_takes, set_argument_again, set_argument_begins}
-use Rattle.mgrammar.proofs.ReadingArguments.{is_colon, Follows, write_argument_takes, write_argument_again, kill_argument_takes, kill_argument_again, kill_argument_begins, new_argument_takes, new_argument_again, new_argument_begins, if_argument_takes, if_argument_again, if_argument_begins, for_argument_takes, for_argument_again, for_argument_begins}
+use Rattle.mgrammar.proofs.ReadingArguments.{is_colon, Follows, write_argument_takes, write_argument_again, kill_argument_takes, kill_argument_again, kill_argument_begins, new_argument_takes, new_argument_again, new_argument_begins, if_argument_takes, if_argument_again, if_argument_begins, hang_argument_takes, hang_argument_again, hang_argument_begins, for_argument_takes, for_argument_again, for_argument_begins}
 use Rattle.mgrammar.proofs.ReadingLocks.{lock_argument_takes, lock_argument_again, lock_argument_begins}
 use Rattle.mgrammar.proofs.ReadingIndirection.{plain_well, which, settled_takes, settled_again, operand_takes, operand_again, hiding_apart, entrance_apart, leap_apart}
 use Rattle.mgrammar.proofs.ReadingEntries.{condition_read, condition_spelled, do_argument_takes, do_argument_again, do_argument_begins, goto_argument_takes, goto_argument_again, goto_argument_begins, xecute_argument_takes, xecute_argument_again, xecute_argument_begins}
@@ -16,19 +16,23 @@ use Rattle.mgrammar.proofs.ReadingEntries.{condition_read, condition_spelled, do
 
 -- a character that an argument may begin with
 abbrev begins_arg : ℕ → Bool
-begins_arg c = begins_operand c || is_bang c
+begins_arg c = begins_operand c || is_format c || eqb c 42
 
-operand_or_bang : (c : ℕ) → begins_operand c ≡ true → begins_arg c ≡ true
-operand_or_bang c h = rw h refl
+operand_or_format : (c : ℕ) → begins_operand c ≡ true → begins_arg c ≡ true
+operand_or_format c h = rw h refl
+
+format_begins : (c : ℕ) → is_format c ≡ true → begins_arg c ≡ true
+format_begins c h = grind (arith, nat_tests)
 
 write_argument_begins : (a : ArgTree) → WellPlain write_argument a → Begins begins_arg (spell_arg a)
-write_argument_begins (breaks zero) w = absurd (omega arith)
-write_argument_begins (breaks (suc n)) w = refl
-write_argument_begins (shown e) w = Begins-weaker begins_operand begins_arg (spell_expr e) operand_or_bang (expr_begins max_depth e w)
+write_argument_begins (formats []) w = absurd (let none = w.0 in omega (arith, none))
+write_argument_begins (formats (f ∷ fs)) w = format_begins f w.1.0
+write_argument_begins (coded e) w = refl
+write_argument_begins (shown e) w = Begins-weaker begins_operand begins_arg (spell_expr e) operand_or_format (expr_begins max_depth e w)
 write_argument_begins a w = absurd w
 
 as_arg : (a : ArgTree) → Begins begins_operand (spell_arg a) → Begins begins_arg (spell_arg a)
-as_arg a b = Begins-weaker begins_operand begins_arg (spell_arg a) operand_or_bang b
+as_arg a b = Begins-weaker begins_operand begins_arg (spell_arg a) operand_or_format b
 
 -- what may follow the last argument
 abbrev pub Closes : List ℕ → Type 0
@@ -46,7 +50,7 @@ pub record IsForm (f : FormTree) : Type 0 where
 -- of a form that a comma ends
 several_again : (f : FormTree) → Again spell_arg (WellArg f) Follows (arg_at f) → (args : List ArgTree) (rest : List ℕ) → WellList (WellArg f) args → IsCounted f (length args) → Closes rest
     → list_at (arg_at f) (spell_list spell_arg args ++ rest) ≡ Some (args, rest)
-several_again f again args rest w n s = list_again spell_arg (WellArg f) (arg_at f) Follows (λ cs. ((refl, refl), refl, refl, refl, refl)) again args rest w s
+several_again f again args rest w n s = list_again spell_arg (WellArg f) (arg_at f) Follows (λ cs. ((refl, refl), refl, refl, refl)) again args rest w s
 
 for_argument_plain : (a : ArgTree) → WellPlain for_argument a → bare_arg a ≡ None
 for_argument_plain (loop index parameters) w = refl
@@ -65,7 +69,7 @@ no_nothing a w = w.0
 single_again : (args : List ArgTree) (rest : List ℕ) → WellList (WellArg for_argument) args → IsCounted for_argument (length args) → Closes rest
     → list_at (arg_at for_argument) (spell_list spell_arg args ++ rest) ≡ Some (args, rest)
 single_again [] rest w n s = absurd w
-single_again (a ∷ []) rest w n s = one_again spell_arg (WellArg for_argument) (arg_at for_argument) a rest (for_argument_again a rest (written_loop a w.0) ((s.0.0, s.0.2), s.1)) s.1
+single_again (a ∷ []) rest w n s = one_again spell_arg (WellArg for_argument) (arg_at for_argument) a rest (for_argument_again a rest (written_loop a w.0) ((s.0.0, s.0.1), s.1)) s.1
 single_again (a ∷ b ∷ more) rest w n s = absurd (let le = n refl in omega (arith, le))
 
 -- if arguments that are written begin so
@@ -89,7 +93,7 @@ name_ends rest s = Stops-weaker goes_on is_name_rest rest (λ c h. (name_or_open
 pub is_form : (f : FormTree) → IsForm f
 is_form set_argument = record {
   takes = set_argument_takes;
-  again = several_again set_argument (λ a rest w s. set_argument_again a rest w (s.0, s.4));
+  again = several_again set_argument (λ a rest w s. set_argument_again a rest w (s.0, s.3));
   begins = λ a w. as_arg a (set_argument_begins a w);
 }
 is_form kill_argument = record {
@@ -136,6 +140,11 @@ is_form lock_argument = record {
   takes = settled_takes lock_argument lock_argument_at refl lock_argument_takes;
   again = several_again lock_argument (settled_again lock_argument lock_argument_at (λ p. locked anew (lock_one (indirect p no_exprs)) None) (λ p. refl) (λ p w. ((bare_well max_depth p w, refl), tt)) lock_argument_again);
   begins = form_begins lock_argument (λ a w. as_arg a (lock_argument_begins a w));
+}
+is_form hang_argument = record {
+  takes = settled_takes hang_argument hang_argument_at refl hang_argument_takes;
+  again = several_again hang_argument (settled_again hang_argument hang_argument_at (λ p. hang_for (bare p)) (λ p. refl) bare_expr_well (λ a rest w s. hang_argument_again a rest w s.0));
+  begins = form_begins hang_argument (λ a w. as_arg a (hang_argument_begins a w));
 }
 is_form no_argument = record {
   takes = λ cs x e. absurd cc;
@@ -243,7 +252,7 @@ command_takes cs x e =
 
 -- what follows a condition
 args_follow : (args : List ArgTree) (rest : List ℕ) → After args rest → Ends (spell_args args ++ rest) × Stops is_colon (spell_args args ++ rest)
-args_follow [] rest s = (s.0.0.0, s.0.0.2)
+args_follow [] rest s = (s.0.0.0, s.0.0.1)
 args_follow (a ∷ more) rest s = ((refl, refl), refl)
 
 -- no letter follows a word

@@ -38,7 +38,7 @@ module _ {A : Type 0} (spell : A → List ℕ) (P : A → Type 0) (read : List �
 
   pub conditioned_again : (a : A) (c : Option ExprTree) (rest : List ℕ) → WellOptional max_depth c → Follows rest → read (spell a ++ (spell_condition c ++ rest)) ≡ Some (a, spell_condition c ++ rest)
       → (read ((spell a ++ spell_condition c) ++ rest) >>= conditioned made) ≡ Some (made a c, rest)
-  conditioned_again a c rest w s h = rw (append_assoc (spell a) (spell_condition c) rest, h, condition_spelled c rest w s.0 s.2) refl
+  conditioned_again a c rest w s h = rw (append_assoc (spell a) (spell_condition c) rest, h, condition_spelled c rest w s.0 s.1) refl
 
 -- ---- entries
 
@@ -83,7 +83,7 @@ entry_again (at_routine routine) rest w s = rw (name_again routine rest w s.0) r
 
 -- a postconditional goes on with no entry
 entry_stops : (c : Option ExprTree) (rest : List ℕ) → Follows rest → EntryEnds (spell_condition c ++ rest)
-entry_stops None rest s = (Stops-weaker goes_on is_name_rest rest (λ c h. (name_or_open c h).0) (operand_ends rest s.0.0), s.3)
+entry_stops None rest s = (Stops-weaker goes_on is_name_rest rest (λ c h. (name_or_open c h).0) (operand_ends rest s.0.0), s.2)
 entry_stops (Some e) rest s = (refl, refl)
 
 expr_stops : (c : Option ExprTree) (rest : List ℕ) → Follows rest → Ends (spell_condition c ++ rest)

@@ -1,12 +1,12 @@
 -- SPDX-License-Identifier: Apache-2.0
 -- What is read as an expression is spelled so, and what is spelled so is read.
-use Rattle.mgrammar.proofs.GrammarWords.{◌≡◌, ℕ, zero, suc, ◌<◌, ◌-◌, Bool, true, false, List, [], ◌∷◌, ◌++◌, length, Option, Some, None, refl, sym, ap, subst, ◌∙◌, append_assoc, arith, ◌||◌, nat_tests, append-nil, plus, BinaryTree, AtomTree, ExprTree, expr, TailTree, apply, matches, matches_not, TailsTree, no_tails, tail, tails_of, OperandTree, operand, spell_signs, spell_binary, spell_atoms, spell_expr, spell_tails, spell_tail, spell_operand, spell_primary, spell_reference, bare_primary, WellExpr, WellTails, WellTail, WellOperand, WellPrimary, WellReference, WellBelow, ◌>>=◌, many, pattern_at, signs_of, after_signs, OperatorTree, between, matching, matching_not, operator_at, Readers, primary_with, operand_with, tail_by, tail_behind, tail_with, expr_with, readers_at, inner_at}
-use Rattle.mgrammar.proofs.ReadingBasics.{IsRead, Takes, Again, Begins, Begins-stops, Begins-append, Begins-weaker, Begins-long, goes_further, bind_some, some_is}
+use Rattle.mgrammar.proofs.GrammarWords.{◌≡◌, ℕ, zero, suc, ◌<◌, ◌-◌, Bool, true, false, List, [], ◌∷◌, ◌++◌, length, Option, Some, None, refl, sym, ap, subst, ◌∙◌, append_assoc, arith, ◌||◌, nat_tests, append-nil, plus, BinaryTree, AtomTree, PrimaryTree, ExprTree, expr, TailTree, apply, matches, matches_not, raise, matches_indirect, matches_not_indirect, TailsTree, no_tails, tail, tails_of, OperandTree, operand, spell_signs, spell_binary, spell_atoms, spell_expr, spell_tails, spell_tail, spell_operand, spell_primary, spell_reference, bare_primary, WellExpr, WellTails, WellTail, WellOperand, WellPrimary, WellReference, WellBelow, WellList, WellAtom, eqb, ◌>>=◌, past, is_digit_or_point, matches_by, matches_not_by, many, pattern_at, signs_of, after_signs, OperatorTree, between, matching, matching_not, raising, operator_at, Readers, primary_with, operand_with, tail_by, tail_behind, tail_with, expr_with, readers_at, inner_at}
+use Rattle.mgrammar.proofs.ReadingBasics.{IsRead, Takes, Again, Begins, Begins-stops, Begins-append, Begins-weaker, Begins-long, goes_further, bind_some, some_is, past_takes, not_past}
 use Rattle.mgrammar.proofs.ReadingLists.{each, ItemTakes, many_takes, many_again, count_le, joined}
-use Rattle.mgrammar.proofs.ReadingPatterns.{pattern_takes, pattern_again}
-use Rattle.mgrammar.proofs.ReadingOperators.{is_sign, signs_parts, signs_again, is_follows, spell_operator, operator_takes, operator_again, is_operator, operator_begins, no_operator}
+use Rattle.mgrammar.proofs.ReadingPatterns.{pattern_takes, pattern_again, pattern_begins}
+use Rattle.mgrammar.proofs.ReadingOperators.{is_sign, signs_parts, signs_again, is_doubled, spell_operator, operator_takes, operator_again, is_operator, operator_begins, no_operator}
 use Rattle.mgrammar.proofs.ReadingTrees.{tails_list, tails_back, spell_tails-each, tails_well, list_well, WellInner}
-use Rattle.mgrammar.proofs.ReadingReferences.{OperandEnds, Ends, TakesFree, AgainFree, operand_ends, WellWithin, reference_takes, reference_again}
+use Rattle.mgrammar.proofs.ReadingReferences.{OperandEnds, Ends, TakesFree, AgainFree, operand_ends, greedy_ends, WellWithin, reference_takes, reference_again}
 use Rattle.mgrammar.proofs.ReadingPrimaries.{begins_primary, primary_begins, primary_takes_free, primary_takes, primary_again_free, primary_again}
 
 -- ---- what is read is spelled so, below some depth
@@ -25,20 +25,39 @@ module _ (d : ℕ) (r : Readers) (inner_takes : Takes spell_expr (WellInner d) (
       subst (λ (y : OperandTree × List ℕ). (cs ≡ spell_operand y.0 ++ y.1) × WellOperand d y.0) (some_is (operand (signs_of cs) b.0.0, b.0.1) x b.2)
       (s ∙ ap (λ (y : List ℕ). spell_signs (signs_of cs) ++ y) p.0 ∙ sym (append_assoc (spell_signs (signs_of cs)) (spell_primary b.0.0) b.0.1), p.1)
 
+  matches_takes : (cs : List ℕ) (o : Option (List ℕ)) (x : TailTree × List ℕ) → past 64 cs ≡ o → matches_by r cs o ≡ Some x → IsRead spell_tail (WellTail d) (63 ∷ cs) x
+  matches_takes cs None x h e =
+      let k = bind_some (pattern_at cs) (λ p. Some (matches p.0, p.1)) x e in
+      let p = pattern_takes cs k.0 k.1 in
+      subst (IsRead spell_tail (WellTail d) (63 ∷ cs)) (some_is (matches k.0.0, k.0.1) x k.2) (behind_parts (63 ∷ []) cs (spell_atoms k.0.0) k.0.1 p.0, p.1)
+  matches_takes cs (Some behind) x h e =
+      let k = bind_some (r.below behind) (λ p. Some (matches_indirect p.0, p.1)) x e in
+      let p = below_takes behind k.0 k.1 in
+      subst (IsRead spell_tail (WellTail d) (63 ∷ cs)) (some_is (matches_indirect k.0.0, k.0.1) x k.2) (ap (λ (y : List ℕ). 63 ∷ y) (past_takes 64 cs behind h ∙ ap (λ (y : List ℕ). 64 ∷ y) p.0), p.1)
+
+  matches_not_takes : (cs : List ℕ) (o : Option (List ℕ)) (x : TailTree × List ℕ) → past 64 cs ≡ o → matches_not_by r cs o ≡ Some x → IsRead spell_tail (WellTail d) (39 ∷ 63 ∷ cs) x
+  matches_not_takes cs None x h e =
+      let k = bind_some (pattern_at cs) (λ p. Some (matches_not p.0, p.1)) x e in
+      let p = pattern_takes cs k.0 k.1 in
+      subst (IsRead spell_tail (WellTail d) (39 ∷ 63 ∷ cs)) (some_is (matches_not k.0.0, k.0.1) x k.2) (behind_parts (39 ∷ 63 ∷ []) cs (spell_atoms k.0.0) k.0.1 p.0, p.1)
+  matches_not_takes cs (Some behind) x h e =
+      let k = bind_some (r.below behind) (λ p. Some (matches_not_indirect p.0, p.1)) x e in
+      let p = below_takes behind k.0 k.1 in
+      subst (IsRead spell_tail (WellTail d) (39 ∷ 63 ∷ cs)) (some_is (matches_not_indirect k.0.0, k.0.1) x k.2)
+      (ap (λ (y : List ℕ). 39 ∷ 63 ∷ y) (past_takes 64 cs behind h ∙ ap (λ (y : List ℕ). 64 ∷ y) p.0), p.1)
+
   tail_takes_by : (o : OperatorTree) (cs : List ℕ) (x : TailTree × List ℕ) → tail_by r o cs ≡ Some x → IsRead spell_tail (WellTail d) (spell_operator o ++ cs) x
   unfolding tail_by
   tail_takes_by (between b) cs x e =
       let k = bind_some (operand_with r cs) (λ o. Some (apply b o.0, o.1)) x e in
       let o = operand_takes cs k.0 k.1 in
       subst (IsRead spell_tail (WellTail d) (spell_binary b ++ cs)) (some_is (apply b k.0.0, k.0.1) x k.2) (behind_parts (spell_binary b) cs (spell_operand k.0.0) k.0.1 o.0, o.1)
-  tail_takes_by matching cs x e =
-      let k = bind_some (pattern_at cs) (λ p. Some (matches p.0, p.1)) x e in
-      let p = pattern_takes cs k.0 k.1 in
-      subst (IsRead spell_tail (WellTail d) (63 ∷ cs)) (some_is (matches k.0.0, k.0.1) x k.2) (behind_parts (63 ∷ []) cs (spell_atoms k.0.0) k.0.1 p.0, p.1)
-  tail_takes_by matching_not cs x e =
-      let k = bind_some (pattern_at cs) (λ p. Some (matches_not p.0, p.1)) x e in
-      let p = pattern_takes cs k.0 k.1 in
-      subst (IsRead spell_tail (WellTail d) (39 ∷ 63 ∷ cs)) (some_is (matches_not k.0.0, k.0.1) x k.2) (behind_parts (39 ∷ 63 ∷ []) cs (spell_atoms k.0.0) k.0.1 p.0, p.1)
+  tail_takes_by matching cs x e = matches_takes cs (past 64 cs) x refl e
+  tail_takes_by matching_not cs x e = matches_not_takes cs (past 64 cs) x refl e
+  tail_takes_by raising cs x e =
+      let k = bind_some (operand_with r cs) (λ o. Some (raise o.0, o.1)) x e in
+      let o = operand_takes cs k.0 k.1 in
+      subst (IsRead spell_tail (WellTail d) (42 ∷ 42 ∷ cs)) (some_is (raise k.0.0, k.0.1) x k.2) (behind_parts (42 ∷ 42 ∷ []) cs (spell_operand k.0.0) k.0.1 o.0, o.1)
 
   -- as step_takes, where this operator is in front
   tail_takes_behind : (cs : List ℕ) (o : Option (OperatorTree × List ℕ)) (x : TailTree × List ℕ) → operator_at cs ≡ o → tail_behind r o ≡ Some (Some x) → IsRead spell_tail (WellTail d) cs x
@@ -101,7 +120,7 @@ below_takes d = (all_taken d).below
 
 -- ---- what is spelled so is read, below some depth
 
-primary_tests : (c : ℕ) → begins_primary c ≡ true → (is_sign c ≡ false) × (is_follows c ≡ false)
+primary_tests : (c : ℕ) → begins_primary c ≡ true → (is_sign c ≡ false) × (is_doubled c ≡ false)
 primary_tests c h = (grind (arith, nat_tests), grind (arith, nat_tests))
 
 -- a character that an operand begins with
@@ -119,13 +138,16 @@ operand_begins d o w = refl
 pub expr_begins : (d : ℕ) (e : ExprTree) → WellExpr d e → Begins begins_operand (spell_expr e)
 expr_begins d (expr first rest) w = Begins-append begins_operand (spell_operand first) (spell_tails rest) (operand_begins d first w.0)
 
-not_follows : (c : ℕ) → begins_operand c ≡ true → is_follows c ≡ false
-not_follows c h = grind (arith, nat_tests)
+begins_single : (c : ℕ) → begins_operand c ≡ true → is_doubled c ≡ false
+begins_single c h = grind (arith, nat_tests)
 
 tail_begins : (s : TailTree) → Begins is_operator (spell_tail s)
 tail_begins (apply b o) = Begins-append is_operator (spell_binary b) (spell_operand o) (subst (Begins is_operator) (append-nil (spell_binary b)) (operator_begins (between b) []))
 tail_begins (matches atoms) = refl
 tail_begins (matches_not atoms) = refl
+tail_begins (raise o) = refl
+tail_begins (matches_indirect p) = refl
+tail_begins (matches_not_indirect p) = refl
 
 operator_ends : (c : ℕ) → is_operator c ≡ true → goes_further c ≡ false
 operator_ends c h = grind (arith, nat_tests)
@@ -146,17 +168,37 @@ apply_step : (r : Readers) (b : BinaryTree) (cs : List ℕ) (o : OperandTree) (r
 unfolding tail_by
 apply_step r b cs o rest h = rw h refl
 
-matches_step : (r : Readers) (cs : List ℕ) (atoms : List AtomTree) (rest : List ℕ) → pattern_at cs ≡ Some (atoms, rest) → tail_by r matching cs ≡ Some (matches atoms, rest)
+matches_step : (r : Readers) (cs : List ℕ) (atoms : List AtomTree) (rest : List ℕ) → past 64 cs ≡ None → pattern_at cs ≡ Some (atoms, rest) → tail_by r matching cs ≡ Some (matches atoms, rest)
 unfolding tail_by
-matches_step r cs atoms rest h = rw h refl
+matches_step r cs atoms rest n h = rw (n, h) refl
 
-matches_not_step : (r : Readers) (cs : List ℕ) (atoms : List AtomTree) (rest : List ℕ) → pattern_at cs ≡ Some (atoms, rest) → tail_by r matching_not cs ≡ Some (matches_not atoms, rest)
+matches_not_step : (r : Readers) (cs : List ℕ) (atoms : List AtomTree) (rest : List ℕ) → past 64 cs ≡ None → pattern_at cs ≡ Some (atoms, rest) → tail_by r matching_not cs ≡ Some (matches_not atoms, rest)
 unfolding tail_by
-matches_not_step r cs atoms rest h = rw h refl
+matches_not_step r cs atoms rest n h = rw (n, h) refl
+
+matches_indirect_steps : (r : Readers) (cs : List ℕ) (p : PrimaryTree) (rest : List ℕ) → r.below cs ≡ Some (p, rest)
+    → (tail_by r matching (64 ∷ cs) ≡ Some (matches_indirect p, rest)) × (tail_by r matching_not (64 ∷ cs) ≡ Some (matches_not_indirect p, rest))
+unfolding tail_by
+matches_indirect_steps r cs p rest h = (rw h refl, rw h refl)
+
+count_no_at : (c : ℕ) → is_digit_or_point c ≡ true → eqb c 64 ≡ false
+count_no_at c h = grind (arith, nat_tests)
+
+-- no `@` begins a pattern as it is written
+pattern_no_at : (atoms : List AtomTree) (rest : List ℕ) → WellList WellAtom atoms → past 64 (spell_atoms atoms ++ rest) ≡ None
+pattern_no_at atoms rest w = not_past 64 (spell_atoms atoms ++ rest) (Begins-stops is_digit_or_point (λ c. eqb c 64) (spell_atoms atoms ++ rest) count_no_at (pattern_begins atoms rest w))
+
+raise_step : (r : Readers) (cs : List ℕ) (o : OperandTree) (rest : List ℕ) → operand_with r cs ≡ Some (o, rest) → tail_by r raising cs ≡ Some (raise o, rest)
+unfolding tail_by
+raise_step r cs o rest h = rw h refl
 
 match_operators : (cs : List ℕ) → (operator_at (63 ∷ cs) ≡ Some (matching, cs)) × (operator_at (39 ∷ 63 ∷ cs) ≡ Some (matching_not, cs))
 unfolding operator_at
 match_operators cs = (refl, refl)
+
+raise_operator : (cs : List ℕ) → operator_at (42 ∷ 42 ∷ cs) ≡ Some (raising, cs)
+unfolding operator_at
+raise_operator cs = refl
 
 module _ (d : ℕ) (r : Readers) (inner_again : Again spell_expr (WellInner d) Ends (r.inner)) (within_again : Again spell_reference (WellWithin d) OperandEnds (r.within)) (below_again : AgainFree spell_primary (WellBelow d) bare_primary (r.below)) where
   operand_again : Again spell_operand (WellOperand d) OperandEnds (operand_with r)
@@ -169,15 +211,26 @@ module _ (d : ℕ) (r : Readers) (inner_again : Again spell_expr (WellInner d) E
 
   tail_again : (x : TailTree) (rest : List ℕ) → WellTail d x → OperandEnds rest → tail_with r (spell_tail x ++ rest) ≡ Some (Some (x, rest))
   tail_again (apply b o) rest w s =
-      let stops = Begins-stops begins_operand is_follows (spell_operand o ++ rest) not_follows (Begins-append begins_operand (spell_operand o) rest (operand_begins d o w)) in
+      let stops = Begins-stops begins_operand is_doubled (spell_operand o ++ rest) begins_single (Begins-append begins_operand (spell_operand o) rest (operand_begins d o w)) in
       by_operator r ((spell_binary b ++ spell_operand o) ++ rest) (spell_operand o ++ rest) (between b) (apply b o) rest
       (ap operator_at (append_assoc (spell_binary b) (spell_operand o) rest) ∙ operator_again (between b) (spell_operand o ++ rest) stops) (apply_step r b (spell_operand o ++ rest) o rest (operand_again o rest w s))
   tail_again (matches atoms) rest w s =
       by_operator r (63 ∷ (spell_atoms atoms ++ rest)) (spell_atoms atoms ++ rest) matching (matches atoms) rest (match_operators (spell_atoms atoms ++ rest)).0
-      (matches_step r (spell_atoms atoms ++ rest) atoms rest (pattern_again atoms rest w (operand_ends rest s)))
+      (matches_step r (spell_atoms atoms ++ rest) atoms rest (pattern_no_at atoms rest w) (pattern_again atoms rest w (operand_ends rest s)))
   tail_again (matches_not atoms) rest w s =
       by_operator r (39 ∷ 63 ∷ (spell_atoms atoms ++ rest)) (spell_atoms atoms ++ rest) matching_not (matches_not atoms) rest (match_operators (spell_atoms atoms ++ rest)).1
-      (matches_not_step r (spell_atoms atoms ++ rest) atoms rest (pattern_again atoms rest w (operand_ends rest s)))
+      (matches_not_step r (spell_atoms atoms ++ rest) atoms rest (pattern_no_at atoms rest w) (pattern_again atoms rest w (operand_ends rest s)))
+  tail_again (matches_indirect p) rest w s =
+      let behind = spell_primary p ++ rest in
+      by_operator r (63 ∷ 64 ∷ behind) (64 ∷ behind) matching (matches_indirect p) rest (match_operators (64 ∷ behind)).0
+      (matches_indirect_steps r behind p rest (below_again p rest w (operand_ends rest s) (greedy_ends (bare_primary p) rest s))).0
+  tail_again (matches_not_indirect p) rest w s =
+      let behind = spell_primary p ++ rest in
+      by_operator r (39 ∷ 63 ∷ 64 ∷ behind) (64 ∷ behind) matching_not (matches_not_indirect p) rest (match_operators (64 ∷ behind)).1
+      (matches_indirect_steps r behind p rest (below_again p rest w (operand_ends rest s) (greedy_ends (bare_primary p) rest s))).1
+  tail_again (raise o) rest w s =
+      by_operator r (42 ∷ 42 ∷ (spell_operand o ++ rest)) (spell_operand o ++ rest) raising (raise o) rest (raise_operator (spell_operand o ++ rest))
+      (raise_step r (spell_operand o ++ rest) o rest (operand_again o rest w s))
 
   no_tail_after : (rest : List ℕ) → operator_at rest ≡ None → tail_with r rest ≡ Some None
   unfolding tail_with

@@ -1,8 +1,9 @@
 -- SPDX-License-Identifier: Apache-2.0
 -- What is read of a whole text of indirection is spelled so, and what is spelled so is read.
-use Rattle.mgrammar.proofs.GrammarWords.{◌≡◌, ◌↔◌, ℕ, true, false, List, [], ◌∷◌, ◌++◌, length, Some, refl, sym, ap, subst, ◌∙◌, append-nil, ReferenceTree, ArgTree, FormTree, for_argument, may_be_indirect, spell_reference, spell_list, spell_arg, max_depth, WellReference, WellList, WellArg, Read, ◌>>=◌, list_at, readers_at, reference_with, arg_at, whole_by, ref_at, args_of}
+use Rattle.mgrammar.proofs.GrammarWords.{◌≡◌, ◌↔◌, ℕ, true, false, List, [], ◌∷◌, ◌++◌, length, Some, refl, sym, ap, subst, ◌∙◌, append-nil, ReferenceTree, ArgTree, AtomTree, FormTree, for_argument, may_be_indirect, spell_reference, spell_list, spell_arg, spell_atoms, max_depth, WellReference, WellList, WellArg, WellAtom, Read, ◌>>=◌, list_at, pattern_at, readers_at, reference_with, arg_at, whole_by, ref_at, args_of, pattern_of}
 use Rattle.mgrammar.proofs.ReadingBasics.{Takes, bind_some, some_is, unique, told}
 use Rattle.mgrammar.proofs.ReadingLists.{list_takes}
+use Rattle.mgrammar.proofs.ReadingPatterns.{pattern_takes, pattern_again}
 use Rattle.mgrammar.proofs.ReadingArguments.{variable_takes, variable_again}
 use Rattle.mgrammar.proofs.ReadingCommands.{IsCounted, is_form}
 
@@ -49,7 +50,7 @@ not_counted f n m = λ e. absurd (let clash : may_be_indirect for_argument ≡ t
 arguments_again : (f : FormTree) (args : List ArgTree) → may_be_indirect f ≡ true → WellList (WellArg f) args → args_of f (spell_list spell_arg args) ≡ Some args
 unfolding args_of
 arguments_again f args m w =
-    whole_again (spell_list spell_arg) (WellList (WellArg f)) (list_at (arg_at f)) args ((is_form f).again args [] w (not_counted f (length args) m) (((tt, tt), tt, tt, tt, tt), tt))
+    whole_again (spell_list spell_arg) (WellList (WellArg f)) (list_at (arg_at f)) args ((is_form f).again args [] w (not_counted f (length args) m) (((tt, tt), tt, tt, tt), tt))
 
 arguments_takes : (f : FormTree) (cs : List ℕ) (args : List ArgTree) → args_of f cs ≡ Some args → (spell_list spell_arg args ≡ cs) × WellList (WellArg f) args
 unfolding args_of
@@ -61,3 +62,19 @@ reads_its_arguments f m text args = (arguments_takes f text args, λ h. subst (�
 
 pub one_argument_list : (f : FormTree) → may_be_indirect f ≡ true → (s t : List ArgTree) → WellList (WellArg f) s → WellList (WellArg f) t → spell_list spell_arg s ≡ spell_list spell_arg t → s ≡ t
 one_argument_list f m s t v w e = some_is s t (sym (arguments_again f s m v) ∙ ap (args_of f) e ∙ arguments_again f t m w)
+
+-- ---- a pattern
+
+atoms_again : (atoms : List AtomTree) → WellList WellAtom atoms → pattern_of (spell_atoms atoms) ≡ Some atoms
+unfolding pattern_of
+atoms_again atoms w = whole_again spell_atoms (WellList WellAtom) pattern_at atoms (pattern_again atoms [] w tt)
+
+atoms_takes : (cs : List ℕ) (atoms : List AtomTree) → pattern_of cs ≡ Some atoms → (spell_atoms atoms ≡ cs) × WellList WellAtom atoms
+unfolding pattern_of
+atoms_takes cs atoms e = whole_takes spell_atoms (WellList WellAtom) pattern_at pattern_takes cs atoms e
+
+pub reads_its_pattern : (text : List ℕ) (atoms : List AtomTree) → (pattern_of text ≡ Some atoms) ↔ ((spell_atoms atoms ≡ text) × WellList WellAtom atoms)
+reads_its_pattern = told spell_atoms (WellList WellAtom) pattern_of atoms_again atoms_takes
+
+pub one_pattern : (s t : List AtomTree) → WellList WellAtom s → WellList WellAtom t → spell_atoms s ≡ spell_atoms t → s ≡ t
+one_pattern = unique spell_atoms (WellList WellAtom) pattern_of atoms_again

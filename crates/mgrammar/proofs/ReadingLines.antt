@@ -85,11 +85,11 @@ end_stops (c ∷ cs) h = subst (λ (x : ℕ). Stops is_space (x ∷ cs)) (sym (e
 
 -- what may follow a command's last argument: the end, a comment, or a space
 closes_end : (rest : List ℕ) → at_end rest ≡ true → Closes rest
-closes_end [] h = (((tt, tt), tt, tt, tt, tt), tt)
-closes_end (c ∷ cs) h = subst (λ (x : ℕ). Closes (x ∷ cs)) (sym (eqb-true c 59 h)) (((refl, refl), refl, refl, refl, refl), refl)
+closes_end [] h = (((tt, tt), tt, tt, tt), tt)
+closes_end (c ∷ cs) h = subst (λ (x : ℕ). Closes (x ∷ cs)) (sym (eqb-true c 59 h)) (((refl, refl), refl, refl, refl), refl)
 
 closes_space : (rest : List ℕ) → Closes (32 ∷ rest)
-closes_space rest = (((refl, refl), refl, refl, refl, refl), refl)
+closes_space rest = (((refl, refl), refl, refl, refl), refl)
 
 no_args : (rest : List ℕ) → at_end rest ≡ true → has_args rest ≡ false
 no_args [] h = refl

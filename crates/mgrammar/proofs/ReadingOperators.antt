@@ -1,6 +1,6 @@
 -- SPDX-License-Identifier: Apache-2.0
 -- What is read of signs and of an operator is spelled so, and what is spelled so is read.
-use Rattle.mgrammar.proofs.GrammarWords.{◌≡◌, ℕ, Bool, true, false, cond, eqb, List, [], ◌∷◌, ◌++◌, Option, Some, None, inl, inr, refl, sym, ap, subst, ◌∙◌, arith, ◌||◌, list_any, eqb-true, false_from_ne_true, nat_tests, SignTree, plus, minus, negate, TruthTree, equals, follows, sorts_after, BinaryTree, is, is_not, spell_signs, spell_truth, spell_binary, ◌>>=◌, signs_of, after_signs, found, truths, arithmetic, follows_at, truth_at, OperatorTree, between, matching, matching_not, negated_at, plain_by, operator_at}
+use Rattle.mgrammar.proofs.GrammarWords.{◌≡◌, ℕ, Bool, true, false, cond, eqb, List, [], ◌∷◌, ◌++◌, Option, Some, None, inl, inr, refl, sym, ap, subst, ◌∙◌, arith, ◌||◌, list_any, eqb-true, false_from_ne_true, nat_tests, SignTree, plus, minus, negate, TruthTree, equals, follows, sorts_after, BinaryTree, multiply, is, is_not, spell_signs, spell_truth, spell_binary, ◌>>=◌, signs_of, after_signs, found, truths, arithmetic, follows_at, times_at, truth_at, OperatorTree, between, matching, matching_not, raising, negated_at, plain_by, operator_at, is_format}
 use Rattle.mgrammar.proofs.ReadingBasics.{Stops, Begins, bind_some, chosen, some_is}
 
 -- ---- signs
@@ -76,14 +76,18 @@ truth_takes (c ∷ cs) x e =
           subst (TruthIs (c ∷ cs)) (some_is (b.0, cs) x b.2) (ap (λ (y : List ℕ). y ++ cs) (sym is))
     ]
 
-abbrev pub is_follows : ℕ → Bool
-is_follows c = eqb c 93
+-- a character that an operator may have twice
+abbrev pub is_doubled : ℕ → Bool
+is_doubled c = eqb c 93 || eqb c 42
 
-follows_again : (rest : List ℕ) → Stops is_follows rest → follows_at rest ≡ (follows, rest)
+not_doubled : (c : ℕ) → is_doubled c ≡ false → (eqb c 93 ≡ false) × (eqb c 42 ≡ false)
+not_doubled c h = (grind (arith, nat_tests), grind (arith, nat_tests))
+
+follows_again : (rest : List ℕ) → Stops is_doubled rest → follows_at rest ≡ (follows, rest)
 follows_again [] s = refl
-follows_again (c ∷ rest) s = rw s refl
+follows_again (c ∷ rest) s = rw (not_doubled c s).0 refl
 
-truth_again : (t : TruthTree) (rest : List ℕ) → Stops is_follows rest → truth_at (spell_truth t ++ rest) ≡ Some (t, rest)
+truth_again : (t : TruthTree) (rest : List ℕ) → Stops is_doubled rest → truth_at (spell_truth t ++ rest) ≡ Some (t, rest)
 unfolding truth_at
 truth_again follows rest s = ap (λ (x : TruthTree × List ℕ). Some x) (follows_again rest s)
 truth_again t rest s = refl
@@ -94,6 +98,7 @@ abbrev pub spell_operator : OperatorTree → List ℕ
 spell_operator (between b) = spell_binary b
 spell_operator matching = 63 ∷ []
 spell_operator matching_not = 39 ∷ 63 ∷ []
+spell_operator raising = 42 ∷ 42 ∷ []
 
 abbrev OperatorIs : List ℕ → OperatorTree × List ℕ → Type 0
 OperatorIs cs x = cs ≡ spell_operator x.0 ++ x.1
@@ -112,6 +117,15 @@ negated_takes (c ∷ cs) x e =
           subst (OperatorIs (39 ∷ c ∷ cs)) (some_is (between (is_not b.0.0), b.0.1) x b.2) (ap (λ (y : List ℕ). 39 ∷ y) t)
     ]
 
+times_test : (c : ℕ) (cs : List ℕ) (b : Bool) → eqb c 42 ≡ b → OperatorIs (42 ∷ c ∷ cs) (cond b (raising, cs) (between multiply, c ∷ cs))
+times_test c cs true h = let at : c ≡ 42 = eqb-true _ _ h in rw at refl
+times_test c cs false h = refl
+
+-- after a `*`
+times_parts : (cs : List ℕ) → OperatorIs (42 ∷ cs) (times_at cs)
+times_parts [] = refl
+times_parts (c ∷ cs) = times_test c cs (eqb c 42) refl
+
 -- where the first character says this by itself
 plain_takes : (c : ℕ) (cs : List ℕ) (o : Option BinaryTree) (x : OperatorTree × List ℕ) → found arithmetic c ≡ o → plain_by o (c ∷ cs) ≡ Some x → OperatorIs (c ∷ cs) x
 plain_takes c cs None x h e =
@@ -119,7 +133,7 @@ plain_takes c cs None x h e =
     let t = truth_takes (c ∷ cs) b.0 b.1 in
     subst (OperatorIs (c ∷ cs)) (some_is (between (is b.0.0), b.0.1) x b.2) t
 plain_takes c cs (Some b) x h e =
-    let is_b : spell_binary b ≡ c ∷ [] = found_is (λ k a. spell_binary a ≡ k ∷ []) arithmetic c b (refl, (refl, (refl, (refl, (refl, (refl, (refl, tt))))))) h in
+    let is_b : spell_binary b ≡ c ∷ [] = found_is (λ k a. spell_binary a ≡ k ∷ []) arithmetic c b (refl, (refl, (refl, (refl, (refl, (refl, tt)))))) h in
     subst (OperatorIs (c ∷ cs)) (some_is (between b, cs) x e) (ap (λ (y : List ℕ). y ++ cs) (sym is_b))
 
 pub operator_takes : (cs : List ℕ) (x : OperatorTree × List ℕ) → operator_at cs ≡ Some x → OperatorIs cs x
@@ -130,25 +144,35 @@ operator_takes (c ∷ cs) x e =
       | inl p ↦
           let at : c ≡ 39 = eqb-true _ _ p.0 in
           ap (λ (y : ℕ). y ∷ cs) at ∙ negated_takes cs x p.1
-      | inr p ↦ elim (chosen (eqb c 63) (Some (matching, cs)) (plain_by (found arithmetic c) (c ∷ cs)) (Some x) p.1) [
+      | inr p ↦ elim (chosen (eqb c 63) (Some (matching, cs)) _ (Some x) p.1) [
         | inl q ↦
             let at : c ≡ 63 = eqb-true _ _ q.0 in
             subst (OperatorIs (c ∷ cs)) (some_is (matching, cs) x q.1) (rw at refl)
-        | inr q ↦ plain_takes c cs (found arithmetic c) x refl q.1
+        | inr q ↦ elim (chosen (eqb c 42) (Some (times_at cs)) (plain_by (found arithmetic c) (c ∷ cs)) (Some x) q.1) [
+          | inl t ↦
+              let at : c ≡ 42 = eqb-true _ _ t.0 in
+              subst (OperatorIs (c ∷ cs)) (some_is (times_at cs) x t.1) (ap (λ (y : ℕ). y ∷ cs) at ∙ times_parts cs)
+          | inr t ↦ plain_takes c cs (found arithmetic c) x refl t.1
+        ]
       ]
     ]
 
-negated_again : (t : TruthTree) (rest : List ℕ) → Stops is_follows rest → negated_at (spell_truth t ++ rest) ≡ Some (between (is_not t), rest)
+negated_again : (t : TruthTree) (rest : List ℕ) → Stops is_doubled rest → negated_at (spell_truth t ++ rest) ≡ Some (between (is_not t), rest)
 negated_again follows rest s = rw (truth_again follows rest s) refl
 negated_again t rest s = rw (truth_again t rest s) refl
 
-is_again : (t : TruthTree) (rest : List ℕ) → Stops is_follows rest → operator_at (spell_truth t ++ rest) ≡ Some (between (is t), rest)
+is_again : (t : TruthTree) (rest : List ℕ) → Stops is_doubled rest → operator_at (spell_truth t ++ rest) ≡ Some (between (is t), rest)
 unfolding operator_at
 is_again follows rest s = rw (truth_again follows rest s) refl
 is_again t rest s = rw (truth_again t rest s) refl
 
-pub operator_again : (o : OperatorTree) (rest : List ℕ) → Stops is_follows rest → operator_at (spell_operator o ++ rest) ≡ Some (o, rest)
+times_again : (rest : List ℕ) → Stops is_doubled rest → times_at rest ≡ (between multiply, rest)
+times_again [] s = refl
+times_again (c ∷ rest) s = rw (not_doubled c s).1 refl
+
+pub operator_again : (o : OperatorTree) (rest : List ℕ) → Stops is_doubled rest → operator_at (spell_operator o ++ rest) ≡ Some (o, rest)
 unfolding operator_at
+operator_again (between multiply) rest s = ap (λ (x : OperatorTree × List ℕ). Some x) (times_again rest s)
 operator_again (between (is t)) rest s = is_again t rest s
 operator_again (between (is_not t)) rest s = negated_again t rest s
 operator_again o rest s = refl
@@ -168,13 +192,20 @@ operator_begins (between (is t)) rest = truth_begins t rest
 operator_begins (between b) rest = refl
 operator_begins o rest = refl
 
-not_operator : (c : ℕ) → is_operator c ≡ false → (eqb c 39 ≡ false) × (eqb c 63 ≡ false) × (found arithmetic c ≡ None) × (eqb c 93 ≡ false) × (found truths c ≡ None)
+-- none of those that an operator begins with
+no_such : (c : ℕ) → is_operator c ≡ false → (a : ℕ) → is_operator a ≡ true → eqb c a ≡ false
+no_such c h a e = false_from_ne_true (eqb c a) (λ t. let no : ◌≡◌ {A = Bool} false true = sym h ∙ ap is_operator (eqb-true c a t) ∙ e in absurd cc)
+
+pub no_format : (c : ℕ) → is_operator c ≡ false → is_format c ≡ false
+no_format c h = rw (no_such c h 33 refl, no_such c h 35 refl) refl
+
+not_operator : (c : ℕ) → is_operator c ≡ false → (eqb c 39 ≡ false) × (eqb c 63 ≡ false) × (eqb c 42 ≡ false) × (found arithmetic c ≡ None) × (eqb c 93 ≡ false) × (found truths c ≡ None)
 not_operator c h =
-    let n : (a : ℕ) → is_operator a ≡ true → eqb c a ≡ false =
-    λ a e. false_from_ne_true (eqb c a) (λ t. let no : ◌≡◌ {A = Bool} false true = sym h ∙ ap is_operator (eqb-true c a t) ∙ e in absurd cc) in (
+    let n = no_such c h in (
       n 39 refl,
       n 63 refl,
-      rw (n 43 refl, n 45 refl, n 42 refl, n 47 refl, n 92 refl, n 35 refl, n 95 refl) refl,
+      n 42 refl,
+      rw (n 43 refl, n 45 refl, n 47 refl, n 92 refl, n 35 refl, n 95 refl) refl,
       n 93 refl,
       rw (n 61 refl, n 60 refl, n 62 refl, n 91 refl, n 38 refl, n 33 refl) refl,
     )
@@ -182,4 +213,4 @@ not_operator c h =
 pub no_operator : (rest : List ℕ) → Stops is_operator rest → operator_at rest ≡ None
 unfolding operator_at truth_at
 no_operator [] s = refl
-no_operator (c ∷ rest) s = let n = not_operator c s in rw (n.0, n.1, n.2, n.3, n.4) refl
+no_operator (c ∷ rest) s = let n = not_operator c s in rw (n.0, n.1, n.2, n.3, n.4, n.5) refl

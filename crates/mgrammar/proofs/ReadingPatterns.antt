@@ -176,6 +176,10 @@ atom_parts a rest = simp append_assoc
 atom_begins : (a : AtomTree) (rest : List ℕ) → WellAtom a → Begins is_digit_or_point (spell_atom a ++ rest)
 atom_begins a rest w = subst (Begins is_digit_or_point) (sym (atom_parts a rest)) (count_begins a.count.front a.count.behind (spell_repeated a.repeated ++ rest) w.0)
 
+pub pattern_begins : (atoms : List AtomTree) (rest : List ℕ) → WellList WellAtom atoms → Begins is_digit_or_point (spell_atoms atoms ++ rest)
+pattern_begins [] rest w = absurd w
+pattern_begins (a ∷ more) rest w = subst (Begins is_digit_or_point) (sym (append_assoc (spell_atom a) (spell_atoms more) rest)) (atom_begins a (spell_atoms more ++ rest) w.0)
+
 begins_atom : (cs ds : List ℕ) (n : CountTree) (y : RepeatedTree) (rest : List ℕ) → Begins is_digit_or_point cs → count_at cs ≡ Some (n, ds) → repeated_at ds ≡ Some (y, rest)
     → atom_at cs ≡ Some (Some (record { count = n; repeated = y }, rest))
 unfolding atom_at

@@ -27,6 +27,14 @@ call_cells cs w after inside t t' last rest p q s u e =
     let whole : 36 ∷ cs ≡ 36 ∷ (w ++ 40 ∷ (t ++ 41 ∷ rest)) = rw (p, q, s, u) refl in
     whole ∙ sym (in_brackets w t rest) ∙ ap (λ (y : List ℕ). (36 ∷ (w ++ 40 ∷ (y ++ 41 ∷ []))) ++ rest) (sym e)
 
+-- the text of a function of a variable, from its parts
+pub refer_cells : (cs w after inside v t more more' last rest : List ℕ) → cs ≡ w ++ after → after ≡ 40 ∷ inside → inside ≡ v ++ t → t ≡ more ++ last → last ≡ 41 ∷ rest → more' ≡ more
+    → 36 ∷ cs ≡ (36 ∷ (w ++ 40 ∷ (v ++ (more' ++ 41 ∷ [])))) ++ rest
+refer_cells cs w after inside v t more more' last rest p q s u z e =
+    let whole : 36 ∷ cs ≡ 36 ∷ (w ++ 40 ∷ (v ++ (more ++ 41 ∷ rest))) = rw (p, q, s, u, z) refl in
+    let same : (36 ∷ (w ++ 40 ∷ (v ++ (more ++ 41 ∷ [])))) ++ rest ≡ 36 ∷ (w ++ 40 ∷ (v ++ (more ++ 41 ∷ rest))) = simp append_assoc in
+    whole ∙ sym same ∙ ap (λ (y : List ℕ). (36 ∷ (w ++ 40 ∷ (v ++ (y ++ 41 ∷ [])))) ++ rest) (sym e)
+
 -- what is read after a character is a primary
 abbrev PrimaryIs : ℕ → List ℕ → PrimaryTree × List ℕ → Type 0
 PrimaryIs d cs y = (cs ≡ spell_primary y.0 ++ y.1) × WellPrimary d y.0 × Greedy (bare_primary y.0) y.1
@@ -100,14 +108,6 @@ module _ (d : ℕ) (r : Readers) (inner_takes : Takes spell_expr (WellInner d) (
             (call_cells ds w after cs (spell_list spell_expr b.0.0) (spell_exprs (exprs_of b.0.0)) b.0.1 k.0 p q t.0 z (spell_exprs-list b.0.0), (first.0, l, is, exprs_well d b.0.0 first.1), tt)
         | inr u ↦ absurd cc
       ]
-
-  -- the text of a function of a variable, from its parts
-  refer_cells : (cs w after inside v t more more' last rest : List ℕ) → cs ≡ w ++ after → after ≡ 40 ∷ inside → inside ≡ v ++ t → t ≡ more ++ last → last ≡ 41 ∷ rest → more' ≡ more
-      → 36 ∷ cs ≡ (36 ∷ (w ++ 40 ∷ (v ++ (more' ++ 41 ∷ [])))) ++ rest
-  refer_cells cs w after inside v t more more' last rest p q s u z e =
-      let whole : 36 ∷ cs ≡ 36 ∷ (w ++ 40 ∷ (v ++ (more ++ 41 ∷ rest))) = rw (p, q, s, u, z) refl in
-      let same : (36 ∷ (w ++ 40 ∷ (v ++ (more ++ 41 ∷ [])))) ++ rest ≡ 36 ∷ (w ++ 40 ∷ (v ++ (more ++ 41 ∷ rest))) = simp append_assoc in
-      whole ∙ sym same ∙ ap (λ (y : List ℕ). (36 ∷ (w ++ 40 ∷ (v ++ (y ++ 41 ∷ [])))) ++ rest) (sym e)
 
   refer_takes : (g : VariableFunctionTree) (most : ℕ) (w cs ds after : List ℕ) (x : PrimaryTree × List ℕ) → ds ≡ w ++ after → after ≡ 40 ∷ cs → AllAre is_letter w → function_of w ≡ Some (of_variable g most) → refer_with r most w cs ≡ Some x
       → PrimaryIs d (36 ∷ ds) x
@@ -259,6 +259,15 @@ special_step r w rest v l f s t =
     let i = run_again is_letter w rest l s in
     rw (i.0, i.1, no_bracket rest t, f) refl
 
+-- the text of a function of a variable, and what follows it
+pub refer_spread : (w v more rest : List ℕ) → (36 ∷ (w ++ 40 ∷ (v ++ (more ++ 41 ∷ [])))) ++ rest ≡ 36 ∷ (w ++ 40 ∷ (v ++ (more ++ 41 ∷ rest)))
+refer_spread w v more rest = simp append_assoc
+
+-- what follows a variable there
+pub more_ends : (es : List ExprTree) (rest : List ℕ) → OperandEnds (spell_more spell_expr es ++ 41 ∷ rest)
+more_ends [] rest = refl
+more_ends (e ∷ es) rest = refl
+
 module _ (d : ℕ) (r : Readers) (inner_again : Again spell_expr (WellInner d) Ends (r.inner)) (within_again : Again spell_reference (WellWithin d) OperandEnds (r.within)) (below_again : AgainFree spell_primary (WellBelow d) bare_primary (r.below)) where
   choice_again : Again spell_choice (WellChoice d) Ends (choice_with r)
   choice_again c rest w s =
@@ -290,15 +299,6 @@ module _ (d : ℕ) (r : Readers) (inner_again : Again spell_expr (WellInner d) E
       let tail = function_step r w (spell_list spell_expr es ++ 41 ∷ rest) (call w (exprs_of es)) rest h.1 (call_step r h.2.0 least most w (spell_list spell_expr es ++ 41 ∷ rest) es rest h.2.3 count l) in
       ap (primary_with r) (in_brackets w (spell_exprs args) rest ∙ ap (λ (y : List ℕ). 36 ∷ (w ++ 40 ∷ (y ++ 41 ∷ rest))) same)
       ∙ tail ∙ ap (λ (y : ExprsTree). Some (call w y, rest)) (exprs_back args)
-
-  -- the text of a function of a variable, and what follows it
-  refer_spread : (w v more rest : List ℕ) → (36 ∷ (w ++ 40 ∷ (v ++ (more ++ 41 ∷ [])))) ++ rest ≡ 36 ∷ (w ++ 40 ∷ (v ++ (more ++ 41 ∷ rest)))
-  refer_spread w v more rest = simp append_assoc
-
-  -- what follows a variable there
-  more_ends : (es : List ExprTree) (rest : List ℕ) → OperandEnds (spell_more spell_expr es ++ 41 ∷ rest)
-  more_ends [] rest = refl
-  more_ends (e ∷ es) rest = refl
 
   refer_again : (w : List ℕ) (v : ReferenceTree) (more : ExprsTree) (rest : List ℕ) → WellPrimary d (refer w v more) → primary_with r (spell_primary (refer w v more) ++ rest) ≡ Some (refer w v more, rest)
   refer_again w v more rest h =

@@ -2,10 +2,11 @@
 -- The commands, one row each: the word, its first letter, the form of its arguments, how many there may be at least and at most, whether
 -- a `postcond` may follow the word, and the first language that has the command.
 --
--- Restates "Command definitions" of ISO/IEC 11756:1999, of those that some language has.
+-- Restates "Command definitions" of ISO/IEC 11756:1999, of those that some language has. `H` without arguments is HALT, and with some it is
+-- HANG: so it has a row of its own, which has no other word, and each of the two has its whole word alone.
 use Rattle.std.specs.Prelude.{ℕ, Bool, true, false, ◌&&◌, nat_le, if◌then◌else◌, Option, Some, None, List, [], ◌∷◌, codes}
-use Rattle.mgrammar.specs.Grammar.{is_at_most, is_either, KeywordTree, set_word, kill_word, new_word, if_word, else_word, for_word, quit_word, write_word, do_word, goto_word, execute_word, lock_word, halt_word}
-use Rattle.mgrammar.specs.Grammar.{FormTree, set_argument, kill_argument, new_argument, if_argument, for_argument, write_argument, do_argument, goto_argument, xecute_argument, lock_argument, no_argument}
+use Rattle.mgrammar.specs.Grammar.{is_at_most, is_either, KeywordTree, set_word, kill_word, new_word, if_word, else_word, for_word, quit_word, write_word, do_word, goto_word, execute_word, lock_word, halt_word, hang_word, halt_or_hang_word}
+use Rattle.mgrammar.specs.Grammar.{FormTree, set_argument, kill_argument, new_argument, if_argument, for_argument, write_argument, do_argument, goto_argument, xecute_argument, lock_argument, hang_argument, no_argument}
 
 pub record CommandRow : Type 0 where
   pub short : List ℕ
@@ -33,12 +34,15 @@ command_row do_word = row (codes "d") (codes "do") do_argument 0 None true 0
 command_row goto_word = row (codes "g") (codes "goto") goto_argument 1 None true 0
 command_row execute_word = row (codes "x") (codes "xecute") xecute_argument 1 None true 0
 command_row lock_word = row (codes "l") (codes "lock") lock_argument 0 None true 0
-command_row halt_word = row (codes "h") (codes "halt") no_argument 0 (Some 0) true 0
+command_row halt_word = row (codes "halt") (codes "halt") no_argument 0 (Some 0) true 0
+command_row hang_word = row (codes "hang") (codes "hang") hang_argument 1 None true 1
+command_row halt_or_hang_word = row (codes "h") (codes "h") hang_argument 0 None true 0
 
 -- those that there are
 abbrev pub keywords : List KeywordTree
 keywords =
-    set_word ∷ kill_word ∷ new_word ∷ if_word ∷ else_word ∷ for_word ∷ quit_word ∷ write_word ∷ do_word ∷ goto_word ∷ execute_word ∷ lock_word ∷ halt_word ∷ []
+    set_word ∷ kill_word ∷ new_word ∷ if_word ∷ else_word ∷ for_word ∷ quit_word ∷ write_word ∷ do_word ∷ goto_word ∷ execute_word ∷ lock_word ∷ halt_word ∷ hang_word ∷
+    halt_or_hang_word ∷ []
 
 abbrev pub keyword_named : List ℕ → List KeywordTree → Option KeywordTree
 keyword_named w [] = None
@@ -59,6 +63,7 @@ takes_args k n = nat_le (command_row k).least n && is_at_most (command_row k).mo
 abbrev pub takes_condition : KeywordTree → Bool
 takes_condition k = (command_row k).is_conditioned
 
--- the first language that has the command
-abbrev pub since_keyword : KeywordTree → ℕ
-since_keyword k = (command_row k).since
+-- the first language that has the command with so many arguments
+abbrev pub since_keyword : KeywordTree → ℕ → ℕ
+since_keyword halt_or_hang_word n = if nat_le 1 n then (command_row hang_word).since else (command_row halt_word).since
+since_keyword k n = (command_row k).since

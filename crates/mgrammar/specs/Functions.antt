@@ -2,7 +2,7 @@
 -- The functions, one row each: the word, its abbreviation, what stands in its brackets, and the first language that has it.
 --
 -- Restates "Intrinsic functions" of ISO/IEC 11756:1999, of those that some language has.
-use Rattle.std.specs.Prelude.{ℕ, Bool, ◌&&◌, nat_le, if◌then◌else◌, Option, Some, None, List, [], ◌∷◌, codes}
+use Rattle.std.specs.Prelude.{ℕ, Bool, true, false, ◌&&◌, nat_le, if◌then◌else◌, Option, Some, None, List, [], ◌∷◌, codes}
 use Rattle.mgrammar.specs.Grammar.{is_at_most, is_either}
 
 -- those of values
@@ -11,6 +11,7 @@ pub data ValueFunctionTree : Type 0 where
   char_function : ValueFunctionTree
   extract_function : ValueFunctionTree
   find_function : ValueFunctionTree
+  format_number_function : ValueFunctionTree
   justify_function : ValueFunctionTree
   length_function : ValueFunctionTree
   piece_function : ValueFunctionTree
@@ -45,6 +46,7 @@ function_rows =
     ∷ row (codes "d") (codes "data") (of_variable data_function 0) 0
     ∷ row (codes "e") (codes "extract") (of_values extract_function 1 (Some 3)) 0
     ∷ row (codes "f") (codes "find") (of_values find_function 2 (Some 3)) 0
+    ∷ row (codes "fn") (codes "fnumber") (of_values format_number_function 2 (Some 3)) 1
     ∷ row (codes "g") (codes "get") (of_variable get_function 1) 0
     ∷ row (codes "j") (codes "justify") (of_values justify_function 2 (Some 3)) 0
     ∷ row (codes "l") (codes "length") (of_values length_function 1 (Some 2)) 0
@@ -79,6 +81,19 @@ since_values w n = if is_either (codes "j") (codes "justify") w && nat_le 3 n th
 abbrev pub takes : ℕ → Option ℕ → ℕ → Bool
 takes least most n = nat_le 1 n && (nat_le least n && is_at_most most n)
 
--- the word of the function whose call may be a target of SET
-abbrev pub is_piece : List ℕ → Bool
-is_piece w = is_either (codes "p") (codes "piece") w
+-- a function whose call may be a target of SET, if its first value is a variable
+abbrev pub is_part : ValueFunctionTree → Bool
+is_part ascii_function = false
+is_part char_function = false
+is_part extract_function = true
+is_part find_function = false
+is_part format_number_function = false
+is_part justify_function = false
+is_part length_function = false
+is_part piece_function = true
+is_part reverse_function = false
+is_part translate_function = false
+
+-- the first language in which the call of a function that is one may be a target, with so many values after the variable
+abbrev pub since_part : List ℕ → ℕ → ℕ
+since_part w n = if is_either (codes "p") (codes "piece") w && nat_le n 2 then 0 else 1

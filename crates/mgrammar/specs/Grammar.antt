@@ -28,7 +28,7 @@ pub data TruthTree : Type 0 where
   both : TruthTree
   either : TruthTree
 
--- `binaryop`; and a `truthop`, alone or after a `'`
+-- `binaryop`, except `**`; and a `truthop`, alone or after a `'`
 pub data BinaryTree : Type 0 where
   add : BinaryTree
   subtract : BinaryTree
@@ -55,9 +55,10 @@ pub record AtomTree : Type 0 where
   pub count : CountTree
   pub repeated : RepeatedTree
 
--- `expr`; `exprtail`, of which a list of steps is a run; `expratom` with its unary operators in front; `numlit` and `strlit`, each
--- with its characters; `svn`, with its word as it is written; `glvn`; `function`, with its word, those of a variable and $SELECT
--- apart
+-- `expr`; `exprtail`, of which a list of steps is a run, those of `**` apart, which take steps of a line, with a `pattern` as it is written or, in pattern indirection, the operand of
+-- an `@`; `expratom` with its unary
+-- operators in front; `numlit` and `strlit`, each with its characters; `svn`, with its word as it is written; `glvn`; `function`, with
+-- its word, those of a variable and $SELECT apart
 mutual
   pub data ExprTree : Type 0 where
     expr : OperandTree → TailsTree → ExprTree
@@ -70,6 +71,9 @@ mutual
     apply : BinaryTree → OperandTree → TailTree
     matches : List AtomTree → TailTree
     matches_not : List AtomTree → TailTree
+    raise : OperandTree → TailTree
+    matches_indirect : PrimaryTree → TailTree
+    matches_not_indirect : PrimaryTree → TailTree
 
   pub data OperandTree : Type 0 where
     operand : List SignTree → PrimaryTree → OperandTree
@@ -116,10 +120,10 @@ abbrev pub choices_of : List (ExprTree × ExprTree) → ChoicesTree
 choices_of [] = no_choices
 choices_of (c ∷ cs) = choice c.0 c.1 (choices_of cs)
 
--- `setleft`: a variable; or `setpiece` with its word, its variable, its delimiter and its place
+-- `setleft`: a variable; or `setpiece` or `setextract` with its word, its variable, and the values after that
 pub data TargetTree : Type 0 where
   variable : ReferenceTree → TargetTree
-  piece : List ℕ → ReferenceTree → ExprTree → Option ExprTree → TargetTree
+  part : List ℕ → ReferenceTree → ExprsTree → TargetTree
 
 -- `setdestination`: one, or a list in brackets
 pub data DestinationTree : Type 0 where
@@ -161,16 +165,18 @@ pub data FormTree : Type 0 where
   goto_argument : FormTree
   xecute_argument : FormTree
   lock_argument : FormTree
+  hang_argument : FormTree
   no_argument : FormTree
 
--- an argument of any command: `setargument`, a destination and a value; `writeargument`, a run of the format `!`, or a value;
+-- an argument of any command: `setargument`, a destination and a value; `writeargument`, formats, a character by its code, or a value;
 -- `killargument`, a variable, or the names that are spared; `newargument`, a name, or the names that are spared; the condition
 -- of `ifargument`; what comes after FOR, the name of an index and its parameters; and with a `postcond` of its own or none,
--- `doargument`, `gotoargument` and `xargument`; `lockargument`, with its `timeout` or none. Argument indirection: arguments of this form
--- that a text gives, the value of the `expratom` after an `@`
+-- `doargument`, `gotoargument` and `xargument`; `lockargument`, with its `timeout` or none; the number of `hangargument`. Argument
+-- indirection: arguments of this form that a text gives, the value of the `expratom` after an `@`
 pub data ArgTree : Type 0 where
   assign : DestinationTree → ExprTree → ArgTree
-  breaks : ℕ → ArgTree
+  formats : List ℕ → ArgTree
+  coded : ExprTree → ArgTree
   shown : ExprTree → ArgTree
   kill_one : ReferenceTree → ArgTree
   kill_others : List (List ℕ) → ArgTree
@@ -182,9 +188,10 @@ pub data ArgTree : Type 0 where
   go_to : EntryTree → Option ExprTree → ArgTree
   executed : ExprTree → Option ExprTree → ArgTree
   locked : LockKindTree → LockedTree → Option ExprTree → ArgTree
+  hang_for : ExprTree → ArgTree
   indirect_args : FormTree → PrimaryTree → ArgTree
 
--- `commandword`, whatever its spelling
+-- `commandword`, whatever its spelling; the letter of HALT and HANG, which its arguments tell apart, is a word of its own
 pub data KeywordTree : Type 0 where
   set_word : KeywordTree
   kill_word : KeywordTree
@@ -199,6 +206,8 @@ pub data KeywordTree : Type 0 where
   execute_word : KeywordTree
   lock_word : KeywordTree
   halt_word : KeywordTree
+  hang_word : KeywordTree
+  halt_or_hang_word : KeywordTree
 
 -- `command`: its word, also as it is written, its `postcond` if it has one, then its arguments
 pub record CommandTree : Type 0 where
@@ -217,7 +226,7 @@ pub record LineTree : Type 0 where
   pub commands : List SpacedTree
   pub comment : Option (List ℕ)
 
--- ---- the text of a tree; 32 is a space, 33 `!`, 34 a quote, 36 `$`, 39 `'`, 40 and 41 brackets, 44 a comma, 46 a point,
+-- ---- the text of a tree; 32 is a space, 33 `!`, 34 a quote, 36 `$`, 39 `'`, 40 and 41 brackets, 42 `*`, 44 a comma, 46 a point,
 -- 58 a colon, 59 `;`, 61 `=`, 63 `?`, 64 `@`, 94 `^`, 124 `|`
 
 abbrev pub sign_char : SignTree → ℕ
@@ -285,6 +294,9 @@ abbrev mutual
   spell_tail (apply b o) = spell_binary b ++ spell_operand o
   spell_tail (matches atoms) = 63 ∷ spell_atoms atoms
   spell_tail (matches_not atoms) = 39 ∷ 63 ∷ spell_atoms atoms
+  spell_tail (raise o) = 42 ∷ 42 ∷ spell_operand o
+  spell_tail (matches_indirect p) = 63 ∷ 64 ∷ spell_primary p
+  spell_tail (matches_not_indirect p) = 39 ∷ 63 ∷ 64 ∷ spell_primary p
 
   pub spell_operand : OperandTree → List ℕ
   spell_operand (operand signs p) = spell_signs signs ++ spell_primary p
@@ -344,14 +356,9 @@ abbrev pub spell_list : {A : Type 0} → (A → List ℕ) → List A → List �
 spell_list spell [] = []
 spell_list spell (a ∷ rest) = spell a ++ spell_more spell rest
 
-abbrev pub spell_place : Option ExprTree → List ℕ
-spell_place None = []
-spell_place (Some e) = 44 ∷ spell_expr e
-
 abbrev pub spell_target : TargetTree → List ℕ
 spell_target (variable r) = spell_reference r
-spell_target (piece word r delimiter place) =
-    36 ∷ (word ++ 40 ∷ (spell_reference r ++ 44 ∷ (spell_expr delimiter ++ (spell_place place ++ 41 ∷ []))))
+spell_target (part word r more) = 36 ∷ (word ++ 40 ∷ (spell_reference r ++ (spell_more_exprs more ++ 41 ∷ [])))
 
 abbrev pub spell_destination : DestinationTree → List ℕ
 spell_destination (one t) = spell_target t
@@ -387,7 +394,8 @@ spell_locked (lock_several rs) = 40 ∷ (spell_list spell_reference rs ++ 41 ∷
 
 abbrev pub spell_arg : ArgTree → List ℕ
 spell_arg (assign d e) = spell_destination d ++ 61 ∷ spell_expr e
-spell_arg (breaks n) = replicate n 33
+spell_arg (formats run) = run
+spell_arg (coded e) = 42 ∷ spell_expr e
 spell_arg (shown e) = spell_expr e
 spell_arg (kill_one r) = spell_reference r
 spell_arg (kill_others names) = spell_names names
@@ -399,6 +407,7 @@ spell_arg (do_one entry c) = spell_entry entry ++ spell_condition c
 spell_arg (go_to entry c) = spell_entry entry ++ spell_condition c
 spell_arg (executed e c) = spell_expr e ++ spell_condition c
 spell_arg (locked k names t) = (spell_kind k ++ spell_locked names) ++ spell_condition t
+spell_arg (hang_for e) = spell_expr e
 spell_arg (indirect_args f p) = 64 ∷ spell_primary p
 
 -- after a space, if there are some
@@ -420,7 +429,7 @@ spell_comment (Some t) = 59 ∷ t
 abbrev pub spell : LineTree → List ℕ
 spell l = replicate l.lead 32 ++ (spell_commands l.commands ++ spell_comment l.comment)
 
--- ---- words, and the letters of patterns
+-- ---- words, formats, and the letters of patterns
 
 -- no more than the bound, if there is one
 abbrev pub is_at_most : Option ℕ → ℕ → Bool
@@ -443,7 +452,15 @@ may_be_indirect do_argument = true
 may_be_indirect goto_argument = true
 may_be_indirect xecute_argument = true
 may_be_indirect lock_argument = true
+may_be_indirect hang_argument = true
 may_be_indirect no_argument = false
+
+-- a format of WRITE: a `!`, or a `#`
+abbrev pub is_bang : ℕ → Bool
+is_bang c = c == 33
+
+abbrev pub is_format : ℕ → Bool
+is_format c = is_bang c || c == 35
 
 -- `patcode`, in either case of letters
 abbrev pub is_pattern_letter : ℕ → Bool

@@ -1,10 +1,10 @@
 -- SPDX-License-Identifier: Apache-2.0
 -- The laws of the grammar. The functions of src/ named after them carry them.
 use Rattle.std.specs.Prelude.{◌≡◌, ◌≤◌, ◌↔◌, ℕ, true, List, Some}
-use Rattle.mgrammar.specs.Grammar.{ReferenceTree, ArgTree, FormTree, may_be_indirect, LineTree, spell_reference, spell_list, spell_arg, spell}
-use Rattle.mgrammar.specs.WellFormed.{max_depth, WellReference, WellList, WellArg, well}
+use Rattle.mgrammar.specs.Grammar.{ReferenceTree, ArgTree, AtomTree, FormTree, may_be_indirect, LineTree, spell_reference, spell_list, spell_arg, spell_atoms, spell}
+use Rattle.mgrammar.specs.WellFormed.{max_depth, WellReference, WellList, WellArg, WellAtom, well}
 use Rattle.mgrammar.specs.Reading.{line_at}
-use Rattle.mgrammar.specs.IndirectTexts.{ref_at, args_of}
+use Rattle.mgrammar.specs.IndirectTexts.{ref_at, args_of, pattern_of}
 use Rattle.mgrammar.specs.RoutineLine.{RoutineLineTree, spell_routine_line, well_routine_line, routine_line_at, label_of, dots_of, dots_of_body}
 use Rattle.mgrammar.specs.Languages.{since_line, since_routine_line, since_reference, since_args, line_in, routine_line_in, ref_in, args_in}
 
@@ -51,6 +51,14 @@ abbrev pub ReadsItsArguments : Type 0
 ReadsItsArguments =
     (f : FormTree) → may_be_indirect f ≡ true → (text : List ℕ) (args : List ArgTree) →
     (args_of f text ≡ Some args) ↔ ((spell_list spell_arg args ≡ text) × WellList (WellArg f) args)
+
+-- as that of a pattern indirection, no text has two lists of atoms
+abbrev pub OnePattern : Type 0
+OnePattern = (s t : List AtomTree) → WellList WellAtom s → WellList WellAtom t → spell_atoms s ≡ spell_atoms t → s ≡ t
+
+-- and it is read as such a list exactly when that is the list of well-formed atoms that spells it
+abbrev pub ReadsItsPattern : Type 0
+ReadsItsPattern = (text : List ℕ) (atoms : List AtomTree) → (pattern_of text ≡ Some atoms) ↔ ((spell_atoms atoms ≡ text) × WellList WellAtom atoms)
 
 -- in a language a text is read as a tree exactly when that is the well-formed tree that spells it, and the language has all its forms
 abbrev pub ReadsItsTreeIn : Type 0

@@ -2,11 +2,11 @@
 -- The texts of indirection, read whole.
 --
 -- Restates "Indirection" of ISO/IEC 11756:1999: the value of the operand of an `@` is a text that stands where the `@` stands, in the
--- place of a variable or of arguments. The meaning of a line reads such a text in this way; laws tie what is read to the grammar.
+-- place of a variable, of arguments or of a pattern. The meaning of a line reads such a text in this way; laws tie what is read to the grammar.
 use Rattle.std.specs.Prelude.{ℕ, List, [], ◌∷◌, Option, Some, None}
-use Rattle.mgrammar.specs.Grammar.{ReferenceTree, ArgTree, FormTree}
+use Rattle.mgrammar.specs.Grammar.{ReferenceTree, ArgTree, AtomTree, FormTree}
 use Rattle.mgrammar.specs.WellFormed.{max_depth}
-use Rattle.mgrammar.specs.ReadingWords.{◌>>=◌, list_at}
+use Rattle.mgrammar.specs.ReadingWords.{◌>>=◌, list_at, pattern_at}
 use Rattle.mgrammar.specs.ReadingExpressions.{readers_at, reference_with}
 use Rattle.mgrammar.specs.Reading.{arg_at}
 
@@ -22,3 +22,7 @@ ref_at cs = reference_with (readers_at max_depth) cs >>= λ v. whole_by v.0 v.1
 -- of argument indirection: one or more arguments of this form, with commas between
 unfoldable pub args_of : FormTree → List ℕ → Option (List ArgTree)
 args_of f cs = list_at (arg_at f) cs >>= λ x. whole_by x.0 x.1
+
+-- of pattern indirection: a pattern as it is written, with no further `@`
+unfoldable pub pattern_of : List ℕ → Option (List AtomTree)
+pattern_of cs = pattern_at cs >>= λ p. whole_by p.0 p.1

@@ -4,10 +4,10 @@
 -- There is one grammar, that of all languages together. A tree needs the first language that has all its forms, which is counted from
 -- the rows of its words: 0 is the profile, and each later language has all that those before it have. A text whose tree needs a later
 -- language is as a text that has no tree.
-use Rattle.std.specs.Prelude.{ℕ, nat_le, max, if◌then◌else◌, List, [], ◌∷◌, Option, Some, None}
-use Rattle.mgrammar.specs.Grammar.{ExprTree, expr, TailsTree, no_tails, tail, TailTree, apply, matches, matches_not, OperandTree, operand, PrimaryTree, number, text, special, reference, bracket, call, select, refer, ReferenceTree, local, global, naked, indirect, extended, ExprsTree, no_exprs, exprs, ChoicesTree, no_choices, choice}
-use Rattle.mgrammar.specs.Grammar.{TargetTree, variable, piece, DestinationTree, one, several, ParameterTree, once, onward, until, LockedTree, lock_one, lock_several, FormTree, ArgTree, assign, breaks, shown, kill_one, kill_others, new_one, new_others, tested, loop, do_one, go_to, executed, locked, indirect_args, CommandTree, SpacedTree, LineTree}
-use Rattle.mgrammar.specs.Functions.{since_function, since_values}
+use Rattle.std.specs.Prelude.{ℕ, nat_le, max, if◌then◌else◌, List, [], ◌∷◌, length, Option, Some, None}
+use Rattle.mgrammar.specs.Grammar.{ExprTree, expr, TailsTree, no_tails, tail, TailTree, apply, matches, matches_not, raise, matches_indirect, matches_not_indirect, OperandTree, operand, PrimaryTree, number, text, special, reference, bracket, call, select, refer, ReferenceTree, local, global, naked, indirect, extended, ExprsTree, no_exprs, exprs, ChoicesTree, no_choices, choice}
+use Rattle.mgrammar.specs.Grammar.{TargetTree, variable, part, DestinationTree, one, several, ParameterTree, once, onward, until, LockedTree, lock_one, lock_several, FormTree, ArgTree, assign, formats, coded, shown, kill_one, kill_others, new_one, new_others, tested, loop, do_one, go_to, executed, locked, hang_for, indirect_args, CommandTree, SpacedTree, LineTree, is_bang}
+use Rattle.mgrammar.specs.Functions.{since_function, since_values, since_part}
 use Rattle.mgrammar.specs.WellFormed.{exprs_count}
 use Rattle.mgrammar.specs.Commands.{since_keyword}
 use Rattle.mgrammar.specs.Specials.{since_special}
@@ -38,6 +38,9 @@ abbrev mutual
   since_tail (apply b o) = since_operand o
   since_tail (matches atoms) = 0
   since_tail (matches_not atoms) = 0
+  since_tail (raise o) = max 1 (since_operand o)
+  since_tail (matches_indirect p) = max 1 (since_primary p)
+  since_tail (matches_not_indirect p) = max 1 (since_primary p)
 
   pub since_operand : OperandTree → ℕ
   since_operand (operand signs p) = since_primary p
@@ -69,8 +72,7 @@ abbrev mutual
 
 abbrev pub since_target : TargetTree → ℕ
 since_target (variable r) = since_reference r
-since_target (piece word r delimiter place) =
-    max (since_function word) (max (since_reference r) (max (since_expr delimiter) (since_optional since_expr place)))
+since_target (part word r more) = max (max (since_function word) (since_part word (exprs_count more))) (max (since_reference r) (since_exprs more))
 
 abbrev pub since_destination : DestinationTree → ℕ
 since_destination (one t) = since_target t
@@ -85,9 +87,14 @@ abbrev pub since_locked : LockedTree → ℕ
 since_locked (lock_one r) = since_reference r
 since_locked (lock_several rs) = since_all since_reference rs
 
+-- a `!`, which all languages have, or a `#`
+abbrev pub since_format : ℕ → ℕ
+since_format c = if is_bang c then 0 else 1
+
 abbrev pub since_arg : ArgTree → ℕ
 since_arg (assign d e) = max (since_destination d) (since_expr e)
-since_arg (breaks n) = 0
+since_arg (formats run) = since_all since_format run
+since_arg (coded e) = max 1 (since_expr e)
 since_arg (shown e) = since_expr e
 since_arg (kill_one r) = since_reference r
 since_arg (kill_others names) = 0
@@ -99,13 +106,14 @@ since_arg (do_one entry c) = since_optional since_expr c
 since_arg (go_to entry c) = since_optional since_expr c
 since_arg (executed e c) = max (since_expr e) (since_optional since_expr c)
 since_arg (locked k names t) = max (since_locked names) (since_optional since_expr t)
+since_arg (hang_for e) = since_expr e
 since_arg (indirect_args f p) = since_primary p
 
 abbrev pub since_args : List ArgTree → ℕ
 since_args = since_all since_arg
 
 abbrev pub since_command : CommandTree → ℕ
-since_command c = max (since_keyword c.keyword) (max (since_optional since_expr c.condition) (since_args c.args))
+since_command c = max (since_keyword c.keyword (length c.args)) (max (since_optional since_expr c.condition) (since_args c.args))
 
 abbrev pub since_spaced : SpacedTree → ℕ
 since_spaced c = since_command c.0

@@ -1,37 +1,35 @@
 -- SPDX-License-Identifier: Apache-2.0
 -- Reading a tree back from its text. The meaning of a line reads its text in this way; the law `reads_its_tree` ties what is read to
 -- the grammar, which a reader checks in its place.
-use Rattle.std.specs.Prelude.{ℕ, ◌-◌, Bool, true, false, not, ◌&&◌, ◌||◌, ◌==◌, nat_le, if◌then◌else◌, List, [], ◌∷◌, length, drop, Option, Some, None}
+use Rattle.std.specs.Prelude.{ℕ, suc, ◌-◌, Bool, true, false, not, ◌&&◌, ◌||◌, ◌==◌, nat_le, if◌then◌else◌, List, [], ◌∷◌, length, drop, Option, Some, None}
 use Rattle.mspec.specs.Names.{is_letter, is_character}
-use Rattle.mgrammar.specs.Grammar.{ExprTree, PrimaryTree, ReferenceTree, TargetTree, variable, piece, DestinationTree, one, several, ParameterTree, once, onward, until, EntryTree, at_label, at_label_in, at_routine, ArgTree, assign, breaks, shown, kill_one, kill_others, new_one, new_others, tested, loop, do_one, go_to, executed, locked, indirect_args, LockKindTree, anew, adding, giving_back, LockedTree, lock_one, lock_several, CommandTree, SpacedTree, LineTree, KeywordTree, FormTree, set_argument, kill_argument, new_argument, if_argument, for_argument, write_argument, do_argument, goto_argument, xecute_argument, lock_argument, no_argument}
+use Rattle.mgrammar.specs.Grammar.{ExprTree, exprs_of, PrimaryTree, ReferenceTree, TargetTree, variable, part, DestinationTree, one, several, ParameterTree, once, onward, until, EntryTree, at_label, at_label_in, at_routine, ArgTree, assign, formats, coded, shown, kill_one, kill_others, new_one, new_others, tested, loop, do_one, go_to, executed, locked, hang_for, indirect_args, LockKindTree, anew, adding, giving_back, LockedTree, lock_one, lock_several, CommandTree, SpacedTree, LineTree, KeywordTree, FormTree, set_argument, kill_argument, new_argument, if_argument, for_argument, write_argument, do_argument, goto_argument, xecute_argument, lock_argument, hang_argument, no_argument, is_format}
 use Rattle.mgrammar.specs.Commands.{keyword_of, form_of, takes_args, takes_condition}
-use Rattle.mgrammar.specs.Functions.{is_piece}
+use Rattle.mgrammar.specs.Functions.{FunctionTree, of_values, of_variable, of_choices, function_of, takes, is_part}
 use Rattle.mgrammar.specs.WellFormed.{bare_destination, is_named, bare_arg, settled, least_gap, max_depth}
-use Rattle.mgrammar.specs.ReadingWords.{Read, ◌>>=◌, run_of, after_run, after_sign, name_at, past, many, list_at}
+use Rattle.mgrammar.specs.ReadingWords.{Read, ◌>>=◌, run_of, after_run, after_sign, name_at, past, many, after_comma, list_at}
 use Rattle.mgrammar.specs.ReadingExpressions.{Readers, reference_with, readers_at, expr_at}
 
 -- ---- arguments
 
 module _ (r : Readers) where
-  -- after a delimiter
-  unfoldable pub place_with : List ℕ → Read (Option ExprTree)
-  place_with [] = Some (None, [])
-  place_with (c ∷ cs) = if c == 44 then (r.inner cs >>= λ e. Some (Some e.0, e.1)) else Some (None, c ∷ cs)
+  -- a variable and the values after it, of a function that takes at least `least` values and at most `most`, the variable among them
+  unfoldable pub part_with : ℕ → Option ℕ → List ℕ → List ℕ → Read TargetTree
+  part_with least most w cs =
+      r.within cs >>= λ v. many (after_comma (r.inner)) (length v.1) v.1 >>= λ x. past 41 x.1 >>= λ rest.
+      if takes least most (suc (length x.0)) then Some (part w v.0 (exprs_of x.0), rest) else None
 
-  unfoldable pub piece_with : List ℕ → List ℕ → Read TargetTree
-  piece_with w cs =
-      r.within cs >>= λ v. past 44 v.1 >>= λ rest. r.inner rest >>= λ e. place_with e.1 >>= λ p.
-      past 41 p.1 >>= λ end.
-      Some (piece w v.0 e.0 p.0, end)
-
-  abbrev pub piece_by : List ℕ → List ℕ → Read TargetTree
-  piece_by w cs = if is_piece w then piece_with w cs else None
+  abbrev pub part_by : List ℕ → Option FunctionTree → List ℕ → Read TargetTree
+  part_by w None cs = None
+  part_by w (Some (of_values f least most)) cs = if is_part f then part_with least most w cs else None
+  part_by w (Some (of_variable f most)) cs = None
+  part_by w (Some of_choices) cs = None
 
   unfoldable pub target_with : List ℕ → Read TargetTree
   target_with [] = None
   target_with (c ∷ cs) =
       if c == 36
-      then (past 40 (after_run is_letter cs) >>= piece_by (run_of is_letter cs))
+      then (past 40 (after_run is_letter cs) >>= part_by (run_of is_letter cs) (function_of (run_of is_letter cs)))
       else (reference_with r (c ∷ cs) >>= λ v. Some (variable v.0, v.1))
 
 unfoldable pub destination_at : List ℕ → Read DestinationTree
@@ -54,16 +52,18 @@ set_argument_by d cs (Some rest) = expr_at max_depth rest >>= λ e. Some (assign
 unfoldable pub set_argument_at : List ℕ → Read ArgTree
 set_argument_at cs = destination_at cs >>= λ d. set_argument_by d.0 d.1 (past 61 d.1)
 
-abbrev pub is_bang : ℕ → Bool
-is_bang c = c == 33
+-- a value, or what comes after a `*`
+abbrev pub value_by : List ℕ → Option (List ℕ) → Read ArgTree
+value_by cs None = expr_at max_depth cs >>= λ e. Some (shown e.0, e.1)
+value_by cs (Some rest) = expr_at max_depth rest >>= λ e. Some (coded e.0, e.1)
 
--- with this run of `!` in front
+-- with this run of formats in front
 abbrev pub write_argument_by : List ℕ → List ℕ → Read ArgTree
-write_argument_by [] cs = expr_at max_depth cs >>= λ e. Some (shown e.0, e.1)
-write_argument_by (b ∷ bs) cs = Some (breaks (length (b ∷ bs)), after_run is_bang cs)
+write_argument_by [] cs = value_by cs (past 42 cs)
+write_argument_by (f ∷ fs) cs = Some (formats (f ∷ fs), after_run is_format cs)
 
 unfoldable pub write_argument_at : List ℕ → Read ArgTree
-write_argument_at cs = write_argument_by (run_of is_bang cs) cs
+write_argument_at cs = write_argument_by (run_of is_format cs) cs
 
 -- names, after the bracket in front of them
 unfoldable pub names_at : List ℕ → Read (List (List ℕ))
@@ -146,6 +146,9 @@ kind_of (c ∷ cs) = if c == 43 then adding else (if c == 45 then giving_back el
 unfoldable pub lock_argument_at : List ℕ → Read ArgTree
 lock_argument_at cs = locked_at (after_sign cs) >>= conditioned (locked (kind_of cs))
 
+unfoldable pub hang_argument_at : List ℕ → Read ArgTree
+hang_argument_at cs = expr_at max_depth cs >>= λ e. Some (hang_for e.0, e.1)
+
 -- ---- argument indirection
 
 -- one that begins as a variable or an expression may be an `@` with its operand alone
@@ -171,6 +174,7 @@ arg_at do_argument = operand_or do_argument_at do_argument
 arg_at goto_argument = operand_or goto_argument_at goto_argument
 arg_at xecute_argument = settled_with xecute_argument_at xecute_argument
 arg_at lock_argument = settled_with lock_argument_at lock_argument
+arg_at hang_argument = settled_with hang_argument_at hang_argument
 arg_at no_argument = λ cs. None
 
 -- ---- commands and lines

@@ -2,10 +2,10 @@
 -- How expressions are read: references, calls, brackets and what operators tie.
 use Rattle.std.specs.Prelude.{ℕ, zero, suc, false, ◌==◌, nat_le, if◌then◌else◌, List, [], ◌∷◌, length, Option, Some, None}
 use Rattle.mspec.specs.Names.{is_letter}
-use Rattle.mgrammar.specs.Grammar.{ExprTree, expr, TailTree, apply, matches, matches_not, tails_of, OperandTree, operand, PrimaryTree, number, text, special, reference, bracket, call, select, refer, ReferenceTree, local, global, naked, indirect, extended, ExprsTree, no_exprs, exprs_of, choices_of}
+use Rattle.mgrammar.specs.Grammar.{ExprTree, expr, TailTree, apply, matches, matches_not, raise, matches_indirect, matches_not_indirect, tails_of, OperandTree, operand, PrimaryTree, number, text, special, reference, bracket, call, select, refer, ReferenceTree, local, global, naked, indirect, extended, ExprsTree, no_exprs, exprs_of, choices_of}
 use Rattle.mgrammar.specs.Specials.{SpecialTree, special_of}
 use Rattle.mgrammar.specs.Functions.{FunctionTree, of_values, of_variable, of_choices, function_of, takes}
-use Rattle.mgrammar.specs.ReadingWords.{Read, ◌>>=◌, run_of, after_run, is_digit_or_point, number_at, name_at, text_from, past, many, after_comma, list_at, pattern_at, signs_of, after_signs, OperatorTree, operator_at, between, matching, matching_not}
+use Rattle.mgrammar.specs.ReadingWords.{Read, ◌>>=◌, run_of, after_run, is_digit_or_point, number_at, name_at, text_from, past, many, after_comma, list_at, pattern_at, signs_of, after_signs, OperatorTree, operator_at, between, matching, matching_not, raising}
 
 -- ---- expressions
 
@@ -118,11 +118,22 @@ module _ (r : Readers) where
   unfoldable pub operand_with : List ℕ → Read OperandTree
   operand_with cs = primary_with (after_signs cs) >>= λ p. Some (operand (signs_of cs) p.0, p.1)
 
+  -- after a `?`, given that this text comes after an `@`, or none does
+  abbrev pub matches_by : List ℕ → Option (List ℕ) → Read TailTree
+  matches_by cs None = pattern_at cs >>= λ p. Some (matches p.0, p.1)
+  matches_by cs (Some behind) = r.below behind >>= λ p. Some (matches_indirect p.0, p.1)
+
+  -- the same after a `'?`
+  abbrev pub matches_not_by : List ℕ → Option (List ℕ) → Read TailTree
+  matches_not_by cs None = pattern_at cs >>= λ p. Some (matches_not p.0, p.1)
+  matches_not_by cs (Some behind) = r.below behind >>= λ p. Some (matches_not_indirect p.0, p.1)
+
   -- a step, with this operator in front and this text after it
   unfoldable pub tail_by : OperatorTree → List ℕ → Read TailTree
   tail_by (between b) cs = operand_with cs >>= λ o. Some (apply b o.0, o.1)
-  tail_by matching cs = pattern_at cs >>= λ p. Some (matches p.0, p.1)
-  tail_by matching_not cs = pattern_at cs >>= λ p. Some (matches_not p.0, p.1)
+  tail_by matching cs = matches_by cs (past 64 cs)
+  tail_by matching_not cs = matches_not_by cs (past 64 cs)
+  tail_by raising cs = operand_with cs >>= λ o. Some (raise o.0, o.1)
 
   abbrev pub tail_behind : Option (OperatorTree × List ℕ) → Option (Option (TailTree × List ℕ))
   tail_behind None = Some None

@@ -202,7 +202,7 @@ truths = (61, equals) ∷ (60, less) ∷ (62, greater) ∷ (91, contains) ∷ (3
 
 abbrev pub arithmetic : List (ℕ × BinaryTree)
 arithmetic =
-    (43, add) ∷ (45, subtract) ∷ (42, multiply) ∷ (47, divide) ∷ (92, divide_whole) ∷ (35, remainder) ∷ (95, join) ∷ []
+    (43, add) ∷ (45, subtract) ∷ (47, divide) ∷ (92, divide_whole) ∷ (35, remainder) ∷ (95, join) ∷ []
 
 -- the operator after a `]`: the longest
 abbrev pub follows_at : List ℕ → TruthTree × List ℕ
@@ -218,12 +218,18 @@ pub data OperatorTree : Type 0 where
   between : BinaryTree → OperatorTree
   matching : OperatorTree
   matching_not : OperatorTree
+  raising : OperatorTree
 
 -- after a `'`
 abbrev pub negated_at : List ℕ → Read OperatorTree
 negated_at [] = None
 negated_at (c ∷ cs) =
     if c == 63 then Some (matching_not, cs) else (truth_at (c ∷ cs) >>= λ t. Some (between (is_not t.0), t.1))
+
+-- the operator after a `*`: the longest
+abbrev pub times_at : List ℕ → OperatorTree × List ℕ
+times_at [] = (between multiply, [])
+times_at (c ∷ cs) = if c == 42 then (raising, cs) else (between multiply, c ∷ cs)
 
 -- given that the first character alone says this
 abbrev pub plain_by : Option BinaryTree → List ℕ → Read OperatorTree
@@ -238,4 +244,7 @@ plain_at (c ∷ cs) = plain_by (found arithmetic c) (c ∷ cs)
 unfoldable pub operator_at : List ℕ → Read OperatorTree
 operator_at [] = None
 operator_at (c ∷ cs) =
-    if c == 39 then negated_at cs else (if c == 63 then Some (matching, cs) else plain_at (c ∷ cs))
+    if c == 39 then negated_at cs
+    else (if c == 63 then Some (matching, cs)
+    else (if c == 42 then Some (times_at cs)
+    else plain_at (c ∷ cs)))

@@ -7,6 +7,10 @@ use Rattle.mgrammar.specs.Grammar.{is_either}
 
 pub data SpecialTree : Type 0 where
   test_special : SpecialTree
+  io_special : SpecialTree
+  job_special : SpecialTree
+  principal_special : SpecialTree
+  storage_special : SpecialTree
 
 pub record SpecialRow : Type 0 where
   pub short : List ℕ
@@ -18,7 +22,13 @@ abbrev row : List ℕ → List ℕ → SpecialTree → ℕ → SpecialRow
 row short whole special since = record { short = short; whole = whole; special = special; since = since }
 
 abbrev pub special_rows : List SpecialRow
-special_rows = row (codes "t") (codes "test") test_special 0 ∷ []
+special_rows =
+    row (codes "t") (codes "test") test_special 0
+    ∷ row (codes "i") (codes "io") io_special 1
+    ∷ row (codes "j") (codes "job") job_special 1
+    ∷ row (codes "p") (codes "principal") principal_special 1
+    ∷ row (codes "s") (codes "storage") storage_special 1
+    ∷ []
 
 abbrev pub special_named : List ℕ → List SpecialRow → Option SpecialTree
 special_named w [] = None

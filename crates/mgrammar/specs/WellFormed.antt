@@ -5,10 +5,10 @@ use Rattle.std.specs.Prelude.{◌≡◌, ℕ, suc, ◌-◌, ◌<◌, ◌≤◌, 
 pub use Rattle.mspec.specs.Limits.{max_depth}
 use Rattle.mspec.specs.Literal.{is_digit, Literal, IsLiteral, spell_literal}
 use Rattle.mspec.specs.Names.{is_letter, is_character, AllAre, IsName}
-use Rattle.mgrammar.specs.Grammar.{RepeatedTree, classes, copies, AtomTree, ExprTree, expr, TailsTree, no_tails, tail, TailTree, apply, matches, matches_not, OperandTree, operand, PrimaryTree, number, text, special, reference, bracket, call, select, refer, ReferenceTree, local, global, naked, indirect, extended, ExprsTree, no_exprs, exprs, ChoicesTree, no_choices, choice, TargetTree, variable, piece, DestinationTree, one, several, ParameterTree, once, onward, until, EntryTree, at_label, at_label_in, at_routine, ArgTree, assign, breaks, shown, kill_one, kill_others, new_one, new_others, tested, loop, do_one, go_to, executed, locked, indirect_args, LockedTree, lock_one, lock_several, anew, adding, giving_back, KeywordTree, CommandTree, SpacedTree, LineTree, FormTree, set_argument, kill_argument, new_argument, if_argument, for_argument, write_argument, do_argument, goto_argument, xecute_argument, lock_argument, may_be_indirect, is_pattern_letter}
+use Rattle.mgrammar.specs.Grammar.{RepeatedTree, classes, copies, AtomTree, ExprTree, expr, TailsTree, no_tails, tail, TailTree, apply, matches, matches_not, raise, matches_indirect, matches_not_indirect, OperandTree, operand, PrimaryTree, number, text, special, reference, bracket, call, select, refer, ReferenceTree, local, global, naked, indirect, extended, ExprsTree, no_exprs, exprs, ChoicesTree, no_choices, choice, TargetTree, variable, part, DestinationTree, one, several, ParameterTree, once, onward, until, EntryTree, at_label, at_label_in, at_routine, ArgTree, assign, formats, coded, shown, kill_one, kill_others, new_one, new_others, tested, loop, do_one, go_to, executed, locked, hang_for, indirect_args, LockedTree, lock_one, lock_several, anew, adding, giving_back, KeywordTree, CommandTree, SpacedTree, LineTree, FormTree, set_argument, kill_argument, new_argument, if_argument, for_argument, write_argument, do_argument, goto_argument, xecute_argument, lock_argument, hang_argument, may_be_indirect, is_pattern_letter, is_format}
 use Rattle.mgrammar.specs.Specials.{SpecialTree, special_of}
 use Rattle.mgrammar.specs.Commands.{keyword_of, form_of, takes_args, takes_condition}
-use Rattle.mgrammar.specs.Functions.{ValueFunctionTree, VariableFunctionTree, of_values, of_variable, of_choices, function_of, takes, is_piece}
+use Rattle.mgrammar.specs.Functions.{ValueFunctionTree, VariableFunctionTree, of_values, of_variable, of_choices, function_of, takes, is_part}
 
 -- `numlit`
 abbrev pub SpellsNumber : List ℕ → Type 0
@@ -65,9 +65,9 @@ HasExpr (exprs e rest) = Unit {0}
 abbrev pub IsSelect : List ℕ → Type 0
 IsSelect word = (function_of word ≡ Some of_choices) × AllAre is_letter word
 
--- the word of $PIECE, as a target of SET
-abbrev pub IsPiece : List ℕ → Type 0
-IsPiece word = (is_piece word ≡ true) × AllAre is_letter word
+-- a function that may be a target of SET with this many values after its variable
+abbrev pub IsPart : List ℕ → ℕ → Type 0
+IsPart word n = (f : ValueFunctionTree) × (least : ℕ) × (most : Option ℕ) × (function_of word ≡ Some (of_values f least most)) × (is_part f ≡ true) × (takes least most (suc n) ≡ true)
 
 -- ---- `@` and its operand with nothing more
 
@@ -99,7 +99,7 @@ bare_expr (expr first (tail s rest)) = None
 
 abbrev pub bare_destination : DestinationTree → Option PrimaryTree
 bare_destination (one (variable r)) = bare_reference r
-bare_destination (one (piece word r delimiter place)) = None
+bare_destination (one (part word r more)) = None
 bare_destination (several ts) = None
 
 -- subscripts after an `@` belong to the innermost one before them that has none yet
@@ -122,6 +122,9 @@ abbrev mutual
   WellTail d (apply b o) = WellOperand d o
   WellTail d (matches atoms) = WellList WellAtom atoms
   WellTail d (matches_not atoms) = WellList WellAtom atoms
+  WellTail d (raise o) = WellOperand d o
+  WellTail d (matches_indirect p) = (0 < d) × WellPrimary (d - 1) p
+  WellTail d (matches_not_indirect p) = (0 < d) × WellPrimary (d - 1) p
 
   pub WellOperand : ℕ → OperandTree → Type 0
   WellOperand d (operand signs p) = WellPrimary d p
@@ -162,8 +165,7 @@ WellOptional d (Some e) = WellExpr d e
 
 abbrev pub WellTarget : ℕ → TargetTree → Type 0
 WellTarget d (variable r) = WellReference d r
-WellTarget d (piece word r delimiter place) =
-    IsPiece word × WellReference (d - 1) r × WellExpr (d - 1) delimiter × WellOptional (d - 1) place
+WellTarget d (part word r more) = AllAre is_letter word × IsPart word (exprs_count more) × WellReference (d - 1) r × WellExprs (d - 1) more
 
 abbrev pub WellDestination : DestinationTree → Type 0
 WellDestination (one t) = WellTarget max_depth t
@@ -203,18 +205,21 @@ WellPlain new_argument (new_one name) = IsName name
 WellPlain new_argument (new_others names) = WellList IsName names
 WellPlain if_argument (tested e) = WellExpr max_depth e
 WellPlain for_argument (loop index parameters) = IsName index × WellList WellParameter parameters
-WellPlain write_argument (breaks n) = 0 < n
+WellPlain write_argument (formats run) = (0 < length run) × AllAre is_format run
+WellPlain write_argument (coded e) = WellExpr max_depth e
 WellPlain write_argument (shown e) = WellExpr max_depth e
 WellPlain do_argument (do_one entry c) = WellEntry entry × WellOptional max_depth c
 WellPlain goto_argument (go_to entry c) = WellEntry entry × WellOptional max_depth c
 WellPlain xecute_argument (executed e c) = WellExpr max_depth e × WellOptional max_depth c
 WellPlain lock_argument (locked k names t) = WellLocked names × WellOptional max_depth t
+WellPlain hang_argument (hang_for e) = WellExpr max_depth e
 WellPlain f a = ⊥
 
 -- the operand, if an argument is an `@` with it and nothing more
 abbrev pub bare_arg : ArgTree → Option PrimaryTree
 bare_arg (assign d e) = None
-bare_arg (breaks n) = None
+bare_arg (formats run) = None
+bare_arg (coded e) = None
 bare_arg (shown e) = bare_expr e
 bare_arg (kill_one r) = bare_reference r
 bare_arg (kill_others names) = None
@@ -231,6 +236,7 @@ bare_arg (locked anew (lock_one r) (Some t)) = None
 bare_arg (locked anew (lock_several rs) t) = None
 bare_arg (locked adding names t) = None
 bare_arg (locked giving_back names t) = None
+bare_arg (hang_for e) = bare_expr e
 bare_arg (indirect_args f p) = None
 
 -- an argument of this form, unless it is an `@` with this operand and nothing more

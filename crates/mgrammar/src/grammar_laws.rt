@@ -1,6 +1,6 @@
 // SPDX-License-Identifier: Apache-2.0
 // The laws of the grammar. Each function's contract is the law, and its body is empty: the code never calls them.
-ghost use Rattle.mgrammar.specs.GrammarLaws.{OneTree, ReadsItsTree, OneRoutineTree, ReadsItsRoutineTree, ToldOfItsTree, OneReference, ReadsItsReference, OneArgumentList, ReadsItsArguments, ReadsItsTreeIn, ReadsItsRoutineTreeIn, ReadsItsReferenceIn, ReadsItsArgumentsIn, LaterLanguagesRead};
+ghost use Rattle.mgrammar.specs.GrammarLaws.{OneTree, ReadsItsTree, OneRoutineTree, ReadsItsRoutineTree, ToldOfItsTree, OneReference, ReadsItsReference, OneArgumentList, ReadsItsArguments, OnePattern, ReadsItsPattern, ReadsItsTreeIn, ReadsItsRoutineTreeIn, ReadsItsReferenceIn, ReadsItsArgumentsIn, LaterLanguagesRead};
 
 /// No text has two trees.
 #[tactic(auto, using(crate::proofs::ReadingLines::one_tree))]
@@ -51,6 +51,17 @@ pub fn one_argument_list()
 /// A text is read as that of an argument indirection exactly when the trees that are read are the well-formed ones that spell it.
 pub fn reads_its_arguments()
     ensures { ReadsItsArguments }
+{}
+
+/// As the text of a pattern indirection, no text has two lists of atoms.
+#[tactic(auto, using(crate::proofs::ReadingIndirectTexts::one_pattern))]
+pub fn one_pattern()
+    ensures { OnePattern }
+{}
+
+/// A text is read as that of a pattern indirection exactly when the atoms that are read are the well-formed ones that spell it.
+pub fn reads_its_pattern()
+    ensures { ReadsItsPattern }
 {}
 
 /// In a language, a text is read as a tree exactly when the tree is the well-formed one that spells it, and the language has all

@@ -41,7 +41,7 @@ island_runs_alone s settings globals es after island h none =
 
 module _ (s : Accounts) (settings : Settings) (e : Event) (world : World) (closed : IsClosed settings s) (fit : IsFit settings world.shared) (here : is_inside s settings e.terminal ≡ true) where
   abbrev plan_in : Account → Option Session → Plan (Outcome Completion)
-  plan_in account session = plan_of account (session_or_new session) (line_in account.language e.text)
+  plan_in account session = plan_of e.terminal account (session_or_new session) (line_in account.language e.text)
 
   failed_whole : (left : World) → FailedTransition (cut_settings s settings) e (cut_world s settings world) left → (after : World) × FailedTransition settings e world after × (cut_world s settings after ≡ left)
   failed_whole left f =

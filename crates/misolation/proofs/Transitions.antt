@@ -11,7 +11,7 @@ use Rattle.misolation.proofs.Endings.{gone_inside, gone_outside, ended_inside, e
 
 -- the plan of a line, in the session that its terminal has or in a new one
 abbrev plan_in : Event → Account → Option Session → Plan (Outcome Completion)
-plan_in e account session = plan_of account (session_or_new session) (line_in account.language e.text)
+plan_in e account session = plan_of e.terminal account (session_or_new session) (line_in account.language e.text)
 
 -- who sends a line
 abbrev sender : (settings : Settings) (e : Event) (account : Account) → get settings.terminals e.terminal ≡ Some account → Actor

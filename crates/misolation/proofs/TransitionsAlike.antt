@@ -25,7 +25,7 @@ module _ (one two : Settings) (alike : AlikeSettings one two) where
 
   same_tree : (e : Event) (world : World) (account : Account) → at_tree one e world account ≡ at_tree two e world account
   same_tree e world account =
-      ap (λ (ops : Ops Shared). ended e.terminal world (perform ops (plan_of account (session_or_new (get world.sessions e.terminal)) (line_in account.language e.text)) world.shared))
+      ap (λ (ops : Ops Shared). ended e.terminal world (perform ops (plan_of e.terminal account (session_or_new (get world.sessions e.terminal)) (line_in account.language e.text)) world.shared))
       (same_operations e.terminal account.name)
 
   same_checked : (long ascii : Bool) (e : Event) (world : World) (account : Account) → checked long ascii one e world account ≡ checked long ascii two e world account
@@ -77,7 +77,7 @@ module _ (one two : World) (alike : AlikeWorlds one two) where
 
   module _ (settings : Settings) (e : Event) where
     abbrev run_of : Account → Session → Shared → Outcome Completion × Shared
-    run_of account session w = perform (act settings e.terminal account.name) (plan_of account session (line_in account.language e.text)) w
+    run_of account session w = perform (act settings e.terminal account.name) (plan_of e.terminal account session (line_in account.language e.text)) w
 
     tree_alike : (account : Account) → AlikeTransitions (at_tree settings e one account) (at_tree settings e two account)
     tree_alike account =

@@ -72,7 +72,7 @@ settled_globals terminal world ending s w = refl
 module _ (settings : Settings) (e : Event) (world : World) where
   -- the plan of a line, and what it comes to
   abbrev line_plan : Account → Plan (Outcome Completion)
-  line_plan account = plan_of account (session_or_new (get world.sessions e.terminal)) (line_in account.language e.text)
+  line_plan account = plan_of e.terminal account (session_or_new (get world.sessions e.terminal)) (line_in account.language e.text)
 
   abbrev plan_exchanges : Account → List Exchange
   plan_exchanges account = exchanges (act settings e.terminal account.name) (line_plan account) world.shared

@@ -16,7 +16,7 @@ abbrev pub exchanges_by : Settings → Event → World → Option Account → Li
 exchanges_by settings e world None = []
 exchanges_by settings e world (Some account) =
     if is_too_long e.text || not (is_ascii e.text) then []
-    else exchanges (act settings e.terminal account.name) (plan_of account (session_or_new (get world.sessions e.terminal)) (line_in account.language e.text)) world.shared
+    else exchanges (act settings e.terminal account.name) (plan_of e.terminal account (session_or_new (get world.sessions e.terminal)) (line_in account.language e.text)) world.shared
 
 abbrev pub line_exchanges : Settings → Event → World → List Exchange
 line_exchanges settings e world = exchanges_by settings e world (get settings.terminals e.terminal)

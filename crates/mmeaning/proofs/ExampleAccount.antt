@@ -1,11 +1,11 @@
 -- SPDX-License-Identifier: Apache-2.0
 -- The accounts of the examples, and replies to their lines.
 use Rattle.mmeaning.proofs.MeaningWords.{ℕ, [], ◌∷◌, codes, empty, insert, Code, Own, Text, Given, Account, Settings, Reply, Finished, Faulted}
-use Rattle.mspec.specs.Act.{given_language}
+use Rattle.mspec.specs.Act.{given_to}
 
--- what a line is given whose account has the profile
+-- what a line of terminal 1 is given whose account has the profile
 abbrev pub of_profile : Given
-of_profile = given_language 0
+of_profile = given_to 1 0
 
 -- an account of this name, with 2,000 steps a line and the profile
 abbrev pub account_named : Text → Account

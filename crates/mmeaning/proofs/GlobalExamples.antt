@@ -24,12 +24,12 @@ same : {A : Type 0} {a b : A} {w : Shared} → a ≡ b → ◌≡◌ {A = A × S
 same {w = w} e = ap (λ a. (a, w)) e
 
 opened : (g : Globals) (t : Text) (l : Option LineTree) → is_too_long t ≡ false → is_ascii t ≡ true
-    → shut_step alice (event t) l (opening g) ≡ ended 1 (opening g) (perform doing (shut_run (codes "ALICE") l (begun account new_session)) (opening g).shared)
+    → shut_step alice (event t) l (opening g) ≡ ended 1 (opening g) (perform doing (shut_run (codes "ALICE") l (begun 1 account new_session)) (opening g).shared)
 opened g t l short ascii = simp (gets, short, ascii)
 
 -- a line over these globals, by what its operations do
 answers : {g : Globals} {t : Text} {r : Outcome Completion × Shared} (l : Option LineTree) → line_in 0 t ≡ l → is_too_long t ≡ false → is_ascii t ≡ true
-    → Comes (shut_run (codes "ALICE") l (begun account new_session)) (opening g).shared r → AreAnswered account (opening g) (t ∷ []) ((ended 1 (opening g) r).0 ∷ [])
+    → Comes (shut_run (codes "ALICE") l (begun 1 account new_session)) (opening g).shared r → AreAnswered account (opening g) (t ∷ []) ((ended 1 (opening g) r).0 ∷ [])
 answers {g = g} {t = t} l tree short ascii run = at_last l tree (ap (λ x. x.0) (opened g t l short ascii) ∙ ap (λ r. (ended 1 (opening g) r).0) run.is)
 
 -- after a line over these globals that ends in a code, this is the node that was referred to last
@@ -40,7 +40,7 @@ kept_session : (s : Session) → get (insert (empty {X = Session} {R = nat_cmp})
 kept_session s = simp gets
 
 refers : {g : Globals} {t : Text} {c : Code} {s : State} {w : Shared} (l : Option LineTree) → line_in 0 t ≡ l → is_too_long t ≡ false → is_ascii t ≡ true
-    → Comes (shut_run (codes "ALICE") l (begun account new_session)) (opening g).shared (Fails c s, w) → Refers g t s.naked
+    → Comes (shut_run (codes "ALICE") l (begun 1 account new_session)) (opening g).shared (Fails c s, w) → Refers g t s.naked
 refers {g = g} {t = t} {s = s} l tree short ascii run = record {
   is =
       ap (λ (x : Reply × World). option_map (λ (s : Session). s.naked) (get x.1.sessions 1))

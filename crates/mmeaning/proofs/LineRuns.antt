@@ -48,10 +48,10 @@ abbrev pub shut_run : Text → Option LineTree → State → Plan (Outcome Compl
 shut_run a None s = fail Zsyntax s
 shut_run a (Some l) s = (commands (at a s.steps top_level) (commands_of l) >>= after_level (at a s.steps top_level)) s
 
-run_is_shut : (a : Account) (s : Session) (l : Option LineTree) → plan_of a s l ≡ shut_run a.name l (begun a s)
+run_is_shut : (terminal : ℕ) (a : Account) (s : Session) (l : Option LineTree) → plan_of terminal a s l ≡ shut_run a.name l (begun terminal a s)
 unfolding shut
-run_is_shut a s None = refl
-run_is_shut a s (Some l) = refl
+run_is_shut terminal a s None = refl
+run_is_shut terminal a s (Some l) = refl
 
 -- ---- steps, by the trees of their lines
 
@@ -59,7 +59,7 @@ abbrev shut_checked : Bool → Bool → Settings → Event → Option LineTree �
 shut_checked true ascii settings e l world a = refused Zline world
 shut_checked false false settings e l world a = refused Zchar world
 shut_checked false true settings e l world a =
-    ended e.terminal world (perform (act settings e.terminal a.name) (shut_run a.name l (begun a (session_or_new (get world.sessions e.terminal)))) world.shared)
+    ended e.terminal world (perform (act settings e.terminal a.name) (shut_run a.name l (begun e.terminal a (session_or_new (get world.sessions e.terminal)))) world.shared)
 
 abbrev shut_at_account : Settings → Event → Option LineTree → World → Option Account → Reply × World
 shut_at_account settings e l world None = refused Zterm world
@@ -73,7 +73,7 @@ checked_is_shut : (long ascii : Bool) (settings : Settings) (e : Event) (world :
 checked_is_shut true ascii settings e world a = refl
 checked_is_shut false false settings e world a = refl
 checked_is_shut false true settings e world a =
-    ap (λ p. ended e.terminal world (perform (act settings e.terminal a.name) p world.shared)) (run_is_shut a (session_or_new (get world.sessions e.terminal)) (line_in a.language e.text))
+    ap (λ p. ended e.terminal world (perform (act settings e.terminal a.name) p world.shared)) (run_is_shut e.terminal a (session_or_new (get world.sessions e.terminal)) (line_in a.language e.text))
 
 -- the language of an account's lines, and 0 if there is no account
 abbrev pub language_of : Option Account → ℕ

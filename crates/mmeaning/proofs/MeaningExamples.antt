@@ -18,7 +18,7 @@ shown_by (Gives completion s) = (s.out, None)
 shown_by (Fails code s) = (s.out, Some code)
 
 abbrev shown : Text → Text × Option Code
-shown t = shown_by (perform (act alice 1 account.name) (text_run account.name (line_in 0 t) (begun account new_session)) (opening empty).shared).0
+shown t = shown_by (perform (act alice 1 account.name) (text_run account.name (line_in 0 t) (begun 1 account new_session)) (opening empty).shared).0
 
 abbrev Rows : Type 0
 Rows = List (Text × (Text × Option Code))
@@ -105,8 +105,10 @@ record Sessions : Type 0 where
   -- what comes before an error stands, and what comes after it is not done
   set_stops_at_fault : Answered (codes "S A=1,B=1/0,C=3" ∷ codes "W A,$D(B),$D(C)" ∷ []) (failed [] M9 ∷ done (codes "100") ∷ [])
   -- a step for each command and each primary, and none for the targets of SET and what is in their brackets
-  steps_of_line : AreAnswered (with_steps 13) (opening empty) (codes "S (A,B)=1 S $P(A,\",\",2)=(1) K A(1) I $D(A(1))+1" ∷ []) (done [] ∷ [])
-  step_too_few : AreAnswered (with_steps 12) (opening empty) (codes "S (A,B)=1 S $P(A,\",\",2)=(1) K A(1) I $D(A(1))+1" ∷ []) (failed [] Zsteps ∷ [])
+  steps_of_set : AreAnswered (with_steps 7) (opening empty) (codes "S (A,B)=1 S $P(A,\",\",2)=(1)" ∷ []) (done [] ∷ [])
+  step_of_set_too_few : AreAnswered (with_steps 6) (opening empty) (codes "S (A,B)=1 S $P(A,\",\",2)=(1)" ∷ []) (failed [] Zsteps ∷ [])
+  steps_of_kill : AreAnswered (with_steps 6) (opening empty) (codes "K A(1) I $D(A(1))+1" ∷ []) (done [] ∷ [])
+  step_of_kill_too_few : AreAnswered (with_steps 5) (opening empty) (codes "K A(1) I $D(A(1))+1" ∷ []) (failed [] Zsteps ∷ [])
 
 sessions : Sessions
 unfolding runs
@@ -114,8 +116,10 @@ sessions = record {
   place_too_far = at_first (holding (codes "B") (codes "1")) _ refl (simp (running, numbers.of_501)) (at_last _ refl (simp running));
   locals_last = at_first (holding (codes "A") (codes "5")) _ refl (simp running) (at_last _ refl (simp running));
   set_stops_at_fault = at_first (holding (codes "A") (codes "1")) _ refl (simp running) (at_last _ refl (simp running));
-  steps_of_line = at_last _ refl (simp running);
-  step_too_few = at_last _ refl (simp running);
+  steps_of_set = at_last _ refl (simp running);
+  step_of_set_too_few = at_last _ refl (simp running);
+  steps_of_kill = at_last _ refl (simp running);
+  step_of_kill_too_few = at_last _ refl (simp running);
 }
 
 -- the checks in their order

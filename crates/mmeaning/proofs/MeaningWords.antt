@@ -17,7 +17,7 @@ pub use Rattle.mspec.proofs.Plans.{cut_first, cut_second, cut_whole, keeps, keep
 pub use Rattle.mspec.specs.Access.{Mode, Read, Write, may}
 pub use Rattle.mspec.specs.Act.{Act, Fails, Given, Gives, Locals, Node, Outcome, State, Text, ask, fail, give, give_some, on_gives, read_so, ◌>>=◌}
 unfoldable pub use Rattle.mspec.specs.Act.{assigned_to, level_begun, no_locals, value_of}
-pub use Rattle.mspec.specs.Code.{Code, Fault, Lost, M1, M10, M13, M15, M4, M6, M7, M9, Memory, Own, Store, Zarg, Zchar, Zdepth, Zgrant, Zlevel, Zline, Zlocked, Zlong, Zover, Zsteps, Zsub, Zsyntax, Zterm}
+pub use Rattle.mspec.specs.Code.{Code, Fault, Lost, M1, M10, M13, M15, M28, M4, M6, M7, M9, M94, Memory, Own, Store, Zarg, Zchar, Zdepth, Zgrant, Zlevel, Zline, Zlocked, Zlong, Zover, Zsteps, Zsub, Zsyntax, Zterm}
 pub use Rattle.mspec.specs.Globals.{Globals, is_node_within, lines_of, status}
 pub use Rattle.mspec.specs.LockConflict.{Held, LockName, Locks, given_back, held, held_cmp, released, taken}
 pub use Rattle.mspec.specs.NodeOrder.{node_cmp}
@@ -27,7 +27,7 @@ unfoldable pub use Rattle.mspec.specs.NumberText.{size_text}
 pub use Rattle.mspec.specs.Plan.{Answer, Ask, Done, Give_back, Kill, May, Neighbour, Op, Ops, Plan, Put, Release, Routine, Status, Take, Value, cut_short, perform, then_plan}
 pub use Rattle.mspec.specs.Scopes.{Scope, bottom}
 unfoldable pub use Rattle.mgrammar.proofs.Computing.{reads_in}
-pub use Rattle.mgrammar.specs.Grammar.{ArgTree, BinaryTree, CommandTree, ExprTree, ExprsTree, KeywordTree, LineTree, OperandTree, PrimaryTree, ReferenceTree, SpacedTree, adding, anew, apply, assign, at_label, at_label_in, bracket, breaks, divide, do_argument, do_one, do_word, execute_word, executed, expr, exprs, extended, for_word, giving_back, global, go_to, goto_argument, goto_word, if_argument, indirect, indirect_args, is, join, kill_argument, kill_one, less, local, lock_argument, lock_one, lock_several, locked, loop, minus, multiply, naked, new_argument, new_one, no_exprs, no_tails, number, one, operand, quit_word, refer, reference, set_argument, set_word, shown, tail, tested, text, until, variable, write_argument, write_word, xecute_argument}
+pub use Rattle.mgrammar.specs.Grammar.{ArgTree, BinaryTree, CommandTree, ExprTree, ExprsTree, KeywordTree, LineTree, OperandTree, PrimaryTree, ReferenceTree, SpacedTree, adding, anew, apply, assign, at_label, at_label_in, bracket, coded, divide, do_argument, do_one, do_word, execute_word, executed, expr, exprs, extended, for_word, formats, giving_back, global, go_to, goto_argument, goto_word, if_argument, indirect, indirect_args, is, join, kill_argument, kill_one, less, local, lock_argument, lock_one, lock_several, locked, loop, minus, multiply, naked, new_argument, new_one, no_exprs, no_tails, number, one, operand, quit_word, refer, reference, set_argument, set_word, shown, tail, tested, text, until, variable, write_argument, write_word, xecute_argument}
 unfoldable pub use Rattle.mgrammar.specs.IndirectTexts.{args_of, ref_at}
 unfoldable pub use Rattle.mgrammar.specs.Languages.{args_in, line_in, ref_in, routine_line_in}
 unfoldable pub use Rattle.mgrammar.specs.Reading.{do_argument_at, entry_at}

@@ -2,7 +2,7 @@
 -- Expression meaning: the text that an expression gives, or its code.
 --
 -- Restates "Expressions", "$SELECT", the environment of "Global variable name gvn", which is an account, and what "Indirection" says of
--- names and subscripts, of ISO/IEC 11756:1999: operators apply from left to right, none before another, and unary operators bind to the
+-- names, subscripts and patterns, of ISO/IEC 11756:1999: operators apply from left to right, none before another, and unary operators bind to the
 -- operand after them. Both operands of an operator are evaluated, the left one first. A text that stands for an `@` names a variable,
 -- and what it has to evaluate is evaluated where it stands.
 use Rattle.std.specs.Prelude.{ℕ, zero, suc, ◌+◌, Bool, nat_lt, ◌&&◌, cond, not, List, [], ◌∷◌, ◌++◌, map, Option, Some, None}
@@ -11,13 +11,14 @@ use Rattle.mspec.specs.Number.{significant_digits}
 use Rattle.mspec.specs.NumberText.{numeric_value}
 use Rattle.mspec.specs.Interpretations.{truth_text}
 use Rattle.mgrammar.specs.Matching.{atom_of}
-use Rattle.mgrammar.specs.Grammar.{ExprTree, expr, TailsTree, no_tails, tail, TailTree, apply, matches, matches_not, OperandTree, operand, PrimaryTree, number, text, special, reference, bracket, call, select, refer, ReferenceTree, local, global, naked, indirect, extended, ExprsTree, no_exprs, exprs, ChoicesTree, no_choices, choice}
+use Rattle.mgrammar.specs.Grammar.{ExprTree, expr, TailsTree, no_tails, tail, TailTree, apply, matches, matches_not, raise, matches_indirect, matches_not_indirect, OperandTree, operand, PrimaryTree, number, text, special, reference, bracket, call, select, refer, ReferenceTree, local, global, naked, indirect, extended, ExprsTree, no_exprs, exprs, ChoicesTree, no_choices, choice}
 use Rattle.mgrammar.specs.Specials.{special_of}
 use Rattle.mgrammar.specs.Functions.{function_of}
+use Rattle.mgrammar.specs.IndirectTexts.{pattern_of}
 use Rattle.mgrammar.specs.Languages.{ref_in}
 use Rattle.mspec.specs.Code.{M4, Zdepth, Zsteps, Zsyntax}
-use Rattle.mspec.specs.Act.{Text, Act, ◌>>=◌, ◌>>◌, give, read_so, fail, unless, charge}
-use Rattle.mmeaning.specs.Operators.{as_text, as_truth, unaries, binary, matching}
+use Rattle.mspec.specs.Act.{Text, Act, ◌>>=◌, ◌>>◌, give, read_so, fail, give_some, unless, charge}
+use Rattle.mmeaning.specs.Operators.{as_text, as_truth, unaries, binary, raising, matching}
 use Rattle.mmeaning.specs.Functions.{call_value}
 use Rattle.mmeaning.specs.Variables.{Evaluated, of_local, of_global, of_naked, subscripts_of, with_subscripts, reading, resolve, read_at, referring, special_value}
 
@@ -50,6 +51,13 @@ named_by i subscripts x = do
   r ← read_so Zsyntax (λ l. ref_in l x)
   i.find (indirected i.depth) r subscripts
 
+-- whether a value matches the pattern that a text is, which has nothing to evaluate; it counts as an indirection all the same
+abbrev pub matches_text : Inside → Text → Text → Act Bool
+matches_text i x t = do
+  an_indirection_free i.depth
+  atoms ← give_some Zsyntax (pattern_of t)
+  matching (map atom_of atoms) x
+
 -- A primary costs a step, before it is evaluated: a bracket and a call cost theirs before what is in them.
 abbrev mutual
   pub value : Inside → ExprTree → Act Text
@@ -73,6 +81,17 @@ abbrev mutual
     give (truth_text b)
   tail_value i x (matches_not atoms) = do
     b ← matching (map atom_of atoms) x
+    give (truth_text (not b))
+  tail_value i x (raise o) = do
+    y ← operand_value i o
+    raising x y
+  tail_value i x (matches_indirect p) = do
+    t ← primary_value i p
+    b ← matches_text i x t
+    give (truth_text b)
+  tail_value i x (matches_not_indirect p) = do
+    t ← primary_value i p
+    b ← matches_text i x t
     give (truth_text (not b))
 
   pub operand_value : Inside → OperandTree → Act Text

@@ -7,9 +7,9 @@ use Rattle.std.specs.Prelude.{ℕ, ◌^◌, ℤ, pos, ◌*ℤ◌, List, [], ◌�
 use Rattle.mspec.specs.NumberText.{number_text}
 use Rattle.mspec.specs.Interpretations.{whole_part}
 use Rattle.mspec.specs.TextFunctions.{piece_of, extract_of, find_of, piece_count, reverse_of, translate_of, justify_of}
-use Rattle.mspec.specs.NumberFormats.{justify_number}
+use Rattle.mspec.specs.NumberFormats.{format_number, justify_number}
 use Rattle.mspec.specs.CharacterFunctions.{ascii_of, char_of}
-use Rattle.mgrammar.specs.Functions.{ValueFunctionTree, ascii_function, char_function, extract_function, find_function, justify_function, length_function, piece_function, reverse_function, translate_function, FunctionTree, of_values, of_variable, of_choices, function_of}
+use Rattle.mgrammar.specs.Functions.{ValueFunctionTree, ascii_function, char_function, extract_function, find_function, format_number_function, justify_function, length_function, piece_function, reverse_function, translate_function, FunctionTree, of_values, of_variable, of_choices, function_of}
 use Rattle.mspec.specs.Code.{Zsyntax}
 use Rattle.mspec.specs.Act.{Text, Act, ◌>>=◌, give, fail}
 use Rattle.mmeaning.specs.Operators.{as_number, outcome}
@@ -65,6 +65,16 @@ justified args (Some x) = do
   places ← as_whole x
   outcome (justify_number number (unwrap_or width (pos 0)) places)
 
+-- $FNUMBER: a number in a format, with so many places if there is a third argument
+abbrev pub number_formatted : List Text → Option Text → Act Text
+number_formatted args None = do
+  number ← as_number (text_at 0 args)
+  outcome (format_number number (text_at 1 args) None)
+number_formatted args (Some x) = do
+  number ← as_number (text_at 0 args)
+  places ← as_whole x
+  outcome (format_number number (text_at 1 args) (Some places))
+
 abbrev pub function_value : ValueFunctionTree → List Text → Act Text
 function_value ascii_function args = do
   place ← whole_at 1 args
@@ -79,6 +89,7 @@ function_value extract_function args = do
 function_value find_function args = do
   from ← whole_at 2 args
   give (whole_text (pos (find_of (text_at 0 args) (text_at 1 args) from)))
+function_value format_number_function args = number_formatted args (slice_get args 2)
 function_value justify_function args = justified args (slice_get args 2)
 function_value length_function args = give (whole_text (pos (length_of (text_at 0 args) (slice_get args 1))))
 function_value piece_function args = do

@@ -1,34 +1,41 @@
 -- SPDX-License-Identifier: Apache-2.0
 -- Line meaning: what the commands of a line do, one after another.
 --
--- Restates "Commands" of ISO/IEC 11756:1999, "Do", "Else", "For", "Goto", "Halt", "If", "Kill", "New", "Quit", "Set", "Write" and "Xecute"
--- among them, and what "Indirection" says of arguments: arguments are done from left to right, each as if it stood in a command of its
+-- Restates "Commands" of ISO/IEC 11756:1999, "Do", "Else", "For", "Goto", "Halt", "Hang", "If", "Kill", "New", "Quit", "Set", "Write" and
+-- "Xecute" among them, and what "Indirection" says of arguments: arguments are done from left to right, each as if it stood in a command of its
 -- own, and those that a text gives as if they stood in its place. A DO without arguments does the lines after its own that have one dot
 -- more, and keeps $TEST. LOCK is in Locking. Each text is read in the language that the line is given.
-use Rattle.std.specs.Prelude.{ℕ, zero, suc, ◌+◌, ℤ, ◌+ℤ◌, Bool, true, not, cond, nat_lt, ◌==◌, List, [], ◌∷◌, ◌++◌, drop, replicate, Option, Some, None}
+use Rattle.std.specs.Prelude.{ℕ, zero, suc, ◌+◌, ℤ, pos, negsuc, ◌+ℤ◌, Bool, true, not, cond, nat_lt, nat_le, ◌==◌, List, [], ◌∷◌, ◌++◌, length, drop, map, Option, Some, None}
 use Rattle.mspec.specs.Number.{sum_of}
 use Rattle.mspec.specs.NumberText.{number_text}
-use Rattle.mspec.specs.TextFunctions.{set_piece_of}
+use Rattle.mspec.specs.TextFunctions.{set_piece_of, has_places, set_range_of}
 use Rattle.mspec.specs.Scopes.{killed_except, newed, newed_except}
-use Rattle.mgrammar.specs.Grammar.{ExprTree, EntryTree, ReferenceTree, TargetTree, variable, piece, DestinationTree, one, several, ParameterTree, once, onward, until, KeywordTree, set_word, kill_word, new_word, if_word, else_word, for_word, quit_word, write_word, do_word, goto_word, execute_word, lock_word, halt_word, ArgTree, assign, breaks, shown, kill_one, kill_others, new_one, new_others, tested, loop, do_one, go_to, executed, locked, indirect_args, FormTree, PrimaryTree, CommandTree, LineTree}
+use Rattle.mgrammar.specs.Grammar.{ExprTree, EntryTree, ReferenceTree, TargetTree, variable, part, DestinationTree, one, several, ParameterTree, once, onward, until, KeywordTree, set_word, kill_word, new_word, if_word, else_word, for_word, quit_word, write_word, do_word, goto_word, execute_word, lock_word, halt_word, hang_word, halt_or_hang_word, ArgTree, assign, formats, coded, shown, kill_one, kill_others, new_one, new_others, tested, loop, do_one, go_to, executed, locked, hang_for, indirect_args, FormTree, PrimaryTree, CommandTree, LineTree, is_bang}
+use Rattle.mgrammar.specs.Functions.{ValueFunctionTree, FunctionTree, of_values, extract_function, piece_function, function_of}
 use Rattle.mgrammar.specs.Languages.{line_in, routine_line_in, args_in}
 use Rattle.mgrammar.specs.RoutineLine.{dots_of}
-use Rattle.mspec.specs.Code.{M15, Zsteps, Zsyntax}
+use Rattle.mspec.specs.Code.{M15, Zchar, Zsteps, Zsyntax}
 use Rattle.mspec.specs.Plan.{Release}
 use Rattle.mspec.specs.Act.{Text, Act, level_begun, ◌>>=◌, ◌>>◌, give, give_some, read_so, fail, ask, charge, write, with_locals, test_is, set_test}
 use Rattle.mmeaning.specs.Operators.{outcome, as_number, as_truth, as_text}
-use Rattle.mmeaning.specs.Functions.{as_whole_or_none}
+use Rattle.mmeaning.specs.Functions.{as_whole, text_at, whole_at}
 use Rattle.mmeaning.specs.Variables.{Evaluated, at_local, writing, resolve, found_at, read_or, put_at, kill_at}
-use Rattle.mmeaning.specs.Expression.{Inside, inside, an_indirection_free, primary_value, value, evaluated}
+use Rattle.mmeaning.specs.Expression.{Inside, inside, an_indirection_free, primary_value, value, values, evaluated}
 pub use Rattle.mmeaning.specs.Expression.{optional_value}
 use Rattle.mmeaning.specs.Locking.{locking}
 pub use Rattle.mmeaning.specs.Levels.{Level, Position, top_level, Target, Closing, leaves, restores}
 use Rattle.mmeaning.specs.Levels.{target, a_level_free, deeper, within_indirection, closing, commands_of, commands_in}
 use Rattle.mmeaning.specs.Courses.{Course, last_turn, endless, limited, forever, is_past}
 
--- in an output, each `!` is this byte, which no text has
+-- in an output, each `!` is this byte, which no text has, and each `#` the character that begins a page
 abbrev pub line_end : ℕ
 line_end = 255
+
+abbrev pub form_feed : ℕ
+form_feed = 12
+
+abbrev pub format_byte : ℕ → ℕ
+format_byte c = cond (is_bang c) line_end form_feed
 
 -- ---- how a line goes on
 
@@ -76,20 +83,20 @@ inside_of x = inside x.account x.fuel x.position.depth
 
 -- ---- SET
 
--- a target with everything evaluated that it has to evaluate: a variable, or a piece of one with its delimiter and its place
+-- a target with everything evaluated that it has to evaluate: a variable, or a part of one, with what the target's word says and the
+-- values after the variable
 pub data Prepared : Type 0 where
   whole : Evaluated → Prepared
-  part : Evaluated → Text → Option Text → Prepared
+  partial : Option FunctionTree → Evaluated → List Text → Prepared
 
 abbrev pub prepared : Inside → TargetTree → Act Prepared
 prepared i (variable r) = do
   v ← evaluated i r
   give (whole v)
-prepared i (piece word r delimiter place) = do
+prepared i (part word r more) = do
   v ← evaluated i r
-  d ← value i delimiter
-  n ← optional_value i place
-  give (part v d n)
+  xs ← values i [] more
+  give (partial (function_of word) v xs)
 
 -- some targets, appended to those before them
 abbrev pub all_prepared : Inside → List Prepared → List TargetTree → Act (List Prepared)
@@ -98,17 +105,55 @@ all_prepared i ps (t ∷ ts) = do
   p ← prepared i t
   all_prepared i (ps ++ p ∷ []) ts
 
--- the place of a piece becomes a whole number once the variable is found
+-- one piece: its place becomes a whole number once the variable is found
+abbrev pub piece_assigned : Text → Evaluated → List Text → Act (Unit {0})
+piece_assigned x v xs = do
+  p ← resolve writing v
+  n ← whole_at 1 xs
+  old ← read_or [] p
+  new ← outcome (set_piece_of old (text_at 0 xs) n x)
+  put_at p new
+
+-- characters, or pieces if there is a delimiter, from a place up to a place
+abbrev pub range_put : Text → Evaluated → Option Text → Option ℤ → Option ℤ → Act (Unit {0})
+range_put x v d from to = do
+  p ← resolve writing v
+  old ← read_or [] p
+  new ← outcome (set_range_of old d from to x)
+  put_at p new
+
+-- if there is no place from the one up to the other, the variable is not referred to
+abbrev pub range_assigned : Text → Evaluated → Option Text → Option ℤ → Option ℤ → Act (Unit {0})
+range_assigned x v d from to = cond (has_places from to) (range_put x v d from to) (give tt)
+
+-- the same, of values that become places first
+abbrev pub characters_assigned : Text → Evaluated → List Text → Act (Unit {0})
+characters_assigned x v xs = do
+  from ← whole_at 0 xs
+  to ← whole_at 1 xs
+  range_assigned x v None from to
+
+abbrev pub pieces_assigned : Text → Evaluated → List Text → Act (Unit {0})
+pieces_assigned x v xs = do
+  from ← whole_at 1 xs
+  to ← whole_at 2 xs
+  range_assigned x v (Some (text_at 0 xs)) from to
+
+-- a part of a variable; a function that has none is in no target of the grammar
+abbrev pub part_assigned : Text → ValueFunctionTree → Evaluated → List Text → Act (Unit {0})
+part_assigned x piece_function v xs = cond (nat_lt 2 (length xs)) (pieces_assigned x v xs) (piece_assigned x v xs)
+part_assigned x extract_function v xs = characters_assigned x v xs
+part_assigned x f v xs = fail Zsyntax
+
+abbrev pub named_part : Text → Option FunctionTree → Evaluated → List Text → Act (Unit {0})
+named_part x (Some (of_values f least most)) v xs = part_assigned x f v xs
+named_part x f v xs = fail Zsyntax
+
 abbrev pub assigned : Text → Prepared → Act (Unit {0})
 assigned x (whole v) = do
   p ← resolve writing v
   put_at p x
-assigned x (part v d place) = do
-  p ← resolve writing v
-  n ← as_whole_or_none place
-  old ← read_or [] p
-  new ← outcome (set_piece_of old d n x)
-  put_at p new
+assigned x (partial f v xs) = named_part x f v xs
 
 abbrev pub all_assigned : Text → List Prepared → Act (Unit {0})
 all_assigned x [] = give tt
@@ -131,6 +176,18 @@ abbrev pub showing : Inside → ExprTree → Act (Unit {0})
 showing i e = do
   x ← value i e
   write x
+
+-- the character of a code
+abbrev pub coded_character : ℤ → Option ℕ
+coded_character (pos n) = cond (nat_le n 127) (Some n) None
+coded_character (negsuc n) = None
+
+abbrev pub coding : Inside → ExprTree → Act (Unit {0})
+coding i e = do
+  x ← value i e
+  n ← as_whole x
+  c ← give_some Zchar (coded_character n)
+  write (c ∷ [])
 
 -- ---- KILL
 
@@ -174,6 +231,12 @@ abbrev pub number_of : Inside → ExprTree → Act ℤ
 number_of i e = do
   x ← value i e
   as_number x
+
+-- HANG: a line waits for nothing, so that it is answered alike whenever it is run; what is evaluated has to be a number all the same
+abbrev pub hanging : Inside → ExprTree → Act (Unit {0})
+hanging i e = do
+  seconds ← number_of i e
+  give tt
 
 -- a turn costs a step, once its index is set
 abbrev pub begin_turn : Context → Turning → Act Completion
@@ -319,7 +382,8 @@ given x f p = do
 -- what an argument does, of whichever command; that of FOR takes the rest of the line, and is done elsewhere
 abbrev pub argument : Context → ArgTree → Act Completion
 argument x (assign d e) = setting (inside_of x) d e >> give Go_on
-argument x (breaks n) = write (replicate n line_end) >> give Go_on
+argument x (formats run) = write (map format_byte run) >> give Go_on
+argument x (coded e) = coding (inside_of x) e >> give Go_on
 argument x (shown e) = showing (inside_of x) e >> give Go_on
 argument x (kill_one r) = killing (inside_of x) r >> give Go_on
 argument x (kill_others names) = with_locals (killed_except names) >> give Go_on
@@ -331,6 +395,7 @@ argument x (do_one e c) = where_holds x c (doing x e)
 argument x (go_to e c) = where_holds x c (going x e)
 argument x (executed e c) = where_holds x c (executing x e)
 argument x (locked k names t) = locking (inside_of x) k names t >> give Go_on
+argument x (hang_for e) = hanging (inside_of x) e >> give Go_on
 argument x (indirect_args f p) = given x f p
 
 abbrev pub arguments : Context → List ArgTree → Act Completion
@@ -357,6 +422,8 @@ bare x goto_word rest = give Go_on
 bare x execute_word rest = give Go_on
 bare x lock_word rest = ask Release >> give Go_on
 bare x halt_word rest = give Halts
+bare x hang_word rest = give Go_on
+bare x halt_or_hang_word rest = give Halts
 
 -- a command, before the rest of its line, which FOR does in its turns
 abbrev pub effect : Context → KeywordTree → List ArgTree → List CommandTree → Act Completion

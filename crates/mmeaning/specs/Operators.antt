@@ -3,20 +3,20 @@
 --
 -- Restates "Unary operator", "Binary operators" and "Pattern match pattern" of ISO/IEC 11756:1999. If an operator wants
 -- numbers, its operands become numbers once both are evaluated, the left one first.
-use Rattle.std.specs.Prelude.{ℤ, neg_ℤ, Bool, not, ◌&&◌, ◌||◌, nat_eq, List, [], ◌∷◌, ◌++◌, Option, option_map, Result, Ok, Err}
+use Rattle.std.specs.Prelude.{ℕ, zero, suc, ◌^◌, ℤ, pos, neg_ℤ, unsigned_abs, Bool, not, ◌&&◌, ◌||◌, cond, nat_eq, List, [], ◌∷◌, ◌++◌, Option, option_map, Result, Ok, Err}
 use Rattle.std.specs.List.{list_any}
 use Rattle.std.specs.Ordering.{int_cmp, is_lt, is_gt}
 use Rattle.std.specs.Cmp.Lexicographic.{pointwise}
-use Rattle.mspec.specs.Number.{significant_digits, sum_of, difference_of, product_of, quotient_of, whole_quotient_of, remainder_of}
+use Rattle.mspec.specs.Number.{significant_digits, is_below_zero, sum_of, difference_of, product_of, quotient_of, whole_quotient_of, remainder_of}
 use Rattle.mspec.specs.NumberText.{numeric_value, number_text}
-use Rattle.mspec.specs.Interpretations.{is_true, truth_text}
+use Rattle.mspec.specs.Interpretations.{is_true, is_whole, whole_part, truth_text}
 use Rattle.mspec.specs.NodeOrder.{text_cmp}
 use Rattle.mspec.specs.TextFunctions as texts
 use Rattle.mspec.specs.Pattern.{Atom}
 use Rattle.mgrammar.specs.Matching.{is_reversed, is_match}
 use Rattle.mgrammar.specs.Grammar.{SignTree, plus, minus, negate, TruthTree, equals, less, greater, contains, follows, sorts_after, both, either, BinaryTree, add, subtract, multiply, divide, divide_whole, remainder, join, is, is_not}
-use Rattle.mspec.specs.Code.{Code, M9, M10, Zover}
-use Rattle.mspec.specs.Act.{Text, Act, ◌>>=◌, ◌>>◌, give, fail, give_some, unless}
+use Rattle.mspec.specs.Code.{Code, M9, M10, M28, M94, Zover}
+use Rattle.mspec.specs.Act.{Text, Act, ◌>>=◌, ◌>>◌, give, fail, give_some, unless, charge}
 
 abbrev pub as_number : Text → Act ℤ
 as_number x = give_some Zover (numeric_value significant_digits x)
@@ -105,6 +105,33 @@ binary (is t) x y = do
 binary (is_not t) x y = do
   b ← truth t x y
   give (truth_text (not b))
+
+-- ---- `**`
+
+-- an operator with the same text to the right, so often; each time costs a step before it
+abbrev pub repeated : (Text → Text → Act Text) → Text → ℕ → Text → Act Text
+repeated operator y zero x = give x
+repeated operator y (suc n) x = do
+  charge
+  z ← operator x y
+  repeated operator y n z
+
+-- a number raised to a whole one: 1 multiplied by it so often, or divided by it if the exponent is below zero
+abbrev pub raised : ℤ → ℤ → Act Text
+raised a n = repeated (binary (cond (is_below_zero n) divide multiply)) (number_text a) (unsigned_abs (whole_part n)) (number_text (pos (10 ^ 18)))
+
+-- the number that is raised, and the exponent, which has no fraction; zero to the power zero is no number
+abbrev pub base_and_exponent : Text → Text → Act (ℤ × ℤ)
+base_and_exponent x y = do
+  n ← both_numbers x y
+  unless M28 (is_whole n.1)
+  unless M94 (is_true n.0 || is_true n.1)
+  give n
+
+abbrev pub raising : Text → Text → Act Text
+raising x y = do
+  n ← base_and_exponent x y
+  raised n.0 n.1
 
 -- ---- patterns
 

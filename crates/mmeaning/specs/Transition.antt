@@ -8,7 +8,7 @@ use Rattle.mspec.specs.Code.{Code, Zterm, Zline, Zchar, Zsyntax, Fault, Own, Los
 pub use Rattle.mspec.specs.Limits.{max_line}
 use Rattle.mspec.specs.Plan.{Plan, perform, cut_short}
 use Rattle.mspec.specs.LockConflict.{released}
-use Rattle.mspec.specs.Act.{Text, Node, Locals, no_locals, level_begun, given_language, State, Outcome, Gives, Fails, Act, fail}
+use Rattle.mspec.specs.Act.{Text, Node, Locals, no_locals, level_begun, given_to, State, Outcome, Gives, Fails, Act, fail}
 use Rattle.mspec.specs.Scopes.{outermost}
 use Rattle.mspec.specs.Names.{is_character}
 use Rattle.mgrammar.specs.Grammar.{LineTree}
@@ -47,9 +47,10 @@ pub record Reply : Type 0 where
   pub out : Text
   pub ending : Ending
 
--- a line is a level of its own, and is given its account's steps and language
-abbrev pub begun : Account → Session → State
-begun account s = record { locals = level_begun s.locals; naked = s.naked; test = s.test; out = []; steps = account.steps; given = given_language account.language }
+-- a line is a level of its own, and is given its terminal, and its account's steps and language
+abbrev pub begun : ℕ → Account → Session → State
+begun terminal account s =
+    record { locals = level_begun s.locals; naked = s.naked; test = s.test; out = []; steps = account.steps; given = given_to terminal account.language }
 
 -- none of the scopes that a line opened is left, however it ended
 abbrev pub kept : State → Session
@@ -60,8 +61,9 @@ abbrev pub text_run : Text → Option LineTree → Act Completion
 text_run a None = fail Zsyntax
 text_run a (Some tree) = run a tree
 
-abbrev pub plan_of : Account → Session → Option LineTree → Plan (Outcome Completion)
-plan_of account s tree = text_run account.name tree (begun account s)
+-- what it does from a terminal
+abbrev pub plan_of : ℕ → Account → Session → Option LineTree → Plan (Outcome Completion)
+plan_of terminal account s tree = text_run account.name tree (begun terminal account s)
 
 -- how a line that gives this completion ends
 abbrev pub ending_of : Completion → Ending
@@ -95,7 +97,7 @@ refused code world = (record { out = []; ending = Faulted (Own code) }, world)
 -- the run of a line that passed the checks before it; a session that it opens for a text without a tree is like a new one, so like none
 abbrev pub at_tree : Settings → Event → World → Account → Reply × World
 at_tree settings e world account =
-    ended e.terminal world (perform (act settings e.terminal account.name) (plan_of account (session_or_new (get world.sessions e.terminal)) (line_in account.language e.text)) world.shared)
+    ended e.terminal world (perform (act settings e.terminal account.name) (plan_of e.terminal account (session_or_new (get world.sessions e.terminal)) (line_in account.language e.text)) world.shared)
 
 abbrev pub is_too_long : Text → Bool
 is_too_long text = nat_lt max_line (length text)
@@ -127,7 +129,7 @@ pub record FailedTransition (settings : Settings) (e : Event) (world after : Wor
   pub operations : ℕ
   pub globals :
       after.shared.globals ≡
-      (cut_short (act settings e.terminal account.name) operations (plan_of account (session_or_new (get world.sessions e.terminal)) (line_in account.language e.text)) world.shared).globals
+      (cut_short (act settings e.terminal account.name) operations (plan_of e.terminal account (session_or_new (get world.sessions e.terminal)) (line_in account.language e.text)) world.shared).globals
   pub locks : after.shared.locks ≡ released world.shared.locks e.terminal
   pub sessions : after.sessions ≡ remove world.sessions e.terminal
 

@@ -2,14 +2,15 @@
 -- Numbers rounded to places after the point, and their texts with all of these.
 use Rattle.mnum.proofs.NumWords.{ℕ, zero, suc, ◌≡◌, ◌+◌, ◌*◌, ◌-◌, ◌/◌, ◌%◌, ◌^◌, ◌<◌, ◌≤◌, Bool, true, false, List, [], ◌∷◌, ◌++◌, length, All, All-nil, All-cons, refl, sym, ◌∙◌, ap, subst, arith, lit<, ⊎_elim, cases_lt, nat_tests, append-nil, mod_below, ℤ, pos, negsuc, unsigned_abs, cond, decimal, append_assoc, zero-mul, mul-pos, mul-le-mul_right, mul-lt-mul_of_pos_right, div-eq_of_lt-le, div-mul-le_self, lt-div-mul-add, mul_assoc, ten_pos, ten_add, ten_monotone, nearest_exact, nearest, signed, abs_signed, fraction_text}
 use Rattle.std.proofs.Common.{length-append, replicate}
-use Rattle.std.specs.Prelude.{nat_lt}
+use Rattle.std.specs.Prelude.{nat_lt, ◌==◌, ◌&&◌}
 use Rattle.std.proofs.lemmas.Bool.{lt-ltb}
 use Rattle.std.proofs.lemmas.List.Elements.{All-append, All-weaker}
 use Rattle.mspec.proofs.TextLaws.{Digit, decimal_reads, fraction_all}
 use Rattle.mnum.proofs.Prints.{fraction_scaled, scaled_quotient, scaled_remainder}
 use Rattle.mnum.proofs.Rounds.{ten_even}
 use Rattle.mspec.specs.Number.{is_below_zero}
-use Rattle.mspec.specs.NumberFormats.{rounded_to, fixed_text, fixed_number, places_text, filled}
+use Rattle.mspec.specs.NumberFormats.{rounded_to, fixed_text, fixed_number, places_text, filled, digits_of}
+use Rattle.mspec.specs.NumberText.{point_text}
 
 -- ---- rounding
 
@@ -80,26 +81,26 @@ sign_is s (suc d) p e = lt-ltb 0 (suc d) (omega arith) ∙ sym (sized (suc d * 1
     sized zero h = absurd (omega arith)
     sized (suc n) h = refl
 
+all_places : (p : ℕ) → p ≤ 18 → 18 ≡ p + (18 - p)
+all_places p few = omega arith
+
+not_zero : (n : ℕ) → 0 < n → (n == 0) ≡ false
+not_zero n h = grind (arith, nat_tests)
+
 -- the parts of a size with its places
 sized_text : (places d p : ℕ) → p ≤ 18 → fixed_text places (d * 10 ^ (18 - p)) ≡ decimal (d / 10 ^ p) ++ places_text places (d % 10 ^ p * 10 ^ (18 - p))
 unfolding fixed_text
 sized_text places d p few =
     let u : ℕ = 10 ^ (18 - p) in
-    let split : 10 ^ 18 ≡ 10 ^ p * u = ap (λ x. 10 ^ x) (sum p few) ∙ ten_add p (18 - p) in
+    let split : 10 ^ 18 ≡ 10 ^ p * u = ap (λ x. 10 ^ x) (all_places p few) ∙ ten_add p (18 - p) in
     let whole : d * u / 10 ^ 18 ≡ d / 10 ^ p = ap (λ x. d * u / x) split ∙ scaled_quotient d (10 ^ p) u (ten_pos (18 - p)) in
     let part : d * u % 10 ^ 18 ≡ d % 10 ^ p * u = ap (λ x. d * u % x) split ∙ scaled_remainder d (10 ^ p) u (ten_pos (18 - p)) in
     ap (λ x. decimal x ++ places_text places (d * u % 10 ^ 18)) whole ∙ ap (λ x. decimal (d / 10 ^ p) ++ places_text places x) part
-  where
-    sum : (p : ℕ) → p ≤ 18 → 18 ≡ p + (18 - p)
-    sum p few = omega arith
 
 -- the places of a fraction of p digits
 placed : (places p f : ℕ) → 0 < places → p ≤ 18 → f < 10 ^ p → places_text places (f * 10 ^ (18 - p)) ≡ 46 ∷ filled places (fraction_text p f)
 placed zero p f some few below = absurd (omega arith)
-placed (suc k) p f some few below = ap (λ t. 46 ∷ filled (suc k) t) (fraction_scaled p (18 - p) 18 f (sum p few) below)
-  where
-    sum : (p : ℕ) → p ≤ 18 → 18 ≡ p + (18 - p)
-    sum p few = omega arith
+placed (suc k) p f some few below = ap (λ t. 46 ∷ filled (suc k) t) (fraction_scaled p (18 - p) 18 f (all_places p few) below)
 
 -- the sign stands before the size
 signed_text : (places : ℕ) (z : ℤ) → fixed_number places z ≡ cond (is_below_zero z) (45 ∷ []) [] ++ fixed_text places (unsigned_abs z)
@@ -158,6 +159,15 @@ sign_ascii : (b : Bool) → All (λ c. c < 128) (cond b (45 ∷ []) [])
 sign_ascii true = All-cons (λ c. c < 128) 45 [] (lit< tt) (All-nil (λ c. c < 128))
 sign_ascii false = All-nil (λ c. c < 128)
 
+pub whole_ascii : (whole : ℕ) (out : List ℕ) → whole < 10 ^ 18 → out ≡ decimal whole → All (λ c. c < 128) out
+whole_ascii whole out below is = subst (All (λ c. c < 128)) (sym is) (decimal_ascii whole below)
+
+pub rest_ascii : (p fraction : ℕ) (out : List ℕ) → fraction < 10 ^ p → out ≡ (46 ∷ []) ++ fraction_text p fraction → All (λ c. c < 128) out
+rest_ascii p fraction out below is = subst (All (λ c. c < 128)) (sym is) (All-cons (λ c. c < 128) 46 (fraction_text p fraction) (lit< tt) (fraction_ascii p fraction below))
+
+pub none_ascii : All (λ c. c < 128) []
+none_ascii = All-nil (λ c. c < 128)
+
 pub front_ascii : (b : Bool) (whole : ℕ) (first out : List ℕ) → whole < 10 ^ 18 → first ≡ cond b (45 ∷ []) [] → out ≡ first ++ decimal whole → All (λ c. c < 128) out
 front_ascii b whole first out below first_is is =
     subst (All (λ c. c < 128)) (sym (is ∙ ap (λ t. t ++ decimal whole) first_is)) (All-append (λ c. c < 128) (cond b (45 ∷ []) []) (decimal whole) (sign_ascii b) (decimal_ascii whole below))
@@ -167,3 +177,48 @@ all_ascii p fraction second third out below front third_is is =
     let point = All-cons (λ c. c < 128) 46 [] (lit< tt) (All-nil (λ c. c < 128)) in
     subst (All (λ c. c < 128)) (sym (is ∙ ap (λ t. t ++ fraction_text p fraction) third_is))
     (All-append (λ c. c < 128) (second ++ (46 ∷ [])) (fraction_text p fraction) (All-append (λ c. c < 128) second (46 ∷ []) front point) (fraction_ascii p fraction below))
+
+-- ---- the parts of a text, one by one
+
+-- a size's digits before the point, and after it
+pub size_whole : (s : Bool) (d p : ℕ) → p ≤ 18 → unsigned_abs (signed s (d * 10 ^ (18 - p))) / 10 ^ 18 ≡ d / 10 ^ p
+size_whole s d p few =
+    let u : ℕ = 10 ^ (18 - p) in
+    let split : 10 ^ 18 ≡ 10 ^ p * u = ap (λ x. 10 ^ x) (all_places p few) ∙ ten_add p (18 - p) in
+    ap (λ x. x / 10 ^ 18) (abs_signed s (d * u)) ∙ ap (λ x. d * u / x) split ∙ scaled_quotient d (10 ^ p) u (ten_pos (18 - p))
+
+pub size_rest : (s : Bool) (d p : ℕ) → p ≤ 18 → unsigned_abs (signed s (d * 10 ^ (18 - p))) % 10 ^ 18 ≡ d % 10 ^ p * 10 ^ (18 - p)
+size_rest s d p few =
+    let u : ℕ = 10 ^ (18 - p) in
+    let split : 10 ^ 18 ≡ 10 ^ p * u = ap (λ x. 10 ^ x) (all_places p few) ∙ ten_add p (18 - p) in
+    ap (λ x. x % 10 ^ 18) (abs_signed s (d * u)) ∙ ap (λ x. d * u % x) split ∙ scaled_remainder d (10 ^ p) u (ten_pos (18 - p))
+
+-- the canonical digits of a size of these parts
+pub some_whole : (n w : ℕ) → n / 10 ^ 18 ≡ w → 0 < w → digits_of n ≡ decimal w
+some_whole n w is some = ap (λ x. cond ((x == 0) && nat_lt 0 (n % 10 ^ 18)) [] (decimal x)) is ∙ ap (λ b. cond (b && nat_lt 0 (n % 10 ^ 18)) [] (decimal w)) (not_zero w some)
+
+pub no_fraction_left : (n w : ℕ) → n / 10 ^ 18 ≡ w → n % 10 ^ 18 ≡ 0 → digits_of n ≡ decimal w
+no_fraction_left n w is none = ap (λ x. cond ((x == 0) && nat_lt 0 (n % 10 ^ 18)) [] (decimal x)) is ∙ ap (λ x. cond ((w == 0) && nat_lt 0 x) [] (decimal w)) none ∙ ap (λ b. cond b [] (decimal w)) (and_false (w == 0))
+  where
+    and_false : (b : Bool) → (b && nat_lt 0 0) ≡ false
+    and_false true = refl
+    and_false false = refl
+
+pub fraction_alone : (n r : ℕ) → n / 10 ^ 18 ≡ 0 → n % 10 ^ 18 ≡ r → 0 < r → digits_of n ≡ []
+fraction_alone n r none is some = ap (λ x. cond ((x == 0) && nat_lt 0 (n % 10 ^ 18)) [] (decimal x)) none ∙ ap (λ x. cond (nat_lt 0 x) [] (decimal 0)) is ∙ ap (λ b. cond b [] (decimal 0)) (lt-ltb 0 r some)
+
+-- the text from the point on
+pub pointed : (n p f : ℕ) → p ≤ 18 → f < 10 ^ p → 0 < f → n ≡ f * 10 ^ (18 - p) → point_text n ≡ 46 ∷ fraction_text p f
+pointed n p f few below some is =
+    ap point_text is ∙ ap (λ b. cond b [] (46 ∷ fraction_text 18 (f * 10 ^ (18 - p)))) (not_zero (f * 10 ^ (18 - p)) (mul-pos some (ten_pos (18 - p)))) ∙ ap (λ t. 46 ∷ t) (fraction_scaled p (18 - p) 18 f (all_places p few) below)
+
+pub not_pointed : (n p f : ℕ) → f ≤ 0 → n ≡ f * 10 ^ (18 - p) → point_text n ≡ []
+not_pointed n p f none is = let zero_part : f ≡ 0 = omega arith in ap point_text (is ∙ ap (λ x. x * 10 ^ (18 - p)) zero_part ∙ zero-mul (10 ^ (18 - p)))
+
+-- and with all places
+pub all_placed : (places n p f missing : ℕ) (out : List ℕ) → p ≤ 18 → f < 10 ^ p → 0 < places → n ≡ f * 10 ^ (18 - p) → out ≡ (46 ∷ []) ++ fraction_text p f → missing ≡ places - (length out - 1)
+    → out ++ replicate missing 48 ≡ places_text places n
+all_placed places n p f missing out few below some is out_is missing_is =
+    let digits : List ℕ = fraction_text p f in
+    let count : length out - 1 ≡ length digits = omega (arith, ap length out_is) in
+    ap (λ k. out ++ replicate k 48) (missing_is ∙ ap (λ k. places - k) count) ∙ ap (λ t. t ++ replicate (places - length digits) 48) out_is ∙ sym (placed places p f some few below) ∙ ap (places_text places) (sym is)

@@ -9,3 +9,4 @@ pub mod PatternWalk
 pub mod Signs
 pub mod CharacterRefusals
 pub mod CalledWords
+pub mod Exponents

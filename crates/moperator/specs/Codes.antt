@@ -6,6 +6,7 @@ use Rattle.moperator.specs.declared.code.Code.TheVariants as code
 
 abbrev pub fault_of : Code → spec.Fault
 fault_of code.M1 = spec.Own spec.M1
+fault_of code.M2 = spec.Own spec.M2
 fault_of code.M4 = spec.Own spec.M4
 fault_of code.M6 = spec.Own spec.M6
 fault_of code.M7 = spec.Own spec.M7
@@ -13,6 +14,8 @@ fault_of code.M9 = spec.Own spec.M9
 fault_of code.M10 = spec.Own spec.M10
 fault_of code.M13 = spec.Own spec.M13
 fault_of code.M15 = spec.Own spec.M15
+fault_of code.M28 = spec.Own spec.M28
+fault_of code.M94 = spec.Own spec.M94
 fault_of code.Zlong = spec.Own spec.Zlong
 fault_of code.Zsyntax = spec.Own spec.Zsyntax
 fault_of code.Zover = spec.Own spec.Zover

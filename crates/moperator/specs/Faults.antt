@@ -5,10 +5,11 @@ use Rattle.mnum.specs.declared.num.ArithFault.TheVariants as arith
 use Rattle.mtext.specs.declared.fault.TextFault.{TextFault}
 use Rattle.mtext.specs.declared.fault.TextFault.TheVariants as fault
 use Rattle.moperator.specs.declared.code.Code.{Code}
-use Rattle.moperator.specs.declared.code.Code.TheVariants.{M9, Zarg, Zlong, Zmem, Zover}
+use Rattle.moperator.specs.declared.code.Code.TheVariants.{M2, M9, Zarg, Zlong, Zmem, Zover}
 
 abbrev pub fault_code : TextFault → Code
 fault_code fault.Arg = Zarg
+fault_code fault.Format = M2
 fault_code fault.TooLong = Zlong
 fault_code fault.Memory = Zmem
 

@@ -5,6 +5,8 @@
 pub enum Code {
     /// The naked indicator is undefined.
     M1,
+    /// A format of `$FNUMBER` that has brackets beside something of a sign.
+    M2,
     /// No condition of `$SELECT` is true.
     M4,
     /// A local variable is undefined.
@@ -19,6 +21,10 @@ pub enum Code {
     M13,
     /// The index of a FOR is undefined.
     M15,
+    /// An exponent with a fraction.
+    M28,
+    /// Zero to the power zero.
+    M94,
     /// A text of more than 4,095 characters.
     Zlong,
     /// A text that the grammar has no tree for.

@@ -43,6 +43,7 @@ impl From<TextFault> for Code {
         match fault {
             TextFault::Memory => Code::from(AllocError),
             TextFault::Arg => Code::Zarg,
+            TextFault::Format => Code::M2,
             TextFault::TooLong => Code::Zlong,
         }
     }

@@ -3,7 +3,7 @@
 ghost use Rattle.std.specs.Prelude.{◌≡◌, ◌^◌, ◌<◌, ℕ, List, Result, Err, unsigned_abs, IsErrAnd, IfOk, IfErr};
 ghost use Rattle.mspec.specs.Code as spec;
 ghost use Rattle.mmeaning.specs.Operators.{as_number, as_truth, outcome};
-ghost use Rattle.mmeaning.specs.Functions.{as_whole, as_whole_or_none};
+ghost use Rattle.mmeaning.specs.Functions.{as_whole};
 ghost use Rattle.mmeaning.specs.Yields.{Yields};
 ghost use Rattle.mnum.specs.Num.{units};
 ghost use Rattle.mtext.specs.Made.{Answers};
@@ -66,24 +66,6 @@ pub fn whole_of(value: &Value) -> Result<i64, Code>
 {
     let number = number_of(value)?;
     Ok(number.to_whole())
-}
-
-/// The number that a value stands for, without its fraction, if there is a value. Takes no memory.
-///
-/// # Errors
-///
-/// `Zover` if the value's number is too large.
-pub fn whole_number(value: &Option<Value>) -> Result<Option<i64>, Code>
-    ensures whole { Yields fault_of (as_whole_or_none value.now) (λ whole. whole) result }
-    ensures over { IfErr result (λ code. code ≡ Zover) }
-{
-    match value {
-        None => Ok(None),
-        Some(value) => {
-            let whole = whole_of(value)?;
-            Ok(Some(whole))
-        }
-    }
 }
 
 // The value of a text that was to be made, or the code of its refusal.

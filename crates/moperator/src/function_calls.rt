@@ -14,7 +14,7 @@ use crate::arguments::{number_at, text_at, whole_at, wholes};
 use crate::characters::{characters, code_at, refuse_characters};
 use crate::code::Code;
 use crate::conversions::{answered, whole_of};
-use mtext::{extract, find, justify, justify_number, piece, pieces, translate};
+use mtext::{extract, find, format_number, justify, justify_number, piece, pieces, translate};
 use mtree::{ValueFunction, ValueWord};
 use mvalue::Value;
 use std::alloc::Global;
@@ -60,6 +60,36 @@ fn found(alloc: Global, arguments: &[Value]) -> Result<Value, Code>
     let what = text_at(alloc, arguments, 1)?;
     let place = find(text.as_text().as_bytes(), what.as_text().as_bytes(), from);
     Ok(Value::of_count(alloc, place)?)
+}
+
+fn formatted(alloc: Global, arguments: &[Value]) -> Result<Value, Code>
+    ensures { Yields fault_of (meaning.function_value grammar.format_number_function arguments.now) (λ value. value) result }
+{
+    match arguments.get(2) {
+        None => formatted_canonical(alloc, arguments),
+        Some(places) => formatted_to(alloc, arguments, places),
+    }
+}
+
+// With two arguments.
+#[tactic(auto, using(mmeaning::proofs::Yieldings::yields_stopped))]
+fn formatted_canonical(alloc: Global, arguments: &[Value]) -> Result<Value, Code>
+    ensures { Yields fault_of (meaning.number_formatted arguments.now None) (λ value. value) result }
+{
+    let number = number_at(arguments, 0)?;
+    let format = text_at(alloc, arguments, 1)?;
+    answered(format_number(alloc, number, format.as_text(), None))
+}
+
+// With a third one, the places after the point.
+#[tactic(auto, using(mmeaning::proofs::Yieldings::yields_stopped))]
+fn formatted_to(alloc: Global, arguments: &[Value], places: &Value) -> Result<Value, Code>
+    ensures { Yields fault_of (meaning.number_formatted arguments.now (Some places.now)) (λ value. value) result }
+{
+    let number = number_at(arguments, 0)?;
+    let places = whole_of(places)?;
+    let format = text_at(alloc, arguments, 1)?;
+    answered(format_number(alloc, number, format.as_text(), Some(places)))
 }
 
 fn justified(alloc: Global, arguments: &[Value]) -> Result<Value, Code>
@@ -154,6 +184,7 @@ fn function(alloc: Global, function: ValueFunction, arguments: &[Value]) -> Resu
         ValueFunction::Char => char(alloc, arguments),
         ValueFunction::Extract => extracted(alloc, arguments),
         ValueFunction::Find => found(alloc, arguments),
+        ValueFunction::FormatNumber => formatted(alloc, arguments),
         ValueFunction::Justify => justified(alloc, arguments),
         ValueFunction::Length => length(alloc, arguments),
         ValueFunction::Piece => pieces_from_to(alloc, arguments),

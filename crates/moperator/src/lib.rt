@@ -17,9 +17,10 @@ mod operators;
 mod patterns;
 mod relations;
 
+pub use arguments::{text_at, whole_at};
 pub use arithmetic::{Arithmetic, arithmetic_of, calculate};
 pub use code::Code;
-pub use conversions::{number_of, truth_of, whole_number, whole_of};
+pub use conversions::{number_of, truth_of, whole_of};
 pub use function_calls::call;
-pub use operators::{binary, computed, unaries};
+pub use operators::{base_and_exponent, binary, computed, unaries};
 pub use patterns::matching;

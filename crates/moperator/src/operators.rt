@@ -1,9 +1,10 @@
 // SPDX-License-Identifier: Apache-2.0
 // What the operators of expressions give for operands that are values already.
-ghost use Rattle.std.specs.Prelude.{◌≡◌, ◌<◌, map, length, ◌++◌, Err, IfErr};
+ghost use Rattle.std.specs.Prelude.{◌≡◌, ◌||◌, ◌<◌, map, length, ◌++◌, Err, IfErr};
 ghost use Rattle.mmeaning.specs.Operators as meaning;
 ghost use Rattle.mnum.specs.Num.{units};
 ghost use Rattle.mspec.specs.Act.{Text, Act};
+ghost use Rattle.mspec.specs.Interpretations.{is_true, is_whole};
 ghost use Rattle.mspec.specs.TextFunctions.{max_text, made};
 ghost use Rattle.mtree.specs.Tree.{sign_tree, binary_tree};
 ghost use Rattle.mmeaning.specs.Yields.{Yields};
@@ -90,6 +91,40 @@ pub(crate) fn numbers(left: &Value, right: &Value) -> Result<(Num, Num), Code>
     let a = number_of(left)?;
     let b = number_of(right)?;
     Ok((a, b))
+}
+
+// Whether a number has no fraction.
+#[tactic(auto, using(crate::proofs::Numbers::whole_fits))]
+fn is_whole(number: Num) -> bool
+    ensures { result ≡ is_whole (units number) }
+{
+    number.cmp(Num::from_whole(number.to_whole())).is_eq()
+}
+
+// Whether one of two numbers is not 0.
+fn is_one_true(one: Num, other: Num) -> bool
+    ensures { result ≡ (is_true (units one) || is_true (units other)) }
+{
+    one.is_true() || other.is_true()
+}
+
+/// The number that `**` raises, and the exponent. Takes no memory.
+///
+/// # Errors
+///
+/// `Zover` if a number is too large; `M28` if the exponent has a fraction; `M94` if both are 0.
+#[tactic(auto, using(mmeaning::proofs::Yieldings::yields_then, mmeaning::proofs::Yieldings::yields_stopped, mmeaning::proofs::Yieldings::yields_gives))]
+pub fn base_and_exponent(left: &Value, right: &Value) -> Result<(Num, Num), Code>
+    ensures { Yields fault_of (meaning.base_and_exponent left.now right.now) (λ pair. (units pair.0, units pair.1)) result }
+{
+    let (base, exponent) = numbers(left, right)?;
+    if !is_whole(exponent) {
+        return Err(Code::M28);
+    }
+    if !is_one_true(base, exponent) {
+        return Err(Code::M94);
+    }
+    Ok((base, exponent))
 }
 
 // Turns the left value into what an operator of arithmetic gives for the two as numbers.

@@ -13,7 +13,7 @@ pub use Rattle.mgrammar.proofs.ReadingLoops.{comma_goes_on, comma_stops, goes_on
 pub use Rattle.mgrammar.specs.Grammar.{ExprTree, LineTree, OperandTree, PrimaryTree, ReferenceTree, TailTree, exprs_of, spell, spell_arg, spell_list, spell_reference, tails_of}
 pub use Rattle.mgrammar.specs.IndirectTexts.{args_of, ref_at}
 pub use Rattle.mgrammar.specs.Reading.{line_at, spaced_at}
-unfoldable pub use Rattle.mgrammar.specs.Reading.{parameter_at, piece_with}
+unfoldable pub use Rattle.mgrammar.specs.Reading.{parameter_at}
 pub use Rattle.mgrammar.specs.ReadingExpressions.{choice_with, inner_at, readers_at, tail_with}
 pub use Rattle.mgrammar.specs.ReadingWords.{Read, after_comma, many, past, with_front}
 unfoldable pub use Rattle.mgrammar.specs.ReadingWords.{list_at}

@@ -3,11 +3,12 @@
 ghost use Rattle.std.specs.Prelude.{◌≡◌, map};
 ghost use Rattle.mgrammar.specs.Grammar.{ArgTree, write_argument};
 ghost use Rattle.mgrammar.specs.Commands.{form_of};
-ghost use Rattle.mgrammar.specs.Reading.{write_argument_at, settled_with, arg_at, has_args, args_at, command_at};
+ghost use Rattle.mgrammar.specs.Reading.{value_by, write_argument_at, settled_with, arg_at, has_args, args_at, command_at};
+ghost use Rattle.mgrammar.specs.ReadingWords.{past};
 ghost use Rattle.mtree.specs.Tree.{arg_tree, keyword_tree, command_tree};
 ghost use Rattle.mscan.specs.Gives.{Gives};
 
-use crate::control::{for_argument, if_argument, postcondition};
+use crate::control::{for_argument, hang_argument, if_argument, postcondition};
 use crate::entry::{do_argument, goto_argument, xecute_argument};
 use crate::expr::expr;
 use crate::list::{Items, list};
@@ -16,24 +17,36 @@ use crate::scope::{kill_argument, new_argument};
 use crate::set_arguments::set_argument;
 use mforms::takes_args;
 use mnum::Bytes7;
-use mscan::{Class, ParseFault, run};
+use mscan::{Class, ParseFault, past, run};
 use mspec::limits::MAX_DEPTH;
 use mtree::{Arg, Command, Keyword, keyword_of};
 use std::alloc::Global;
 
-#[tactic(auto, unfolding(mgrammar::specs::Reading::write_argument_at))]
-fn write_argument(alloc: Global, bytes: &[u8]) -> Result<(Arg, &[u8]), ParseFault>
-    ensures { Gives (λ x. (arg_tree x.0, x.1.now)) result (settled_with write_argument_at write_argument bytes.now) }
+// A value, or a character by its code, where no format is.
+fn written_value(alloc: Global, bytes: &[u8]) -> Result<(Arg, &[u8]), ParseFault>
+    ensures { Gives (λ x. (arg_tree x.0, x.1.now)) result (settled_with (λ cs. value_by cs (past 42 cs)) write_argument bytes.now) }
 {
-    let (bangs, rest) = run(Class::Bang, bytes);
-    if !bangs.is_empty() {
-        return Ok((Arg::Breaks(bangs.len()), rest));
+    if let Some(behind) = past(b'*', bytes) {
+        let (code, rest) = expr(alloc, behind, MAX_DEPTH)?;
+        return Ok((Arg::Coded(code), rest));
     }
     let (value, rest) = expr(alloc, bytes, MAX_DEPTH)?;
     match value.into_operand() {
         Ok(operand) => Ok((Arg::Indirect(Keyword::Write, operand), rest)),
         Err(value) => Ok((Arg::Value(value), rest)),
     }
+}
+
+#[tactic(auto, unfolding(mgrammar::specs::Reading::write_argument_at))]
+fn write_argument(alloc: Global, bytes: &[u8]) -> Result<(Arg, &[u8]), ParseFault>
+    ensures { Gives (λ x. (arg_tree x.0, x.1.now)) result (settled_with write_argument_at write_argument bytes.now) }
+{
+    let (formats, rest) = run(Class::Format, bytes);
+    if formats.is_empty() {
+        return written_value(alloc, bytes);
+    }
+    let formats = Bytes7::from_slice(alloc, formats)?;
+    Ok((Arg::Formats(formats), rest))
 }
 
 // The arguments of a command.
@@ -58,6 +71,7 @@ impl Items for Keyword {
             Keyword::Goto => goto_argument(alloc, bytes),
             Keyword::Execute => xecute_argument(alloc, bytes),
             Keyword::Lock => lock_argument(alloc, bytes),
+            Keyword::Hang | Keyword::HaltOrHang => hang_argument(alloc, bytes),
             Keyword::Else | Keyword::Quit | Keyword::Halt => Err(ParseFault::Syntax),
         }
     }

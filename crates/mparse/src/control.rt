@@ -1,8 +1,8 @@
 // SPDX-License-Identifier: Apache-2.0
-// The arguments of IF and FOR, and postconditionals.
+// The arguments of IF, FOR and HANG, and postconditionals.
 ghost use Rattle.std.specs.Prelude.{option_map};
-ghost use Rattle.mgrammar.specs.Grammar.{ParameterTree, if_argument};
-ghost use Rattle.mgrammar.specs.Reading.{if_argument_at, settled_with, parameter_at, for_argument_at, postcondition_by, postcondition_at};
+ghost use Rattle.mgrammar.specs.Grammar.{ParameterTree, if_argument, hang_argument};
+ghost use Rattle.mgrammar.specs.Reading.{if_argument_at, hang_argument_at, settled_with, parameter_at, for_argument_at, postcondition_by, postcondition_at};
 ghost use Rattle.mgrammar.specs.ReadingWords.{past};
 ghost use Rattle.mtree.specs.Tree.{expr_tree, parameter_tree, keyword_tree, arg_tree, condition_tree};
 ghost use Rattle.mscan.specs.Gives.{Gives};
@@ -24,6 +24,18 @@ pub fn if_argument(alloc: Global, bytes: &[u8]) -> Result<(Arg, &[u8]), ParseFau
     match condition.into_operand() {
         Ok(operand) => Ok((Arg::Indirect(Keyword::If, operand), rest)),
         Err(condition) => Ok((Arg::Tested(condition), rest)),
+    }
+}
+
+// The letter of HANG is that of HALT too; the form of its arguments is the same by either word.
+#[tactic(auto, unfolding(mgrammar::specs::Reading::hang_argument_at))]
+pub fn hang_argument(alloc: Global, bytes: &[u8]) -> Result<(Arg, &[u8]), ParseFault>
+    ensures { Gives (λ x. (arg_tree x.0, x.1.now)) result (settled_with hang_argument_at hang_argument bytes.now) }
+{
+    let (seconds, rest) = expr(alloc, bytes, MAX_DEPTH)?;
+    match seconds.into_operand() {
+        Ok(operand) => Ok((Arg::Indirect(Keyword::Hang, operand), rest)),
+        Err(seconds) => Ok((Arg::HangFor(seconds), rest)),
     }
 }
 

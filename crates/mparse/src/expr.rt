@@ -3,7 +3,7 @@
 ghost use Rattle.std.specs.Prelude.{◌≡◌, ◌<◌, length, map, option_map};
 ghost use Rattle.mgrammar.specs.Grammar.{exprs_of, choices_of};
 ghost use Rattle.mgrammar.specs.ReadingWords.{past, with_front, many, after_comma, list_at};
-ghost use Rattle.mgrammar.specs.ReadingExpressions.{subscripts_with, attached_at, attached_with, indirect_with, local_by, extended_with, owned_by, reference_with, bracket_with, choice_with, select_with, call_with, refer_with, dollar_with, primary_with, operand_with, tail_by, tail_with, expr_with, readers_at, inner_at};
+ghost use Rattle.mgrammar.specs.ReadingExpressions.{subscripts_with, attached_at, attached_with, indirect_with, local_by, extended_with, owned_by, reference_with, bracket_with, choice_with, select_with, call_with, refer_with, dollar_with, primary_with, operand_with, matches_by, matches_not_by, tail_by, tail_with, expr_with, readers_at, inner_at};
 ghost use Rattle.mtree.specs.Tree.{expr_tree, operand_tree, primary_tree, reference_tree, tail_tree, choice_tree};
 ghost use Rattle.mscan.specs.Gives.{Gives};
 ghost use Rattle.mscan.specs.Operators.{operator_tree};
@@ -75,15 +75,41 @@ fn tail_by(
             let (operand, rest) = operand(alloc, bytes, depth)?;
             Ok((Tail::Apply(binary, operand), rest))
         }
-        Operator::Match => {
-            let (atoms, rest) = pattern(alloc, bytes)?;
-            Ok((Tail::Matches(atoms), rest))
-        }
-        Operator::MatchNot => {
-            let (atoms, rest) = pattern(alloc, bytes)?;
-            Ok((Tail::MatchesNot(atoms), rest))
+        Operator::Match => matches(alloc, bytes, depth),
+        Operator::MatchNot => matches_not(alloc, bytes, depth),
+        Operator::Raise => {
+            let (operand, rest) = operand(alloc, bytes, depth)?;
+            Ok((Tail::Raise(operand), rest))
         }
     }
+}
+
+// The rest of a tail that matches, after its `?`: the operand of an `@` if one comes, and otherwise a pattern.
+#[cycle(expr)]
+fn matches(alloc: Global, bytes: &[u8], depth: u32) -> Result<(Tail, &[u8]), ParseFault>
+    ensures { Gives (λ x. (tail_tree x.0, x.1.now)) result (matches_by (readers_at depth) bytes.now (past 64 bytes.now)) }
+{
+    let Some(behind) = past(b'@', bytes) else {
+        let (atoms, rest) = pattern(alloc, bytes)?;
+        return Ok((Tail::Matches(atoms), rest));
+    };
+    let (operand, rest) = below(alloc, behind, depth)?;
+    let operand = Box::new(alloc, operand)?;
+    Ok((Tail::MatchesIndirect(operand), rest))
+}
+
+// The same after a `'?`.
+#[cycle(expr)]
+fn matches_not(alloc: Global, bytes: &[u8], depth: u32) -> Result<(Tail, &[u8]), ParseFault>
+    ensures { Gives (λ x. (tail_tree x.0, x.1.now)) result (matches_not_by (readers_at depth) bytes.now (past 64 bytes.now)) }
+{
+    let Some(behind) = past(b'@', bytes) else {
+        let (atoms, rest) = pattern(alloc, bytes)?;
+        return Ok((Tail::MatchesNot(atoms), rest));
+    };
+    let (operand, rest) = below(alloc, behind, depth)?;
+    let operand = Box::new(alloc, operand)?;
+    Ok((Tail::MatchesNotIndirect(operand), rest))
 }
 
 #[cycle(expr)]
@@ -385,7 +411,7 @@ fn exprs(alloc: Global, bytes: &[u8], depth: u32) -> Result<(Vec<Expr>, &[u8]), 
 
 // These expressions, and as many more as come after commas.
 #[cycle(expr)]
-fn more_exprs(
+pub fn more_exprs(
     alloc: Global,
     front: Vec<Expr>,
     bytes: &[u8],

@@ -1,18 +1,18 @@
 // SPDX-License-Identifier: Apache-2.0
-// The texts of indirection, read whole: a variable, or arguments of a command.
+// The texts of indirection, read whole: a variable, arguments of a command, or a pattern.
 ghost use Rattle.std.specs.Prelude.{◌≡◌, true, List, map, IfOk, Err};
-ghost use Rattle.mgrammar.specs.Grammar.{ReferenceTree, ArgTree, may_be_indirect, spell_reference, spell_list, spell_arg};
+ghost use Rattle.mgrammar.specs.Grammar.{ReferenceTree, ArgTree, AtomTree, may_be_indirect, spell_reference, spell_list, spell_arg, spell_atoms};
 ghost use Rattle.mgrammar.specs.Commands.{form_of};
-ghost use Rattle.mgrammar.specs.WellFormed.{max_depth, WellReference, WellList, WellArg};
-ghost use Rattle.mgrammar.specs.IndirectTexts.{ref_at, args_of};
-ghost use Rattle.mtree.specs.Tree.{reference_tree, arg_tree, keyword_tree};
+ghost use Rattle.mgrammar.specs.WellFormed.{max_depth, WellReference, WellList, WellArg, WellAtom};
+ghost use Rattle.mgrammar.specs.IndirectTexts.{ref_at, args_of, pattern_of};
+ghost use Rattle.mtree.specs.Tree.{reference_tree, arg_tree, keyword_tree, atom_tree};
 ghost use Rattle.mscan.specs.Gives.{Gives};
 
 use crate::expr::reference;
 use crate::list::list;
-use mscan::ParseFault;
+use mscan::{ParseFault, pattern};
 use mspec::limits::MAX_DEPTH;
-use mtree::{Arg, Keyword, Reference};
+use mtree::{Arg, Atom, Keyword, Reference};
 use std::alloc::Global;
 
 #[tactic(auto, unfolding(mgrammar::specs::IndirectTexts::ref_at))]
@@ -35,6 +35,17 @@ fn whole_args(alloc: Global, keyword: Keyword, text: &[u8]) -> Result<Vec<Arg>, 
         return Err(ParseFault::Syntax);
     }
     Ok(args)
+}
+
+#[tactic(auto, unfolding(mgrammar::specs::IndirectTexts::pattern_of))]
+fn whole_pattern(alloc: Global, text: &[u8]) -> Result<Vec<Atom>, ParseFault>
+    ensures { Gives (λ atoms. map atom_tree atoms.items) result (pattern_of text.now) }
+{
+    let (atoms, rest) = pattern(alloc, text)?;
+    if !rest.is_empty() {
+        return Err(ParseFault::Syntax);
+    }
+    Ok(atoms)
 }
 
 /// The variable that a text of any bytes is, as the value of an operand of name indirection: the one tree of the grammar that has this
@@ -66,4 +77,19 @@ pub fn parse_args(alloc: Global, keyword: Keyword, text: &[u8]) -> Result<Vec<Ar
     ensures syntax { may_be_indirect (form_of (keyword_tree keyword)) ≡ true → result ≡ Err ParseFault.Syntax → (args : List ArgTree) → WellList (WellArg (form_of (keyword_tree keyword))) args → spell_list spell_arg args ≡ text.now → ⊥ }
 {
     whole_args(alloc, keyword, text)
+}
+
+/// The pattern that a text of any bytes is, as the value of an operand of pattern indirection: the one list of atoms of the grammar that
+/// has this text, with at least one atom.
+///
+/// # Errors
+///
+/// `Syntax` only if no pattern has the text, as when it is empty; `Memory` if it runs out of memory.
+#[tactic(auto, using(mgrammar::proofs::ReadingIndirectTexts::reads_its_pattern, crate::proofs::WholeTexts::is_tree, crate::proofs::WholeTexts::is_syntax))]
+pub fn parse_pattern(alloc: Global, text: &[u8]) -> Result<Vec<Atom>, ParseFault>
+    ensures read { Gives (λ atoms. map atom_tree atoms.items) result (pattern_of text.now) }
+    ensures tree { IfOk result (λ atoms. WellList WellAtom (map atom_tree atoms.items) × (spell_atoms (map atom_tree atoms.items) ≡ text.now)) }
+    ensures syntax { result ≡ Err ParseFault.Syntax → (atoms : List AtomTree) → WellList WellAtom atoms → spell_atoms atoms ≡ text.now → ⊥ }
+{
+    whole_pattern(alloc, text)
 }

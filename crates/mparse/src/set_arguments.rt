@@ -1,60 +1,73 @@
 // SPDX-License-Identifier: Apache-2.0
 // What SET assigns to.
-ghost use Rattle.std.specs.Prelude.{◌-◌, option_map};
+ghost use Rattle.std.specs.Prelude.{◌-◌};
+ghost use Rattle.mgrammar.specs.Functions.{function_of};
 ghost use Rattle.mgrammar.specs.ReadingExpressions.{readers_at};
-ghost use Rattle.mgrammar.specs.Reading.{place_with, piece_with, target_with, destination_at, set_argument_at};
+ghost use Rattle.mgrammar.specs.Reading.{part_with, part_by, target_with, destination_at, set_argument_at};
 ghost use Rattle.mgrammar.specs.Grammar.{TargetTree};
 ghost use Rattle.mgrammar.specs.WellFormed.{max_depth};
-ghost use Rattle.mtree.specs.Tree.{expr_tree, target_tree, destination_tree, arg_tree};
+ghost use Rattle.mtree.specs.Tree.{target_tree, destination_tree, arg_tree};
 ghost use Rattle.mscan.specs.Gives.{Gives};
 
-use crate::along::{beside, followed};
-use crate::expr::{expr, inner, reference, within};
+use crate::expr::{expr, more_exprs, reference, within};
 use crate::list::{Items, list};
 use crate::operand::destination_operand;
+use mforms::takes;
 use mnum::Bytes7;
 use mscan::{Class, ParseFault, expect, past, run};
 use mspec::limits::MAX_DEPTH;
-use mtree::{Arg, Destination, Expr, Keyword, PieceTarget, Target, is_piece};
+use mtree::{Arg, Destination, FunctionWord, Keyword, PartTarget, Target, ValueWord, is_part};
 use std::alloc::Global;
 
-// The place after the delimiter of a `$PIECE`, if there is one.
-#[tactic(auto, unfolding(mgrammar::specs::Reading::place_with))]
-fn place(alloc: Global, bytes: &[u8], depth: u32) -> Result<(Option<Expr>, &[u8]), ParseFault>
-    ensures { Gives (λ x. (option_map expr_tree x.0, x.1.now)) result (place_with (readers_at depth) bytes.now) }
+// The rest of a part of a variable, after its bracket, of a function of at least `least` and at most `most` values, the variable among
+// them.
+#[tactic(auto, unfolding(mgrammar::specs::Reading::part_with))]
+fn part(
+    alloc: Global,
+    word: ValueWord,
+    least: usize,
+    most: Option<usize>,
+    bytes: &[u8],
+    depth: u32,
+) -> Result<(Target, &[u8]), ParseFault>
+    ensures { Gives (λ x. (target_tree x.0, x.1.now)) result (part_with (readers_at depth) least most word bytes.now) }
 {
-    let Some((b',', behind)) = bytes.split_first() else {
-        return Ok((None, bytes));
+    let (reference, rest) = within(alloc, bytes, depth)?;
+    let (more, rest) = more_exprs(alloc, Vec::new(alloc), rest, depth)?;
+    let rest = expect(b')', rest)?;
+    if !takes(least, most, more.len() + 1) {
+        return Err(ParseFault::Syntax);
+    }
+    let part = PartTarget {
+        word,
+        reference,
+        more,
     };
-    let (place, rest) = inner(alloc, behind, depth)?;
-    Ok((Some(place), rest))
+    Ok((Target::Part(Box::new(alloc, part)?), rest))
 }
 
-// The rest of a `$PIECE` that is assigned to, after its bracket.
-#[tactic(auto, unfolding(mgrammar::specs::Reading::piece_with))]
-fn piece(
+// The same, if the word is one of a function that has parts.
+fn part_of(
     alloc: Global,
     word: Bytes7,
     bytes: &[u8],
     depth: u32,
 ) -> Result<(Target, &[u8]), ParseFault>
-    ensures { Gives (λ x. (target_tree x.0, x.1.now)) result (piece_with (readers_at depth) word bytes.now) }
+    ensures { Gives (λ x. (target_tree x.0, x.1.now)) result (part_by (readers_at depth) word (function_of word) bytes.now) }
 {
-    let (reference, rest) = within(alloc, bytes, depth)?;
-    let (reference, rest) = followed(reference, b',', rest)?;
-    let (reference, (delimiter, rest)) = beside(reference, inner(alloc, rest, depth))?;
-    let ((reference, delimiter), (place, rest)) = beside(
-        (reference, delimiter),
-        place(alloc, rest, depth),
-    )?;
-    let piece = PieceTarget {
-        word,
-        reference,
-        delimiter,
-        place,
+    let Some(word) = FunctionWord::new(word) else {
+        return Err(ParseFault::Syntax);
     };
-    let (piece, rest) = followed(piece, b')', rest)?;
-    Ok((Target::Piece(Box::new(alloc, piece)?), rest))
+    match word {
+        FunctionWord::OfValues { word, least, most } => {
+            if !is_part(word.function()) {
+                return Err(ParseFault::Syntax);
+            }
+            part(alloc, word, least, most, bytes, depth)
+        }
+        FunctionWord::OfVariable { word: _, most: _ } => Err(ParseFault::Syntax),
+        FunctionWord::OfChoices(_) => Err(ParseFault::Syntax),
+    }
 }
 
 #[tactic(auto, unfolding(mgrammar::specs::Reading::target_with))]
@@ -70,10 +83,7 @@ fn target(alloc: Global, bytes: &[u8], depth: u32) -> Result<(Target, &[u8]), Pa
     }
     let (letters, rest) = run(Class::Letter, rest);
     let rest = expect(b'(', rest)?;
-    if !is_piece(letters) {
-        return Err(ParseFault::Syntax);
-    }
-    piece(alloc, Bytes7::from_slice(alloc, letters)?, rest, depth)
+    part_of(alloc, Bytes7::from_slice(alloc, letters)?, rest, depth)
 }
 
 // Targets within the brackets of a list.

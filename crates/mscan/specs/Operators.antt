@@ -10,3 +10,4 @@ abbrev pub operator_tree : Operator → OperatorTree
 operator_tree (operator.Between b) = reading.between (binary_tree b)
 operator_tree operator.Match = reading.matching
 operator_tree operator.MatchNot = reading.matching_not
+operator_tree operator.Raise = reading.raising

@@ -1,7 +1,7 @@
 // SPDX-License-Identifier: Apache-2.0
 // Signs and operators.
 ghost use Rattle.std.specs.Prelude.{◌≡◌, map, option_map};
-ghost use Rattle.mgrammar.specs.ReadingWords.{signs_at, found, truths, follows_at, truth_at, arithmetic, negated_at, plain_at, operator_at};
+ghost use Rattle.mgrammar.specs.ReadingWords.{signs_at, found, truths, follows_at, truth_at, arithmetic, negated_at, times_at, plain_at, operator_at};
 ghost use Rattle.mtree.specs.Tree.{sign_tree, truth_tree, binary_tree};
 ghost use Rattle.mscan.specs.Gives.{Gives};
 ghost use Rattle.mscan.specs.Operators.{operator_tree};
@@ -33,6 +33,7 @@ pub enum Operator {
     Between(Binary),
     Match,
     MatchNot,
+    Raise,
 }
 
 // The operator that a `]` before this text begins: the longest.
@@ -72,13 +73,13 @@ fn truth(bytes: &[u8]) -> Option<(Truth, &[u8])>
     Some((truth, rest))
 }
 
+// The operators of arithmetic of one character, except `*`.
 fn arithmetic(byte: u8) -> Option<Binary>
     ensures { option_map binary_tree result ≡ found arithmetic byte }
 {
     match byte {
         b'+' => Some(Binary::Add),
         b'-' => Some(Binary::Subtract),
-        b'*' => Some(Binary::Multiply),
         b'/' => Some(Binary::Divide),
         b'\\' => Some(Binary::DivideWhole),
         b'#' => Some(Binary::Remainder),
@@ -99,7 +100,17 @@ fn negated(bytes: &[u8]) -> Option<(Operator, &[u8])>
     Some((Operator::Between(Binary::IsNot(truth)), rest))
 }
 
-// The operator that begins with neither `'` nor `?`.
+// The operator that a `*` before this text begins: the longest.
+fn times(bytes: &[u8]) -> (Operator, &[u8])
+    ensures { (operator_tree result.0, result.1.now) ≡ times_at bytes.now }
+{
+    match bytes.split_first() {
+        Some((b'*', rest)) => (Operator::Raise, rest),
+        _ => (Operator::Between(Binary::Multiply), bytes),
+    }
+}
+
+// The operator that begins with none of `'`, `?` and `*`.
 fn plain(bytes: &[u8]) -> Option<(Operator, &[u8])>
     ensures { option_map (λ x. (operator_tree x.0, x.1.now)) result ≡ plain_at bytes.now }
 {
@@ -120,6 +131,7 @@ pub fn next_operator(bytes: &[u8]) -> Option<(Operator, &[u8])>
     match *first {
         b'\'' => negated(rest),
         b'?' => Some((Operator::Match, rest)),
+        b'*' => Some(times(rest)),
         _ => plain(bytes),
     }
 }

@@ -20,7 +20,8 @@ pub enum Class {
     NameStart,
     NameRest,
     Space,
-    Bang,
+    /// A format of WRITE: `!` or `#`.
+    Format,
     /// A letter of a pattern's classes.
     PatternLetter,
     /// What a number or a count begins with.
@@ -48,7 +49,7 @@ impl Class {
             Class::NameStart => byte.is_ascii_alphabetic() || byte == b'%',
             Class::NameRest => byte.is_ascii_alphabetic() || byte.is_ascii_digit(),
             Class::Space => byte == b' ',
-            Class::Bang => byte == b'!',
+            Class::Format => byte == b'!' || byte == b'#',
             Class::PatternLetter => is_pattern_letter(byte),
             Class::DigitOrPoint => byte.is_ascii_digit() || byte == b'.',
             Class::Any => byte < 128,

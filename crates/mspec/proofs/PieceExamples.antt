@@ -1,6 +1,6 @@
 -- SPDX-License-Identifier: Apache-2.0
 -- The definitions of pieces and of the text functions on examples, as proved equations.
-use Rattle.mspec.proofs.SpecWords.{◌≡◌, [], ◌∷◌, Some, None, rules, pos, negsuc, codes, Ok, Err, pieces_of, piece_of, extract_of, find_of, piece_count, contains, follows, translate_of, justify_of, set_piece_of, first_place, with_piece, true, false}
+use Rattle.mspec.proofs.SpecWords.{◌≡◌, [], ◌∷◌, Some, None, rules, pos, negsuc, codes, Ok, Err, pieces_of, piece_of, extract_of, find_of, piece_count, contains, follows, translate_of, justify_of, set_piece_of, has_places, set_extract_of, set_pieces_of, first_place, with_piece, true, false}
 use Rattle.mspec.specs.Code.{Zarg}
 
 record Texts : Type 0 where
@@ -41,6 +41,25 @@ record Texts : Type 0 where
   place_zero : set_piece_of [] (codes ",") (Some (pos 0)) [] ≡ Err Zarg
   place_past_the_last : set_piece_of [] (codes ",") (Some (pos 501)) [] ≡ Err Zarg
   no_delimiter : set_piece_of [] [] (Some (pos 1)) [] ≡ Err Zarg
+  -- ranges of places
+  first_character_by_default : set_extract_of (codes "abc") None None (codes "XY") ≡ Ok (codes "XYbc")
+  last_character : set_extract_of (codes "abc") (Some (pos 3)) None (codes "q") ≡ Ok (codes "abq")
+  characters_replaced : set_extract_of (codes "abcdef") (Some (pos 2)) (Some (pos 4)) (codes "-") ≡ Ok (codes "a-ef")
+  characters_below_one : set_extract_of (codes "abcdef") (Some (negsuc 2)) (Some (pos 2)) (codes "-") ≡ Ok (codes "-cdef")
+  characters_past_the_end : set_extract_of (codes "abcdef") (Some (pos 5)) (Some (pos 100)) (codes "-") ≡ Ok (codes "abcd-")
+  filled_by_spaces : set_extract_of [] (Some (pos 3)) None (codes "q") ≡ Ok (codes "  q")
+  spaces_alone : set_extract_of (codes "a") (Some (pos 4)) (Some (pos 9)) [] ≡ Ok (codes "a  ")
+  pieces_replaced : set_pieces_of (codes "a,b,c,d") (codes ",") (Some (pos 2)) (Some (pos 3)) (codes "-") ≡ Ok (codes "a,-,d")
+  pieces_below_one : set_pieces_of (codes "a,b,c") (codes ",") (Some (negsuc 4)) (Some (pos 2)) (codes "-") ≡ Ok (codes "-,c")
+  pieces_past_the_end : set_pieces_of (codes "a,b,c") (codes ",") (Some (pos 3)) (Some (pos 999)) (codes "-") ≡ Ok (codes "a,b,-")
+  pieces_filled : set_pieces_of (codes "a") (codes ",") (Some (pos 3)) (Some (pos 4)) (codes "-") ≡ Ok (codes "a,,-")
+  pieces_of_an_empty_text : set_pieces_of [] (codes ",") (Some (pos 3)) (Some (pos 4)) (codes "-") ≡ Ok (codes ",,-")
+  pieces_by_nothing : set_pieces_of (codes "a") [] (Some (pos 1)) (Some (pos 2)) [] ≡ Err Zarg
+  pieces_past_the_last_place : set_pieces_of [] (codes ",") (Some (pos 501)) (Some (pos 501)) [] ≡ Err Zarg
+  a_place : has_places (Some (negsuc 4)) (Some (pos 1)) ≡ true
+  one_place : has_places None None ≡ true
+  no_place : has_places (Some (pos 4)) (Some (pos 2)) ≡ false
+  no_place_below_one : has_places (Some (pos 0)) None ≡ false
 
 texts : Texts
 unfolding first_place pieces_of with_piece

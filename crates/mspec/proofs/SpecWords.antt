@@ -34,8 +34,8 @@ pub use Rattle.mspec.specs.NodeOrder.{Empty, IsAncestor, Numeric, Other, Place, 
 unfoldable pub use Rattle.mspec.specs.NodeOrder.{canonical_value}
 pub use Rattle.mspec.specs.Number.{IsNumber, is_below_zero, product_of, quotient_of, remainder_of, signed, significant_digits, sum_of, whole_quotient_of}
 unfoldable pub use Rattle.mspec.specs.Number.{digits_before, nearest, round, round_size, rounding_unit}
-pub use Rattle.mspec.specs.NumberFormats.{fixed_number, justify_number}
-unfoldable pub use Rattle.mspec.specs.NumberFormats.{fixed_text, rounded_to}
+pub use Rattle.mspec.specs.NumberFormats.{fixed_number, format_number, justify_number}
+unfoldable pub use Rattle.mspec.specs.NumberFormats.{fixed_text, grouped, rounded_to}
 pub use Rattle.mspec.specs.NumberLaws.{BeginsWith, CanonicalByMoreDigits, CanonicalIsText, EachHasDigits, HasCanonicalForm, HasDigits, IsMultiple, IsNearest, IsPlain, NearestIsUnique, NoZeroAtEnd, NoZeroInFront, NumberRoundsToItself, PlainLiteralIsUnique, ReadsLongestLiteral, RoundedIsNumber, RoundingIsNearest, TextHasCanonicalForm, TextHasValue, ZeroRoundsToZero, distance}
 pub use Rattle.mspec.specs.NumberText.{IsCanonical, after_digits, after_fraction, after_signs, fraction_digits, fraction_text, front_digits, front_exponent, is_negated, is_sign, number_text, point_text, signed_digits, whole_text}
 unfoldable pub use Rattle.mspec.specs.NumberText.{literal_size, numeric_value, size_text}
@@ -43,6 +43,6 @@ pub use Rattle.mspec.specs.Pattern.{copied}
 pub use Rattle.mspec.specs.PieceLaws.{FirstPlace, OneList, StandsFirst}
 pub use Rattle.mspec.specs.Pieces.{AreCut, ArePieces, Lacks, OnlyAtEnd, begins_with, cut_after, join}
 unfoldable pub use Rattle.mspec.specs.Pieces.{pieces_of}
-pub use Rattle.mspec.specs.TextFunctions.{contains, extract_of, find_of, follows, justify_of, piece_count, piece_of, set_piece_of, translate_of}
+pub use Rattle.mspec.specs.TextFunctions.{contains, extract_of, find_of, follows, justify_of, piece_count, piece_of, has_places, set_extract_of, set_piece_of, set_pieces_of, translate_of}
 unfoldable pub use Rattle.mspec.specs.TextFunctions.{first_place, with_piece}
 pub use Rattle.mspec.specs.Trees.{AreOrderSubscripts, Tree, front, is_within, last, text_eq, without}

@@ -29,17 +29,18 @@ pub record Moment : Type 0 where
   pub days : ℕ
   pub seconds : ℕ
 
--- What a line is given, and no command changes: the language that its texts are read in; and, which no command asks for yet, the moment
--- that it is said to run at, the seed of its chance, and the texts that were typed ahead for it.
+-- What a line is given, and no command changes: the terminal that it comes from; the language that its texts are read in; and, which no
+-- command asks for yet, the moment that it is said to run at, the seed of its chance, and the texts that were typed ahead for it.
 pub record Given : Type 0 where
+  pub terminal : ℕ
   pub language : ℕ
   pub moment : Option Moment
   pub seed : Option ℕ
   pub inputs : List Text
 
--- the language alone, and nothing else
-abbrev pub given_language : ℕ → Given
-given_language language = record { language = language; moment = None; seed = None; inputs = [] }
+-- the terminal and the language, and nothing else
+abbrev pub given_to : ℕ → ℕ → Given
+given_to terminal language = record { terminal = terminal; language = language; moment = None; seed = None; inputs = [] }
 
 -- the state of a session while a line runs: what it keeps (locals, naked indicator, $TEST), the output so far, the steps that are left,
 -- and what the line is given
@@ -94,6 +95,10 @@ write t s = Done (Gives tt (record s { out = s.out ++ t }))
 abbrev pub give_some : {A : Type 0} → Code → Option A → Act A
 give_some c None = fail c
 give_some c (Some a) = give a
+
+-- the terminal that the line comes from
+abbrev pub terminal_is : Act ℕ
+terminal_is s = Done (Gives s.given.terminal s)
 
 -- what a text is read as in the line's language, if it is read as anything
 abbrev pub read_so : {A : Type 0} → Code → (ℕ → Option A) → Act A

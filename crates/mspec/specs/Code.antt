@@ -7,6 +7,7 @@ use Rattle.std.specs.Prelude.{ℕ, List, codes}
 
 pub data Code : Type 0 where
   M1 : Code
+  M2 : Code
   M4 : Code
   M6 : Code
   M7 : Code
@@ -14,6 +15,8 @@ pub data Code : Type 0 where
   M10 : Code
   M13 : Code
   M15 : Code
+  M28 : Code
+  M94 : Code
   Zlong : Code
   Zsyntax : Code
   Zover : Code
@@ -41,6 +44,7 @@ pub data Fault : Type 0 where
 -- a code as a reply shows it
 abbrev pub code_text : Code → List ℕ
 code_text M1 = codes "M1"
+code_text M2 = codes "M2"
 code_text M4 = codes "M4"
 code_text M6 = codes "M6"
 code_text M7 = codes "M7"
@@ -48,6 +52,8 @@ code_text M9 = codes "M9"
 code_text M10 = codes "M10"
 code_text M13 = codes "M13"
 code_text M15 = codes "M15"
+code_text M28 = codes "M28"
+code_text M94 = codes "M94"
 code_text Zlong = codes "ZLONG"
 code_text Zsyntax = codes "ZSYNTAX"
 code_text Zover = codes "ZOVER"

@@ -1,9 +1,9 @@
 -- SPDX-License-Identifier: Apache-2.0
 -- The functions and operators of texts.
 --
--- Restates "$PIECE", "$EXTRACT", "$FIND", "$LENGTH", "$REVERSE", "$TRANSLATE" and "$JUSTIFY", SET of a "$PIECE", and the
--- relations "Contains" and "Follows" of ISO/IEC 11756:1999, over characters and pieces. Places are counted from 1. An argument that
--- may be left out is an option.
+-- Restates "$PIECE", "$EXTRACT", "$FIND", "$LENGTH", "$REVERSE", "$TRANSLATE" and "$JUSTIFY", SET of a "$PIECE" and of an "$EXTRACT",
+-- and the relations "Contains" and "Follows" of ISO/IEC 11756:1999, over characters and pieces. Places are counted from 1. An argument
+-- that may be left out is an option.
 use Rattle.std.specs.Prelude.{ℕ, zero, suc, ℤ, pos, negsuc, ◌+◌, ◌-◌, Bool, true, false, ◌&&◌, ◌==◌, nat_le, nat_lt, max, List, [], ◌∷◌, ◌++◌, reverse, length, take, drop, slice_get, Option, Some, None, option_map, unwrap_or, is_some, replicate, Result, Ok, Err, if◌then◌else◌}
 use Rattle.std.specs.List.{flat_map}
 use Rattle.std.specs.Option.{option_to_list}
@@ -105,3 +105,29 @@ abbrev pub set_piece_of : List ℕ → List ℕ → Option ℤ → List ℕ → 
 set_piece_of s d place v =
     let n = unwrap_or place (pos 1) in
     if may_be_set d n then made (join d (with_piece (to_place n - 1) v (pieces_of d s))) else Err Zarg
+
+-- whether there is a place from one up to another: if not, SET leaves a variable alone
+abbrev pub has_places : Option ℤ → Option ℤ → Bool
+has_places from to = let start = unwrap_or from (pos 1) in nat_le (from_place start) (to_place (unwrap_or to start))
+
+-- SET of an $EXTRACT: the text with v in place of its characters from a place up to a place, after as many spaces as that takes
+abbrev pub set_extract_of : List ℕ → Option ℤ → Option ℤ → List ℕ → Result (List ℕ) Code
+set_extract_of s from to v =
+    let start = unwrap_or from (pos 1) in
+    let before = from_place start - 1 in
+    made (take before s ++ (replicate (before - length s) 32 ++ (v ++ drop (to_place (unwrap_or to start)) s)))
+
+-- SET of several pieces: the text with v in place of those from a place up to a place, after as many delimiters as that takes
+abbrev pub set_pieces_of : List ℕ → List ℕ → Option ℤ → Option ℤ → List ℕ → Result (List ℕ) Code
+set_pieces_of s d from to v =
+    let start = unwrap_or from (pos 1) in
+    let first = from_place start in
+    let ps = pieces_of d s in
+    if may_be_set d (pos first)
+    then made (join d (with_piece (first - 1) v (take first ps ++ drop (to_place (unwrap_or to start)) ps)))
+    else Err Zarg
+
+-- the same of characters, if there is no delimiter, and of pieces, if there is one
+abbrev pub set_range_of : List ℕ → Option (List ℕ) → Option ℤ → Option ℤ → List ℕ → Result (List ℕ) Code
+set_range_of s None from to v = set_extract_of s from to v
+set_range_of s (Some d) from to v = set_pieces_of s d from to v

@@ -6,6 +6,7 @@ pub mod CharacterOrder
 pub mod ClassKinds
 pub mod PieceSetting
 pub mod CharacterPieces
+pub mod FormatMarks
 pub mod MadeTexts
 pub mod PatternSlices
 pub mod PatternMembers

@@ -21,5 +21,5 @@ unfoldable pub use Rattle.mspec.specs.TextFunctions.{first_place, with_piece}
 pub use Rattle.mtext.specs.ClassSets.{is_in_set}
 pub use Rattle.mtext.specs.Cuts.{IsBehind, closed, delimiter_text}
 pub use Rattle.mtext.specs.Endings.{IsBarred, IsEnding, IsOtherwise, NoneBegins, Repeats, copies_atom, members_atom}
-pub use Rattle.mtext.specs.Made.{Answers, translation}
+pub use Rattle.mtext.specs.Made.{Answers, translation, without}
 pub use Rattle.mtext.specs.PatternPlaces.{AreEnds, AreMatched, IsBefore, IsCopiedTo, IsEnd, IsFewest, IsNear, atom_of, atoms_of, code_of, codes_of, count_of, repeated_of}

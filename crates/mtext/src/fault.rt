@@ -12,6 +12,8 @@ use std::alloc::AllocError;
 pub enum TextFault {
     /// An argument is out of its range.
     Arg,
+    /// The letters of a format leave no place for a sign.
+    Format,
     /// The text would have more than 4,095 characters.
     TooLong,
     /// There was no memory for the text.

@@ -1,6 +1,6 @@
 // SPDX-License-Identifier: Apache-2.0
 // The texts that functions make, each of at most 4,095 characters.
-ghost use Rattle.std.specs.Prelude.{◌≡◌, ◌≢◌, ◌+◌, ◌-◌, ◌<◌, ◌≤◌, [], ◌∷◌, ◌++◌, All, length, take, drop, replicate, IfOk, MatchResult};
+ghost use Rattle.std.specs.Prelude.{◌≡◌, ◌≢◌, ◌+◌, ◌-◌, ◌<◌, ◌≤◌, [], ◌∷◌, ◌++◌, All, length, take, drop, option_map, replicate, true, IfOk, MatchResult};
 ghost use Rattle.std.specs.List.{repeat};
 ghost use Rattle.std.specs.Option.{option_to_list};
 ghost use Rattle.mspec.specs.Pieces.{join, pieces_of};
@@ -13,13 +13,17 @@ ghost use Rattle.mspec.specs.TextFunctions.{
   made,
   with_piece,
   set_piece_of,
+  has_places,
+  set_extract_of,
+  set_pieces_of,
+  set_range_of,
 };
-ghost use Rattle.mtext.specs.Made.{translation, Answers};
+ghost use Rattle.mtext.specs.Made.{translation, without, Answers};
 
-use crate::cutting::skip;
+use crate::cutting::{end_of, skip};
 use crate::delimiter::Delimiter;
 use crate::fault::{TextFault, check_length};
-use crate::places::end_at;
+use crate::places::{end_at, range, within};
 use memchr::memchr;
 use mnum::Bytes7;
 use mspec::limits::{MAX_PLACE, MAX_TEXT};
@@ -183,28 +187,29 @@ fn padded(
     Ok(extended(alloc, text, delimiter, count, value)?)
 }
 
-/// A text with another piece after the first `before`.
+/// A text with another piece after the first `before`, in place of the next one and `more` after that.
 #[tactic(auto, using(crate::proofs::PieceSetting::set_past))]
 fn replaced(
     alloc: Global,
     text: &[u8],
     delimiter: &[u8],
     before: usize,
+    more: usize,
     value: &[u8],
 ) -> Result<Bytes7, TextFault>
     requires text { All (λ c. c < 128) text.now }
     requires delimiter { All (λ c. c < 128) delimiter.now }
     requires value { All (λ c. c < 128) value.now }
     requires some { delimiter.now ≢ [] }
-    ensures { Answers (made (join delimiter.now (with_piece before value.now (pieces_of delimiter.now text.now)))) result }
+    ensures { Answers (made (join delimiter.now (with_piece before value.now (without before more (pieces_of delimiter.now text.now))))) result }
 {
     let sought = Delimiter::new(delimiter);
     match skip(&sought, text, before) {
         Err(missing) => padded(alloc, text, delimiter, missing, value),
-        Ok(start) => match sought.find(&text[start..]) {
-            None => spliced(alloc, text, start, text.len(), value),
-            Some(length) => spliced(alloc, text, start, start + length, value),
-        },
+        Ok(start) => {
+            let end = start + end_of(&sought, &text[start..], more);
+            spliced(alloc, text, start, end, value)
+        }
     }
 }
 
@@ -234,6 +239,80 @@ pub fn set_piece(
         text.as_bytes(),
         delimiter,
         place - 1,
+        0,
         value.as_bytes(),
     )
+}
+
+// SET of an $EXTRACT.
+fn set_extract(
+    alloc: Global,
+    text: &Bytes7,
+    from: Option<i64>,
+    to: Option<i64>,
+    value: &Bytes7,
+) -> Result<Bytes7, TextFault>
+    requires { has_places from to ≡ true }
+    ensures { Answers (set_extract_of text.now from to value.now) result }
+{
+    let (before, count) = range(from, to);
+    let characters = text.as_bytes();
+    let length = characters.len();
+    if before > length {
+        return padded(alloc, characters, b" ", before - length, value.as_bytes());
+    }
+    let end = within(before + count, characters);
+    spliced(alloc, characters, before, end, value.as_bytes())
+}
+
+// SET of several pieces.
+fn set_pieces(
+    alloc: Global,
+    text: &Bytes7,
+    delimiter: &Bytes7,
+    from: Option<i64>,
+    to: Option<i64>,
+    value: &Bytes7,
+) -> Result<Bytes7, TextFault>
+    requires { has_places from to ≡ true }
+    ensures { Answers (set_pieces_of text.now delimiter.now from to value.now) result }
+{
+    let (before, count) = range(from, to);
+    let delimiter = delimiter.as_bytes();
+    if before >= MAX_PLACE || delimiter.is_empty() {
+        return Err(TextFault::Arg);
+    }
+    replaced(
+        alloc,
+        text.as_bytes(),
+        delimiter,
+        before,
+        count - 1,
+        value.as_bytes(),
+    )
+}
+
+/// SET of several places: `text` with `value` in place of its characters from one place up to another, or of its pieces if there is a
+/// delimiter. If left out, `from` is 1, and `to` is `from` as it was given; a `from` below 1 then counts as 1. A text that ends before
+/// `from` first gets as many spaces or delimiters at its end as that takes.
+///
+/// # Errors
+///
+/// `Arg` exactly if a delimiter is empty or if `from` is above 500 with one; otherwise `TooLong` exactly if the result would have more
+/// than 4,095 characters; otherwise `Memory`, if there is none.
+pub fn set_range(
+    alloc: Global,
+    text: &Bytes7,
+    delimiter: Option<&Bytes7>,
+    from: Option<i64>,
+    to: Option<i64>,
+    value: &Bytes7,
+) -> Result<Bytes7, TextFault>
+    requires { has_places from to ≡ true }
+    ensures { Answers (set_range_of text.now (option_map (λ d. d.now) delimiter.entry) from to value.now) result }
+{
+    match delimiter {
+        None => set_extract(alloc, text, from, to, value),
+        Some(delimiter) => set_pieces(alloc, text, delimiter, from, to, value),
+    }
 }

@@ -1,7 +1,7 @@
 // SPDX-License-Identifier: Apache-2.0
 // Places as numbers that a text can be cut at.
 ghost use Rattle.std.specs.Prelude.{◌≡◌, ◌+◌, ◌-◌, ◌≤◌, ◌<◌, ◌^◌, pos, length, min, unwrap_or};
-ghost use Rattle.mspec.specs.TextFunctions.{from_place, to_place};
+ghost use Rattle.mspec.specs.TextFunctions.{from_place, to_place, has_places};
 
 /// A place to begin at, which is the first if it is left out or below 1.
 pub(crate) fn begin_at(place: Option<i64>) -> usize
@@ -30,6 +30,15 @@ pub(crate) fn range(from: Option<i64>, to: Option<i64>) -> (usize, usize)
     let first = begin_at(from);
     let last = end_at(to.unwrap_or(from.unwrap_or(1)));
     (first - 1, (last + 1).saturating_sub(first))
+}
+
+/// Whether there is a place from one up to another. If left out, `from` is 1, and `to` is `from` as it was given; a `from` below 1 then
+/// counts as 1. Takes no memory.
+pub fn has_places(from: Option<i64>, to: Option<i64>) -> bool
+    ensures { result ≡ has_places from to }
+{
+    let (_, count) = range(from, to);
+    count > 0
 }
 
 /// The place in a text after `count` of its characters, or its end.

@@ -8,27 +8,35 @@ use Rattle.std.proofs.lemmas.Bool.{le-leb, lt-leb}
 use Rattle.mgrammar.specs.Grammar.{LineTree, ReferenceTree, ArgTree, FormTree, exprs_of, call}
 use Rattle.mgrammar.specs.WellFormed.{exprs_count}
 use Rattle.mgrammar.proofs.ReadingTrees.{count-length}
-use Rattle.mtree.specs.Tree.{expr_tree}
+use Rattle.mtree.specs.Tree.{expr_tree, arg_tree}
 use Rattle.mtree.specs.declared.tree.Expr.{Expr}
+use Rattle.mtree.specs.declared.tree.Arg.{Arg}
 use Rattle.mgrammar.specs.Reading.{line_at}
 use Rattle.mgrammar.specs.RoutineLine.{RoutineLineTree, routine_line_at}
 use Rattle.mgrammar.specs.IndirectTexts.{ref_at, args_of}
 use Rattle.mgrammar.specs.Functions.{since_function, since_values}
 use Rattle.mgrammar.specs.Languages.{since_primary, since_exprs, kept_in, since_line, since_routine_line, since_reference, since_args, line_in, routine_line_in, ref_in, args_in}
 
+-- nothing is earlier than 0
+pub max_none : (a : ℕ) → max a 0 ≡ a
+max_none a = omega arith
+
 -- the latest of three
 pub max_more : (a b c : ℕ) → max (max a b) c ≡ max a (max b c)
 max_more a b c = omega arith
+
+-- the arguments of a command are as many as they were
+pub args_counted : (args : List Arg) → length (map arg_tree args) ≡ length args
+args_counted args = length-map args arg_tree
 
 -- the values of a call are as many as they were
 pub counted : (values : List Expr) → exprs_count (exprs_of (map expr_tree values)) ≡ length values
 counted values = count-length (map expr_tree values) ∙ length-map values expr_tree
 
-pub call_since : (word text : List ℕ) (values : List Expr) (count first more function rest all : ℕ) → text ≡ word → count ≡ length values → first ≡ since_function text → more ≡ since_values text count → function ≡ max first more
-    → rest ≡ since_exprs (exprs_of (map expr_tree values)) → all ≡ max function rest → all ≡ since_primary (call word (exprs_of (map expr_tree values)))
-call_since word text values count first more function rest all text_is count_is first_is more_is function_is rest_is all_is =
-    all_is ∙ ap (λ n. max n rest) (function_is ∙ ap (λ n. max n more) first_is ∙ ap (max (since_function text)) (more_is ∙ ap (since_values text) (count_is ∙ sym (counted values))))
-    ∙ ap (λ t. max (max (since_function t) (since_values t (exprs_count (exprs_of (map expr_tree values))))) rest) text_is
+pub call_since : (word : List ℕ) (values : List Expr) (count function rest all : ℕ) → count ≡ length values → function ≡ max (since_function word) (since_values word count) → rest ≡ since_exprs (exprs_of (map expr_tree values))
+    → all ≡ max function rest → all ≡ since_primary (call word (exprs_of (map expr_tree values)))
+call_since word values count function rest all count_is function_is rest_is all_is =
+    all_is ∙ ap (λ n. max n rest) (function_is ∙ ap (λ n. max (since_function word) (since_values word n)) (count_is ∙ sym (counted values)))
     ∙ ap (max (max (since_function word) (since_values word (exprs_count (exprs_of (map expr_tree values)))))) rest_is
 
 module _ {A : Type 0} (since : A → ℕ) (n : ℕ) where

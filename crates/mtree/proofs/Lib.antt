@@ -3,3 +3,4 @@ pub mod LetterClasses
 pub mod ListTexts
 mod Operands
 pub mod InLanguages
+pub mod WordFunctions

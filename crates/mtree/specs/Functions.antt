@@ -1,7 +1,7 @@
 -- SPDX-License-Identifier: Apache-2.0
 -- What a function's word says, as the grammar has it.
 use Rattle.std.specs.Prelude.{◌≡◌, ℕ, Option, Some, List}
-use Rattle.mgrammar.specs.Functions.{ValueFunctionTree, ascii_function, char_function, extract_function, find_function, justify_function, length_function, piece_function, reverse_function, translate_function}
+use Rattle.mgrammar.specs.Functions.{ValueFunctionTree, ascii_function, char_function, extract_function, find_function, format_number_function, justify_function, length_function, piece_function, reverse_function, translate_function}
 use Rattle.mgrammar.specs.Functions.{VariableFunctionTree, data_function, get_function, order_function, FunctionTree, of_values, of_variable, of_choices, function_of}
 use Rattle.mtree.specs.declared.tree.ValueFunction.{ValueFunction}
 use Rattle.mtree.specs.declared.tree.ValueFunction.TheVariants as values
@@ -15,6 +15,7 @@ value_function_tree values.Ascii = ascii_function
 value_function_tree values.Char = char_function
 value_function_tree values.Extract = extract_function
 value_function_tree values.Find = find_function
+value_function_tree values.FormatNumber = format_number_function
 value_function_tree values.Justify = justify_function
 value_function_tree values.Length = length_function
 value_function_tree values.Piece = piece_function

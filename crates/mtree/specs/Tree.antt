@@ -31,7 +31,7 @@ use Rattle.mtree.specs.declared.tree.Choice.{Choice, fold-Choice}
 use Rattle.mtree.specs.declared.tree.Reference.{Reference, fold-Reference}
 use Rattle.mtree.specs.declared.tree.Referring.{Referring, fold-Referring}
 use Rattle.mtree.specs.declared.tree.Primary.TheOpen.{Primary-F, Expr-F, Operand-F, Tail-F, Choice-F, Reference-F, Referring-F}
-use Rattle.mtree.specs.declared.tree.PieceTarget.{PieceTarget}
+use Rattle.mtree.specs.declared.tree.PartTarget.{PartTarget}
 use Rattle.mtree.specs.declared.tree.Target.{Target}
 use Rattle.mtree.specs.declared.tree.Target.TheVariants as target
 use Rattle.mtree.specs.declared.tree.Destination.{Destination}
@@ -93,9 +93,15 @@ keyword_tree keyword.Goto = grammar.goto_word
 keyword_tree keyword.Execute = grammar.execute_word
 keyword_tree keyword.Lock = grammar.lock_word
 keyword_tree keyword.Halt = grammar.halt_word
+keyword_tree keyword.Hang = grammar.hang_word
+keyword_tree keyword.HaltOrHang = grammar.halt_or_hang_word
 
 abbrev pub special_tree : SpecialVariable → SpecialTree
 special_tree special_variable.Test = specials.test_special
+special_tree special_variable.Io = specials.io_special
+special_tree special_variable.Job = specials.job_special
+special_tree special_variable.Principal = specials.principal_special
+special_tree special_variable.Storage = specials.storage_special
 
 abbrev pub repeated_tree : Repeated → RepeatedTree
 repeated_tree (repeated.Classes letters) = grammar.classes letters
@@ -116,6 +122,9 @@ abbrev pub tail_layer : Tail-F PrimaryTree ReferenceTree TailTree ChoiceTree Exp
 tail_layer (Tail-F.Apply b o) = grammar.apply (binary_tree b) o
 tail_layer (Tail-F.Matches atoms) = grammar.matches (map atom_tree atoms.items)
 tail_layer (Tail-F.MatchesNot atoms) = grammar.matches_not (map atom_tree atoms.items)
+tail_layer (Tail-F.Raise o) = grammar.raise o
+tail_layer (Tail-F.MatchesIndirect p) = grammar.matches_indirect p.value
+tail_layer (Tail-F.MatchesNotIndirect p) = grammar.matches_not_indirect p.value
 
 abbrev pub operand_layer : Operand-F PrimaryTree ReferenceTree TailTree ChoiceTree ExprTree OperandTree PrimaryTree → OperandTree
 operand_layer o = grammar.operand (map sign_tree o.signs.items) o.primary
@@ -166,12 +175,12 @@ reference_tree = fold-Reference PrimaryTree ReferenceTree TailTree ChoiceTree Ex
 abbrev pub referring_tree : Referring → PrimaryTree
 referring_tree = fold-Referring PrimaryTree ReferenceTree TailTree ChoiceTree ExprTree OperandTree PrimaryTree primary_layer reference_layer tail_layer choice_layer expr_layer operand_layer referring_layer
 
-abbrev pub piece_tree : PieceTarget → TargetTree
-piece_tree p = grammar.piece p.word (reference_tree p.reference) (expr_tree p.delimiter) (option_map expr_tree p.place)
+abbrev pub part_tree : PartTarget → TargetTree
+part_tree p = grammar.part p.word (reference_tree p.reference) (exprs_of (map expr_tree p.more.items))
 
 abbrev pub target_tree : Target → TargetTree
 target_tree (target.Variable r) = grammar.variable (reference_tree r)
-target_tree (target.Piece p) = piece_tree p.value
+target_tree (target.Part p) = part_tree p.value
 
 abbrev pub destination_tree : Destination → DestinationTree
 destination_tree (destination.One t) = grammar.one (target_tree t)
@@ -201,7 +210,8 @@ locked_tree (locked_names.Several rs) = grammar.lock_several (map reference_tree
 
 abbrev pub arg_tree : Arg → ArgTree
 arg_tree (arg.Assign d e) = grammar.assign (destination_tree d) (expr_tree e)
-arg_tree (arg.Breaks n) = grammar.breaks n
+arg_tree (arg.Formats run) = grammar.formats run
+arg_tree (arg.Coded e) = grammar.coded (expr_tree e)
 arg_tree (arg.Value e) = grammar.shown (expr_tree e)
 arg_tree (arg.KillOne r) = grammar.kill_one (reference_tree r)
 arg_tree (arg.KillOthers names) = grammar.kill_others names.items
@@ -213,6 +223,7 @@ arg_tree (arg.DoOne e c) = grammar.do_one (entry_tree e) (condition_tree c)
 arg_tree (arg.GoTo e c) = grammar.go_to (entry_tree e) (condition_tree c)
 arg_tree (arg.Executed e c) = grammar.executed (expr_tree e) (condition_tree c)
 arg_tree (arg.Lock k names t) = grammar.locked (kind_tree k) (locked_tree names) (condition_tree t)
+arg_tree (arg.HangFor e) = grammar.hang_for (expr_tree e)
 arg_tree (arg.Indirect k p) = grammar.indirect_args (form_of (keyword_tree k)) (primary_tree p)
 
 abbrev pub command_tree : Command → CommandTree

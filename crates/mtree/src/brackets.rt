@@ -4,7 +4,7 @@ ghost use Rattle.mtree.specs.Brackets.{IsSaid};
 
 use crate::function_word::{ValueWord, VariableWord};
 use crate::tree::Function;
-use crate::words::function_of;
+use crate::words::function_row;
 use mnum::Bytes7;
 
 /// The word of a function, with what its brackets hold.
@@ -30,18 +30,27 @@ impl FunctionWord {
     pub fn new(text: Bytes7) -> Option<FunctionWord>
         ensures { IsSaid text result }
     {
-        match function_of(text.as_bytes())? {
+        let (function, since) = function_row(text.as_bytes())?;
+        match function {
             Function::OfValues {
                 function,
                 least,
                 most,
             } => Some(FunctionWord::OfValues {
-                word: ValueWord { text, function },
+                word: ValueWord {
+                    text,
+                    function,
+                    since,
+                },
                 least,
                 most,
             }),
             Function::OfVariable { function, most } => Some(FunctionWord::OfVariable {
-                word: VariableWord { text, function },
+                word: VariableWord {
+                    text,
+                    function,
+                    since,
+                },
                 most,
             }),
             Function::OfChoices => Some(FunctionWord::OfChoices(text)),

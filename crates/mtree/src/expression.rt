@@ -142,6 +142,22 @@ fn put_tail(out: &mut Bytes7, tail: &Tail) -> Result<(), AllocError>
             out.push(b'?')?;
             put_atoms(out, atoms)
         }
+        Tail::Raise(operand) => {
+            out.push(b'*')?;
+            out.push(b'*')?;
+            put_operand(out, operand)
+        }
+        Tail::MatchesIndirect(operand) => {
+            out.push(b'?')?;
+            out.push(b'@')?;
+            put_primary(out, operand)
+        }
+        Tail::MatchesNotIndirect(operand) => {
+            out.push(b'\'')?;
+            out.push(b'?')?;
+            out.push(b'@')?;
+            put_primary(out, operand)
+        }
     }
 }
 
@@ -295,7 +311,7 @@ fn put_referring(out: &mut Bytes7, referring: &Referring) -> Result<(), AllocErr
 
 // Each with a comma before it.
 #[cycle(expr)]
-fn put_more(out: &mut Bytes7, more: &[Expr]) -> Result<(), AllocError>
+pub fn put_more(out: &mut Bytes7, more: &[Expr]) -> Result<(), AllocError>
     ensures { OnOk result (out.new ≡ out.old ++ spell_more_exprs (exprs_of (map expr_tree more.now))) }
 {
     for expr in more {

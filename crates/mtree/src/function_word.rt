@@ -1,9 +1,11 @@
 // SPDX-License-Identifier: Apache-2.0
 // The words of functions of values and of functions of a variable, as they are written.
-ghost use Rattle.std.specs.Prelude.{◌≡◌};
+ghost use Rattle.std.specs.Prelude.{◌≡◌, max};
+ghost use Rattle.mgrammar.specs.Functions.{since_function, since_values};
 ghost use Rattle.mtree.specs.Functions.{IsValueWord, IsVariableWord, value_function_tree, variable_function_tree};
 
 use crate::tree::{ValueFunction, VariableFunction};
+use crate::words::{later, since_values};
 use mnum::Bytes7;
 use std::marker::Model;
 
@@ -13,17 +15,20 @@ use std::marker::Model;
 pub struct ValueWord {
     pub(crate) text: Bytes7,
     pub(crate) function: ValueFunction,
+    // The first language that has the function.
+    pub(crate) since: u32,
 }
 
 impl Model for ValueWord {
-    ghost use Rattle.std.specs.Prelude.{List, ℕ};
+    ghost use Rattle.std.specs.Prelude.{◌≡◌, List, ℕ};
+    ghost use Rattle.mgrammar.specs.Functions.{since_function};
     ghost use Rattle.mtree.specs.Functions.{IsValueWord, value_function_tree};
 
     ghost Value = { List ℕ };
 
     ghost view = { λ word. word.text };
 
-    ghost invariant = { λ word. IsValueWord word.text (value_function_tree word.function) };
+    ghost invariant = { λ word. IsValueWord word.text (value_function_tree word.function) × (word.since ≡ since_function word.text) };
 }
 
 impl ValueWord {
@@ -41,6 +46,13 @@ impl ValueWord {
     {
         self.function
     }
+
+    // The first language that has the function with so many values. Takes no memory.
+    pub(crate) fn since(&self, count: usize) -> u32
+        ensures { result ≡ max (since_function self.now) (since_values self.now count) }
+    {
+        later(self.since, since_values(self.text.as_bytes(), count))
+    }
 }
 
 /// The word of a function of a variable as it is written, without its `$`. What it says is looked up once, however often the
@@ -49,17 +61,20 @@ impl ValueWord {
 pub struct VariableWord {
     pub(crate) text: Bytes7,
     pub(crate) function: VariableFunction,
+    // The first language that has the function.
+    pub(crate) since: u32,
 }
 
 impl Model for VariableWord {
-    ghost use Rattle.std.specs.Prelude.{List, ℕ};
+    ghost use Rattle.std.specs.Prelude.{◌≡◌, List, ℕ};
+    ghost use Rattle.mgrammar.specs.Functions.{since_function};
     ghost use Rattle.mtree.specs.Functions.{IsVariableWord, variable_function_tree};
 
     ghost Value = { List ℕ };
 
     ghost view = { λ word. word.text };
 
-    ghost invariant = { λ word. IsVariableWord word.text (variable_function_tree word.function) };
+    ghost invariant = { λ word. IsVariableWord word.text (variable_function_tree word.function) × (word.since ≡ since_function word.text) };
 }
 
 impl VariableWord {
@@ -76,5 +91,12 @@ impl VariableWord {
         ensures { IsVariableWord self.now (variable_function_tree result) }
     {
         self.function
+    }
+
+    // The first language that has the function. Takes no memory.
+    pub(crate) fn since(&self) -> u32
+        ensures { result ≡ since_function self.now }
+    {
+        self.since
     }
 }

@@ -29,9 +29,9 @@ pub use literal::Literal;
 pub use since::{since_args, since_commands, since_reference, since_routine_line};
 pub use tree::{
     Arg, Atom, Binary, Body, Choice, Command, Destination, Entry, Expr, Function, Keyword, Line,
-    LockKind, Locked, Operand, Parameter, PieceTarget, Primary, Reference, Referring, Repeated,
+    LockKind, Locked, Operand, Parameter, PartTarget, Primary, Reference, Referring, Repeated,
     RoutineLine, Sign, Spaced, SpecialVariable, Tail, Target, Truth, ValueFunction,
     VariableFunction,
 };
-pub use words::{function_of, is_piece, keyword_of, special_of};
+pub use words::{function_of, is_part, keyword_of, special_of};
 pub use write::{write_line, write_routine_line};

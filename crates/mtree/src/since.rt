@@ -1,28 +1,25 @@
 // SPDX-License-Identifier: Apache-2.0
 // The first language that has all forms of a tree.
-ghost use Rattle.std.specs.Prelude.{◌≡◌, map, max, option_map};
+ghost use Rattle.std.specs.Prelude.{◌≡◌, map};
 ghost use Rattle.mgrammar.specs.Grammar.{tails_of, exprs_of, choices_of};
-ghost use Rattle.mgrammar.specs.Languages.{since_all, since_optional, since_expr, since_tails, since_tail, since_operand, since_primary, since_reference, since_exprs, since_choices, since_target, since_destination, since_parameter, since_locked, since_arg, since_args, since_command, since_spaced, since_routine_line};
-ghost use Rattle.mtree.specs.Tree.{expr_tree, tail_tree, operand_tree, primary_tree, reference_tree, referring_tree, choice_tree, piece_tree, target_tree, destination_tree, parameter_tree, locked_tree, arg_tree, command_tree, spaced_tree, condition_tree, routine_line_tree, IsBodyCounted};
+ghost use Rattle.mgrammar.specs.Languages.{since_all, since_optional, since_expr, since_tails, since_tail, since_operand, since_primary, since_reference, since_exprs, since_choices, since_target, since_destination, since_parameter, since_locked, since_format, since_arg, since_args, since_command, since_spaced, since_routine_line};
+ghost use Rattle.mtree.specs.Tree.{expr_tree, tail_tree, operand_tree, primary_tree, reference_tree, referring_tree, choice_tree, part_tree, target_tree, destination_tree, parameter_tree, locked_tree, arg_tree, command_tree, spaced_tree, condition_tree, routine_line_tree, IsBodyCounted};
 
 use crate::tree::{
-    Arg, Body, Choice, Command, Destination, Expr, Locked, Operand, Parameter, PieceTarget,
-    Primary, Reference, Referring, RoutineLine, Spaced, Tail, Target,
+    Arg, Body, Choice, Command, Destination, Expr, Locked, Operand, Parameter, PartTarget, Primary,
+    Reference, Referring, RoutineLine, Spaced, Tail, Target,
 };
-use crate::words::{since_function, since_keyword, since_special, since_values};
-
-// The later of two languages.
-fn later(one: u32, other: u32) -> u32
-    ensures { result ≡ max one other }
-{
-    if one < other { other } else { one }
-}
+use crate::words::{later, since_function, since_keyword, since_part_of, since_special};
 
 // That of an expression.
 #[cycle(since)]
+#[tactic(auto, using(crate::proofs::InLanguages::max_none))]
 fn since_expr(expr: &Expr) -> u32
     ensures { result ≡ since_expr (expr_tree expr.now) }
 {
+    if expr.rest.is_empty() {
+        return since_operand(&expr.first);
+    }
     later(since_operand(&expr.first), since_tails(&expr.rest))
 }
 
@@ -46,6 +43,9 @@ fn since_tail(tail: &Tail) -> u32
         Tail::Apply(_, operand) => since_operand(operand),
         Tail::Matches(_) => 0,
         Tail::MatchesNot(_) => 0,
+        Tail::Raise(operand) => later(1, since_operand(operand)),
+        Tail::MatchesIndirect(operand) => later(1, since_primary(operand)),
+        Tail::MatchesNotIndirect(operand) => later(1, since_primary(operand)),
     }
 }
 
@@ -67,9 +67,7 @@ fn since_primary(primary: &Primary) -> u32
         Primary::Reference(reference) => since_reference(reference),
         Primary::Bracket(inner) => since_expr(inner),
         Primary::Call(word, arguments) => {
-            let word = word.as_text().as_bytes();
-            let function = later(since_function(word), since_values(word, arguments.len()));
-            later(function, since_exprs(arguments))
+            later(word.since(arguments.len()), since_exprs(arguments))
         }
         Primary::Select(word, choices) => {
             later(since_function(word.as_bytes()), since_choices(choices))
@@ -82,7 +80,7 @@ fn since_primary(primary: &Primary) -> u32
 fn since_referring(referring: &Referring) -> u32
     ensures { result ≡ since_primary (referring_tree referring.now) }
 {
-    let word = since_function(referring.word.as_text().as_bytes());
+    let word = referring.word.since();
     let reference = since_reference(&referring.reference);
     later(word, later(reference, since_exprs(&referring.more)))
 }
@@ -132,15 +130,6 @@ fn since_choices(choices: &[Choice]) -> u32
     since
 }
 
-fn since_place(place: &Option<Expr>) -> u32
-    ensures { result ≡ since_optional since_expr (option_map expr_tree place.now) }
-{
-    match place {
-        None => 0,
-        Some(place) => since_expr(place),
-    }
-}
-
 fn since_condition(condition: &Option<Box<Expr>>) -> u32
     ensures { result ≡ since_optional since_expr (condition_tree condition.now) }
 {
@@ -150,16 +139,14 @@ fn since_condition(condition: &Option<Box<Expr>>) -> u32
     }
 }
 
-fn since_piece(piece: &PieceTarget) -> u32
-    ensures { result ≡ since_target (piece_tree piece.now) }
+#[tactic(auto, using(crate::proofs::InLanguages::counted))]
+fn since_part(part: &PartTarget) -> u32
+    ensures { result ≡ since_target (part_tree part.now) }
 {
-    let word = since_function(piece.word.as_bytes());
-    let reference = since_reference(&piece.reference);
-    let delimiter = since_expr(&piece.delimiter);
-    later(
-        word,
-        later(reference, later(delimiter, since_place(&piece.place))),
-    )
+    let word = part.word.as_text().as_bytes();
+    let target = later(since_function(word), since_part_of(word, part.more.len()));
+    let reference = since_reference(&part.reference);
+    later(target, later(reference, since_exprs(&part.more)))
 }
 
 fn since_target(target: &Target) -> u32
@@ -167,7 +154,7 @@ fn since_target(target: &Target) -> u32
 {
     match target {
         Target::Variable(reference) => since_reference(reference),
-        Target::Piece(piece) => since_piece(piece),
+        Target::Part(part) => since_part(part),
     }
 }
 
@@ -237,12 +224,31 @@ fn since_locked(locked: &Locked) -> u32
     }
 }
 
+fn since_format(format: u8) -> u32
+    ensures { result ≡ since_format format }
+{
+    if format == b'!' { 0 } else { 1 }
+}
+
+// That of formats: a `#` is of language 1.
+#[tactic(auto, using(crate::proofs::InLanguages::max_more))]
+fn since_formats(run: &[u8]) -> u32
+    ensures { result ≡ since_all since_format run.now }
+{
+    let mut since = 0;
+    for format in run {
+        since = later(since, since_format(*format));
+    }
+    since
+}
+
 fn since_arg(arg: &Arg) -> u32
     ensures { result ≡ since_arg (arg_tree arg.now) }
 {
     match arg {
         Arg::Assign(destination, value) => later(since_destination(destination), since_expr(value)),
-        Arg::Breaks(_) => 0,
+        Arg::Formats(run) => since_formats(run.as_bytes()),
+        Arg::Coded(code) => later(1, since_expr(code)),
         Arg::Value(value) => since_expr(value),
         Arg::KillOne(reference) => since_reference(reference),
         Arg::KillOthers(_) => 0,
@@ -254,15 +260,19 @@ fn since_arg(arg: &Arg) -> u32
         Arg::GoTo(_, condition) => since_condition(condition),
         Arg::Executed(text, condition) => later(since_expr(text), since_condition(condition)),
         Arg::Lock(_, names, timeout) => later(since_locked(names), since_condition(timeout)),
+        Arg::HangFor(seconds) => since_expr(seconds),
         Arg::Indirect(_, operand) => since_primary(operand),
     }
 }
 
 /// That of some arguments. Takes no memory.
-#[tactic(auto, using(crate::proofs::InLanguages::max_more))]
+#[tactic(auto, using(crate::proofs::InLanguages::max_more, crate::proofs::InLanguages::max_none))]
 pub fn since_args(args: &[Arg]) -> u32
     ensures { result ≡ since_args (map arg_tree args.now) }
 {
+    if let [arg] = args {
+        return since_arg(arg);
+    }
     let mut since = 0;
     for arg in args {
         since = later(since, since_arg(arg));
@@ -270,10 +280,11 @@ pub fn since_args(args: &[Arg]) -> u32
     since
 }
 
+#[tactic(auto, using(crate::proofs::InLanguages::args_counted))]
 fn since_command(command: &Command) -> u32
     ensures { result ≡ since_command (command_tree command.now) }
 {
-    let keyword = since_keyword(command.keyword);
+    let keyword = since_keyword(command.keyword, command.args.len());
     let condition = since_condition(&command.condition);
     later(keyword, later(condition, since_args(&command.args)))
 }

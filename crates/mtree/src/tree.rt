@@ -89,6 +89,12 @@ pub enum Tail {
     Matches(Vec<Atom>),
     /// `'?`, and a pattern.
     MatchesNot(Vec<Atom>),
+    /// `**`, and the exponent.
+    Raise(Operand),
+    /// `?`, and the operand after an `@`, whose value is the text of a pattern.
+    MatchesIndirect(Box<Primary>),
+    /// `'?`, and such an operand.
+    MatchesNotIndirect(Box<Primary>),
 }
 
 /// A primary with the signs in front of it, which bind to it alone.
@@ -164,6 +170,7 @@ pub enum ValueFunction {
     Char,
     Extract,
     Find,
+    FormatNumber,
     Justify,
     Length,
     Piece,
@@ -202,14 +209,22 @@ pub enum Function {
 pub enum SpecialVariable {
     /// What the last condition of IF gave.
     Test,
+    /// The device in use: the number of the line's terminal.
+    Io,
+    /// The job: that number too.
+    Job,
+    /// The device that the line comes from: that number too.
+    Principal,
+    /// How many characters a text may have.
+    Storage,
 }
 
-/// A piece of a variable, to which SET assigns: `$PIECE`, with its word after the `$`.
-pub struct PieceTarget {
-    pub word: Bytes7,
+/// A part of a variable, to which SET assigns, as `$PIECE` and `$EXTRACT` are: its word after the `$`, the variable, and the
+/// values after that.
+pub struct PartTarget {
+    pub word: ValueWord,
     pub reference: Reference,
-    pub delimiter: Expr,
-    pub place: Option<Expr>,
+    pub more: Vec<Expr>,
 }
 
 /// What SET assigns to.
@@ -217,7 +232,7 @@ pub struct PieceTarget {
 pub enum Target {
     Variable(Reference),
     /// In a box, since it is large and rare.
-    Piece(Box<PieceTarget>),
+    Part(Box<PartTarget>),
 }
 
 /// What an argument of SET assigns its value to.
@@ -272,8 +287,10 @@ pub enum Locked {
 pub enum Arg {
     /// Of SET: what it assigns to, and the value.
     Assign(Destination, Expr),
-    /// Of WRITE: this many ends of lines, each written `!`.
-    Breaks(usize),
+    /// Of WRITE: formats, each a `!` or a `#`.
+    Formats(Bytes7),
+    /// Of WRITE: a character by its code, after a `*`.
+    Coded(Expr),
     /// Of WRITE: a value.
     Value(Expr),
     /// Of KILL: a variable.
@@ -296,6 +313,8 @@ pub enum Arg {
     Executed(Expr, Option<Box<Expr>>),
     /// Of LOCK: how it begins, what it names, and its timeout.
     Lock(LockKind, Locked, Option<Box<Expr>>),
+    /// Of HANG: how many seconds.
+    HangFor(Expr),
     /// Argument indirection: the word that the command has, and the operand after an `@`, whose value is the text of arguments.
     Indirect(Keyword, Primary),
 }
@@ -316,6 +335,9 @@ pub enum Keyword {
     Execute,
     Lock,
     Halt,
+    Hang,
+    /// `H`: HALT without arguments, and else HANG.
+    HaltOrHang,
 }
 
 /// A command: what its word says, the word as it is written, its postconditional if it has one, and its arguments.
@@ -387,6 +409,9 @@ impl Drop for Tail {
             Tail::Apply(_, _) => {}
             Tail::Matches(_) => {}
             Tail::MatchesNot(_) => {}
+            Tail::Raise(_) => {}
+            Tail::MatchesIndirect(_) => {}
+            Tail::MatchesNotIndirect(_) => {}
         }
     }
 }
@@ -443,13 +468,12 @@ impl Drop for Choice {
     }
 }
 
-impl Drop for PieceTarget {
+impl Drop for PartTarget {
     fn drop(self) {
-        let PieceTarget {
+        let PartTarget {
             word: _,
             reference: _,
-            delimiter: _,
-            place: _,
+            more: _,
         } = self;
     }
 }
@@ -468,7 +492,8 @@ impl Drop for Arg {
     fn drop(self) {
         match self {
             Arg::Assign(_, _) => {}
-            Arg::Breaks(_) => {}
+            Arg::Formats(_) => {}
+            Arg::Coded(_) => {}
             Arg::Value(_) => {}
             Arg::KillOne(_) => {}
             Arg::KillOthers(_) => {}
@@ -480,6 +505,7 @@ impl Drop for Arg {
             Arg::GoTo(_, _) => {}
             Arg::Executed(_, _) => {}
             Arg::Lock(_, _, _) => {}
+            Arg::HangFor(_) => {}
             Arg::Indirect(_, _) => {}
         }
     }

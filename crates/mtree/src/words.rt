@@ -1,13 +1,20 @@
 // SPDX-License-Identifier: Apache-2.0
 // Words of commands, of functions and of special variables.
-ghost use Rattle.std.specs.Prelude.{◌≡◌, option_map, unwrap_or};
+ghost use Rattle.std.specs.Prelude.{◌≡◌, max, option_map, unwrap_or};
 ghost use Rattle.mgrammar.specs.Grammar.{is_either};
 ghost use Rattle.mgrammar.specs.Specials.{special_of, since_special};
 ghost use Rattle.mgrammar.specs.Commands.{keyword_of, since_keyword};
-ghost use Rattle.mgrammar.specs.Functions.{of_values, of_variable, function_of, since_function, since_values, is_piece};
+ghost use Rattle.mgrammar.specs.Functions.{of_values, of_variable, function_of, since_function, since_values, is_part, since_part};
 ghost use Rattle.mtree.specs.Tree.{keyword_tree, value_function_tree, variable_function_tree, function_tree, special_tree};
 
 use crate::tree::{Function, Keyword, SpecialVariable, ValueFunction, VariableFunction};
+
+// The later of two languages.
+pub(crate) fn later(one: u32, other: u32) -> u32
+    ensures { result ≡ max one other }
+{
+    if one < other { other } else { one }
+}
 
 // Whether the word is this one or that one, in either case of letters.
 fn is_either(word: &[u8], short: &[u8], long: &[u8]) -> bool
@@ -45,16 +52,20 @@ pub fn keyword_of(word: &[u8]) -> Option<Keyword>
         Some(Keyword::Execute)
     } else if is_either(word, b"l", b"lock") {
         Some(Keyword::Lock)
-    } else if is_either(word, b"h", b"halt") {
+    } else if is_either(word, b"halt", b"halt") {
         Some(Keyword::Halt)
+    } else if is_either(word, b"hang", b"hang") {
+        Some(Keyword::Hang)
+    } else if is_either(word, b"h", b"h") {
+        Some(Keyword::HaltOrHang)
     } else {
         None
     }
 }
 
-/// The first language that has a command. Takes no memory.
-pub fn since_keyword(keyword: Keyword) -> u32
-    ensures { result ≡ since_keyword (keyword_tree keyword) }
+/// The first language that has a command with so many arguments. Takes no memory.
+pub fn since_keyword(keyword: Keyword, count: usize) -> u32
+    ensures { result ≡ since_keyword (keyword_tree keyword) count }
 {
     match keyword {
         Keyword::Set
@@ -70,6 +81,8 @@ pub fn since_keyword(keyword: Keyword) -> u32
         | Keyword::Execute
         | Keyword::Lock
         | Keyword::Halt => 0,
+        Keyword::Hang => 1,
+        Keyword::HaltOrHang => { if count > 0 { 1 } else { 0 } }
     }
 }
 
@@ -91,9 +104,9 @@ fn variable(function: VariableFunction, most: usize) -> Function
     Function::OfVariable { function, most }
 }
 
-// What a function's word says, and the first language that has the function: the rows of the functions.
+// What a function's word says, and the first language that has the function: the rows of the functions. Takes no memory.
 #[tactic(auto, unfolding(mgrammar::specs::Functions::function_of, mgrammar::specs::Functions::since_function))]
-fn function_row(word: &[u8]) -> Option<(Function, u32)>
+pub(crate) fn function_row(word: &[u8]) -> Option<(Function, u32)>
     ensures function { option_map (λ row. function_tree row.0) result ≡ function_of word.now }
     ensures since { unwrap_or (option_map (λ row. row.1) result) 0 ≡ since_function word.now }
 {
@@ -107,6 +120,8 @@ fn function_row(word: &[u8]) -> Option<(Function, u32)>
         Some((values(ValueFunction::Extract, 1, Some(3)), 0))
     } else if is_either(word, b"f", b"find") {
         Some((values(ValueFunction::Find, 2, Some(3)), 0))
+    } else if is_either(word, b"fn", b"fnumber") {
+        Some((values(ValueFunction::FormatNumber, 2, Some(3)), 1))
     } else if is_either(word, b"g", b"get") {
         Some((variable(VariableFunction::Get, 1), 0))
     } else if is_either(word, b"j", b"justify") {
@@ -161,11 +176,22 @@ pub fn since_values(word: &[u8], count: usize) -> u32
     }
 }
 
-/// Whether the word is that of the function whose call may be a target of SET, `$PIECE`, without its `$`. Takes no memory.
-pub fn is_piece(word: &[u8]) -> bool
-    ensures { result ≡ is_piece word.now }
+/// Whether the call of a function may be a target of SET, if its first value is a variable. Takes no memory.
+pub fn is_part(function: ValueFunction) -> bool
+    ensures { result ≡ is_part (value_function_tree function) }
 {
-    is_either(word, b"p", b"piece")
+    matches!(function, ValueFunction::Extract | ValueFunction::Piece)
+}
+
+// The first language in which a call of this word, with so many values after the variable, may be a target of SET.
+pub(crate) fn since_part_of(word: &[u8], count: usize) -> u32
+    ensures { result ≡ since_part word.now count }
+{
+    if is_either(word, b"p", b"piece") && count <= 2 {
+        0
+    } else {
+        1
+    }
 }
 
 // What a special variable's word says, and the first language that has the special variable: the rows of the special variables.
@@ -176,6 +202,14 @@ fn special_row(word: &[u8]) -> Option<(SpecialVariable, u32)>
 {
     if is_either(word, b"t", b"test") {
         Some((SpecialVariable::Test, 0))
+    } else if is_either(word, b"i", b"io") {
+        Some((SpecialVariable::Io, 1))
+    } else if is_either(word, b"j", b"job") {
+        Some((SpecialVariable::Job, 1))
+    } else if is_either(word, b"p", b"principal") {
+        Some((SpecialVariable::Principal, 1))
+    } else if is_either(word, b"s", b"storage") {
+        Some((SpecialVariable::Storage, 1))
     } else {
         None
     }

@@ -1,39 +1,27 @@
 // SPDX-License-Identifier: Apache-2.0
 // The text of a line: each function appends the spelling of its part, as `mgrammar` has it.
-ghost use Rattle.std.specs.Prelude.{◌≡◌, ◌++◌, ◌∷◌, [], List, ℕ, IfOk, OnOk, map, option_map};
-ghost use Rattle.mgrammar.specs.Grammar.{assign, loop, spell_place, spell_target, spell_destination, spell_names, spell_parameter, spell_entry, spell_kind, spell_locked, spell_arg, spell_condition, spell_args, spell_comment, spell_command, spell_commands, spell};
-ghost use Rattle.mgrammar.specs.Grammar.{do_one, go_to, executed, locked, spell_primary, spell_reference};
+ghost use Rattle.std.specs.Prelude.{◌≡◌, ◌++◌, ◌∷◌, [], List, ℕ, IfOk, OnOk, map};
+ghost use Rattle.mgrammar.specs.Grammar.{assign, loop, spell_target, spell_destination, spell_names, spell_parameter, spell_entry, spell_kind, spell_locked, spell_arg, spell_condition, spell_args, spell_comment, spell_command, spell_commands, spell};
+ghost use Rattle.mgrammar.specs.Grammar.{do_one, go_to, executed, locked, spell_expr, spell_primary, spell_reference};
 ghost use Rattle.mgrammar.specs.RoutineLine.{spell_dots, spell_label, spell_body, spell_routine_line};
-ghost use Rattle.mtree.specs.Tree.{expr_tree, primary_tree, piece_tree, target_tree, destination_tree, parameter_tree, entry_tree, kind_tree, locked_tree, reference_tree, arg_tree, command_tree, spaced_tree, line_tree, condition_tree, body_tree, routine_line_tree};
+ghost use Rattle.mtree.specs.Tree.{expr_tree, primary_tree, part_tree, target_tree, destination_tree, parameter_tree, entry_tree, kind_tree, locked_tree, reference_tree, arg_tree, command_tree, spaced_tree, line_tree, condition_tree, body_tree, routine_line_tree};
 
-use crate::expression::{put_expr, put_primary, put_reference, put_word};
+use crate::expression::{put_expr, put_more, put_primary, put_reference, put_word};
 use crate::pieces::{put_run, put_text};
 use crate::put_list::{Listed, put_bracketed, put_list};
 use crate::tree::{
-    Arg, Body, Command, Destination, Entry, Expr, Line, LockKind, Locked, Parameter, PieceTarget,
+    Arg, Body, Command, Destination, Entry, Expr, Line, LockKind, Locked, Parameter, PartTarget,
     Primary, Reference, RoutineLine, Spaced, Target,
 };
 use mnum::{Bytes7, Name};
 use std::alloc::{AllocError, Global};
 
-fn put_place(out: &mut Bytes7, place: &Option<Expr>) -> Result<(), AllocError>
-    ensures { OnOk result (out.new ≡ out.old ++ spell_place (option_map expr_tree place.now)) }
+fn put_part(out: &mut Bytes7, part: &PartTarget) -> Result<(), AllocError>
+    ensures { OnOk result (out.new ≡ out.old ++ spell_target (part_tree part.now)) }
 {
-    if let Some(place) = place {
-        out.push(b',')?;
-        put_expr(out, place)?;
-    }
-    Ok(())
-}
-
-fn put_piece(out: &mut Bytes7, piece: &PieceTarget) -> Result<(), AllocError>
-    ensures { OnOk result (out.new ≡ out.old ++ spell_target (piece_tree piece.now)) }
-{
-    put_word(out, &piece.word)?;
-    put_reference(out, &piece.reference)?;
-    out.push(b',')?;
-    put_expr(out, &piece.delimiter)?;
-    put_place(out, &piece.place)?;
+    put_word(out, part.word.as_text())?;
+    put_reference(out, &part.reference)?;
+    put_more(out, &part.more)?;
     out.push(b')')
 }
 
@@ -43,7 +31,7 @@ impl Listed for Target {
     fn put(&self, out: &mut Bytes7) -> Result<(), AllocError> {
         match self {
             Target::Variable(reference) => put_reference(out, reference),
-            Target::Piece(piece) => put_piece(out, piece),
+            Target::Part(part) => put_part(out, part),
         }
     }
 }
@@ -208,6 +196,14 @@ fn put_lock(
     put_condition(out, timeout)
 }
 
+// After a `*`.
+fn put_code(out: &mut Bytes7, code: &Expr) -> Result<(), AllocError>
+    ensures { OnOk result (out.new ≡ out.old ++ 42 ∷ spell_expr (expr_tree code.now)) }
+{
+    out.push(b'*')?;
+    put_expr(out, code)
+}
+
 // After an `@`.
 fn put_operand(out: &mut Bytes7, operand: &Primary) -> Result<(), AllocError>
     ensures { OnOk result (out.new ≡ out.old ++ 64 ∷ spell_primary (primary_tree operand.now)) }
@@ -222,7 +218,8 @@ impl Listed for Arg {
     fn put(&self, out: &mut Bytes7) -> Result<(), AllocError> {
         match self {
             Arg::Assign(destination, value) => put_assignment(out, destination, value),
-            Arg::Breaks(count) => put_run(out, b'!', *count),
+            Arg::Formats(run) => put_text(out, run),
+            Arg::Coded(code) => put_code(out, code),
             Arg::Value(value) => put_expr(out, value),
             Arg::KillOne(reference) => put_reference(out, reference),
             Arg::KillOthers(names) => put_names(out, names),
@@ -234,6 +231,7 @@ impl Listed for Arg {
             Arg::GoTo(entry, condition) => put_conditioned_entry(out, entry, condition),
             Arg::Executed(text, condition) => put_execution(out, text, condition),
             Arg::Lock(kind, names, timeout) => put_lock(out, *kind, names, timeout),
+            Arg::HangFor(seconds) => put_expr(out, seconds),
             Arg::Indirect(_, operand) => put_operand(out, operand),
         }
     }

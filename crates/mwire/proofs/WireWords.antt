@@ -22,7 +22,7 @@ pub use Rattle.mexec.specs.declared.text.Ended.{Ended}
 pub use Rattle.mexec.specs.declared.text.Ended.TheVariants.{Done, Fault, Halt}
 pub use Rattle.mmeaning.specs.History.{History, answered, opening, replies, world_after}
 pub use Rattle.mmeaning.specs.Transition.{Event, Faulted, Finished, Halted, Reply, Settings, Transition, World, is_failure, max_line, normal}
-pub use Rattle.moperator.specs.declared.code.Code.TheVariants.{M1, M10, M13, M15, M4, M6, M7, M9, Zarg, Zchar, Zdepth, Zgrant, Zlevel, Zline, Zlocked, Zmem, Zover, Zsteps, Zstore, Zsub, Zsyntax, Zterm}
+pub use Rattle.moperator.specs.declared.code.Code.TheVariants.{M1, M10, M13, M15, M2, M28, M4, M6, M7, M9, M94, Zarg, Zchar, Zdepth, Zgrant, Zlevel, Zline, Zlocked, Zmem, Zover, Zsteps, Zstore, Zsub, Zsyntax, Zterm}
 pub use Rattle.mnodes.specs.declared.store.NodeStore.{Ghosts}
 pub use Rattle.mworld.specs.Isolated.{IsEquallyTold, IsTold, IsToldEach, IsToldUntilShut, RanFirst, RanUntilShut, replies_of, told_of}
 pub use Rattle.mnodes.proofs.Doubting.{Doubts-same, undoubted}

@@ -29,6 +29,7 @@ fn code_name(code: Code) -> &'static [u8]
 {
     match code {
         Code::M1 => b"M1",
+        Code::M2 => b"M2",
         Code::M4 => b"M4",
         Code::M6 => b"M6",
         Code::M7 => b"M7",
@@ -36,6 +37,8 @@ fn code_name(code: Code) -> &'static [u8]
         Code::M10 => b"M10",
         Code::M13 => b"M13",
         Code::M15 => b"M15",
+        Code::M28 => b"M28",
+        Code::M94 => b"M94",
         Code::Zlong => b"ZLONG",
         Code::Zsyntax => b"ZSYNTAX",
         Code::Zover => b"ZOVER",

@@ -5,7 +5,7 @@ use Rattle.mspec.specs.Code as spec
 use Rattle.mspec.specs.Plan.{perform, cut_short}
 use Rattle.mspec.specs.LockConflict.{Locks, released}
 use Rattle.mspec.specs.Access.{language_at}
-use Rattle.mspec.specs.Act.{Text, given_language}
+use Rattle.mspec.specs.Act.{Text, given_to}
 use Rattle.mgrammar.specs.Languages.{line_in}
 use Rattle.mmeaning.specs.LineMeaning.{Completion}
 use Rattle.mmeaning.specs.Transition as transition
@@ -80,16 +80,16 @@ module _ {S : Type 0} (g : Ghosts S) (settings : Settings) (e : Event) (place : 
   b = standing_at settings e.terminal place
 
   abbrev here : Here
-  here = point (level_begun old.locals) old.naked old.test [] (steps_at settings place) (given_at settings place) (shared g store locks)
+  here = point (level_begun old.locals) old.naked old.test [] (steps_at settings place) (given_at settings e.terminal place) (shared g store locks)
 
   abbrev there : Here
-  there = point new.locals new.naked new.test reply.out.items ran.left (given_at settings place) (shared g store' locks')
+  there = point new.locals new.naked new.test reply.out.items ran.left (given_at settings e.terminal place) (shared g store' locks')
 
   ends : EndsBy b (IsSteady g store') (text_run (name_at settings place) (line_in (language_at settings place) e.text)) here reply.ending there
   ends = ran.at sure
 
-  begins : begun passes.account (session_or_new (get sessions e.terminal)) ≡ here.0
-  begins = λ i. record { locals = level_begun (sym same i).locals; naked = (sym same i).naked; test = (sym same i).test; out = []; steps = passes.steps i; given = given_language (passes.language i) }
+  begins : begun e.terminal passes.account (session_or_new (get sessions e.terminal)) ≡ here.0
+  begins = λ i. record { locals = level_begun (sym same i).locals; naked = (sym same i).naked; test = (sym same i).test; out = []; steps = passes.steps i; given = given_to e.terminal (passes.language i) }
 
   -- a line that is not lost
   pub ran_transition : (after : World) → is_failure (ending_of reply.ending) ≡ false → after ≡ settled e.terminal world (ending_of reply.ending) there.0 there.1 → Transition settings e (reply_of reply) world after
@@ -132,8 +132,8 @@ pub ran_fits : {S : Type 0} (g : Ghosts S) (settings : Settings) (e : Event) (pl
     → Ran g settings e.terminal place e.text old store locks reply new store' locks' → g.doubt store' ≡ 0 → AreFit settings locks → AreFit settings locks'
 ran_fits g settings e place old new store store' locks locks' reply passes ran sure fit =
     let b : Standing = standing_at settings e.terminal place in
-    let here : Here = point (level_begun old.locals) old.naked old.test [] (steps_at settings place) (given_at settings place) (shared g store locks) in
-    let there : Here = point new.locals new.naked new.test reply.out.items ran.left (given_at settings place) (shared g store' locks') in
+    let here : Here = point (level_begun old.locals) old.naked old.test [] (steps_at settings place) (given_at settings e.terminal place) (shared g store locks) in
+    let there : Here = point new.locals new.naked new.test reply.out.items ran.left (given_at settings e.terminal place) (shared g store' locks') in
     let p : Act Completion = text_run (name_at settings place) (line_in (language_at settings place) e.text) in
     let cut : IsCut b p here there = is_cut b (IsSteady g store') p here reply.ending there (ran.at sure) in
     let sender : Actor = record { settings = settings; terminal = e.terminal; account = passes.account; known = passes.known } in
@@ -184,8 +184,8 @@ not_run {g = g} {settings = settings} {terminal = terminal} {place = place} {tex
   doubt = subst (λ u. DoubtsOver g store u (is_kept_by reply.ending)) (sym same) (Doubts-same _);
   at = λ sure.
       subst (λ (ending : Ended). EndsBy (standing_at settings terminal place) (IsSteady g store') (text_run (name_at settings place) (line_in (language_at settings place) text))
-      (point (level_begun session.locals) session.naked session.test [] (steps_at settings place) (given_at settings place) (shared g store locks)) ending
-      (point session'.locals session'.naked session'.test reply.out.items 0 (given_at settings place) (shared g store' locks')))
+      (point (level_begun session.locals) session.naked session.test [] (steps_at settings place) (given_at settings terminal place) (shared g store locks)) ending
+      (point session'.locals session'.naked session'.test reply.out.items 0 (given_at settings terminal place) (shared g store' locks')))
       (sym is) (0, λ i. shared g (sym same i) (sym unlocked i));
 }
 

@@ -3,7 +3,7 @@
 use Rattle.std.specs.Prelude.{◌≡◌, ℕ, []}
 use Rattle.mspec.specs.Access.{Settings, name_at, steps_at, language_at}
 use Rattle.mspec.specs.LockConflict.{Locks}
-use Rattle.mspec.specs.Act.{Text, level_begun, Given, given_language}
+use Rattle.mspec.specs.Act.{Text, level_begun, Given, given_to}
 use Rattle.mgrammar.specs.Languages.{line_in}
 use Rattle.mmeaning.specs.Transition.{text_run}
 use Rattle.mmeaning.specs.Calls.{Standing, point}
@@ -15,13 +15,13 @@ use Rattle.mexec.specs.Runs.{EndsBy, is_kept_by}
 use Rattle.mworld.specs.declared.reply.Reply.{Reply}
 use Rattle.mworld.specs.View.{shared}
 
--- what a line is given of the account at a place
-abbrev pub given_at : Settings → ℕ → Given
-given_at settings place = given_language (language_at settings place)
+-- what a line of a terminal of the account at a place is given
+abbrev pub given_at : Settings → (terminal place : ℕ) → Given
+given_at settings terminal place = given_to terminal (language_at settings place)
 
 -- a line of a terminal of that account
 abbrev pub standing_at : Settings → (terminal place : ℕ) → Standing
-standing_at settings terminal place = record { settings = settings; terminal = terminal; account = name_at settings place; given = given_at settings place }
+standing_at settings terminal place = record { settings = settings; terminal = terminal; account = name_at settings place; given = given_at settings terminal place }
 
 -- the reply is that of the text, as a level of its own, with the steps and in the language of the account at this place
 pub record Ran {S : Type 0} (g : Ghosts S) (settings : Settings) (terminal place : ℕ) (text : Text) (session : Session) (store : S) (locks : Locks) (reply : Reply) (session' : Session) (store' : S) (locks' : Locks) : Type 0 where
@@ -30,5 +30,5 @@ pub record Ran {S : Type 0} (g : Ghosts S) (settings : Settings) (terminal place
   pub at :
       g.doubt store' ≡ 0 →
       EndsBy (standing_at settings terminal place) (IsSteady g store') (text_run (name_at settings place) (line_in (language_at settings place) text))
-      (point (level_begun session.locals) session.naked session.test [] (steps_at settings place) (given_at settings place) (shared g store locks)) reply.ending
-      (point session'.locals session'.naked session'.test reply.out.items left (given_at settings place) (shared g store' locks'))
+      (point (level_begun session.locals) session.naked session.test [] (steps_at settings place) (given_at settings terminal place) (shared g store locks)) reply.ending
+      (point session'.locals session'.naked session'.test reply.out.items left (given_at settings terminal place) (shared g store' locks'))

@@ -1,5 +1,5 @@
 -- SPDX-License-Identifier: Apache-2.0
-use Rattle.mexec.proofs.ExecLaws.{Ok, [], ◌∷◌, replicate, refl, write, with_locals, killed_except, newed, newed_except, form_of, destination_tree, expr_tree, reference_tree, condition_tree, kind_tree, locked_tree, keyword_tree, primary_tree, does_evaluated, at_done, stops, into_given, entrance_of, start_of, completion_of, position_of, at_gives, at_depth, goes_on, gives_over, enters_where}
+use Rattle.mexec.proofs.ExecLaws.{Ok, [], ◌∷◌, map, refl, write, with_locals, killed_except, newed, newed_except, form_of, destination_tree, expr_tree, reference_tree, condition_tree, kind_tree, locked_tree, keyword_tree, primary_tree, does_evaluated, at_done, stops, into_given, entrance_of, start_of, completion_of, position_of, at_gives, at_depth, goes_on, gives_over, enters_where}
 use Rattle.mmeaning.specs.LineMeaning as meaning
 use Rattle.mmeaning.specs.Locking.{locking}
 use Rattle.mexec.specs.declared.completion.Completion.TheVariants as completion
@@ -9,9 +9,14 @@ pub returns-in-Assign : goal.returns-in-Assign
 returns-in-Assign g c =
     rw (c.in-Assign.is, c.done.ensures) (gives_over entrance_of _ (goes_on (λ i. meaning.setting i (destination_tree c.in-Assign.destination) (expr_tree c.in-Assign.e)) c.args.position.now.depth c.setting.result c.setting.ensures))
 
-pub returns-in-Breaks : goal.returns-in-Breaks
-returns-in-Breaks g c =
-    rw (c.in-Breaks.is, c.done-in-Breaks.ensures) (gives_over entrance_of _ (goes_on (λ i. write (replicate c.in-Breaks.count meaning.line_end)) c.args.position.now.depth c.breaks.result c.breaks.ensures))
+pub returns-in-Formats : goal.returns-in-Formats
+returns-in-Formats g c =
+    let does = rw c.as_bytes.ensures.bytes at c.formats.ensures in
+    rw (c.in-Formats.is, c.done-in-Formats.ensures) (gives_over entrance_of _ (goes_on (λ i. write (map meaning.format_byte c.in-Formats.run')) c.args.position.now.depth c.formats.result does))
+
+pub returns-in-Coded : goal.returns-in-Coded
+returns-in-Coded g c =
+    rw (c.in-Coded.is, c.done-in-Coded.ensures) (gives_over entrance_of _ (goes_on (λ i. meaning.coding i (expr_tree c.in-Coded.e)) c.args.position.now.depth c.coding.result c.coding.ensures))
 
 pub returns-in-Value : goal.returns-in-Value
 returns-in-Value g c =
@@ -55,6 +60,11 @@ pub returns-in-Lock : goal.returns-in-Lock
 returns-in-Lock g c =
     rw (c.in-Lock.is, c.done-in-Lock.ensures)
     (gives_over entrance_of _ (goes_on (λ i. locking i (kind_tree c.in-Lock.kind) (locked_tree c.in-Lock.names) (condition_tree c.in-Lock.timeout)) c.args.position.now.depth c.locking.result c.locking.ensures))
+
+pub returns-in-HangFor : goal.returns-in-HangFor
+returns-in-HangFor g c =
+    rw (c.in-HangFor.is, c.done-in-HangFor.ensures)
+    (gives_over entrance_of _ (goes_on (λ i. meaning.hanging i (expr_tree c.in-HangFor.seconds)) c.args.position.now.depth c.hanging.result c.hanging.ensures))
 
 pub returns-in-Indirect : goal.returns-in-Indirect
 returns-in-Indirect g c =

@@ -1,6 +1,7 @@
 -- SPDX-License-Identifier: Apache-2.0
 use Rattle.moperator.proofs.OperatorWords.{sym, subst, Act, Text, Yields, fault_of}
-use Rattle.moperator.proofs.CalledWords.{called, one_function}
+use Rattle.mtree.proofs.WordFunctions.{one_function}
+use Rattle.moperator.proofs.CalledWords.{called}
 use Rattle.moperator.proofs.function_calls.call.Goals as goal
 
 pub returns-clause-value : goal.returns-clause-value

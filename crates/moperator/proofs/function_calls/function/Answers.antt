@@ -1,6 +1,9 @@
 -- SPDX-License-Identifier: Apache-2.0
 use Rattle.moperator.proofs.function_calls.function.Goals as goal
 
+pub returns-in-FormatNumber-clause-value : goal.returns-in-FormatNumber-clause-value
+returns-in-FormatNumber-clause-value c = rw c.in-FormatNumber.is c.formatted.ensures
+
 pub returns-in-Justify-clause-value : goal.returns-in-Justify-clause-value
 returns-in-Justify-clause-value c = rw c.in-Justify.is c.justified.ensures
 

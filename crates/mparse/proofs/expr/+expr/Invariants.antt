@@ -67,6 +67,12 @@ decreases-primary l = 16 * l.depth + 8
 abbrev pub decreases-operand : goal.decreases-operand
 decreases-operand l = 16 * l.depth + 9
 
+abbrev pub decreases-matches : goal.decreases-matches
+decreases-matches l = 16 * l.depth + 9
+
+abbrev pub decreases-matches_not : goal.decreases-matches_not
+decreases-matches_not l = 16 * l.depth + 9
+
 abbrev pub decreases-tail_by : goal.decreases-tail_by
 decreases-tail_by l = 16 * l.depth + 10
 

@@ -16,7 +16,7 @@ call_is word values = ap primary_tree (sym (primary.rolls-Call word values)) ∙
 
 pub since_primary-returns-in-Call : goal.since_primary-returns-in-Call
 since_primary-returns-in-Call m c =
-    call_since c.in-Call.word c.as_bytes-word.result.now c.in-Call.arguments.items c.len.result c.since_function.result c.since_values.result c.later-function.result c.since_exprs.result c.later.result
-    (c.as_bytes-word.ensures.bytes ∙ c.as_text.ensures) (omega (arith, c.len.ensures, c.in-Call.arguments.ok)) c.since_function.ensures c.since_values.ensures c.later-function.ensures
+    call_since c.in-Call.word c.in-Call.arguments.items c.len.result c.since.result c.since_exprs.result c.later.result
+    (omega (arith, c.len.ensures, c.in-Call.arguments.ok)) c.since.ensures
     (c.since_exprs.ensures ∙ ap (λ (xs : List Expr). since_exprs (exprs_of (map expr_tree xs))) c.deref-in-Call.ensures.value) c.later.ensures
     ∙ ap since_primary (sym (call_is c.in-Call.word c.in-Call.arguments)) ∙ ap (λ (p : Primary). since_primary (primary_tree p)) (sym c.in-Call.is)

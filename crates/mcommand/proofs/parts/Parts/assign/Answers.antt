@@ -1,5 +1,5 @@
 -- SPDX-License-Identifier: Apache-2.0
-use Rattle.mcommand.proofs.CommandLaws.{put_at, does_then, does_stopped, does_evaluated}
+use Rattle.mcommand.proofs.CommandLaws.{pending_view, put_at, does_then, does_stopped, does_evaluated, does_is, named_is}
 use Rattle.mcommand.proofs.parts.Parts.assign.Goals as goal
 
 pub returns-in_err-place-in-Whole : goal.returns-in_err-place-in-Whole
@@ -9,4 +9,6 @@ pub returns-in_ok-place-in-Whole : goal.returns-in_ok-place-in-Whole
 returns-in_ok-place-in-Whole g c = rw c.in-Whole.is (does_then (λ i p. put_at p c.args.value) (does_evaluated c.in_ok-place-in-Whole.ensures.does) (does_evaluated c.put.ensures))
 
 pub returns-in-Part : goal.returns-in-Part
-returns-in-Part g c = rw c.in-Part.is c.set_part.ensures
+returns-in-Part g c =
+    let does = rw c.as_slice.ensures at c.assign_part.ensures in
+    rw c.in-Part.is (does_is (λ i. named_is c.args.value c.in-Part.word.now _ (pending_view c.in-Part.pending) c.in-Part.values c.function.ensures) does)

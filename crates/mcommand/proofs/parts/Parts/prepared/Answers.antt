@@ -8,7 +8,7 @@ returns-in_err-pending-in-Variable g c = rw c.in-Variable.is (does_stopped _ (do
 pub returns-in_ok-pending-in-Variable : goal.returns-in_ok-pending-in-Variable
 returns-in_ok-pending-in-Variable g c = rw c.in-Variable.is (does_then _ (does_evaluated c.in_ok-pending-in-Variable.ensures) (does_gives _ prepared_view _ refl))
 
-pub returns-in-Piece : goal.returns-in-Piece
-returns-in-Piece g c =
+pub returns-in-Part : goal.returns-in-Part
+returns-in-Part g c =
     let does = rw c.deref.ensures at c.prepared_part.ensures in
-    rw c.in-Piece.is does
+    rw c.in-Part.is does

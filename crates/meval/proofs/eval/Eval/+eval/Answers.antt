@@ -1,6 +1,13 @@
 -- SPDX-License-Identifier: Apache-2.0
-use Rattle.meval.proofs.EvalLaws.{◌≡◌, ◌∙◌, ◌++◌, length, [], ◌∷◌, map, refl, sym, ap, arith, nat_tests, nil_from_length, apply, exprs_of, named_by, values, at_local, of_global, subscripts_of, with_subscripts, resolve, reading, direction_of, residual_is, slice_get, ◌>>=◌, give, expr_tree, operand_tree, reference_tree, tail_tree, units, read_act, data_act, data_at, get_act, get_from, order_from, order_behind, pending_view, walk_view, of_local, of_naked, read_or, unwrap_or, decides_subscripts, read_at, List, computed_outcome, evaluates_regrouped, evaluates_then, evaluates_whole, evaluates_failed, evaluates_gives, evaluates_seen, evaluates_refused, evaluates_stopped, evaluates_wanting, evaluates_yielded, never_refused, keeps_itself, keeps_on, node_evaluated, node_failed, variable_told, function_failed, got, let_through, ordered_next, ordered_stopped, walk_through, walk_refused, step_leads, operand_refused, operator_refused, leads_itself, leads_on, leads_into, of_primary, alone, in_brackets, bracket_refused, not_free, is_free, evaluates_behind, evaluates_deep, evaluates_unnamed, evaluates_entry, evaluated, gives_own, node_of, own_failed, own_told, owned, expr_is, operand_is, number_is, text_is, special_is, reference_is, variable_is, node_is, local_is, global_is, naked_is, indirect_is, extended_is, refer_is, referring_is, bracket_is, call_is, select_is, apply_is, matches_is, matches_not_is, charge_failed, from_tail, from_end, next_value, value_failed, values_end, next_choice, is_chosen, not_chosen, none_chosen}
+use Rattle.meval.proofs.EvalLaws.{◌≡◌, ◌∙◌, ◌++◌, length, [], ◌∷◌, map, refl, sym, ap, arith, nat_tests, nil_from_length, apply, exprs_of, named_by, values, at_local, of_global, subscripts_of, with_subscripts, resolve, reading, direction_of, residual_is, slice_get, ◌>>=◌, give, expr_tree, operand_tree, reference_tree, tail_tree, units, read_act, data_act, data_at, get_act, get_from, order_from, order_behind, pending_view, walk_view, of_local, of_naked, read_or, unwrap_or, decides_subscripts, read_at, List, computed_outcome, evaluates_regrouped, evaluates_then, evaluates_whole, evaluates_failed, evaluates_gives, evaluates_seen, evaluates_refused, evaluates_stopped, evaluates_wanting, evaluates_yielded, never_refused, keeps_itself, keeps_on, node_evaluated, node_failed, variable_told, function_failed, got, let_through, ordered_next, ordered_stopped, walk_through, walk_refused, step_leads, operand_refused, operator_refused, leads_itself, leads_on, leads_into, of_primary, alone, in_brackets, bracket_refused, not_free, is_free, evaluates_behind, evaluates_deep, evaluates_unnamed, evaluates_entry, evaluated, gives_own, node_of, own_failed, own_told, owned, expr_is, operand_is, number_is, text_is, special_is, reference_is, variable_is, node_is, local_is, global_is, naked_is, indirect_is, extended_is, refer_is, referring_is, bracket_is, call_is, select_is, apply_is, matches_indirect_is, matches_is, matches_not_indirect_is, matches_not_is, raise_is, charge_failed, from_tail, from_end, next_value, value_failed, values_end, next_choice, is_chosen, not_chosen, none_chosen}
 use Rattle.std.proofs.Common.{Ok}
+use Rattle.std.specs.Prelude.{not}
+use Rattle.mspec.specs.Interpretations.{truth_text}
+use Rattle.mgrammar.specs.Matching.{atom_of}
+use Rattle.mmeaning.specs.Operators.{matching}
+use Rattle.mmeaning.specs.Expression.{primary_value, matches_text}
+use Rattle.meval.specs.Acts.{matches_read}
+use Rattle.meval.proofs.Indirections.{deep_fails, free_then}
 use Rattle.mspec.specs.Act.{Text}
 use Rattle.mtree.specs.Functions.{variable_function_tree}
 use Rattle.meval.specs.AtHand.{at_hand_tree}
@@ -444,6 +451,68 @@ pub tail-returns-in_ok-matches-in-MatchesNot : goal.tail-returns-in_ok-matches-i
 tail-returns-in_ok-matches-in-MatchesNot g t c =
     let k = rw c.deref-in-MatchesNot.ensures.value at c.in_ok-matches-in-MatchesNot.ensures.value in
     rw (c.in-MatchesNot.is, matches_not_is c.in-MatchesNot.atoms) (evaluates_then _ (evaluates_yielded k) (evaluates_gives _ _ _ c.of_truth-in-MatchesNot.ensures))
+
+pub tail-returns-in-Raise : goal.tail-returns-in-Raise
+tail-returns-in-Raise g t c = rw (c.in-Raise.is, raise_is c.in-Raise.operand) c.raised.ensures
+
+pub raised-returns-in_err-right : goal.raised-returns-in_err-right
+raised-returns-in_err-right g t c = evaluates_stopped _ c.in_err-right.ensures.does c.from_residual.ensures
+
+pub raised-returns : goal.raised-returns
+raised-returns g t c = evaluates_then _ c.in_ok-right.ensures.does c.raise.ensures
+
+pub tail-returns-in_err-matches-in-MatchesIndirect : goal.tail-returns-in_err-matches-in-MatchesIndirect
+tail-returns-in_err-matches-in-MatchesIndirect g t c =
+    let k = rw c.deref-in-MatchesIndirect.ensures at c.in_err-matches-in-MatchesIndirect.ensures in
+    rw (c.in-MatchesIndirect.is, matches_indirect_is c.in-MatchesIndirect.operand)
+    (evaluates_regrouped (λ i. primary_value i _) (λ i t. matches_text i _ t) (λ i b. give (truth_text b)) (evaluates_stopped (λ i b. give (truth_text b)) k c.from_residual-in_err-matches-in-MatchesIndirect.ensures))
+
+pub tail-returns-in_ok-matches-in-MatchesIndirect : goal.tail-returns-in_ok-matches-in-MatchesIndirect
+tail-returns-in_ok-matches-in-MatchesIndirect g t c =
+    let k = rw c.deref-in-MatchesIndirect.ensures at c.in_ok-matches-in-MatchesIndirect.ensures in
+    rw (c.in-MatchesIndirect.is, matches_indirect_is c.in-MatchesIndirect.operand)
+    (evaluates_regrouped (λ i. primary_value i _) (λ i t. matches_text i _ t) (λ i b. give (truth_text b)) (evaluates_then (λ i b. give (truth_text b)) k (evaluates_gives _ _ _ c.of_truth-in-MatchesIndirect.ensures)))
+
+pub tail-returns-in_err-matches-in-MatchesNotIndirect : goal.tail-returns-in_err-matches-in-MatchesNotIndirect
+tail-returns-in_err-matches-in-MatchesNotIndirect g t c =
+    let k = rw c.deref-in-MatchesNotIndirect.ensures at c.in_err-matches-in-MatchesNotIndirect.ensures in
+    rw (c.in-MatchesNotIndirect.is, matches_not_indirect_is c.in-MatchesNotIndirect.operand)
+    (evaluates_regrouped (λ i. primary_value i _) (λ i t. matches_text i _ t) (λ i b. give (truth_text (not b))) (evaluates_stopped (λ i b. give (truth_text (not b))) k c.from_residual-in_err-matches-in-MatchesNotIndirect.ensures))
+
+pub tail-returns-in_ok-matches-in-MatchesNotIndirect : goal.tail-returns-in_ok-matches-in-MatchesNotIndirect
+tail-returns-in_ok-matches-in-MatchesNotIndirect g t c =
+    let k = rw c.deref-in-MatchesNotIndirect.ensures at c.in_ok-matches-in-MatchesNotIndirect.ensures in
+    rw (c.in-MatchesNotIndirect.is, matches_not_indirect_is c.in-MatchesNotIndirect.operand)
+    (evaluates_regrouped (λ i. primary_value i _) (λ i t. matches_text i _ t) (λ i b. give (truth_text (not b))) (evaluates_then (λ i b. give (truth_text (not b))) k (evaluates_gives _ _ _ c.of_truth-in-MatchesNotIndirect.ensures)))
+
+-- ---- patterns that texts give
+
+pub matches_indirect-returns-in_err-given : goal.matches_indirect-returns-in_err-given
+matches_indirect-returns-in_err-given g t c = evaluates_stopped (λ i t. matches_text i c.args.value.now t) c.in_err-given.ensures.does c.from_residual.ensures
+
+pub matches_indirect-returns-in_default : goal.matches_indirect-returns-in_default
+matches_indirect-returns-in_default g t c =
+    let full = not_free _ _ c.in_default.is c.indirected.ensures.free in
+    evaluates_then (λ i t. matches_text i c.args.value.now t) c.in_ok-given.ensures.does (deep_fails (λ i. matches_read c.args.value.now c.in_ok-given.given) full)
+
+pub matches_indirect-returns-in_err-text : goal.matches_indirect-returns-in_err-text
+matches_indirect-returns-in_err-text g t c =
+    evaluates_then (λ i t. matches_text i c.args.value.now t) c.in_ok-given.ensures.does (evaluates_wanting _ _ _ c.from_residual-in_err-text.ensures)
+
+pub matches_indirect-returns-in_err-atoms : goal.matches_indirect-returns-in_err-atoms
+matches_indirect-returns-in_err-atoms g t c =
+    let free = is_free _ _ c.in-Some.is c.indirected.ensures.free in
+    let none = rw (c.as_bytes.ensures.bytes, c.in_ok-text.ensures) at c.in_err-atoms.ensures in
+    evaluates_then (λ i t. matches_text i c.args.value.now t) c.in_ok-given.ensures.does
+    (free_then (λ i. matches_read c.args.value.now c.in_ok-given.given) free (evaluates_stopped (λ i atoms. matching (map atom_of atoms) c.args.value.now) (evaluates_yielded none) c.from_residual-in_err-atoms.ensures))
+
+pub matches_indirect-returns : goal.matches_indirect-returns
+matches_indirect-returns g t c =
+    let free = is_free _ _ c.in-Some.is c.indirected.ensures.free in
+    let read = rw (c.as_bytes.ensures.bytes, c.in_ok-text.ensures) at c.in_ok-atoms.ensures in
+    let matched = rw c.deref.ensures.value at c.matching.ensures.value in
+    evaluates_then (λ i t. matches_text i c.args.value.now t) c.in_ok-given.ensures.does
+    (free_then (λ i. matches_read c.args.value.now c.in_ok-given.given) free (evaluates_then (λ i atoms. matching (map atom_of atoms) c.args.value.now) (evaluates_yielded read) (evaluates_yielded matched)))
 
 -- ---- expressions
 

@@ -16,6 +16,9 @@ decreases-operand g l = 16 * l.self.now.steps + 1
 abbrev pub decreases-named : goal.decreases-named
 decreases-named g l = 16 * l.self.now.steps + 1
 
+abbrev pub decreases-matches_indirect : goal.decreases-matches_indirect
+decreases-matches_indirect g l = 16 * l.self.now.steps + 1
+
 abbrev pub decreases-operand_into : goal.decreases-operand_into
 decreases-operand_into g l = 16 * l.self.now.steps + 2
 
@@ -30,6 +33,9 @@ decreases-operand_number g l = 16 * l.self.now.steps + 3
 
 abbrev pub decreases-tail : goal.decreases-tail
 decreases-tail g l = 16 * l.self.now.steps + 3
+
+abbrev pub decreases-raised : goal.decreases-raised
+decreases-raised g l = 16 * l.self.now.steps + 2
 
 abbrev pub decreases-with_tails : goal.decreases-with_tails
 decreases-with_tails g l = 16 * l.self.now.steps + 4

@@ -5,5 +5,5 @@ use Rattle.mtree.proofs.brackets.FunctionWord.new.Goals as goal
 
 pub returns-in-OfValues : goal.returns-in-OfValues
 returns-in-OfValues c =
-    let said = rw (c.as_bytes.ensures.bytes, c.in_ok-function.was, c.in-OfValues.is) at c.function_of.ensures in
+    let said = rw (c.as_bytes.ensures.bytes, c.in_ok-function.was, c.in-OfValues.is) at c.function_row.ensures.function in
     (refl, value_function_tree c.in-OfValues.function, sym said)

@@ -1,0 +1,16 @@
+-- SPDX-License-Identifier: Apache-2.0
+use Rattle.moperator.proofs.OperatorWords.{subst, sym, Some, None, Text, Yields, fault_of, slice_get}
+use Rattle.std.proofs.Common.{Option}
+use Rattle.std.proofs.lemmas.Option.{slice_get_past}
+use Rattle.moperator.proofs.GivenArguments.{argument_is}
+use Rattle.mmeaning.specs.Functions.{number_formatted}
+use Rattle.moperator.proofs.function_calls.formatted.Goals as goal
+
+pub returns-in-None : goal.returns-in-None
+returns-in-None c =
+    subst (λ (x : Option Text). Yields fault_of (number_formatted c.args.arguments.now x) (λ (v : Text). v) c.formatted_canonical.result) (sym (slice_get_past c.args.arguments.now 2 c.in-None.ensures.lookup.3)) c.formatted_canonical.ensures
+
+pub returns-in-Some : goal.returns-in-Some
+returns-in-Some c =
+    let found = c.in-Some.ensures.lookup in
+    subst (λ (x : Option Text). Yields fault_of (number_formatted c.args.arguments.now x) (λ (v : Text). v) c.formatted_to.result) (sym (argument_is c.args.arguments.now 2 c.in-Some.places.now found.3.0 found.1)) c.formatted_to.ensures

@@ -32,7 +32,7 @@ OF_LATER = ("HANG", "MERGE")
 OF_VARIABLE = {"D": ("DATA", 0), "G": ("GET", 1), "O": ("ORDER", 1), "I": ("INCREMENT", 1), "NA": ("NAME", 1), "Q": ("QUERY", 1)}
 FUNCTIONS = [*texts.FUNCTIONS, *names.FUNCTIONS]
 LISTINGS = {"G": "global", "GLOBAL": "global", "R": "routine", "ROUTINE": "routine"}
-SPECIALS = {"special variables": {"X": "X", "Y": "Y", "QUIT": "Q", "Q": "Q"},
+SPECIALS = {"$X and $Y": {"X": "X", "Y": "Y"}, "special variables": {"QUIT": "Q", "Q": "Q"},
             "special variables of terminals": {**dict.fromkeys(["I", "IO", "J", "JOB", "P", "PRINCIPAL"], "T"), "S": "S", "STORAGE": "S"}}
 
 
@@ -353,12 +353,13 @@ class Reader:
         return tuple(parts)
 
     def argument_of_write(self) -> Tree:
-        if self.has("codes of WRITE") and self.takes("*"):
+        has_more = self.has("formats of WRITE")
+        if has_more and self.takes("*"):
             return "character", self.expression()
         forms = self.text[self.at:len(self.text)]
-        forms = re.match("[!#]*" if self.has("pages of WRITE") else "!*", forms)[0]
+        forms = re.match("[!#]*" if has_more else "!*", forms)[0]
         self.at += len(forms)
-        column = self.expression() if self.has("columns of WRITE") and self.takes("?") else None
+        column = self.expression() if has_more and self.takes("?") else None
         if forms or column:
             return "format", forms, column
         return "value", self.expression()

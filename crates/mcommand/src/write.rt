@@ -1,14 +1,16 @@
 // SPDX-License-Identifier: Apache-2.0
 // WRITE.
-ghost use Rattle.std.specs.Prelude.{◌≡◌, ◌++◌, map, OnOk};
-ghost use Rattle.mspec.specs.Act.{write};
+ghost use Rattle.std.specs.Prelude.{◌≡◌, ◌++◌, ◌<◌, ℤ, map, pos, length, replicate, OnOk};
+ghost use Rattle.mspec.specs.Act.{append, write, write_formats, cursor_is};
+ghost use Rattle.mspec.specs.Cursor.{format_byte, spaces_to};
 ghost use Rattle.mmeaning.specs.LineMeaning as meaning;
-ghost use Rattle.mtree.specs.Tree.{expr_tree};
+ghost use Rattle.mtree.specs.Tree.{expr_tree, condition_tree};
 ghost use Rattle.mcommand.specs.Does.{Does};
 
 use crate::parts::Parts;
 use mnodes::NodeStore;
 use moperator::{Code, whole_of};
+use mspec::limits::MAX_TEXT;
 use mtree::Expr;
 use std::alloc::{AllocError, Global};
 
@@ -20,7 +22,7 @@ const FORM_FEED: u8 = 12;
 
 // What a format writes.
 fn format_byte(format: u8) -> u8
-    ensures { result ≡ meaning.format_byte format }
+    ensures { result ≡ format_byte format }
 {
     if format == b'!' { LINE_END } else { FORM_FEED }
 }
@@ -37,7 +39,7 @@ fn coded_character(code: i64) -> Option<u8>
 
 // Appends what formats write.
 fn push_formats(out: &mut Vec<u8>, formats: &[u8]) -> Result<(), AllocError>
-    ensures { OnOk result (out.new.items ≡ out.old.items ++ map meaning.format_byte formats.now) }
+    ensures { OnOk result (out.new.items ≡ out.old.items ++ map format_byte formats.now) }
 {
     for format in formats {
         out.push(format_byte(*format))?;
@@ -46,16 +48,59 @@ fn push_formats(out: &mut Vec<u8>, formats: &[u8]) -> Result<(), AllocError>
 }
 
 impl<'a, S: NodeStore> Parts<'a, S> {
-    /// Writes formats, each a `!` or a `#`.
+    // Writes formats, each a `!` or a `#`.
+    fn write_formats(&mut self, formats: &[u8]) -> Result<(), Code>
+        ensures { Does S.NodeStore (λ i. write_formats formats.now) (λ u. u) self.old result self.new }
+    {
+        push_formats(self.out, formats)?;
+        self.eval.wrote_formats(formats);
+        Ok(())
+    }
+
+    // Writes spaces up to a column, unless the line is there.
+    fn write_spaces(&mut self, column: i64) -> Result<(), Code>
+        requires { column ≤ℤ pos MAX_TEXT }
+        ensures { Does S.NodeStore (λ i. cursor_is >>= (λ c. write (spaces_to column c.column))) (λ u. u) self.old result self.new }
+    {
+        let at = self.eval.cursor().column as i64;
+        let count = if at < column { (column - at) as usize } else { 0 };
+        self.out.reserve(count)?;
+        let length = self.out.len() + count;
+        self.out.resize(length, b' ')?;
+        self.eval.wrote(count);
+        Ok(())
+    }
+
+    // What a column after a `?` does, if there is one.
+    fn tabbing(&mut self, alloc: Global, tab: &Option<Box<Expr>>) -> Result<(), Code>
+        ensures { Does S.NodeStore (λ i. meaning.tabbing i (condition_tree tab.now)) (λ u. u) self.old result self.new }
+    {
+        let Some(e) = tab else {
+            return Ok(());
+        };
+        let value = self.eval.eval(alloc, e)?;
+        let column = whole_of(&value)?;
+        if column > MAX_TEXT as i64 {
+            return Err(Code::Zarg);
+        }
+        self.write_spaces(column)
+    }
+
+    /// Writes formats, each a `!` or a `#`, and spaces up to a column, if there is one.
     ///
     /// # Errors
     ///
-    /// `Zmem` if memory runs out.
-    pub fn formats(&mut self, formats: &[u8]) -> Result<(), Code>
-        ensures { Does S.NodeStore (λ i. write (map meaning.format_byte formats.now)) (λ u. u) self.old result self.new }
+    /// Those of the column's value; `Zarg` if no text is as long as that; `Zmem` if memory runs out.
+    pub fn formats(
+        &mut self,
+        alloc: Global,
+        formats: &[u8],
+        tab: &Option<Box<Expr>>,
+    ) -> Result<(), Code>
+        ensures { Does S.NodeStore (λ i. meaning.formatting i formats.now (condition_tree tab.now)) (λ u. u) self.old result self.new }
     {
-        push_formats(self.out, formats)?;
-        Ok(())
+        self.write_formats(formats)?;
+        self.tabbing(alloc, tab)
     }
 
     /// Writes the character of the code that an expression gives.
@@ -72,6 +117,7 @@ impl<'a, S: NodeStore> Parts<'a, S> {
             return Err(Code::Zchar);
         };
         self.out.push(character)?;
+        self.eval.wrote(1);
         Ok(())
     }
 
@@ -84,7 +130,9 @@ impl<'a, S: NodeStore> Parts<'a, S> {
         ensures { Does S.NodeStore (λ i. meaning.showing i (expr_tree e.now)) (λ u. u) self.old result self.new }
     {
         let value = self.eval.eval(alloc, e)?;
+        let before = self.out.len();
         value.write(self.out)?;
+        self.eval.wrote(self.out.len() - before);
         Ok(())
     }
 }

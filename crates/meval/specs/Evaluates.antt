@@ -13,6 +13,7 @@ use Rattle.mnodes.specs.Steady.{IsSteady}
 use Rattle.mnodes.specs.declared.store.NodeStore.{Ghosts}
 use Rattle.moperator.specs.Codes.{fault_of}
 use Rattle.moperator.specs.declared.code.Code.{Code}
+use Rattle.meval.specs.Sessions.{cursor_of}
 use Rattle.meval.specs.declared.depth.Depth.{Depth}
 use Rattle.meval.specs.declared.eval.Eval.{Eval}
 
@@ -34,7 +35,7 @@ own_global e name xs = record { account = (standing_of e).account; name = name; 
 -- where an evaluation is, with what it does not see: the output and the locks
 abbrev pub eval_here : {S : Type 0} → Ghosts S → Eval S → Text → Locks → Here
 eval_here g e out locks =
-    point e.session.now.locals e.session.now.naked e.session.now.test out e.steps (standing_of e).given (record { globals = g.content e.store.now; locks = locks })
+    point e.session.now.locals e.session.now.naked e.session.now.test (cursor_of e.session.now.cursor) out e.steps (standing_of e).given (record { globals = g.content e.store.now; locks = locks })
 
 -- where the expressions of its line stand, with `n` texts that may be entered
 abbrev pub inside_at : {S : Type 0} → Eval S → ℕ → Inside

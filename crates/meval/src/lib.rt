@@ -2,6 +2,7 @@
 //! The value of an expression, and what commands do with variables.
 #![tactic(auto)]
 
+mod cursor;
 mod depth;
 mod eval;
 mod global_node;
@@ -23,6 +24,7 @@ mod variable_name;
 mod variables;
 mod walk;
 
+pub use cursor::Cursor;
 pub use depth::Depth;
 pub use eval::Eval;
 pub use global_node::GlobalNode;

@@ -4,6 +4,7 @@ ghost use Rattle.std.specs.Prelude.{◌≡◌};
 ghost use Rattle.mmeaning.specs.Transition.{new_session};
 ghost use Rattle.meval.specs.Sessions.{session_of};
 
+use crate::cursor::Cursor;
 use crate::global_node::GlobalNode;
 use mlocal::Locals;
 use std::alloc::Global;
@@ -16,6 +17,8 @@ pub struct Session {
     pub naked: Option<GlobalNode>,
     /// `$TEST`.
     pub test: bool,
+    /// Where its output is: `$X` and `$Y`.
+    pub cursor: Cursor,
 }
 
 // Written out, so that dropping it is one call, which is proved once.
@@ -25,12 +28,13 @@ impl Drop for Session {
             locals: _,
             naked: _,
             test: _,
+            cursor: _,
         } = self;
     }
 }
 
 impl Session {
-    /// The session of a terminal that has none: no local variable, no naked indicator, 0 as `$TEST`. Takes no memory.
+    /// The session of a terminal that has none: no local variable, no naked indicator, 0 as `$TEST`, and the output at its beginning. Takes no memory.
     pub fn new(alloc: Global) -> Session
         ensures { session_of result ≡ new_session }
     {
@@ -38,6 +42,7 @@ impl Session {
             locals: Locals::new(alloc),
             naked: None,
             test: false,
+            cursor: Cursor::home(),
         }
     }
 }

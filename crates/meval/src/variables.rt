@@ -2,7 +2,8 @@
 // What commands ask of the session of an evaluation, and change in it.
 ghost use Rattle.std.specs.Prelude.{◌≡◌, [], ◌∷◌, Ok, IfOk};
 ghost use Rattle.mgrammar.specs.Specials.{special_of};
-ghost use Rattle.mspec.specs.Act.{with_locals, test_is, set_test};
+ghost use Rattle.mspec.specs.Act.{with_locals, test_is, set_test, cursor_is, move_cursor};
+ghost use Rattle.mspec.specs.Cursor.{after_characters, after_formats};
 ghost use Rattle.mspec.specs.Scopes.{killed_except, newed, newed_except};
 ghost use Rattle.mmeaning.specs.Variables as variables;
 ghost use Rattle.mmeaning.specs.LineMeaning as line;
@@ -10,8 +11,10 @@ ghost use Rattle.mnum.specs.Num.{units};
 ghost use Rattle.mspec.specs.Access.{Write};
 ghost use Rattle.mspec.specs.KeyBytes.{AreSubscripts};
 ghost use Rattle.meval.specs.Evaluates.{Evaluates, standing_of};
+ghost use Rattle.meval.specs.Sessions.{cursor_of};
 ghost use Rattle.meval.specs.Places.{place_view, IsOpen};
 
+use crate::cursor::Cursor;
 use crate::eval::Eval;
 use crate::place::Place;
 use mnodes::NodeStore;
@@ -167,6 +170,8 @@ impl<'a, S: NodeStore> Eval<'a, S> {
             Some(SpecialVariable::Job) => Ok(self.terminal_number()),
             Some(SpecialVariable::Principal) => Ok(self.terminal_number()),
             Some(SpecialVariable::Storage) => Ok(Value::of_whole(MAX_TEXT as i64)),
+            Some(SpecialVariable::Column) => Ok(Value::of_whole(self.session.cursor.column as i64)),
+            Some(SpecialVariable::Row) => Ok(Value::of_whole(self.session.cursor.row as i64)),
             None => Err(Code::Zsyntax),
         }
     }
@@ -176,6 +181,27 @@ impl<'a, S: NodeStore> Eval<'a, S> {
         ensures { Evaluates S.NodeStore (λ i. test_is) (λ test. test) self.now (Ok result) self.now }
     {
         self.session.test
+    }
+
+    /// `$X` and `$Y`. Takes no memory.
+    pub fn cursor(&self) -> Cursor
+        ensures { Evaluates S.NodeStore (λ i. cursor_is) cursor_of self.now (Ok result) self.now }
+    {
+        self.session.cursor
+    }
+
+    /// Counts characters that were written. Takes no memory.
+    pub fn wrote(&mut self, count: usize)
+        ensures { Evaluates S.NodeStore (λ i. move_cursor (after_characters count)) (λ u. u) self.old (Ok tt) self.new }
+    {
+        self.session.cursor = self.session.cursor.after_characters(count);
+    }
+
+    /// Counts formats that were written. Takes no memory.
+    pub fn wrote_formats(&mut self, formats: &[u8])
+        ensures { Evaluates S.NodeStore (λ i. move_cursor (after_formats formats.now)) (λ u. u) self.old (Ok tt) self.new }
+    {
+        self.session.cursor = self.session.cursor.after_formats(formats);
     }
 
     /// Sets `$TEST`. Takes no memory.

@@ -96,7 +96,7 @@ fn argument<'t, S: NodeStore>(
     parts.eval.depth = position.depth;
     match arg {
         Arg::Assign(destination, e) => done(parts.setting(alloc, destination, e)),
-        Arg::Formats(run) => done(parts.formats(run.as_bytes())),
+        Arg::Formats(run, tab) => done(parts.formats(alloc, run.as_bytes(), tab)),
         Arg::Coded(e) => done(parts.coding(alloc, e)),
         Arg::Value(e) => done(parts.showing(alloc, e)),
         Arg::KillOne(reference) => done(parts.killing(alloc, reference)),

@@ -68,7 +68,7 @@ record Read : Type 0 where
   two_commands : IsRead (codes " s A=\"x\"\"y\"  w A,!!;c") (record {
     lead = 1;
     commands = (command set_word (codes "s") (assign (one (variable (named (codes "A")))) (alone (plain (text (codes "x\"y")))) ∷ []), 2)
-        ∷ (command write_word (codes "w") (shown (alone (name (codes "A"))) ∷ formats (codes "!!") ∷ []), 0) ∷ [];
+        ∷ (command write_word (codes "w") (shown (alone (name (codes "A"))) ∷ formats (codes "!!") None ∷ []), 0) ∷ [];
     comment = Some (codes "c");
   })
   -- signs, a name with `%`, and a word in full
@@ -155,7 +155,7 @@ record Read : Type 0 where
             (assign (one (variable (named (codes "A")))) (one_digit (codes "1")) ∷ []),
         1,
       )
-      ∷ (conditional write_word (codes "W") (taken (name (codes "A")) (apply (is equals) (digits (codes "1")) ∷ [])) (formats (codes "!") ∷ []), 1)
+      ∷ (conditional write_word (codes "W") (taken (name (codes "A")) (apply (is equals) (digits (codes "1")) ∷ [])) (formats (codes "!") None ∷ []), 1)
       ∷ (conditional quit_word (codes "Q") (alone (name (codes "A"))) [], 2)
       ∷ (command quit_word (codes "quit") [], 0) ∷ []))
   removals : IsRead (codes "K L(9),(A,B) kill  N:A L,(A) new") (

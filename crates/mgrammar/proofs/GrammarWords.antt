@@ -12,7 +12,7 @@ pub use Rattle.mgrammar.specs.Commands.{form_of, takes_args, takes_condition}
 unfoldable pub use Rattle.mgrammar.specs.Commands.{keyword_of}
 pub use Rattle.mgrammar.specs.Functions.{FunctionTree, ValueFunctionTree, VariableFunctionTree, is_part, of_choices, of_values, of_variable, takes}
 unfoldable pub use Rattle.mgrammar.specs.Functions.{function_of}
-pub use Rattle.mgrammar.specs.Grammar.{ArgTree, AtomTree, BinaryTree, ChoicesTree, CommandTree, CountTree, DestinationTree, EntryTree, ExprTree, ExprsTree, FormTree, KeywordTree, LineTree, LockKindTree, LockedTree, OperandTree, ParameterTree, PrimaryTree, ReferenceTree, RepeatedTree, SignTree, SpacedTree, TailTree, TailsTree, TargetTree, TruthTree, add, adding, anew, apply, assign, at_label, at_label_in, at_routine, both, bracket, call, coded, formats, choice, choices_of, classes, contains, copies, divide, divide_whole, do_argument, do_one, do_word, either, else_word, equals, execute_word, executed, expr, exprs, exprs_of, extended, follows, for_argument, for_word, giving_back, global, go_to, goto_argument, goto_word, greater, halt_word, hang_word, halt_or_hang_word, if_argument, if_word, indirect, indirect_args, is, is_bang, is_format, is_not, is_pattern_letter, join, kill_argument, kill_one, kill_others, kill_word, less, local, lock_argument, hang_argument, lock_one, lock_several, lock_word, locked, hang_for, loop, matches, matches_indirect, matches_not, matches_not_indirect, may_be_indirect, minus, multiply, naked, negate, new_argument, new_one, new_others, new_word, no_argument, no_choices, no_exprs, no_tails, number, once, one, onward, operand, part, plus, quit_word, quoted, raise, refer, reference, remainder, select, set_argument, set_word, several, shown, sorts_after, special, spell, spell_arg, spell_args, spell_atom, spell_atoms, spell_attached, spell_behind, spell_binary, spell_choices, spell_command, spell_commands, spell_comment, spell_condition, spell_destination, spell_entry, spell_expr, spell_exprs, spell_kind, spell_list, spell_locked, spell_more, spell_more_choices, spell_more_exprs, spell_names, spell_operand, spell_parameter, spell_primary, spell_reference, spell_repeated, spell_signs, spell_string, spell_subscripts, spell_tail, spell_tails, spell_target, spell_truth, subtract, tail, tails_of, tested, text, until, variable, write_argument, write_word, xecute_argument}
+pub use Rattle.mgrammar.specs.Grammar.{ArgTree, AtomTree, BinaryTree, ChoicesTree, CommandTree, CountTree, DestinationTree, EntryTree, ExprTree, ExprsTree, FormTree, KeywordTree, LineTree, LockKindTree, LockedTree, OperandTree, ParameterTree, PrimaryTree, ReferenceTree, RepeatedTree, SignTree, SpacedTree, TailTree, TailsTree, TargetTree, TruthTree, add, adding, anew, apply, assign, at_label, at_label_in, at_routine, both, bracket, call, coded, formats, choice, choices_of, classes, contains, copies, divide, divide_whole, do_argument, do_one, do_word, either, else_word, equals, execute_word, executed, expr, exprs, exprs_of, extended, follows, for_argument, for_word, giving_back, global, go_to, goto_argument, goto_word, greater, halt_word, hang_word, halt_or_hang_word, if_argument, if_word, indirect, indirect_args, is, is_bang, is_format, is_not, is_pattern_letter, join, kill_argument, kill_one, kill_others, kill_word, less, local, lock_argument, hang_argument, lock_one, lock_several, lock_word, locked, hang_for, loop, matches, matches_indirect, matches_not, matches_not_indirect, may_be_indirect, minus, multiply, naked, negate, new_argument, new_one, new_others, new_word, no_argument, no_choices, no_exprs, no_tails, number, once, one, onward, operand, part, plus, quit_word, quoted, raise, refer, reference, remainder, select, set_argument, set_word, several, shown, sorts_after, special, spell, spell_arg, spell_args, spell_atom, spell_atoms, spell_attached, spell_behind, spell_binary, spell_choices, spell_command, spell_commands, spell_comment, spell_condition, spell_destination, spell_entry, spell_expr, spell_exprs, spell_kind, spell_list, spell_locked, spell_more, spell_more_choices, spell_more_exprs, spell_names, spell_operand, spell_parameter, spell_primary, spell_reference, spell_repeated, spell_signs, spell_string, spell_subscripts, spell_tab, spell_tail, spell_tails, spell_target, spell_truth, subtract, tail, tails_of, tested, text, until, variable, write_argument, write_word, xecute_argument}
 pub use Rattle.mgrammar.specs.Specials.{SpecialTree}
 unfoldable pub use Rattle.mgrammar.specs.Specials.{special_of}
 pub use Rattle.mgrammar.specs.IndirectTexts.{whole_by}

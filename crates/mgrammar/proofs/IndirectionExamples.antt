@@ -75,7 +75,7 @@ record Read : Type 0 where
   -- texts that stand for an `@`
   references : (ref_at (codes "B(1)") ≡ Some (local (codes "B") (exprs (only (number (codes "1"))) no_exprs))) × (ref_at (codes "@A") ≡ Some (at a)) × (ref_at (codes "^(1)") ≡ Some (naked (exprs (only (number (codes "1"))) no_exprs)))
   no_references : (ref_at [] ≡ None) × (ref_at (codes "B C") ≡ None) × (ref_at (codes " B") ≡ None) × (ref_at (codes "B,C") ≡ None) × (ref_at (codes "1") ≡ None) × (ref_at (codes "B ") ≡ None)
-  argument_lists : (args_of write_argument (codes "1,!!,@A") ≡ Some (shown (only (number (codes "1"))) ∷ formats (codes "!!") ∷ indirect_args write_argument a ∷ []))
+  argument_lists : (args_of write_argument (codes "1,!!,@A") ≡ Some (shown (only (number (codes "1"))) ∷ formats (codes "!!") None ∷ indirect_args write_argument a ∷ []))
       × (args_of set_argument (codes "B=4,@A") ≡ Some (assign (one (variable (named (codes "B")))) (only (number (codes "4"))) ∷ indirect_args set_argument a ∷ []))
       × (args_of do_argument (codes "U^T:1") ≡ Some (do_one (at_label_in (codes "U") (codes "T")) (Some (only (number (codes "1")))) ∷ []))
   no_argument_lists : (args_of write_argument [] ≡ None) × (args_of write_argument (codes "1 1") ≡ None) × (args_of write_argument (codes "1,") ≡ None) × (args_of kill_argument (codes "1") ≡ None) × (args_of set_argument (codes "B") ≡ None) × (args_of do_argument (codes " A") ≡ None)

@@ -11,7 +11,7 @@ use Rattle.mgrammar.proofs.ShortTrees.{only, plain, named, of_one}
 record IsRead : Type 0 where
   never_earlier : line_in 0 (codes "W $RE(\"abc\")") ≡ None
   from_its_language : line_in 1 (codes "W $RE(\"abc\")") ≡ Some (of_one write_word (codes "W") (shown (only (call (codes "RE") (exprs (only (text (codes "abc"))) no_exprs))) ∷ []))
-  formats_read : line_in 1 (codes "W #!,*1") ≡ Some (of_one write_word (codes "W") (formats (codes "#!") ∷ coded (only (number (codes "1"))) ∷ []))
+  formats_read : line_in 1 (codes "W #!,*1") ≡ Some (of_one write_word (codes "W") (formats (codes "#!") None ∷ coded (only (number (codes "1"))) ∷ []))
   and_later : line_in 2 (codes "w $reverse(\"abc\")") ≡ Some (of_one write_word (codes "w") (shown (only (call (codes "reverse") (exprs (only (text (codes "abc"))) no_exprs))) ∷ []))
 
 is_read : IsRead
@@ -86,7 +86,7 @@ record Languages : Type 0 where
   no_targets : AreOfNone has_line (
       codes "S $E()=1" ∷ codes "S $E(A,1,2,3)=1" ∷ codes "S $P(A)=1" ∷ codes "S $P(A,1,2,3,4)=1" ∷ codes "S $E(\"A\",1)=1" ∷ codes "S $E(A" ∷ codes "S $L(A)=1" ∷ codes "S $E=1" ∷ [])
   -- formats of WRITE, and characters by their codes
-  outputs : AreOfOne has_line (codes "W #" ∷ codes "W !#!,1" ∷ codes "W *65" ∷ codes "W 1,*A+1,!" ∷ codes "W:A #" ∷ [])
+  outputs : AreOfOne has_line (codes "W #" ∷ codes "W !#!,1" ∷ codes "W ?5" ∷ codes "W !#?A+1,1" ∷ codes "W $X,$y" ∷ codes "W *65" ∷ codes "W 1,*A+1,!" ∷ codes "W:A #" ∷ [])
   -- a pattern that a text is; and a form within its operand
   patterns : AreOfOne has_line (
       codes "W A?@B" ∷ codes "W A'?@B" ∷ codes "W A?@\"1N\"=1" ∷ codes "W A?@@B@(1)" ∷ codes "W A?@(B_1)?@B" ∷ codes "W A?@$RE(B)" ∷ codes "W A(B?@C)" ∷ [])
@@ -110,7 +110,7 @@ record Languages : Type 0 where
       codes "W $I(1)" ∷ codes "W $JO" ∷ codes "W $IOS" ∷ codes "S $I=1" ∷ codes "S $J=1" ∷ codes "HANG" ∷ codes "HANG:A" ∷ codes "HALT 1" ∷ codes "H 1," ∷ codes "H 1:A" ∷
       codes "W $J(A)" ∷ codes "W $J(A,1,2,3)" ∷ codes "W $FN(A)" ∷ codes "W $FN(A,B,1,2)" ∷ codes "W $RE()" ∷ codes "W $RE(1,2)" ∷ codes "W $RE" ∷ codes "W $REV(1)" ∷ codes "S $RE(A)=1" ∷
       codes "W 2**" ∷ codes "W **2" ∷ codes "W 2***3" ∷ codes "W 2** 3" ∷ codes "W 2* *3" ∷ codes "W 2'**3" ∷
-      codes "W !*1" ∷ codes "W *" ∷ codes "W *1!" ∷ codes "W #A" ∷ codes "W !A" ∷ codes "W *1#" ∷ codes "W #@A" ∷ [])
+      codes "W ?5!" ∷ codes "W ?" ∷ codes "W !?" ∷ codes "W !*1" ∷ codes "W *" ∷ codes "W *1!" ∷ codes "W #A" ∷ codes "W !A" ∷ codes "W *1#" ∷ codes "W #@A" ∷ [])
 
 languages : Languages
 unfolding reads_in

@@ -1,12 +1,12 @@
 -- SPDX-License-Identifier: Apache-2.0
 -- What is read of an argument of each form is spelled so, and what is spelled so is read. Those of SET stand in ReadingTargets.
-use Rattle.mgrammar.proofs.GrammarWords.{FormTree, Read, cond, ◌≡◌, ℕ, zero, suc, ◌<◌, Bool, true, false, eqb, List, [], ◌∷◌, ◌++◌, length, Option, Some, None, refl, ap, subst, ◌∙◌, append_assoc, arith, replicate, eqb-true, nat_tests, length-replicate, is_name_rest, AllAre, IsName, ExprTree, ReferenceTree, ParameterTree, once, onward, until, ArgTree, formats, coded, shown, kill_one, kill_others, new_one, new_others, tested, hang_for, loop, kill_argument, new_argument, if_argument, hang_argument, for_argument, write_argument, spell_expr, spell_reference, spell_list, spell_names, spell_parameter, spell_arg, max_depth, WellExpr, WellReference, WellList, WellParameter, WellPlain, ◌>>=◌, run_of, after_run, name_at, past, list_at, expr_at, readers_at, reference_with, write_argument_by, write_argument_at, names_at, kill_argument_at, new_argument_at, if_argument_at, hang_argument_at, limit_by, increment_by, parameter_at, for_argument_at, is_format, value_by, sym}
+use Rattle.mgrammar.proofs.GrammarWords.{FormTree, Read, cond, ◌≡◌, ℕ, zero, suc, ◌<◌, Bool, true, false, eqb, List, [], ◌∷◌, ◌++◌, length, Option, Some, None, refl, ap, subst, ◌∙◌, append_assoc, arith, replicate, eqb-true, nat_tests, length-replicate, is_name_rest, AllAre, IsName, ExprTree, ReferenceTree, ParameterTree, once, onward, until, ArgTree, formats, coded, shown, kill_one, kill_others, new_one, new_others, tested, hang_for, loop, kill_argument, new_argument, if_argument, hang_argument, for_argument, write_argument, spell_expr, spell_reference, spell_list, spell_names, spell_parameter, spell_arg, max_depth, WellExpr, WellReference, WellList, WellParameter, WellPlain, ◌>>=◌, run_of, after_run, name_at, past, list_at, expr_at, readers_at, reference_with, write_argument_by, write_argument_at, names_at, kill_argument_at, new_argument_at, if_argument_at, hang_argument_at, limit_by, increment_by, parameter_at, for_argument_at, is_format, value_by, sym, spell_tab, append-nil}
 use Rattle.mgrammar.proofs.ReadingBasics.{IsRead, Takes, Again, Stops, Begins, Begins-stops, Begins-append, Begins-weaker, bind_some, some_is, run_parts, run_again, past_takes, not_past, name_takes, name_again, Stops-weaker}
 use Rattle.mgrammar.proofs.ReadingLists.{joined_by, listed_or_one, bracketed_again, is_comma, list_takes, list_again}
 use Rattle.mgrammar.proofs.ReadingReferences.{OperandEnds, Ends, begins_reference, name_begins_reference, reference_takes, reference_again, reference_begins}
 use Rattle.mgrammar.proofs.ReadingPrimaries.{reference_tests}
 use Rattle.mgrammar.proofs.ReadingExprs.{begins_operand, expr_begins, inner_takes, within_takes, below_takes, inner_again, within_again, below_again, expr_takes, expr_again}
-use Rattle.mgrammar.proofs.ReadingOperators.{is_operator, no_format}
+use Rattle.mgrammar.proofs.ReadingOperators.{is_operator, no_format, no_match}
 use Rattle.mgrammar.proofs.ReadingTargets.{variable_begins, is_equals}
 
 -- ---- short forms
@@ -35,16 +35,12 @@ is_caret c = eqb c 94
 abbrev pub Follows : List ℕ → Type 0
 Follows rest = Ends rest × Stops is_colon rest × Stops is_caret rest × Stops is_equals rest
 
-operand_tests : (c : ℕ) → begins_operand c ≡ true → (is_format c ≡ false) × (eqb c 42 ≡ false)
-operand_tests c h = (grind (arith, nat_tests), grind (arith, nat_tests))
+operand_tests : (c : ℕ) → begins_operand c ≡ true → (is_format c ≡ false) × (eqb c 63 ≡ false) × (eqb c 42 ≡ false)
+operand_tests c h = (grind (arith, nat_tests), grind (arith, nat_tests), grind (arith, nat_tests))
 
 -- what begins an expression does not go on with a kind of characters that no operand begins with
 operand_stops : (q : ℕ → Bool) (e : ExprTree) (rest : List ℕ) → ((c : ℕ) → begins_operand c ≡ true → q c ≡ false) → WellExpr max_depth e → Stops q (spell_expr e ++ rest)
 operand_stops q e rest f w = Begins-stops begins_operand q (spell_expr e ++ rest) f (Begins-append begins_operand (spell_expr e) rest (expr_begins max_depth e w))
-
-no_run : (p : ℕ → Bool) (cs : List ℕ) → Stops p cs → run_of p cs ≡ []
-no_run p [] s = refl
-no_run p (c ∷ cs) s = rw s refl
 
 pub all_copies : (a : ℕ) (xs : List ℕ) → AllAre (λ c. eqb c a) xs → xs ≡ replicate (length xs) a
 all_copies a [] h = refl
@@ -65,30 +61,44 @@ value_takes cs (Some rest) x h e =
     let t = whole_takes rest b.0 b.1 in
     subst (IsRead spell_arg (WellPlain write_argument) cs) (some_is (coded b.0.0, b.0.1) x b.2) (past_takes 42 cs rest h ∙ ap (λ (y : List ℕ). 42 ∷ y) t.0, t.1)
 
--- where this run of formats is in front
-write_argument_takes_by : (r cs : List ℕ) (x : ArgTree × List ℕ) → run_of is_format cs ≡ r → write_argument_by r cs ≡ Some x → IsRead spell_arg (WellPlain write_argument) cs x
-write_argument_takes_by [] cs x h e = value_takes cs (past 42 cs) x refl e
-write_argument_takes_by (f ∷ fs) cs x h e =
-    let r = run_parts is_format cs in
-    let parts : cs ≡ (f ∷ fs) ++ after_run is_format cs = r.0 ∙ ap (λ (y : List ℕ). y ++ after_run is_format cs) h in
+-- with this run of formats in front
+formats_take : (run cs : List ℕ) (o : Option (List ℕ)) (x : ArgTree × List ℕ) → AllAre is_format run → past 63 cs ≡ o → write_argument_by run cs o ≡ Some x
+    → IsRead spell_arg (WellPlain write_argument) (run ++ cs) x
+formats_take run cs (Some rest) x all h e =
+    let b = bind_some (expr_at max_depth rest) (λ y. Some (formats run (Some y.0), y.1)) x e in
+    let t = whole_takes rest b.0 b.1 in
+    let parts : run ++ cs ≡ (run ++ 63 ∷ spell_expr b.0.0) ++ b.0.1 =
+    ap (λ (y : List ℕ). run ++ y) (past_takes 63 cs rest h ∙ ap (λ (y : List ℕ). 63 ∷ y) t.0) ∙ sym (append_assoc run (63 ∷ spell_expr b.0.0) b.0.1) in
+    subst (IsRead spell_arg (WellPlain write_argument) (run ++ cs)) (some_is (formats run (Some b.0.0), b.0.1) x b.2) (parts, (all, t.1))
+formats_take [] cs None x all h e = value_takes cs (past 42 cs) x refl e
+formats_take (f ∷ fs) cs None x all h e =
     let long : 0 < length (f ∷ fs) = omega arith in
-    subst (IsRead spell_arg (WellPlain write_argument) cs) (some_is (formats (f ∷ fs), after_run is_format cs) x e) (parts, (long, subst (AllAre is_format) h r.1))
+    let parts : (f ∷ fs) ++ cs ≡ ((f ∷ fs) ++ []) ++ cs = ap (λ (y : List ℕ). y ++ cs) (sym (append-nil (f ∷ fs))) in
+    subst (IsRead spell_arg (WellPlain write_argument) ((f ∷ fs) ++ cs)) (some_is (formats (f ∷ fs) None, cs) x e) (parts, (long, all))
 
 pub write_argument_takes : Takes spell_arg (WellPlain write_argument) write_argument_at
 unfolding write_argument_at
-write_argument_takes cs x e = write_argument_takes_by (run_of is_format cs) cs x refl e
+write_argument_takes cs x e =
+    let r = run_parts is_format cs in
+    let t = formats_take (run_of is_format cs) (after_run is_format cs) (past 63 (after_run is_format cs)) x r.1 refl e in
+    (r.0 ∙ t.0, t.1)
 
 pub write_argument_again : Again spell_arg (WellPlain write_argument) Follows write_argument_at
 unfolding write_argument_at
-write_argument_again (formats []) rest w s = absurd (let none = w.0 in omega (arith, none))
-write_argument_again (formats (f ∷ fs)) rest w s =
+write_argument_again (formats [] None) rest w s = absurd (let none = w.0 in omega (arith, none))
+write_argument_again (formats (f ∷ fs) None) rest w s =
     let r = run_again is_format (f ∷ fs) rest w.1 (Stops-weaker is_operator is_format rest no_format s.0.1) in
-    rw (r.0, r.1) refl
+    let no_tab = not_past 63 rest (Stops-weaker is_operator (λ c. eqb c 63) rest no_match s.0.1) in
+    rw (append-nil (f ∷ fs), r.0, r.1, no_tab) refl
+write_argument_again (formats run (Some e)) rest w s =
+    let r = run_again is_format run (63 ∷ (spell_expr e ++ rest)) w.0 refl in
+    rw (append_assoc run (63 ∷ spell_expr e) rest, r.0, r.1, whole_again e rest w.1 s.0) refl
 write_argument_again (coded e) rest w s = rw (whole_again e rest w s.0) refl
 write_argument_again (shown e) rest w s =
-    let none = no_run is_format (spell_expr e ++ rest) (operand_stops is_format e rest (λ c h. (operand_tests c h).0) w) in
-    let no_code = not_past 42 (spell_expr e ++ rest) (operand_stops (λ c. eqb c 42) e rest (λ c h. (operand_tests c h).1) w) in
-    rw (none, no_code, whole_again e rest w s.0) refl
+    let r = run_again is_format [] (spell_expr e ++ rest) tt (operand_stops is_format e rest (λ c h. (operand_tests c h).0) w) in
+    let no_tab = not_past 63 (spell_expr e ++ rest) (operand_stops (λ c. eqb c 63) e rest (λ c h. (operand_tests c h).1) w) in
+    let no_code = not_past 42 (spell_expr e ++ rest) (operand_stops (λ c. eqb c 42) e rest (λ c h. (operand_tests c h).2) w) in
+    rw (r.0, r.1, no_tab, no_code, whole_again e rest w s.0) refl
 write_argument_again a rest w s = absurd w
 
 -- ---- names in brackets

@@ -16,7 +16,7 @@ use Rattle.mgrammar.proofs.ReadingEntries.{condition_read, condition_spelled, do
 
 -- a character that an argument may begin with
 abbrev begins_arg : ℕ → Bool
-begins_arg c = begins_operand c || is_format c || eqb c 42
+begins_arg c = begins_operand c || is_format c || eqb c 63 || eqb c 42
 
 operand_or_format : (c : ℕ) → begins_operand c ≡ true → begins_arg c ≡ true
 operand_or_format c h = rw h refl
@@ -25,8 +25,10 @@ format_begins : (c : ℕ) → is_format c ≡ true → begins_arg c ≡ true
 format_begins c h = grind (arith, nat_tests)
 
 write_argument_begins : (a : ArgTree) → WellPlain write_argument a → Begins begins_arg (spell_arg a)
-write_argument_begins (formats []) w = absurd (let none = w.0 in omega (arith, none))
-write_argument_begins (formats (f ∷ fs)) w = format_begins f w.1.0
+write_argument_begins (formats [] None) w = absurd (let none = w.0 in omega (arith, none))
+write_argument_begins (formats [] (Some e)) w = refl
+write_argument_begins (formats (f ∷ fs) None) w = format_begins f w.1.0
+write_argument_begins (formats (f ∷ fs) (Some e)) w = format_begins f w.0.0
 write_argument_begins (coded e) w = refl
 write_argument_begins (shown e) w = Begins-weaker begins_operand begins_arg (spell_expr e) operand_or_format (expr_begins max_depth e w)
 write_argument_begins a w = absurd w

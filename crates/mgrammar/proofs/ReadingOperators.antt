@@ -199,6 +199,9 @@ no_such c h a e = false_from_ne_true (eqb c a) (λ t. let no : ◌≡◌ {A = Bo
 pub no_format : (c : ℕ) → is_operator c ≡ false → is_format c ≡ false
 no_format c h = rw (no_such c h 33 refl, no_such c h 35 refl) refl
 
+pub no_match : (c : ℕ) → is_operator c ≡ false → eqb c 63 ≡ false
+no_match c h = no_such c h 63 refl
+
 not_operator : (c : ℕ) → is_operator c ≡ false → (eqb c 39 ≡ false) × (eqb c 63 ≡ false) × (eqb c 42 ≡ false) × (found arithmetic c ≡ None) × (eqb c 93 ≡ false) × (found truths c ≡ None)
 not_operator c h =
     let n = no_such c h in (

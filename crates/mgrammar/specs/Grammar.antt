@@ -175,7 +175,7 @@ pub data FormTree : Type 0 where
 -- indirection: arguments of this form that a text gives, the value of the `expratom` after an `@`
 pub data ArgTree : Type 0 where
   assign : DestinationTree → ExprTree → ArgTree
-  formats : List ℕ → ArgTree
+  formats : List ℕ → Option ExprTree → ArgTree
   coded : ExprTree → ArgTree
   shown : ExprTree → ArgTree
   kill_one : ReferenceTree → ArgTree
@@ -392,9 +392,14 @@ abbrev pub spell_locked : LockedTree → List ℕ
 spell_locked (lock_one r) = spell_reference r
 spell_locked (lock_several rs) = 40 ∷ (spell_list spell_reference rs ++ 41 ∷ [])
 
+-- after a `?`, if there is one
+abbrev pub spell_tab : Option ExprTree → List ℕ
+spell_tab None = []
+spell_tab (Some e) = 63 ∷ spell_expr e
+
 abbrev pub spell_arg : ArgTree → List ℕ
 spell_arg (assign d e) = spell_destination d ++ 61 ∷ spell_expr e
-spell_arg (formats run) = run
+spell_arg (formats run tab) = run ++ spell_tab tab
 spell_arg (coded e) = 42 ∷ spell_expr e
 spell_arg (shown e) = spell_expr e
 spell_arg (kill_one r) = spell_reference r

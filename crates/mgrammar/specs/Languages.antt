@@ -93,7 +93,8 @@ since_format c = if is_bang c then 0 else 1
 
 abbrev pub since_arg : ArgTree → ℕ
 since_arg (assign d e) = max (since_destination d) (since_expr e)
-since_arg (formats run) = since_all since_format run
+since_arg (formats run None) = since_all since_format run
+since_arg (formats run (Some e)) = max 1 (since_expr e)
 since_arg (coded e) = max 1 (since_expr e)
 since_arg (shown e) = since_expr e
 since_arg (kill_one r) = since_reference r

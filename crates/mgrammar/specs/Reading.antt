@@ -57,13 +57,14 @@ abbrev pub value_by : List ℕ → Option (List ℕ) → Read ArgTree
 value_by cs None = expr_at max_depth cs >>= λ e. Some (shown e.0, e.1)
 value_by cs (Some rest) = expr_at max_depth rest >>= λ e. Some (coded e.0, e.1)
 
--- with this run of formats in front
-abbrev pub write_argument_by : List ℕ → List ℕ → Read ArgTree
-write_argument_by [] cs = value_by cs (past 42 cs)
-write_argument_by (f ∷ fs) cs = Some (formats (f ∷ fs), after_run is_format cs)
+-- after this run of formats, with what comes after a `?`
+abbrev pub write_argument_by : List ℕ → List ℕ → Option (List ℕ) → Read ArgTree
+write_argument_by run cs (Some rest) = expr_at max_depth rest >>= λ e. Some (formats run (Some e.0), e.1)
+write_argument_by [] cs None = value_by cs (past 42 cs)
+write_argument_by (f ∷ fs) cs None = Some (formats (f ∷ fs) None, cs)
 
 unfoldable pub write_argument_at : List ℕ → Read ArgTree
-write_argument_at cs = write_argument_by (run_of is_format cs) cs
+write_argument_at cs = write_argument_by (run_of is_format cs) (after_run is_format cs) (past 63 (after_run is_format cs))
 
 -- names, after the bracket in front of them
 unfoldable pub names_at : List ℕ → Read (List (List ℕ))

@@ -11,6 +11,8 @@ pub data SpecialTree : Type 0 where
   job_special : SpecialTree
   principal_special : SpecialTree
   storage_special : SpecialTree
+  column_special : SpecialTree
+  row_special : SpecialTree
 
 pub record SpecialRow : Type 0 where
   pub short : List ℕ
@@ -28,7 +30,9 @@ special_rows =
     ∷ row (codes "j") (codes "job") job_special 1
     ∷ row (codes "p") (codes "principal") principal_special 1
     ∷ row (codes "s") (codes "storage") storage_special 1
-    ∷ []
+    ∷
+    row (codes "x") (codes "x") column_special 1 ∷
+    row (codes "y") (codes "y") row_special 1 ∷ []
 
 abbrev pub special_named : List ℕ → List SpecialRow → Option SpecialTree
 special_named w [] = None

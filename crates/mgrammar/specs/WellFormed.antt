@@ -205,7 +205,8 @@ WellPlain new_argument (new_one name) = IsName name
 WellPlain new_argument (new_others names) = WellList IsName names
 WellPlain if_argument (tested e) = WellExpr max_depth e
 WellPlain for_argument (loop index parameters) = IsName index × WellList WellParameter parameters
-WellPlain write_argument (formats run) = (0 < length run) × AllAre is_format run
+WellPlain write_argument (formats run None) = (0 < length run) × AllAre is_format run
+WellPlain write_argument (formats run (Some e)) = AllAre is_format run × WellExpr max_depth e
 WellPlain write_argument (coded e) = WellExpr max_depth e
 WellPlain write_argument (shown e) = WellExpr max_depth e
 WellPlain do_argument (do_one entry c) = WellEntry entry × WellOptional max_depth c
@@ -218,7 +219,7 @@ WellPlain f a = ⊥
 -- the operand, if an argument is an `@` with it and nothing more
 abbrev pub bare_arg : ArgTree → Option PrimaryTree
 bare_arg (assign d e) = None
-bare_arg (formats run) = None
+bare_arg (formats run tab) = None
 bare_arg (coded e) = None
 bare_arg (shown e) = bare_expr e
 bare_arg (kill_one r) = bare_reference r

@@ -1,11 +1,11 @@
 -- SPDX-License-Identifier: Apache-2.0
 -- Control flow on examples, as proved equations.
-use Rattle.mmeaning.proofs.MeaningWords.{World, M9, M15, Zover, Zsteps, no_locals, assigned_to}
+use Rattle.mmeaning.proofs.MeaningWords.{World, M9, M15, Zover, Zsteps, no_locals, assigned_to, home}
 use Rattle.mmeaning.proofs.Running.{[], ◌∷◌, None, true, false, refl, codes, empty, new_session, opening, with_steps, done, failed, AreAnswered, Answered, serving, holding, at_first, at_last, Each, at_case, no_more, runs, running, numbers}
 
 -- what a line with this many steps leaves
 abbrev turned_out : World
-turned_out = serving (record { locals = assigned_to (assigned_to no_locals (codes "N") [] (codes "3")) (codes "I") [] (codes "4"); naked = None; test = false })
+turned_out = serving (record { locals = assigned_to (assigned_to no_locals (codes "N") [] (codes "3")) (codes "I") [] (codes "4"); naked = None; test = false; cursor = home })
 
 lines : Each (
     -- a FOR turns down to its limit if the increment is below zero
@@ -80,6 +80,6 @@ sessions = record {
   without_index = at_first (holding (codes "A") (codes "3")) _ refl (simp running) (at_last _ refl (simp running));
   steps_used_up = at_first turned_out _ refl (simp running) (at_last _ refl (simp running));
   else_after_if = at_first (serving new_session) _ refl (simp running) (at_last _ refl (simp running));
-  else_passed_over = at_first (serving (record { locals = no_locals; naked = None; test = true })) _ refl (simp running) (at_last _ refl (simp running));
+  else_passed_over = at_first (serving (record { locals = no_locals; naked = None; test = true; cursor = home })) _ refl (simp running) (at_last _ refl (simp running));
   each_sets_test = at_first (serving new_session) _ refl (simp running) (at_last _ refl (simp running));
 }

@@ -1,6 +1,6 @@
 -- SPDX-License-Identifier: Apache-2.0
 -- Globals of other accounts on examples, as proved equations over any world: what is asked in which order, and what is refused.
-use Rattle.mmeaning.proofs.MeaningWords.{◌≡◌, ℕ, suc, Bool, [], ◌∷◌, Option, Some, refl, rules, codes, get, M9, Zarg, Zgrant, Zsub, perform, setting, Text, Node, Locals, State, Gives, Fails, ExprTree, divide, number, text, reference, refer, ReferenceTree, naked, extended, ExprsTree, exprs, no_exprs, variable, one, value, Shared, computes}
+use Rattle.mmeaning.proofs.MeaningWords.{◌≡◌, ℕ, suc, Bool, [], ◌∷◌, Option, Some, refl, rules, codes, get, M9, Zarg, Zgrant, Zsub, perform, setting, Text, Node, Locals, State, Gives, Fails, ExprTree, divide, number, text, reference, refer, ReferenceTree, naked, extended, ExprsTree, exprs, no_exprs, variable, one, value, Shared, computes, Cursor}
 use Rattle.mgrammar.specs.Functions.{function_of}
 use Rattle.mmeaning.proofs.LineTrees.{only, with_operator}
 use Rattle.mmeaning.proofs.LockRuns.{hers, his, her_line, his_line}
@@ -22,9 +22,9 @@ node name subscript = record { account = codes "ALICE"; name = name; subscripts 
 abbrev next_of : ReferenceTree → ExprTree
 next_of r = only (refer (codes "O") r no_exprs)
 
-module _ (w : Shared) (last : Option Node) (test : Bool) (out : Text) (locals : Locals) (steps : ℕ) where
+module _ (w : Shared) (last : Option Node) (test : Bool) (cursor : Cursor) (out : Text) (locals : Locals) (steps : ℕ) where
   abbrev state : Option Node → ℕ → State
-  state at n = record { locals = locals; naked = at; test = test; out = out; steps = n; given = of_profile }
+  state at n = record { locals = locals; naked = at; test = test; cursor = cursor; out = out; steps = n; given = of_profile }
 
   -- ---- what is granted
 

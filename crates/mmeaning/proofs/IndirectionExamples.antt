@@ -1,6 +1,6 @@
 -- SPDX-License-Identifier: Apache-2.0
 -- Indirection on examples, as proved equations. What is read of the texts that stand for an `@` is beside the lines.
-use Rattle.mmeaning.proofs.MeaningWords.{ℕ, ◌++◌, rules, replicate, M6, M9, Zsteps, Zsyntax, Zdepth, no_locals, assigned_to, divide, ExprTree, number, text, reference, local, exprs, no_exprs, set_argument, kill_argument, new_argument, if_argument, write_argument, xecute_argument, formats, shown, kill_one, new_one, tested, executed, indirect_args, ref_in, args_in, reads_in, line_end}
+use Rattle.mmeaning.proofs.MeaningWords.{ℕ, ◌++◌, rules, replicate, M6, M9, Zsteps, Zsyntax, Zdepth, no_locals, assigned_to, divide, ExprTree, number, text, reference, local, exprs, no_exprs, set_argument, kill_argument, new_argument, if_argument, write_argument, xecute_argument, formats, shown, kill_one, new_one, tested, executed, indirect_args, ref_in, args_in, reads_in, line_end, home}
 use Rattle.mmeaning.proofs.LineTrees.{only, with_operator, named, set_to}
 use Rattle.mmeaning.proofs.Running.{◌≡◌, List, [], ◌∷◌, Some, None, true, false, refl, codes, empty, Text, opening, with_steps, done, failed, AreAnswered, Answered, serving, holding, at_first, at_last, Each, at_case, no_more, runs, running}
 
@@ -25,7 +25,7 @@ record TextsRead : Type 0 where
   shown_1 : args_in write_argument 0 (codes "1") ≡ Some (shown (digit (codes "1")) ∷ [])
   shown_a : args_in write_argument 0 (codes "A") ≡ Some (shown (variable (codes "A")) ∷ [])
   nothing_shown : args_in write_argument 0 [] ≡ None
-  shown_until_error : args_in write_argument 0 (codes "1,!,2,1/0") ≡ Some (shown (digit (codes "1")) ∷ formats (codes "!") ∷ shown (digit (codes "2")) ∷ shown (with_operator (number (codes "1")) divide (number (codes "0"))) ∷ [])
+  shown_until_error : args_in write_argument 0 (codes "1,!,2,1/0") ≡ Some (shown (digit (codes "1")) ∷ formats (codes "!") None ∷ shown (digit (codes "2")) ∷ shown (with_operator (number (codes "1")) divide (number (codes "0"))) ∷ [])
   two_assignments : args_in set_argument 0 (codes "B=4,C=5") ≡ Some (set_to (named (codes "B")) (digit (codes "4")) ∷ set_to (named (codes "C")) (digit (codes "5")) ∷ [])
   two_texts : args_in xecute_argument 0 (codes "\"W 5\",\"W 6\"") ≡ Some (executed (only (text (codes "W 5"))) None ∷ executed (only (text (codes "W 6"))) None ∷ [])
   two_removals : args_in kill_argument 0 (codes "A,B") ≡ Some (kill_one (named (codes "A")) ∷ kill_one (named (codes "B")) ∷ [])
@@ -49,8 +49,8 @@ record Sessions : Type 0 where
 sessions : Sessions
 unfolding runs
 sessions = record {
-  name_costs_nothing = at_first (serving (record { locals = assigned_to (assigned_to no_locals (codes "A") [] (codes "1")) (codes "%N") [] (codes "3"); naked = None; test = true })) _ refl (simp running) (at_last _ refl (simp running));
-  given_conditions = at_first (serving (record { locals = no_locals; naked = None; test = false })) _ refl (simp running) (at_last _ refl (simp running));
+  name_costs_nothing = at_first (serving (record { locals = assigned_to (assigned_to no_locals (codes "A") [] (codes "1")) (codes "%N") [] (codes "3"); naked = None; test = true; cursor = home })) _ refl (simp running) (at_last _ refl (simp running));
+  given_conditions = at_first (serving (record { locals = no_locals; naked = None; test = false; cursor = home })) _ refl (simp running) (at_last _ refl (simp running));
   argument_costs_operand = at_first (holding (codes "%N") (codes "5")) _ refl (simp running) (at_last _ refl (simp running));
 }
 

@@ -1,6 +1,6 @@
 -- SPDX-License-Identifier: Apache-2.0
 -- How deep indirections may stand, on examples, as proved equations: which are levels at once, and in which order they are refused.
-use Rattle.mmeaning.proofs.MeaningWords.{◌≡◌, ℕ, zero, suc, ◌+◌, ◌≤◌, Bool, true, false, List, [], ◌∷◌, Option, Some, None, refl, arith, rules, codes, nat_lt, M9, Zdepth, Zsyntax, Done, nat_tests, Text, Node, Locals, level_begun, State, Gives, Fails, value_of, assigned_to, divide, number, PrimaryTree, text, bracket, reference, ReferenceTree, indirect, exprs, no_exprs, variable, one, write_argument, at_label, do_argument, do_one, indirect_args, do_word, CommandTree, many, list_at, name_at, entry_at, do_argument_at, ref_at, ref_in, args_of, args_in, RoutineLineTree, spaced_out, dots_of, label_at, routine_line_in, reads_in, of_global, of_naked, of_local, Inside, inside, evaluated, finds, is_indirection_free, Context, context, given, setting, Position, commands, target, computes}
+use Rattle.mmeaning.proofs.MeaningWords.{◌≡◌, ℕ, zero, suc, ◌+◌, ◌≤◌, Bool, true, false, List, [], ◌∷◌, Option, Some, None, refl, arith, rules, codes, nat_lt, M9, Zdepth, Zsyntax, Done, nat_tests, Text, Node, Locals, level_begun, State, Gives, Fails, value_of, assigned_to, divide, number, PrimaryTree, text, bracket, reference, ReferenceTree, indirect, exprs, no_exprs, variable, one, write_argument, at_label, do_argument, do_one, indirect_args, do_word, CommandTree, many, list_at, name_at, entry_at, do_argument_at, ref_at, ref_in, args_of, args_in, RoutineLineTree, spaced_out, dots_of, label_at, routine_line_in, reads_in, of_global, of_naked, of_local, Inside, inside, evaluated, finds, is_indirection_free, Context, context, given, setting, Position, commands, target, computes, Cursor}
 use Rattle.mgrammar.specs.ReadingExpressions.{subscripts_with, attached_with, indirect_with, reference_with, primary_with, readers_at}
 use Rattle.mmeaning.proofs.LineTrees.{only, with_operator, command, line}
 use Rattle.mmeaning.proofs.ExampleAccount.{of_profile}
@@ -22,9 +22,9 @@ at_text t = indirect (text t) no_exprs
 abbrev error : PrimaryTree
 error = bracket (with_operator (number (codes "1")) divide (number (codes "0")))
 
-module _ (naked : Option Node) (test : Bool) (out : Text) where
+module _ (naked : Option Node) (test : Bool) (cursor : Cursor) (out : Text) where
   abbrev state : Locals → ℕ → State
-  state locals steps = record { locals = locals; naked = naked; test = test; out = out; steps = steps; given = of_profile }
+  state locals steps = record { locals = locals; naked = naked; test = test; cursor = cursor; out = out; steps = steps; given = of_profile }
 
   -- ---- the operand first, then the level, then the text
 
@@ -124,9 +124,9 @@ abbrev begun_more : ℕ → Locals → Locals
 begun_more zero locals = locals
 begun_more (suc k) locals = begun_more k (level_begun locals)
 
-module _ (naked : Option Node) (test : Bool) (out : Text) (steps : ℕ) where
+module _ (naked : Option Node) (test : Bool) (cursor : Cursor) (out : Text) (steps : ℕ) where
   abbrev in_state : Locals → ℕ → State
-  in_state locals n = record { locals = locals; naked = naked; test = test; out = out; steps = n; given = of_profile }
+  in_state locals n = record { locals = locals; naked = naked; test = test; cursor = cursor; out = out; steps = n; given = of_profile }
 
   -- this many more indirections may be opened
   abbrev IsRefused : ℕ → ℕ → ℕ → ℕ → Locals → Type 0

@@ -1,6 +1,6 @@
 -- SPDX-License-Identifier: Apache-2.0
 -- Levels on examples, as proved equations: how many may be open, and in which order DO, GOTO and XECUTE are refused.
-use Rattle.mmeaning.proofs.MeaningWords.{◌≡◌, ℕ, zero, suc, ◌+◌, ◌≤◌, Bool, true, false, List, [], ◌∷◌, Option, Some, None, refl, ap, subst, ◌∙◌, arith, rules, codes, nat_lt, M9, M13, Zdepth, Zlevel, Zsyntax, Plan, Done, then_plan, line_in, text_run, nat_tests, Scope, Text, Node, Locals, State, Outcome, Gives, Fails, on_gives, level_begun, value_of, divide, number, text, reference, at_label, executed, execute_word, LineTree, reads_in, Completion, Position, top_level, after_level, run_within, Context, Go_on, Goes, context, commands, doing, doing_block, executing, going, commands_of, computes}
+use Rattle.mmeaning.proofs.MeaningWords.{◌≡◌, ℕ, zero, suc, ◌+◌, ◌≤◌, Bool, true, false, List, [], ◌∷◌, Option, Some, None, refl, ap, subst, ◌∙◌, arith, rules, codes, nat_lt, M9, M13, Zdepth, Zlevel, Zsyntax, Plan, Done, then_plan, line_in, text_run, nat_tests, Scope, Text, Node, Locals, State, Outcome, Gives, Fails, on_gives, level_begun, value_of, divide, number, text, reference, at_label, executed, execute_word, LineTree, reads_in, Completion, Position, top_level, after_level, run_within, Context, Go_on, Goes, context, commands, doing, doing_block, executing, going, commands_of, computes, Cursor}
 use Rattle.mmeaning.proofs.LineTrees.{only, with_operator, named, command, line}
 use Rattle.mmeaning.proofs.ExampleAccount.{of_profile}
 
@@ -19,19 +19,19 @@ record Refused : Type 0 where
   line_sought : (s : State) → doing (within 255 0) (at_label (codes "NO")) s ≡ Done (Fails M13 s)
   -- even for an argumentless DO that no line follows
   level_of_block : (s : State) → doing_block (within 256 0) s ≡ Done (Fails Zdepth s)
-  block_ends : (naked : Option Node) (test : Bool) (out : Text) (steps : ℕ) (top : Scope) (below : Locals)
-      → doing_block (within 255 0) (record { locals = top ∷ below; naked = naked; test = test; out = out; steps = steps; given = of_profile })
-      ≡ Done (Gives Go_on (record { locals = top ∷ below; naked = naked; test = test; out = out; steps = steps; given = of_profile }))
+  block_ends : (naked : Option Node) (test : Bool) (cursor : Cursor) (out : Text) (steps : ℕ) (top : Scope) (below : Locals)
+      → doing_block (within 255 0) (record { locals = top ∷ below; naked = naked; test = test; cursor = cursor; out = out; steps = steps; given = of_profile })
+      ≡ Done (Gives Go_on (record { locals = top ∷ below; naked = naked; test = test; cursor = cursor; out = out; steps = steps; given = of_profile }))
   -- after the value of a text, and before the text is read
-  level_before_text : (locals : Locals) (naked : Option Node) (test : Bool) (out : Text) (steps : ℕ)
-      → executing (within 256 0) (only (text (codes "1 1"))) (record { locals = locals; naked = naked; test = test; out = out; steps = suc steps; given = of_profile })
-      ≡ Done (Fails Zdepth (record { locals = locals; naked = naked; test = test; out = out; steps = steps; given = of_profile }))
-  text_read : (locals : Locals) (naked : Option Node) (test : Bool) (out : Text) (steps : ℕ)
-      → executing (within 255 0) (only (text (codes "1 1"))) (record { locals = locals; naked = naked; test = test; out = out; steps = suc steps; given = of_profile })
-      ≡ Done (Fails Zsyntax (record { locals = locals; naked = naked; test = test; out = out; steps = steps; given = of_profile }))
-  value_before_level : (locals : Locals) (naked : Option Node) (test : Bool) (out : Text) (steps : ℕ)
-      → executing (within 256 0) (with_operator (number (codes "1")) divide (number (codes "0"))) (record { locals = locals; naked = naked; test = test; out = out; steps = suc (suc steps); given = of_profile })
-      ≡ Done (Fails M9 (record { locals = locals; naked = naked; test = test; out = out; steps = steps; given = of_profile }))
+  level_before_text : (locals : Locals) (naked : Option Node) (test : Bool) (cursor : Cursor) (out : Text) (steps : ℕ)
+      → executing (within 256 0) (only (text (codes "1 1"))) (record { locals = locals; naked = naked; test = test; cursor = cursor; out = out; steps = suc steps; given = of_profile })
+      ≡ Done (Fails Zdepth (record { locals = locals; naked = naked; test = test; cursor = cursor; out = out; steps = steps; given = of_profile }))
+  text_read : (locals : Locals) (naked : Option Node) (test : Bool) (cursor : Cursor) (out : Text) (steps : ℕ)
+      → executing (within 255 0) (only (text (codes "1 1"))) (record { locals = locals; naked = naked; test = test; cursor = cursor; out = out; steps = suc steps; given = of_profile })
+      ≡ Done (Fails Zsyntax (record { locals = locals; naked = naked; test = test; cursor = cursor; out = out; steps = steps; given = of_profile }))
+  value_before_level : (locals : Locals) (naked : Option Node) (test : Bool) (cursor : Cursor) (out : Text) (steps : ℕ)
+      → executing (within 256 0) (with_operator (number (codes "1")) divide (number (codes "0"))) (record { locals = locals; naked = naked; test = test; cursor = cursor; out = out; steps = suc (suc steps); given = of_profile })
+      ≡ Done (Fails M9 (record { locals = locals; naked = naked; test = test; cursor = cursor; out = out; steps = steps; given = of_profile }))
   -- lines with dots
   -- GOTO keeps to the dots of its level, and opens none
   goto_dots : (s : State) → going (within 256 1) (at_label (codes "U")) s ≡ Done (Gives (Goes (record { copy = lines; line = 1 })) s)
@@ -70,9 +70,9 @@ begun_value : (locals : Locals) → value_of (level_begun locals) (codes "A") []
 unfolding value_of level_begun
 begun_value locals = refl
 
-module _ (naked : Option Node) (test : Bool) (out : Text) (steps : ℕ) where
+module _ (naked : Option Node) (test : Bool) (cursor : Cursor) (out : Text) (steps : ℕ) where
   abbrev state : Locals → ℕ → State
-  state locals n = record { locals = locals; naked = naked; test = test; out = out; steps = n; given = of_profile }
+  state locals n = record { locals = locals; naked = naked; test = test; cursor = cursor; out = out; steps = n; given = of_profile }
 
   -- this many more levels may be opened
   abbrev IsRefused : ℕ → ℕ → ℕ → Locals → Type 0
@@ -96,12 +96,12 @@ run_refused : (n : ℕ) (s after : State) → commands (context (codes "ALICE") 
 run_refused n s after h = ap (λ (p : Plan (Outcome Completion)). then_plan p (on_gives (after_level (context (codes "ALICE") n top_level)))) h
 
 -- the state that it leaves: 1,486 of 2,000 steps, and 256 levels more
-text_of_itself : (naked : Option Node) (test : Bool) (out : Text) (locals : Locals) → value_of locals (codes "A") [] ≡ Some (codes "X A")
-    → text_run (codes "ALICE") (line_in 0 (codes "X A")) (record { locals = locals; naked = naked; test = test; out = out; steps = 2000; given = of_profile })
-    ≡ Done (Fails Zdepth (record { locals = begun_more 256 locals; naked = naked; test = test; out = out; steps = 1486; given = of_profile }))
-text_of_itself naked test out locals h =
-    ap (λ l. text_run (codes "ALICE") l (record { locals = locals; naked = naked; test = test; out = out; steps = 2000; given = of_profile })) itself_read
-    ∙ run_refused 2000 (state naked test out 1486 locals 2000) (state naked test out 1486 (begun_more 256 locals) 1486) (enough 2000 refl)
+text_of_itself : (naked : Option Node) (test : Bool) (cursor : Cursor) (out : Text) (locals : Locals) → value_of locals (codes "A") [] ≡ Some (codes "X A")
+    → text_run (codes "ALICE") (line_in 0 (codes "X A")) (record { locals = locals; naked = naked; test = test; cursor = cursor; out = out; steps = 2000; given = of_profile })
+    ≡ Done (Fails Zdepth (record { locals = begun_more 256 locals; naked = naked; test = test; cursor = cursor; out = out; steps = 1486; given = of_profile }))
+text_of_itself naked test cursor out locals h =
+    ap (λ l. text_run (codes "ALICE") l (record { locals = locals; naked = naked; test = test; cursor = cursor; out = out; steps = 2000; given = of_profile })) itself_read
+    ∙ run_refused 2000 (state naked test cursor out 1486 locals 2000) (state naked test cursor out 1486 (begun_more 256 locals) 1486) (enough 2000 refl)
   where
-    enough : (n : ℕ) → steps_for 256 1486 ≡ n → commands (context (codes "ALICE") 2000 top_level) (commands_of itself) (state naked test out 1486 locals n) ≡ Done (Fails Zdepth (state naked test out 1486 (begun_more 256 locals) 1486))
-    enough n e = subst (λ n. commands (context (codes "ALICE") 2000 top_level) (commands_of itself) (state naked test out 1486 locals n) ≡ Done (Fails Zdepth (state naked test out 1486 (begun_more 256 locals) 1486))) e (refused naked test out 1486 256 0 2000 locals refl (omega arith) h)
+    enough : (n : ℕ) → steps_for 256 1486 ≡ n → commands (context (codes "ALICE") 2000 top_level) (commands_of itself) (state naked test cursor out 1486 locals n) ≡ Done (Fails Zdepth (state naked test cursor out 1486 (begun_more 256 locals) 1486))
+    enough n e = subst (λ n. commands (context (codes "ALICE") 2000 top_level) (commands_of itself) (state naked test cursor out 1486 locals n) ≡ Done (Fails Zdepth (state naked test cursor out 1486 (begun_more 256 locals) 1486))) e (refused naked test cursor out 1486 256 0 2000 locals refl (omega arith) h)

@@ -1,7 +1,7 @@
 -- SPDX-License-Identifier: Apache-2.0
 -- Lines of a terminal, one after another, in a form that `simp` computes: a turn is opened only if its state is known, since what
 -- runs a turn holds what runs the next one, and so on for all the fuel.
-use Rattle.mmeaning.proofs.MeaningWords.{◌≡◌, ℕ, zero, suc, Bool, true, false, List, [], ◌∷◌, Option, Some, None, refl, ap, ◌∙◌, map, empty, get, insert, get-insert, nat_cmp_total, Plan, perform, Zsyntax, Zsteps, Zterm, Zline, Zchar, ReferenceTree, ExprsTree, ArgTree, CommandTree, LineTree, line_in, opening, replies, Text, Node, Locals, Given, no_locals, assigned_to, State, Outcome, Act, ◌>>=◌, fail, Evaluated, Depth, through, finds, inside, Completion, Position, top_level, Turning, Texts, Context, texts, arguments, commands, after_turn, after_level, commands_of, Account, Settings, Session, World, Event, Reply, plan_of, begun, session_or_new, ended, refused, is_too_long, is_ascii, checked, at_account, normal}
+use Rattle.mmeaning.proofs.MeaningWords.{◌≡◌, ℕ, zero, suc, Bool, true, false, List, [], ◌∷◌, Option, Some, None, refl, ap, ◌∙◌, map, empty, get, insert, get-insert, nat_cmp_total, Plan, perform, Zsyntax, Zsteps, Zterm, Zline, Zchar, ReferenceTree, ExprsTree, ArgTree, CommandTree, LineTree, line_in, opening, replies, Text, Node, Locals, Given, no_locals, assigned_to, State, Outcome, Act, ◌>>=◌, fail, Evaluated, Depth, through, finds, inside, Completion, Position, top_level, Turning, Texts, Context, texts, arguments, commands, after_turn, after_level, commands_of, Account, Settings, Session, World, Event, Reply, plan_of, begun, session_or_new, ended, refused, is_too_long, is_ascii, checked, at_account, normal, Cursor, home}
 use Rattle.mmeaning.specs.Transition.{act}
 use Rattle.mmeaning.proofs.ExampleAccount.{account, settings_of}
 
@@ -34,7 +34,7 @@ serving s = record { shared = (opening empty).shared; sessions = insert empty 1 
 
 -- where it holds one text, at a variable's name
 abbrev pub holding : Text → Text → World
-holding name x = serving (record { locals = assigned_to no_locals name [] x; naked = None; test = false })
+holding name x = serving (record { locals = assigned_to no_locals name [] x; naked = None; test = false; cursor = home })
 
 -- ---- the same with turns and texts that are shut
 
@@ -133,14 +133,14 @@ turned a (suc n) p t = commands (at a n p) t.body >>= after_turn (at a n p) t
 -- only if the state is known
 abbrev pub Opens : {A : Type 0} → Act A → Act A → Type 0
 Opens f g =
-    (locals : Locals) (naked : Option Node) (test : Bool) (out : Text) (steps : ℕ) (given : Given)
-    → f (record { locals = locals; naked = naked; test = test; out = out; steps = steps; given = given })
-    ≡ g (record { locals = locals; naked = naked; test = test; out = out; steps = steps; given = given })
+    (locals : Locals) (naked : Option Node) (test : Bool) (cursor : Cursor) (out : Text) (steps : ℕ) (given : Given)
+    → f (record { locals = locals; naked = naked; test = test; cursor = cursor; out = out; steps = steps; given = given })
+    ≡ g (record { locals = locals; naked = naked; test = test; cursor = cursor; out = out; steps = steps; given = given })
 
 pub opened : (a : Text) (n : ℕ) (p : Position) (t : Turning) → Opens ((shut a n).turn p t) (turned a n p t)
 unfolding shut
-opened a zero p t locals naked test out steps given = refl
-opened a (suc n) p t locals naked test out steps given = refl
+opened a zero p t locals naked test cursor out steps given = refl
+opened a (suc n) p t locals naked test cursor out steps given = refl
 
 abbrev pub entered : Text → ℕ → Position → List CommandTree → Act Completion
 entered a zero p cs = fail Zsteps
@@ -148,8 +148,8 @@ entered a (suc n) p cs = commands (at a n p) cs >>= after_level (at a n p)
 
 pub text_opened : (a : Text) (n : ℕ) (p : Position) (cs : List CommandTree) → Opens ((shut a n).enter p cs) (entered a n p cs)
 unfolding shut
-text_opened a zero p cs locals naked test out steps given = refl
-text_opened a (suc n) p cs locals naked test out steps given = refl
+text_opened a zero p cs locals naked test cursor out steps given = refl
+text_opened a (suc n) p cs locals naked test cursor out steps given = refl
 
 abbrev pub listed : Text → ℕ → Position → List ArgTree → Act Completion
 listed a zero p args = fail Zsteps
@@ -157,8 +157,8 @@ listed a (suc n) p args = arguments (at a n p) args
 
 pub list_opened : (a : Text) (n : ℕ) (p : Position) (args : List ArgTree) → Opens ((shut a n).list p args) (listed a n p args)
 unfolding shut
-list_opened a zero p args locals naked test out steps given = refl
-list_opened a (suc n) p args locals naked test out steps given = refl
+list_opened a zero p args locals naked test cursor out steps given = refl
+list_opened a (suc n) p args locals naked test cursor out steps given = refl
 
 -- what a text names is found if the state is known, too
 abbrev pub found : Text → ℕ → Depth → ReferenceTree → ExprsTree → Act Evaluated
@@ -167,7 +167,7 @@ found a (suc n) d r subscripts = through (inside a n d) r subscripts
 
 pub name_found : (a : Text) (n : ℕ) (d : Depth) (r : ReferenceTree) (subscripts : ExprsTree) → Opens (finds a n d r subscripts) (found a n d r subscripts)
 unfolding finds
-name_found a zero d r subscripts locals naked test out steps given = refl
-name_found a (suc n) d r subscripts locals naked test out steps given = refl
+name_found a zero d r subscripts locals naked test cursor out steps given = refl
+name_found a (suc n) d r subscripts locals naked test cursor out steps given = refl
 
 pub ruleset turns = (opened)

@@ -1,6 +1,6 @@
 -- SPDX-License-Identifier: Apache-2.0
 -- Lines of several terminals, one after another, and the maps of locks and sessions that they leave: for examples of LOCK and HALT.
-use Rattle.mmeaning.proofs.MeaningWords.{◌≡◌, ℕ, Bool, true, false, cond, List, [], ◌∷◌, Option, Some, None, refl, sym, ap, ◌∙◌, codes, not, map, eq_by_cmp, Plan, Ask, Take, Give_back, Release, perform, Ops, LineTree, line_in, Completion, Session, World, Event, Reply, Halted, normal, replies, get, insert, empty, entries, remove, retain_keys, get-insert, get-remove, get-empty, entries-insert, same_map, FinMap, nat_cmp, nat_cmp_total, Account, LockName, Locks, Held, held_cmp, Read, Text, Outcome, no_locals, equal_of, get_cut, cut_drops, entries_none, Shared, act, Inside, inside}
+use Rattle.mmeaning.proofs.MeaningWords.{◌≡◌, ℕ, Bool, true, false, cond, List, [], ◌∷◌, Option, Some, None, refl, sym, ap, ◌∙◌, codes, not, map, eq_by_cmp, Plan, Ask, Take, Give_back, Release, perform, Ops, LineTree, line_in, Completion, Session, World, Event, Reply, Halted, normal, replies, get, insert, empty, entries, remove, retain_keys, get-insert, get-remove, get-empty, entries-insert, same_map, FinMap, nat_cmp, nat_cmp_total, Account, LockName, Locks, Held, held_cmp, Read, Text, Outcome, no_locals, equal_of, get_cut, cut_drops, entries_none, Shared, act, Inside, inside, home}
 use Rattle.std.specs.FinMap.Entries.{put}
 use Rattle.mspec.specs.Access.{Settings}
 use Rattle.mspec.proofs.LockOrders.{held_cmp_total, held_cmp_exact}
@@ -71,7 +71,7 @@ replied_first {world = world} {l = l} {r = r} {ls = ls} after tree e first rest 
 -- ---- a session without variables, and the reply if a line halts
 
 abbrev pub plain_session : Bool → Session
-plain_session test = record { locals = no_locals; naked = None; test = test }
+plain_session test = record { locals = no_locals; naked = None; test = test; cursor = home }
 
 abbrev pub halted : Reply
 halted = record { out = []; ending = Halted }

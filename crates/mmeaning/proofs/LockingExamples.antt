@@ -1,6 +1,6 @@
 -- SPDX-License-Identifier: Apache-2.0
 -- LOCK on examples, as proved equations over any world: what is asked in which order, and what is refused.
-use Rattle.mmeaning.proofs.MeaningWords.{◌≡◌, ℕ, suc, Bool, true, false, [], ◌∷◌, Option, Some, None, refl, rules, codes, empty, get, M9, Zgrant, Zlocked, Zsub, Zsyntax, perform, LockName, Locks, taken, given_back, released, Read, Text, Node, Locals, State, Gives, Fails, ExprTree, divide, number, text, ReferenceTree, local, global, indirect, extended, exprs, no_exprs, anew, adding, giving_back, lock_one, lock_several, reference, reads_in, finds, Shared, computes}
+use Rattle.mmeaning.proofs.MeaningWords.{◌≡◌, ℕ, suc, Bool, true, false, [], ◌∷◌, Option, Some, None, refl, rules, codes, empty, get, M9, Zgrant, Zlocked, Zsub, Zsyntax, perform, LockName, Locks, taken, given_back, released, Read, Text, Node, Locals, State, Gives, Fails, ExprTree, divide, number, text, ReferenceTree, local, global, indirect, extended, exprs, no_exprs, anew, adding, giving_back, lock_one, lock_several, reference, reads_in, finds, Shared, computes, Cursor}
 use Rattle.mspec.specs.Access.{Settings}
 use Rattle.mmeaning.specs.Locking.{locking}
 use Rattle.mmeaning.proofs.ExampleAccount.{account_named, of_profile}
@@ -34,9 +34,9 @@ her_y = record { account = codes "ALICE"; name = codes "Y"; subscripts = codes "
 abbrev error : ExprTree
 error = with_operator (number (codes "1")) divide (number (codes "0"))
 
-module _ (w : Shared) (naked : Option Node) (test : Bool) (out : Text) (locals : Locals) (steps : ℕ) where
+module _ (w : Shared) (naked : Option Node) (test : Bool) (cursor : Cursor) (out : Text) (locals : Locals) (steps : ℕ) where
   abbrev state : Bool → ℕ → State
-  state b n = record { locals = locals; naked = naked; test = b; out = out; steps = n; given = of_profile }
+  state b n = record { locals = locals; naked = naked; test = b; cursor = cursor; out = out; steps = n; given = of_profile }
 
   -- ---- taking
 
@@ -60,7 +60,7 @@ module _ (w : Shared) (naked : Option Node) (test : Bool) (out : Text) (locals :
   -- a subscript that is read is the node that was referred to last; the name itself is not
   subscript_refers : (locks : Locks) → get w.globals her_y ≡ Some (codes "x") → taken w.locks 1 (record { global = true; node = record { account = codes "ALICE"; name = codes "J"; subscripts = codes "x" ∷ [] } } ∷ []) ≡ Some locks
       → perform hers (locking her_line adding (lock_one (global (codes "J") (exprs (only (reference (global (codes "Y") (exprs (only (text (codes "a"))) no_exprs)))) no_exprs))) None (state test (suc (suc steps)))) w
-      ≡ (Gives tt (record { locals = locals; naked = Some her_y; test = test; out = out; steps = steps; given = of_profile }), record w { locks = locks })
+      ≡ (Gives tt (record { locals = locals; naked = Some her_y; test = test; cursor = cursor; out = out; steps = steps; given = of_profile }), record w { locks = locks })
   subscript_refers locks read free = rw (perform, read, free) refl
 
   -- ---- giving back

@@ -18,6 +18,7 @@ pub use Rattle.mspec.specs.Access.{Mode, Read, Write, may}
 pub use Rattle.mspec.specs.Act.{Act, Fails, Given, Gives, Locals, Node, Outcome, State, Text, ask, fail, give, give_some, on_gives, read_so, ◌>>=◌}
 unfoldable pub use Rattle.mspec.specs.Act.{assigned_to, level_begun, no_locals, value_of}
 pub use Rattle.mspec.specs.Code.{Code, Fault, Lost, M1, M10, M13, M15, M28, M4, M6, M7, M9, M94, Memory, Own, Store, Zarg, Zchar, Zdepth, Zgrant, Zlevel, Zline, Zlocked, Zlong, Zover, Zsteps, Zsub, Zsyntax, Zterm}
+pub use Rattle.mspec.specs.Cursor.{Cursor, home}
 pub use Rattle.mspec.specs.Globals.{Globals, is_node_within, lines_of, status}
 pub use Rattle.mspec.specs.LockConflict.{Held, LockName, Locks, given_back, held, held_cmp, released, taken}
 pub use Rattle.mspec.specs.NodeOrder.{node_cmp}

@@ -1,6 +1,6 @@
 -- SPDX-License-Identifier: Apache-2.0
 -- Routines, DO, GOTO and XECUTE on examples, as proved equations.
-use Rattle.mmeaning.proofs.MeaningWords.{M13, Zsyntax, Zsteps, no_locals, assigned_to}
+use Rattle.mmeaning.proofs.MeaningWords.{M13, Zsyntax, Zsteps, no_locals, assigned_to, home}
 use Rattle.mmeaning.proofs.Running.{[], ◌∷◌, None, false, refl, codes, done, failed, at_first, at_last, asked, serving_in, holding_in, With, WithSteps, Anywhere, computed_operations, WithEach, at_case, no_more, runs, running}
 
 record Routines : Type 0 where
@@ -78,7 +78,7 @@ routines = record {
   no_text = λ g. at_last _ refl (simp running);
   xecute_in_for = λ g. at_last _ refl (simp running);
   for_in_xecute = λ g. at_last _ refl (simp running);
-  steps_of_lines = λ g h. at_first (serving_in g (record { locals = assigned_to (assigned_to no_locals (codes "A") [] (codes "1")) (codes "%N") [] (codes "2"); naked = None; test = false })) _ refl (simp (running, asked g _ _ h)) (at_last _ refl (simp running));
+  steps_of_lines = λ g h. at_first (serving_in g (record { locals = assigned_to (assigned_to no_locals (codes "A") [] (codes "1")) (codes "%N") [] (codes "2"); naked = None; test = false; cursor = home })) _ refl (simp (running, asked g _ _ h)) (at_last _ refl (simp running));
   own_lines_killed = λ g h. at_last _ refl (simp (running, computed_operations, asked g _ _ h));
   new_in_xecute = λ g. at_last _ refl (simp running);
   test_of_do = λ g h. at_last _ refl (simp (running, asked g _ _ h));

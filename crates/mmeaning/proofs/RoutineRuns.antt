@@ -1,6 +1,6 @@
 -- SPDX-License-Identifier: Apache-2.0
 -- Lines that lead to routines: for examples in a world whose store has a routine of ALICE.
-use Rattle.mmeaning.proofs.MeaningWords.{◌≡◌, ℕ, Bool, false, List, [], None, refl, ap, codes, empty, insert, Locks, May, Put, Kill, Routine, Plan, Ask, perform, Completion, opening, Globals, lines_of, Mode, may, Text, Node, Outcome, no_locals, assigned_to, act, Settings, Session, World, Reply}
+use Rattle.mmeaning.proofs.MeaningWords.{◌≡◌, ℕ, Bool, false, List, [], None, refl, ap, codes, empty, insert, Locks, May, Put, Kill, Routine, Plan, Ask, perform, Completion, opening, Globals, lines_of, Mode, may, Text, Node, Outcome, no_locals, assigned_to, act, Settings, Session, World, Reply, home}
 use Rattle.mmeaning.specs.Transition.{Shared}
 use Rattle.mmeaning.proofs.Calls.{assoc_plan}
 use Rattle.mmeaning.proofs.LineRuns.{opened, text_opened, list_opened, name_found, AreAnswered, Cases, AreAnsweredEach}
@@ -35,7 +35,7 @@ serving_in g s = record { shared = (opening g).shared; sessions = insert empty 1
 
 -- where it holds one text, at a variable's name
 abbrev pub holding_in : Globals → Text → Text → World
-holding_in g name x = serving_in g (record { locals = assigned_to no_locals name [] x; naked = None; test = false })
+holding_in g name x = serving_in g (record { locals = assigned_to no_locals name [] x; naked = None; test = false; cursor = home })
 
 -- A level is deep within plans one after another, where `simp` doesn't look: it brings what is done next to the front.
 pub ruleset computed_levels = (opened, text_opened, list_opened, name_found, assoc_plan)

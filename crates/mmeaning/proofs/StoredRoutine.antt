@@ -1,6 +1,6 @@
 -- SPDX-License-Identifier: Apache-2.0
 -- A routine from its first line on, as a proved equation: its lines are set, and then it is run.
-use Rattle.mmeaning.proofs.MeaningWords.{computed_maps, computed_numbers, computes, canonical_value, no_locals, Session, ◌∙◌, insert, entries, entries-insert, significant_digits, node_cmp, node_cmp_total, entries_none, Node}
+use Rattle.mmeaning.proofs.MeaningWords.{computed_maps, computed_numbers, computes, canonical_value, no_locals, Session, ◌∙◌, insert, entries, entries-insert, significant_digits, node_cmp, node_cmp_total, entries_none, Node, home}
 use Rattle.mmeaning.proofs.RoutineRuns.{lines_in, computed_levels}
 use Rattle.mmeaning.proofs.Running.{◌≡◌, [], ◌∷◌, Some, false, refl, codes, empty, gets, Globals, Text, done, Answered, at_first, at_last, asked, serving_in, computed_operations, runs}
 
@@ -31,7 +31,7 @@ lines_stored = rw both_entries refl
 
 -- a session in which this node was referred to last
 abbrev referred : Node → Session
-referred n = record { locals = no_locals; naked = Some n; test = false }
+referred n = record { locals = no_locals; naked = Some n; test = false; cursor = home }
 
 stored_and_run : Answered (codes "S ^ROUTINE(\"R\",1)=\"T N V S V=2 D U W V Q\"" ∷ codes "S ^ROUTINE(\"R\",2)=\"U S V=V+1 Q\"" ∷ codes "S V=9 D T^R W V" ∷ []) (done [] ∷ done [] ∷ done (codes "39") ∷ [])
 unfolding runs

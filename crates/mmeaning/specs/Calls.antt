@@ -7,6 +7,7 @@ use Rattle.std.specs.Prelude.{◌≡◌, ◌≤◌, ℕ, Bool, Option, Result, O
 use Rattle.mspec.specs.Code.{Fault, Own, Lost, Memory, Store}
 use Rattle.mspec.specs.Plan.{Ops, perform, cut_short}
 use Rattle.mspec.specs.Act.{Text, Node, Locals, Given, State, Gives, Fails, Act}
+use Rattle.mspec.specs.Cursor.{Cursor}
 use Rattle.mmeaning.specs.Transition.{Settings, Shared, act}
 
 -- what stays the same while a line runs
@@ -24,8 +25,8 @@ abbrev pub Here : Type 0
 Here = State × Shared
 
 -- the same by its parts
-abbrev pub point : Locals → Option Node → Bool → Text → ℕ → Given → Shared → Here
-point locals naked test out steps given w = (record { locals = locals; naked = naked; test = test; out = out; steps = steps; given = given }, w)
+abbrev pub point : Locals → Option Node → Bool → Cursor → Text → ℕ → Given → Shared → Here
+point locals naked test cursor out steps given w = (record { locals = locals; naked = naked; test = test; cursor = cursor; out = out; steps = steps; given = given }, w)
 
 abbrev pub Gave : {A : Type 0} → Standing → Act A → Here → A → Here → Type 0
 Gave b p h a h' = perform (ops_of b) (p h.0) h.1 ≡ (Gives a h'.0, h'.1)

@@ -5,18 +5,20 @@
 -- "Xecute" among them, and what "Indirection" says of arguments: arguments are done from left to right, each as if it stood in a command of its
 -- own, and those that a text gives as if they stood in its place. A DO without arguments does the lines after its own that have one dot
 -- more, and keeps $TEST. LOCK is in Locking. Each text is read in the language that the line is given.
-use Rattle.std.specs.Prelude.{ℕ, zero, suc, ◌+◌, ℤ, pos, negsuc, ◌+ℤ◌, Bool, true, not, cond, nat_lt, nat_le, ◌==◌, List, [], ◌∷◌, ◌++◌, length, drop, map, Option, Some, None}
+use Rattle.std.specs.Prelude.{ℕ, zero, suc, ◌+◌, ℤ, pos, negsuc, ◌+ℤ◌, Bool, true, not, cond, nat_lt, nat_le, ◌==◌, List, [], ◌∷◌, ◌++◌, length, drop, Option, Some, None}
 use Rattle.mspec.specs.Number.{sum_of}
 use Rattle.mspec.specs.NumberText.{number_text}
 use Rattle.mspec.specs.TextFunctions.{set_piece_of, has_places, set_range_of}
+pub use Rattle.mspec.specs.Cursor.{line_end}
+use Rattle.mspec.specs.Cursor.{is_column, spaces_to}
 use Rattle.mspec.specs.Scopes.{killed_except, newed, newed_except}
-use Rattle.mgrammar.specs.Grammar.{ExprTree, EntryTree, ReferenceTree, TargetTree, variable, part, DestinationTree, one, several, ParameterTree, once, onward, until, KeywordTree, set_word, kill_word, new_word, if_word, else_word, for_word, quit_word, write_word, do_word, goto_word, execute_word, lock_word, halt_word, hang_word, halt_or_hang_word, ArgTree, assign, formats, coded, shown, kill_one, kill_others, new_one, new_others, tested, loop, do_one, go_to, executed, locked, hang_for, indirect_args, FormTree, PrimaryTree, CommandTree, LineTree, is_bang}
+use Rattle.mgrammar.specs.Grammar.{ExprTree, EntryTree, ReferenceTree, TargetTree, variable, part, DestinationTree, one, several, ParameterTree, once, onward, until, KeywordTree, set_word, kill_word, new_word, if_word, else_word, for_word, quit_word, write_word, do_word, goto_word, execute_word, lock_word, halt_word, hang_word, halt_or_hang_word, ArgTree, assign, formats, coded, shown, kill_one, kill_others, new_one, new_others, tested, loop, do_one, go_to, executed, locked, hang_for, indirect_args, FormTree, PrimaryTree, CommandTree, LineTree}
 use Rattle.mgrammar.specs.Functions.{ValueFunctionTree, FunctionTree, of_values, extract_function, piece_function, function_of}
 use Rattle.mgrammar.specs.Languages.{line_in, routine_line_in, args_in}
 use Rattle.mgrammar.specs.RoutineLine.{dots_of}
-use Rattle.mspec.specs.Code.{M15, Zchar, Zsteps, Zsyntax}
+use Rattle.mspec.specs.Code.{M15, Zarg, Zchar, Zsteps, Zsyntax}
 use Rattle.mspec.specs.Plan.{Release}
-use Rattle.mspec.specs.Act.{Text, Act, level_begun, ◌>>=◌, ◌>>◌, give, give_some, read_so, fail, ask, charge, write, with_locals, test_is, set_test}
+use Rattle.mspec.specs.Act.{Text, Act, level_begun, ◌>>=◌, ◌>>◌, give, give_some, read_so, fail, unless, ask, charge, write, write_formats, with_locals, test_is, set_test, cursor_is}
 use Rattle.mmeaning.specs.Operators.{outcome, as_number, as_truth, as_text}
 use Rattle.mmeaning.specs.Functions.{as_whole, text_at, whole_at}
 use Rattle.mmeaning.specs.Variables.{Evaluated, at_local, writing, resolve, found_at, read_or, put_at, kill_at}
@@ -26,16 +28,6 @@ use Rattle.mmeaning.specs.Locking.{locking}
 pub use Rattle.mmeaning.specs.Levels.{Level, Position, top_level, Target, Closing, leaves, restores}
 use Rattle.mmeaning.specs.Levels.{target, a_level_free, deeper, within_indirection, closing, commands_of, commands_in}
 use Rattle.mmeaning.specs.Courses.{Course, last_turn, endless, limited, forever, is_past}
-
--- in an output, each `!` is this byte, which no text has, and each `#` the character that begins a page
-abbrev pub line_end : ℕ
-line_end = 255
-
-abbrev pub form_feed : ℕ
-form_feed = 12
-
-abbrev pub format_byte : ℕ → ℕ
-format_byte c = cond (is_bang c) line_end form_feed
 
 -- ---- how a line goes on
 
@@ -176,6 +168,20 @@ abbrev pub showing : Inside → ExprTree → Act (Unit {0})
 showing i e = do
   x ← value i e
   write x
+
+-- after a `?`: spaces up to a column, unless the line is there; one that no text is as long as is refused
+abbrev pub tabbing : Inside → Option ExprTree → Act (Unit {0})
+tabbing i None = give tt
+tabbing i (Some e) = do
+  x ← value i e
+  n ← as_whole x
+  unless Zarg (is_column n)
+  c ← cursor_is
+  write (spaces_to n c.column)
+
+-- formats in front of that
+abbrev pub formatting : Inside → List ℕ → Option ExprTree → Act (Unit {0})
+formatting i run tab = write_formats run >> tabbing i tab
 
 -- the character of a code
 abbrev pub coded_character : ℤ → Option ℕ
@@ -382,7 +388,7 @@ given x f p = do
 -- what an argument does, of whichever command; that of FOR takes the rest of the line, and is done elsewhere
 abbrev pub argument : Context → ArgTree → Act Completion
 argument x (assign d e) = setting (inside_of x) d e >> give Go_on
-argument x (formats run) = write (map format_byte run) >> give Go_on
+argument x (formats run tab) = formatting (inside_of x) run tab >> give Go_on
 argument x (coded e) = coding (inside_of x) e >> give Go_on
 argument x (shown e) = showing (inside_of x) e >> give Go_on
 argument x (kill_one r) = killing (inside_of x) r >> give Go_on

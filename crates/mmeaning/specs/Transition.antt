@@ -9,6 +9,7 @@ pub use Rattle.mspec.specs.Limits.{max_line}
 use Rattle.mspec.specs.Plan.{Plan, perform, cut_short}
 use Rattle.mspec.specs.LockConflict.{released}
 use Rattle.mspec.specs.Act.{Text, Node, Locals, no_locals, level_begun, given_to, State, Outcome, Gives, Fails, Act, fail}
+use Rattle.mspec.specs.Cursor.{Cursor, home}
 use Rattle.mspec.specs.Scopes.{outermost}
 use Rattle.mspec.specs.Names.{is_character}
 use Rattle.mgrammar.specs.Grammar.{LineTree}
@@ -17,14 +18,15 @@ use Rattle.mmeaning.specs.LineMeaning.{Completion, Go_on, Skips, Quits, Goes, Ha
 pub use Rattle.mspec.specs.Access.{Account, Settings}
 pub use Rattle.mmeaning.specs.Shared.{Shared, act}
 
--- what a terminal keeps from line to line; a new one has no locals, no naked indicator, and 0 as $TEST
+-- what a terminal keeps from line to line; a new one has no locals, no naked indicator, and 0 as $TEST, and its output is at its beginning
 pub record Session : Type 0 where
   pub locals : Locals
   pub naked : Option Node
   pub test : Bool
+  pub cursor : Cursor
 
 abbrev pub new_session : Session
-new_session = record { locals = no_locals; naked = None; test = false }
+new_session = record { locals = no_locals; naked = None; test = false; cursor = home }
 
 abbrev pub session_or_new : Option Session → Session
 session_or_new None = new_session
@@ -50,11 +52,11 @@ pub record Reply : Type 0 where
 -- a line is a level of its own, and is given its terminal, and its account's steps and language
 abbrev pub begun : ℕ → Account → Session → State
 begun terminal account s =
-    record { locals = level_begun s.locals; naked = s.naked; test = s.test; out = []; steps = account.steps; given = given_to terminal account.language }
+    record { locals = level_begun s.locals; naked = s.naked; test = s.test; cursor = s.cursor; out = []; steps = account.steps; given = given_to terminal account.language }
 
 -- none of the scopes that a line opened is left, however it ended
 abbrev pub kept : State → Session
-kept s = record { locals = outermost s.locals; naked = s.naked; test = s.test }
+kept s = record { locals = outermost s.locals; naked = s.naked; test = s.test; cursor = s.cursor }
 
 -- what a text of an account does; one that has no tree fails with ZSYNTAX
 abbrev pub text_run : Text → Option LineTree → Act Completion

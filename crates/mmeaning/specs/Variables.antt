@@ -1,8 +1,8 @@
 -- SPDX-License-Identifier: Apache-2.0
 -- Variables: the checks of a reference, and what is asked of the place that it names.
 --
--- Restates "Local variable name lvn", "Global variable name gvn", "$DATA", "$GET", "$ORDER", "$IO", "$JOB", "$PRINCIPAL", "$STORAGE" and
--- "$TEST" of ISO/IEC 11756:1999, and what "LOCK" says of an nref. A reference is checked once all its subscripts are evaluated.
+-- Restates "Local variable name lvn", "Global variable name gvn", "$DATA", "$GET", "$ORDER", "$IO", "$JOB", "$PRINCIPAL", "$STORAGE", "$TEST", "$X" and
+-- "$Y" of ISO/IEC 11756:1999, and what "LOCK" says of an nref. A reference is checked once all its subscripts are evaluated.
 use Rattle.std.specs.Prelude.{ℕ, ◌+◌, ◌*◌, pos, negsuc, Bool, true, false, cond, ◌&&◌, nat_le, nat_lt, List, [], ◌∷◌, ◌++◌, length, Option, Some, None, unwrap_or, slice_get}
 use Rattle.std.specs.Ordering.{int_eq}
 use Rattle.mspec.specs.Access.{Mode, Read, Write}
@@ -14,8 +14,8 @@ use Rattle.mspec.specs.Subscripts.{is_account_name, are_subscripts, are_order_su
 use Rattle.mspec.specs.Interpretations.{truth_text}
 use Rattle.mspec.specs.Code.{M1, M7, Zarg, Zgrant, Zlong, Zsub, Zsyntax}
 use Rattle.mspec.specs.Plan.{May, Value, Status, Neighbour, Put, Kill}
-use Rattle.mspec.specs.Act.{Text, Node, Act, ◌>>=◌, ◌>>◌, give, give_some, fail, unless, ask, get_local, set_local, with_locals, of_locals, value_of, terminal_is, test_is, naked_is, set_naked}
-use Rattle.mgrammar.specs.Specials.{SpecialTree, test_special, io_special, job_special, principal_special, storage_special}
+use Rattle.mspec.specs.Act.{Text, Node, Act, ◌>>=◌, ◌>>◌, give, give_some, fail, unless, ask, get_local, set_local, with_locals, of_locals, value_of, terminal_is, test_is, cursor_is, naked_is, set_naked}
+use Rattle.mgrammar.specs.Specials.{SpecialTree, test_special, io_special, job_special, principal_special, storage_special, column_special, row_special}
 use Rattle.mgrammar.specs.Functions.{VariableFunctionTree, data_function, get_function, order_function, FunctionTree, of_values, of_variable, of_choices}
 use Rattle.mmeaning.specs.Functions.{whole_text, as_whole}
 
@@ -210,3 +210,9 @@ special_value (Some io_special) = terminal_number
 special_value (Some job_special) = terminal_number
 special_value (Some principal_special) = terminal_number
 special_value (Some storage_special) = give (whole_text (pos max_text))
+special_value (Some column_special) = do
+  c ← cursor_is
+  give (whole_text (pos c.column))
+special_value (Some row_special) = do
+  c ← cursor_is
+  give (whole_text (pos c.row))

@@ -42,11 +42,17 @@ fn write_argument(alloc: Global, bytes: &[u8]) -> Result<(Arg, &[u8]), ParseFaul
     ensures { Gives (λ x. (arg_tree x.0, x.1.now)) result (settled_with write_argument_at write_argument bytes.now) }
 {
     let (formats, rest) = run(Class::Format, bytes);
+    if let Some(behind) = past(b'?', rest) {
+        let (column, rest) = expr(alloc, behind, MAX_DEPTH)?;
+        let formats = Bytes7::from_slice(alloc, formats)?;
+        let tab = Some(Box::new(alloc, column)?);
+        return Ok((Arg::Formats(formats, tab), rest));
+    }
     if formats.is_empty() {
-        return written_value(alloc, bytes);
+        return written_value(alloc, rest);
     }
     let formats = Bytes7::from_slice(alloc, formats)?;
-    Ok((Arg::Formats(formats), rest))
+    Ok((Arg::Formats(formats, None), rest))
 }
 
 // The arguments of a command.

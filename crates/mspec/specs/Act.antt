@@ -1,9 +1,10 @@
 -- SPDX-License-Identifier: Apache-2.0
 -- An act of a session: from the session's state to a plan that ends with a value or a code, and with the state after it.
-use Rattle.std.specs.Prelude.{ℕ, zero, suc, Bool, true, false, List, [], ◌∷◌, ◌++◌, Option, Some, None}
+use Rattle.std.specs.Prelude.{ℕ, zero, suc, Bool, true, false, List, [], ◌∷◌, ◌++◌, map, length, Option, Some, None}
 use Rattle.mspec.specs.Code.{Code, M6, Zsteps}
 pub use Rattle.mspec.specs.Node.{Text, Node}
 use Rattle.mspec.specs.Scopes.{Scopes, bottom, value_at, assigned, with_level}
+use Rattle.mspec.specs.Cursor.{Cursor, format_byte, after_characters, after_formats}
 use Rattle.mspec.specs.Plan.{Op, Answer, Plan, Done, Ask, then_plan}
 
 -- the locals of a session: a stack of scopes
@@ -42,12 +43,13 @@ pub record Given : Type 0 where
 abbrev pub given_to : ℕ → ℕ → Given
 given_to terminal language = record { terminal = terminal; language = language; moment = None; seed = None; inputs = [] }
 
--- the state of a session while a line runs: what it keeps (locals, naked indicator, $TEST), the output so far, the steps that are left,
--- and what the line is given
+-- the state of a session while a line runs: what it keeps (locals, naked indicator, $TEST, where its output is), the line's output so far,
+-- the steps that are left, and what the line is given
 pub record State : Type 0 where
   pub locals : Locals
   pub naked : Option Node
   pub test : Bool
+  pub cursor : Cursor
   pub out : Text
   pub steps : ℕ
   pub given : Given
@@ -89,8 +91,18 @@ charged (suc n) s = Gives tt (record s { steps = n })
 abbrev pub charge : Act (Unit {0})
 charge s = Done (charged s.steps s)
 
+-- to the output, and to where it is
+abbrev pub append : Text → Act (Unit {0})
+append t s = Done (Gives tt (record s { out = s.out ++ t }))
+
+abbrev pub move_cursor : (Cursor → Cursor) → Act (Unit {0})
+move_cursor f s = Done (Gives tt (record s { cursor = f s.cursor }))
+
 abbrev pub write : Text → Act (Unit {0})
-write t s = Done (Gives tt (record s { out = s.out ++ t }))
+write t = append t >> move_cursor (after_characters (length t))
+
+abbrev pub write_formats : List ℕ → Act (Unit {0})
+write_formats fs = append (map format_byte fs) >> move_cursor (after_formats fs)
 
 abbrev pub give_some : {A : Type 0} → Code → Option A → Act A
 give_some c None = fail c
@@ -128,6 +140,10 @@ test_is s = Done (Gives s.test s)
 
 abbrev pub set_test : Bool → Act (Unit {0})
 set_test b s = Done (Gives tt (record s { test = b }))
+
+-- $X and $Y
+abbrev pub cursor_is : Act Cursor
+cursor_is s = Done (Gives s.cursor s)
 
 -- the naked indicator: the node that was referred to last
 abbrev pub naked_is : Act (Option Node)

@@ -29,4 +29,5 @@ pub mod Access
 pub mod Flow
 pub mod LockConflict
 pub mod LockLaws
+pub mod Cursor
 pub mod Act

@@ -59,6 +59,10 @@ max_indirections = 32
 abbrev pub max_count : ℕ
 max_count = 1000000
 
+-- how far $X and $Y count
+abbrev pub max_position : ℕ
+max_position = 4294967295
+
 -- ---- settings
 
 -- the number of a terminal

@@ -42,6 +42,9 @@ pub const MAX_INDIRECTIONS: u32 = 32;
 /// The most times that a terminal holds one name by LOCK.
 pub const MAX_COUNT: u32 = 1_000_000;
 
+/// How far `$X` and `$Y` count.
+pub const MAX_POSITION: u32 = 4_294_967_295;
+
 /// The largest number of a terminal.
 pub const MAX_TERMINAL: u32 = 9999;
 
@@ -59,6 +62,6 @@ pub fn limits_are_defined()
     ensures accounts { MAX_ACCOUNT_NAME ≡ limits.max_account_name }
     ensures lines { (MAX_LINE ≡ limits.max_line) × (MAX_WIRE_LINE ≡ limits.max_wire_line) }
     ensures depth { (MAX_DEPTH ≡ limits.max_depth) × (MAX_LEVELS ≡ limits.max_levels) × (MAX_INDIRECTIONS ≡ limits.max_indirections) }
-    ensures counts { MAX_COUNT ≡ limits.max_count }
+    ensures counts { (MAX_COUNT ≡ limits.max_count) × (MAX_POSITION ≡ limits.max_position) }
     ensures settings { (MAX_TERMINAL ≡ limits.max_terminal) × (MAX_STEPS ≡ limits.max_steps) × (MAX_ENTRIES ≡ limits.max_entries) }
 {}

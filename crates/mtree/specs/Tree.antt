@@ -102,6 +102,8 @@ special_tree special_variable.Io = specials.io_special
 special_tree special_variable.Job = specials.job_special
 special_tree special_variable.Principal = specials.principal_special
 special_tree special_variable.Storage = specials.storage_special
+special_tree special_variable.Column = specials.column_special
+special_tree special_variable.Row = specials.row_special
 
 abbrev pub repeated_tree : Repeated → RepeatedTree
 repeated_tree (repeated.Classes letters) = grammar.classes letters
@@ -210,7 +212,7 @@ locked_tree (locked_names.Several rs) = grammar.lock_several (map reference_tree
 
 abbrev pub arg_tree : Arg → ArgTree
 arg_tree (arg.Assign d e) = grammar.assign (destination_tree d) (expr_tree e)
-arg_tree (arg.Formats run) = grammar.formats run
+arg_tree (arg.Formats run tab) = grammar.formats run (condition_tree tab)
 arg_tree (arg.Coded e) = grammar.coded (expr_tree e)
 arg_tree (arg.Value e) = grammar.shown (expr_tree e)
 arg_tree (arg.KillOne r) = grammar.kill_one (reference_tree r)

@@ -1,7 +1,7 @@
 // SPDX-License-Identifier: Apache-2.0
 // The first language that has all forms of a tree.
 ghost use Rattle.std.specs.Prelude.{◌≡◌, map};
-ghost use Rattle.mgrammar.specs.Grammar.{tails_of, exprs_of, choices_of};
+ghost use Rattle.mgrammar.specs.Grammar.{tails_of, exprs_of, choices_of, formats};
 ghost use Rattle.mgrammar.specs.Languages.{since_all, since_optional, since_expr, since_tails, since_tail, since_operand, since_primary, since_reference, since_exprs, since_choices, since_target, since_destination, since_parameter, since_locked, since_format, since_arg, since_args, since_command, since_spaced, since_routine_line};
 ghost use Rattle.mtree.specs.Tree.{expr_tree, tail_tree, operand_tree, primary_tree, reference_tree, referring_tree, choice_tree, part_tree, target_tree, destination_tree, parameter_tree, locked_tree, arg_tree, command_tree, spaced_tree, condition_tree, routine_line_tree, IsBodyCounted};
 
@@ -230,9 +230,9 @@ fn since_format(format: u8) -> u32
     if format == b'!' { 0 } else { 1 }
 }
 
-// That of formats: a `#` is of language 1.
+// That of formats that no column follows: a `#` is of language 1.
 #[tactic(auto, using(crate::proofs::InLanguages::max_more))]
-fn since_formats(run: &[u8]) -> u32
+fn since_run(run: &[u8]) -> u32
     ensures { result ≡ since_all since_format run.now }
 {
     let mut since = 0;
@@ -242,12 +242,22 @@ fn since_formats(run: &[u8]) -> u32
     since
 }
 
+// A column is of language 1.
+fn since_formats(run: &[u8], tab: &Option<Box<Expr>>) -> u32
+    ensures { result ≡ since_arg (formats run.now (condition_tree tab.now)) }
+{
+    match tab {
+        Some(column) => later(1, since_expr(column)),
+        None => since_run(run),
+    }
+}
+
 fn since_arg(arg: &Arg) -> u32
     ensures { result ≡ since_arg (arg_tree arg.now) }
 {
     match arg {
         Arg::Assign(destination, value) => later(since_destination(destination), since_expr(value)),
-        Arg::Formats(run) => since_formats(run.as_bytes()),
+        Arg::Formats(run, tab) => since_formats(run.as_bytes(), tab),
         Arg::Coded(code) => later(1, since_expr(code)),
         Arg::Value(value) => since_expr(value),
         Arg::KillOne(reference) => since_reference(reference),

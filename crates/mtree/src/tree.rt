@@ -217,6 +217,10 @@ pub enum SpecialVariable {
     Principal,
     /// How many characters a text may have.
     Storage,
+    /// `$X`: how many characters the terminal's line has.
+    Column,
+    /// `$Y`: how many lines its page has before that one.
+    Row,
 }
 
 /// A part of a variable, to which SET assigns, as `$PIECE` and `$EXTRACT` are: its word after the `$`, the variable, and the
@@ -287,8 +291,8 @@ pub enum Locked {
 pub enum Arg {
     /// Of SET: what it assigns to, and the value.
     Assign(Destination, Expr),
-    /// Of WRITE: formats, each a `!` or a `#`.
-    Formats(Bytes7),
+    /// Of WRITE: formats, each a `!` or a `#`, and a column after a `?`, if there is one.
+    Formats(Bytes7, Option<Box<Expr>>),
     /// Of WRITE: a character by its code, after a `*`.
     Coded(Expr),
     /// Of WRITE: a value.
@@ -492,7 +496,7 @@ impl Drop for Arg {
     fn drop(self) {
         match self {
             Arg::Assign(_, _) => {}
-            Arg::Formats(_) => {}
+            Arg::Formats(_, _) => {}
             Arg::Coded(_) => {}
             Arg::Value(_) => {}
             Arg::KillOne(_) => {}

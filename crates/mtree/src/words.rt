@@ -210,6 +210,10 @@ fn special_row(word: &[u8]) -> Option<(SpecialVariable, u32)>
         Some((SpecialVariable::Principal, 1))
     } else if is_either(word, b"s", b"storage") {
         Some((SpecialVariable::Storage, 1))
+    } else if is_either(word, b"x", b"x") {
+        Some((SpecialVariable::Column, 1))
+    } else if is_either(word, b"y", b"y") {
+        Some((SpecialVariable::Row, 1))
     } else {
         None
     }

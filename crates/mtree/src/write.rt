@@ -2,7 +2,7 @@
 // The text of a line: each function appends the spelling of its part, as `mgrammar` has it.
 ghost use Rattle.std.specs.Prelude.{◌≡◌, ◌++◌, ◌∷◌, [], List, ℕ, IfOk, OnOk, map};
 ghost use Rattle.mgrammar.specs.Grammar.{assign, loop, spell_target, spell_destination, spell_names, spell_parameter, spell_entry, spell_kind, spell_locked, spell_arg, spell_condition, spell_args, spell_comment, spell_command, spell_commands, spell};
-ghost use Rattle.mgrammar.specs.Grammar.{do_one, go_to, executed, locked, spell_expr, spell_primary, spell_reference};
+ghost use Rattle.mgrammar.specs.Grammar.{do_one, go_to, executed, formats, locked, spell_expr, spell_primary, spell_reference};
 ghost use Rattle.mgrammar.specs.RoutineLine.{spell_dots, spell_label, spell_body, spell_routine_line};
 ghost use Rattle.mtree.specs.Tree.{expr_tree, primary_tree, part_tree, target_tree, destination_tree, parameter_tree, entry_tree, kind_tree, locked_tree, reference_tree, arg_tree, command_tree, spaced_tree, line_tree, condition_tree, body_tree, routine_line_tree};
 
@@ -196,6 +196,18 @@ fn put_lock(
     put_condition(out, timeout)
 }
 
+// Formats, and a column after a `?`, if there is one.
+fn put_formats(out: &mut Bytes7, run: &Bytes7, tab: &Option<Box<Expr>>) -> Result<(), AllocError>
+    ensures { OnOk result (out.new ≡ out.old ++ spell_arg (formats run.now (condition_tree tab.now))) }
+{
+    put_text(out, run)?;
+    if let Some(column) = tab {
+        out.push(b'?')?;
+        put_expr(out, column)?;
+    }
+    Ok(())
+}
+
 // After a `*`.
 fn put_code(out: &mut Bytes7, code: &Expr) -> Result<(), AllocError>
     ensures { OnOk result (out.new ≡ out.old ++ 42 ∷ spell_expr (expr_tree code.now)) }
@@ -218,7 +230,7 @@ impl Listed for Arg {
     fn put(&self, out: &mut Bytes7) -> Result<(), AllocError> {
         match self {
             Arg::Assign(destination, value) => put_assignment(out, destination, value),
-            Arg::Formats(run) => put_text(out, run),
+            Arg::Formats(run, tab) => put_formats(out, run, tab),
             Arg::Coded(code) => put_code(out, code),
             Arg::Value(value) => put_expr(out, value),
             Arg::KillOne(reference) => put_reference(out, reference),

@@ -1,6 +1,6 @@
 -- SPDX-License-Identifier: Apache-2.0
 -- A line's transition, from the run of its text.
-use Rattle.mworld.proofs.WorldWords.{DoubtsOver, Doubts-same, is_kept_by, ◌≡◌, ℕ, [], true, false, Vec, Global, refl, sym, ap, subst, ◌∙◌, nat_cmp, FinMap, get, insert, remove, Own, Lost, Memory, Store, Settings, name_at, steps_at, Act, State, Gives, Fails, level_begun, Shared, Event, World, Transition, FailedTransition, lost, TransitionBy, normal, begun, kept, ended, settled, session_or_new, text_run, is_failure, is_lost, Ending, Finished, Halted, Faulted, act, AreFit, fault_of, Code, Session, session_of, RunsText, EndsBy, GaveEnding, ending_of, reply_of, shared, Passes}
+use Rattle.mworld.proofs.WorldWords.{DoubtsOver, Doubts-same, is_kept_by, ◌≡◌, ℕ, [], true, false, Vec, Global, refl, sym, ap, subst, ◌∙◌, nat_cmp, FinMap, get, insert, remove, Own, Lost, Memory, Store, Settings, name_at, steps_at, Act, State, Gives, Fails, level_begun, Shared, Event, World, Transition, FailedTransition, lost, TransitionBy, normal, begun, kept, ended, settled, session_or_new, text_run, is_failure, is_lost, Ending, Finished, Halted, Faulted, act, AreFit, fault_of, Code, Session, session_of, RunsText, EndsBy, GaveEnding, ending_of, reply_of, shared, Passes, cursor_of}
 use Rattle.mspec.specs.Code as spec
 use Rattle.mspec.specs.Plan.{perform, cut_short}
 use Rattle.mspec.specs.LockConflict.{Locks, released}
@@ -80,16 +80,16 @@ module _ {S : Type 0} (g : Ghosts S) (settings : Settings) (e : Event) (place : 
   b = standing_at settings e.terminal place
 
   abbrev here : Here
-  here = point (level_begun old.locals) old.naked old.test [] (steps_at settings place) (given_at settings e.terminal place) (shared g store locks)
+  here = point (level_begun old.locals) old.naked old.test (cursor_of old.cursor) [] (steps_at settings place) (given_at settings e.terminal place) (shared g store locks)
 
   abbrev there : Here
-  there = point new.locals new.naked new.test reply.out.items ran.left (given_at settings e.terminal place) (shared g store' locks')
+  there = point new.locals new.naked new.test (cursor_of new.cursor) reply.out.items ran.left (given_at settings e.terminal place) (shared g store' locks')
 
   ends : EndsBy b (IsSteady g store') (text_run (name_at settings place) (line_in (language_at settings place) e.text)) here reply.ending there
   ends = ran.at sure
 
   begins : begun e.terminal passes.account (session_or_new (get sessions e.terminal)) ≡ here.0
-  begins = λ i. record { locals = level_begun (sym same i).locals; naked = (sym same i).naked; test = (sym same i).test; out = []; steps = passes.steps i; given = given_to e.terminal (passes.language i) }
+  begins = λ i. record { locals = level_begun (sym same i).locals; naked = (sym same i).naked; test = (sym same i).test; cursor = (sym same i).cursor; out = []; steps = passes.steps i; given = given_to e.terminal (passes.language i) }
 
   -- a line that is not lost
   pub ran_transition : (after : World) → is_failure (ending_of reply.ending) ≡ false → after ≡ settled e.terminal world (ending_of reply.ending) there.0 there.1 → Transition settings e (reply_of reply) world after
@@ -132,8 +132,8 @@ pub ran_fits : {S : Type 0} (g : Ghosts S) (settings : Settings) (e : Event) (pl
     → Ran g settings e.terminal place e.text old store locks reply new store' locks' → g.doubt store' ≡ 0 → AreFit settings locks → AreFit settings locks'
 ran_fits g settings e place old new store store' locks locks' reply passes ran sure fit =
     let b : Standing = standing_at settings e.terminal place in
-    let here : Here = point (level_begun old.locals) old.naked old.test [] (steps_at settings place) (given_at settings e.terminal place) (shared g store locks) in
-    let there : Here = point new.locals new.naked new.test reply.out.items ran.left (given_at settings e.terminal place) (shared g store' locks') in
+    let here : Here = point (level_begun old.locals) old.naked old.test (cursor_of old.cursor) [] (steps_at settings place) (given_at settings e.terminal place) (shared g store locks) in
+    let there : Here = point new.locals new.naked new.test (cursor_of new.cursor) reply.out.items ran.left (given_at settings e.terminal place) (shared g store' locks') in
     let p : Act Completion = text_run (name_at settings place) (line_in (language_at settings place) e.text) in
     let cut : IsCut b p here there = is_cut b (IsSteady g store') p here reply.ending there (ran.at sure) in
     let sender : Actor = record { settings = settings; terminal = e.terminal; account = passes.account; known = passes.known } in
@@ -169,8 +169,8 @@ ran_over {S = S} {g = g} {text = text} {old = old} {new = new} {ended = ended} r
   at = λ sure.
       subst (λ (q : Here × Here × S). EndsBy (standing_of old.eval) (IsSteady g q.2) (text_run (standing_of old.eval).account (line_in (standing_of old.eval).given.language text)) q.0 ended q.1)
       (λ i. (
-        point (begun i).locals (begun i).naked (begun i).test (first i) (steps i) (standing_of old.eval).given (shared g old.eval.store.now old.locks.now),
-        point (sym s i).locals (sym s i).naked (sym s i).test (sym o i).items new.eval.steps (runs.keeps.eval.same i).given (shared g (sym u i) (sym l i)),
+        point (begun i).locals (begun i).naked (begun i).test (cursor_of (begun i).cursor) (first i) (steps i) (standing_of old.eval).given (shared g old.eval.store.now old.locks.now),
+        point (sym s i).locals (sym s i).naked (sym s i).test (cursor_of (sym s i).cursor) (sym o i).items new.eval.steps (runs.keeps.eval.same i).given (shared g (sym u i) (sym l i)),
         sym u i,
       ))
       (runs.at (subst (λ u. g.doubt u ≡ 0) u sure));
@@ -184,8 +184,8 @@ not_run {g = g} {settings = settings} {terminal = terminal} {place = place} {tex
   doubt = subst (λ u. DoubtsOver g store u (is_kept_by reply.ending)) (sym same) (Doubts-same _);
   at = λ sure.
       subst (λ (ending : Ended). EndsBy (standing_at settings terminal place) (IsSteady g store') (text_run (name_at settings place) (line_in (language_at settings place) text))
-      (point (level_begun session.locals) session.naked session.test [] (steps_at settings place) (given_at settings terminal place) (shared g store locks)) ending
-      (point session'.locals session'.naked session'.test reply.out.items 0 (given_at settings terminal place) (shared g store' locks')))
+      (point (level_begun session.locals) session.naked session.test (cursor_of session.cursor) [] (steps_at settings place) (given_at settings terminal place) (shared g store locks)) ending
+      (point session'.locals session'.naked session'.test (cursor_of session'.cursor) reply.out.items 0 (given_at settings terminal place) (shared g store' locks')))
       (sym is) (0, λ i. shared g (sym same i) (sym unlocked i));
 }
 

@@ -5,7 +5,7 @@ pub use Rattle.std.proofs.lemmas.List.{append-nil, map-append, take-append-drop,
 pub use Rattle.std.specs.FinMap.{FinMap, from_entries, get, get-insert, get-remove, insert, nat_cmp-IsAntisymmetric, remove, same_map}
 pub use Rattle.std.specs.Ordering.{is_eq, nat_cmp}
 pub use Rattle.std.specs.Prelude.{Err, IfErr, IsErr, IsSome, IsTrue, Ok, Result, is_some, nat_eq, OnOk, option_map, slice_get, unwrap_or, ◌↔◌}
-pub use Rattle.meval.specs.Sessions.{session_of}
+pub use Rattle.meval.specs.Sessions.{cursor_of, session_of}
 pub use Rattle.meval.specs.declared.session.Session.{Session}
 pub use Rattle.mworld.proofs.Doubted.{Doubts-on}
 pub use Rattle.mnodes.proofs.Doubting.{Doubts-same, Doubts-then, undoubted}

@@ -10,6 +10,7 @@ use Rattle.mmeaning.specs.Calls.{Standing, point}
 use Rattle.mnodes.specs.Over.{DoubtsOver}
 use Rattle.mnodes.specs.Steady.{IsSteady}
 use Rattle.mnodes.specs.declared.store.NodeStore.{Ghosts}
+use Rattle.meval.specs.Sessions.{cursor_of}
 use Rattle.meval.specs.declared.session.Session.{Session}
 use Rattle.mexec.specs.Runs.{EndsBy, is_kept_by}
 use Rattle.mworld.specs.declared.reply.Reply.{Reply}
@@ -30,5 +31,5 @@ pub record Ran {S : Type 0} (g : Ghosts S) (settings : Settings) (terminal place
   pub at :
       g.doubt store' ≡ 0 →
       EndsBy (standing_at settings terminal place) (IsSteady g store') (text_run (name_at settings place) (line_in (language_at settings place) text))
-      (point (level_begun session.locals) session.naked session.test [] (steps_at settings place) (given_at settings terminal place) (shared g store locks)) reply.ending
-      (point session'.locals session'.naked session'.test reply.out.items left (given_at settings terminal place) (shared g store' locks'))
+      (point (level_begun session.locals) session.naked session.test (cursor_of session.cursor) [] (steps_at settings place) (given_at settings terminal place) (shared g store locks)) reply.ending
+      (point session'.locals session'.naked session'.test (cursor_of session'.cursor) reply.out.items left (given_at settings terminal place) (shared g store' locks'))

@@ -1,6 +1,6 @@
 -- SPDX-License-Identifier: Apache-2.0
 use Rattle.std.proofs.Common.{◌≡◌, ◌++◌, drop, map}
-use Rattle.mmeaning.specs.LineMeaning.{format_byte}
+use Rattle.mspec.specs.Cursor.{format_byte}
 use Rattle.mcommand.proofs.write.push_formats.Given as goal
 
 abbrev pub invariant-loop-format : goal.invariant-loop-format

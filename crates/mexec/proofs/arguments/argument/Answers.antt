@@ -1,5 +1,5 @@
 -- SPDX-License-Identifier: Apache-2.0
-use Rattle.mexec.proofs.ExecLaws.{Ok, [], ◌∷◌, map, refl, write, with_locals, killed_except, newed, newed_except, form_of, destination_tree, expr_tree, reference_tree, condition_tree, kind_tree, locked_tree, keyword_tree, primary_tree, does_evaluated, at_done, stops, into_given, entrance_of, start_of, completion_of, position_of, at_gives, at_depth, goes_on, gives_over, enters_where}
+use Rattle.mexec.proofs.ExecLaws.{Ok, [], ◌∷◌, refl, with_locals, killed_except, newed, newed_except, form_of, destination_tree, expr_tree, reference_tree, condition_tree, kind_tree, locked_tree, keyword_tree, primary_tree, does_evaluated, at_done, stops, into_given, entrance_of, start_of, completion_of, position_of, at_gives, at_depth, goes_on, gives_over, enters_where}
 use Rattle.mmeaning.specs.LineMeaning as meaning
 use Rattle.mmeaning.specs.Locking.{locking}
 use Rattle.mexec.specs.declared.completion.Completion.TheVariants as completion
@@ -12,7 +12,7 @@ returns-in-Assign g c =
 pub returns-in-Formats : goal.returns-in-Formats
 returns-in-Formats g c =
     let does = rw c.as_bytes.ensures.bytes at c.formats.ensures in
-    rw (c.in-Formats.is, c.done-in-Formats.ensures) (gives_over entrance_of _ (goes_on (λ i. write (map meaning.format_byte c.in-Formats.run')) c.args.position.now.depth c.formats.result does))
+    rw (c.in-Formats.is, c.done-in-Formats.ensures) (gives_over entrance_of _ (goes_on (λ i. meaning.formatting i c.in-Formats.run' (condition_tree c.in-Formats.tab)) c.args.position.now.depth c.formats.result does))
 
 pub returns-in-Coded : goal.returns-in-Coded
 returns-in-Coded g c =

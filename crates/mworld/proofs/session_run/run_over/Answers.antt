@@ -15,4 +15,4 @@ returns-clause-ran g c =
     let locks = sym keeps.locks in
     let out = sym keeps.out in
     ran_over c.run_text-ending.ensures.does c.steps_of-steps.ensures c.taken-out.ensures
-    (ap (λ locals. record { locals = locals; naked = c.args.session.now.naked; test = c.args.session.now.test }) c.in-Ok.ensures.ok) (search rules) (search rules) (search rules) (search rules)
+    (ap (λ locals. record { locals = locals; naked = c.args.session.now.naked; test = c.args.session.now.test; cursor = c.args.session.now.cursor }) c.in-Ok.ensures.ok) (search rules) (search rules) (search rules) (search rules)

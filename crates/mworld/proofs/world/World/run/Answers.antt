@@ -1,5 +1,5 @@
 -- SPDX-License-Identifier: Apache-2.0
-use Rattle.mworld.proofs.WorldWords.{undoubted, ◌≡◌, false, refl, sym, ap, subst, ◌∙◌, IsSome, get, insert, Memory, Faulted, lost, is_failure, session_or_new, fault_of, ending_of, world_of, sessions_of, shared, AreFit}
+use Rattle.mworld.proofs.WorldWords.{undoubted, ◌≡◌, false, refl, sym, ap, subst, ◌∙◌, IsSome, get, insert, Memory, Faulted, lost, is_failure, session_or_new, fault_of, ending_of, world_of, sessions_of, shared, AreFit, cursor_of}
 use Rattle.std.specs.Option.{option_copied_mut}
 use Rattle.misolation.proofs.FittingLocks.{released_fits}
 use Rattle.mworld.proofs.Runs.{ran_transition, lost_transition, unrun_transition, ran_fits, is_loss, not_lost, settles, halts}
@@ -57,7 +57,7 @@ returns-clause-transition g c = λ sound.
     (is_lent c.args.terminal m (session_or_new (get sessions c.args.terminal)) c.in-Ok.ensures.session c.in-Some.session.now c.in-Some.ensures.value) c.run_over-reply.ensures.ran sound _ fine
     (ap (λ (s : _). record { shared = shared g.S.NodeStore c.run_over-reply.new.store c.run_over-reply.new.locks; sessions = s })
     (left sessions c.args.terminal m c.begin_session.ensures.others some c.get_mut.follows.lender c.get_mut.follows.holds (record c.run_over-reply.new.session { locals = c.leave_all.new.self })
-    ∙ ap (λ l. insert sessions c.args.terminal (record { locals = l; naked = c.run_over-reply.new.session.naked; test = c.run_over-reply.new.session.test })) c.leave_all.ensures)
+    ∙ ap (λ l. insert sessions c.args.terminal (record { locals = l; naked = c.run_over-reply.new.session.naked; test = c.run_over-reply.new.session.test; cursor = cursor_of c.run_over-reply.new.session.cursor })) c.leave_all.ensures)
     ∙ sym (settles c.args.terminal (world_of g.S.NodeStore c.args.self.now) c.run_over-reply.result.ending _ (shared g.S.NodeStore c.run_over-reply.new.store c.run_over-reply.new.locks) c.in_default-ending-2.not-Halt))
 
 -- a session is there, now or from the line before

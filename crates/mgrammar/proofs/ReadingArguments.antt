@@ -89,10 +89,11 @@ write_argument_again (formats [] None) rest w s = absurd (let none = w.0 in omeg
 write_argument_again (formats (f ∷ fs) None) rest w s =
     let r = run_again is_format (f ∷ fs) rest w.1 (Stops-weaker is_operator is_format rest no_format s.0.1) in
     let no_tab = not_past 63 rest (Stops-weaker is_operator (λ c. eqb c 63) rest no_match s.0.1) in
-    rw (append-nil (f ∷ fs), r.0, r.1, no_tab) refl
-write_argument_again (formats run (Some e)) rest w s =
-    let r = run_again is_format run (63 ∷ (spell_expr e ++ rest)) w.0 refl in
-    rw (append_assoc run (63 ∷ spell_expr e) rest, r.0, r.1, whole_again e rest w.1 s.0) refl
+    rw (append-nil fs, r.0, r.1, no_tab) refl
+write_argument_again (formats [] (Some e)) rest w s = rw (whole_again e rest w.1 s.0) refl
+write_argument_again (formats (f ∷ fs) (Some e)) rest w s =
+    let r = run_again is_format (f ∷ fs) (63 ∷ (spell_expr e ++ rest)) w.0 refl in
+    rw (append_assoc fs (63 ∷ spell_expr e) rest, r.0, r.1, whole_again e rest w.1 s.0) refl
 write_argument_again (coded e) rest w s = rw (whole_again e rest w s.0) refl
 write_argument_again (shown e) rest w s =
     let r = run_again is_format [] (spell_expr e ++ rest) tt (operand_stops is_format e rest (λ c h. (operand_tests c h).0) w) in

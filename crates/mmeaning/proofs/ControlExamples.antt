@@ -1,7 +1,7 @@
 -- SPDX-License-Identifier: Apache-2.0
 -- Control flow on examples, as proved equations.
 use Rattle.mmeaning.proofs.MeaningWords.{World, M9, M15, Zover, Zsteps, no_locals, assigned_to, home}
-use Rattle.mmeaning.proofs.Running.{[], ◌∷◌, None, true, false, refl, codes, empty, new_session, opening, with_steps, done, failed, AreAnswered, Answered, serving, holding, at_first, at_last, Each, at_case, no_more, runs, running, numbers}
+use Rattle.mmeaning.proofs.Running.{[], ◌∷◌, None, true, false, refl, codes, empty, new_session, opening, with_steps, done, failed, AreAnswered, Answered, serving, holding, at_first, at_last, Each, at_case, no_more, runs, running, numbers, at_column, holding_after}
 
 -- what a line with this many steps leaves
 abbrev turned_out : World
@@ -74,12 +74,12 @@ record Sessions : Type 0 where
 sessions : Sessions
 unfolding runs
 sessions = record {
-  each_turn = at_first (holding (codes "I") (codes "3")) _ refl (simp running) (at_last _ refl (simp running));
+  each_turn = at_first (holding_after 3 (codes "I") (codes "3")) _ refl (simp running) (at_last _ refl (simp running));
   limit_passed = at_first (holding (codes "I") (codes "5")) _ refl (simp running) (at_last _ refl (simp running));
   start_is_number = at_first (holding (codes "I") (codes "3")) _ refl (simp running) (at_last _ refl (simp running));
   without_index = at_first (holding (codes "A") (codes "3")) _ refl (simp running) (at_last _ refl (simp running));
   steps_used_up = at_first turned_out _ refl (simp running) (at_last _ refl (simp running));
   else_after_if = at_first (serving new_session) _ refl (simp running) (at_last _ refl (simp running));
-  else_passed_over = at_first (serving (record { locals = no_locals; naked = None; test = true; cursor = home })) _ refl (simp running) (at_last _ refl (simp running));
+  else_passed_over = at_first (serving (record { locals = no_locals; naked = None; test = true; cursor = at_column 1 })) _ refl (simp running) (at_last _ refl (simp running));
   each_sets_test = at_first (serving new_session) _ refl (simp running) (at_last _ refl (simp running));
 }

@@ -2,10 +2,11 @@
 -- GOTO on examples, as proved equations: a loop of six turns, each in an equation of its own.
 use Rattle.mmeaning.proofs.MeaningWords.{sym, zero, ◌*◌, ℕ, ◌^◌, suc, ap, ◌∙◌, insert, Plan, then_plan, perform, Gives, give, Locals, State, Outcome, Act, on_gives, Completion, Go_on, Position, digits, canonical_value, size_text, no_locals, level_begun, value_of, assigned_to, name_at, line_in, label_at, routine_line_in, tree_none, tree_put, tree_again, text_none, text_put, text_again, value_some, round_pos, text_1, text_2, text_3, text_4, text_8, text_16, bottom, multiply, loop, until, for_word, is, less, number, text, reference, at_label, at_label_in, shown, do_one, go_to, set_word, quit_word, write_word, do_word, goto_word, CommandTree, LineTree, SpacedTree, RoutineLineTree, spaced_out, reads_in, Shared, act, commands_in, home}
 use Rattle.mmeaning.proofs.Calls.{assoc_plan, then_give}
+use Rattle.std.specs.Prelude.{length}
 use Rattle.mmeaning.proofs.ExampleAccount.{alice, of_profile}
 use Rattle.mmeaning.proofs.LineRuns.{shut, entered, opened, text_opened}
 use Rattle.mmeaning.proofs.LineTrees.{only, with_operator, named, set_to, command, command_if, line}
-use Rattle.mmeaning.proofs.Running.{◌≡◌, List, [], ◌∷◌, Some, None, false, refl, codes, empty, gets, Globals, Text, opening, account, done, AreAnswered, at_first, at_last, lines_in, asked, serving_in}
+use Rattle.mmeaning.proofs.Running.{◌≡◌, List, [], ◌∷◌, Some, None, false, refl, codes, empty, gets, Globals, Text, opening, account, done, AreAnswered, at_first, at_last, lines_in, asked, serving_in, at_column}
 
 number_32 : size_text (32 * 10 ^ 18) ≡ codes "32"
 unfolding size_text digits
@@ -87,7 +88,7 @@ module _ (levels : ℕ) (locals : Text → Locals) (have : HaveNumber locals) wh
   in_store p w = perform (act alice 1 (codes "ALICE")) p w
 
   abbrev at_number : ℕ → Text → Text → State
-  at_number steps x out = record { locals = locals x; naked = None; test = false; cursor = home; out = out; steps = steps; given = of_profile }
+  at_number steps x out = record { locals = locals x; naked = None; test = false; cursor = at_column (length out); out = out; steps = steps; given = of_profile }
 
   -- where the second line stands
   abbrev second : Position
@@ -104,7 +105,7 @@ module _ (levels : ℕ) (locals : Text → Locals) (have : HaveNumber locals) wh
   Turn x y = (n steps : ℕ) (f : Completion → Act Completion) (w : Shared) → entered_at (suc n) (and_seven steps) x f w ≡ shut_at n steps y f w
 
   reopened : (n steps : ℕ) (x : Text) (f : Completion → Act Completion) (w : Shared) → shut_at n steps x f w ≡ entered_at n steps x f w
-  reopened n steps x f w = ap (λ p. in_store (then_plan p (on_gives f)) w) (text_opened (codes "ALICE") n second looping (locals x) None false [] steps of_profile)
+  reopened n steps x f w = ap (λ p. in_store (then_plan p (on_gives f)) w) (text_opened (codes "ALICE") n second looping (locals x) None false home [] steps of_profile)
 
   record Turns : Type 0 where
     from_1 : Turn (codes "1") (codes "2")
@@ -198,6 +199,6 @@ line_turns w =
 goto_leaves_for : (g : Globals) → lines_in g (codes "G") ≡ doubling → AreAnswered account (opening g) (codes "F I=1:1:3 G A^G" ∷ codes "W I" ∷ []) (done (codes "64") ∷ done (codes "1") ∷ [])
 unfolding name_at label_at no_locals level_begun value_of assigned_to canonical_value
 goto_leaves_for g h =
-    at_first (serving_in g (record { locals = with_index (codes "64"); naked = None; test = false; cursor = home })) (Some for_line) for_read
+    at_first (serving_in g (record { locals = with_index (codes "64"); naked = None; test = false; cursor = at_column 2 })) (Some for_line) for_read
     (simp (by_number, text_3, variables, gets, doubling_1_read, doubling_2_read, asked g (codes "G") doubling h, opened, text_opened (codes "ALICE") 2000, line_turns))
     (at_last (Some index_line) index_read (simp (variables, gets)))

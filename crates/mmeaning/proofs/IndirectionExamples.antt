@@ -2,7 +2,7 @@
 -- Indirection on examples, as proved equations. What is read of the texts that stand for an `@` is beside the lines.
 use Rattle.mmeaning.proofs.MeaningWords.{ℕ, ◌++◌, rules, replicate, M6, M9, Zsteps, Zsyntax, Zdepth, no_locals, assigned_to, divide, ExprTree, number, text, reference, local, exprs, no_exprs, set_argument, kill_argument, new_argument, if_argument, write_argument, xecute_argument, formats, shown, kill_one, new_one, tested, executed, indirect_args, ref_in, args_in, reads_in, line_end, home}
 use Rattle.mmeaning.proofs.LineTrees.{only, with_operator, named, set_to}
-use Rattle.mmeaning.proofs.Running.{◌≡◌, List, [], ◌∷◌, Some, None, true, false, refl, codes, empty, Text, opening, with_steps, done, failed, AreAnswered, Answered, serving, holding, at_first, at_last, Each, at_case, no_more, runs, running}
+use Rattle.mmeaning.proofs.Running.{◌≡◌, List, [], ◌∷◌, Some, None, true, false, refl, codes, empty, Text, opening, with_steps, done, failed, AreAnswered, Answered, serving, at_first, at_last, Each, at_case, no_more, runs, running, holding_after}
 
 -- ---- what is read of the texts
 
@@ -51,7 +51,7 @@ unfolding runs
 sessions = record {
   name_costs_nothing = at_first (serving (record { locals = assigned_to (assigned_to no_locals (codes "A") [] (codes "1")) (codes "%N") [] (codes "3"); naked = None; test = true; cursor = home })) _ refl (simp running) (at_last _ refl (simp running));
   given_conditions = at_first (serving (record { locals = no_locals; naked = None; test = false; cursor = home })) _ refl (simp running) (at_last _ refl (simp running));
-  argument_costs_operand = at_first (holding (codes "%N") (codes "5")) _ refl (simp running) (at_last _ refl (simp running));
+  argument_costs_operand = at_first (holding_after 1 (codes "%N") (codes "5")) _ refl (simp running) (at_last _ refl (simp running));
 }
 
 -- ---- depth of texts and of indirections

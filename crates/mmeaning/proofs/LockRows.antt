@@ -1,9 +1,9 @@
 -- SPDX-License-Identifier: Apache-2.0
 -- LOCK and HALT of several terminals on examples, as proved equations.
-use Rattle.mmeaning.proofs.MeaningWords.{rules, nat_cmp, M6, M9, Zlocked, Zsyntax, Session, World, Halted, FinMap, insert, remove, LockName, Locks, held, divide, number, global, naked, exprs, no_exprs, anew, adding, lock_one, lock_argument, locked, ref_in, args_in, reads_in}
+use Rattle.mmeaning.proofs.MeaningWords.{rules, nat_cmp, M6, M9, Zlocked, Zsyntax, Session, World, Halted, FinMap, insert, remove, LockName, Locks, held, divide, number, global, naked, exprs, no_exprs, anew, adding, lock_one, lock_argument, locked, ref_in, args_in, reads_in, ℕ}
 use Rattle.mmeaning.proofs.LineTrees.{only, with_operator}
 use Rattle.mmeaning.proofs.LockRuns.{AreReplied, replied_first, replied_last, plain_session, halted, computed_locks}
-use Rattle.mmeaning.proofs.Running.{◌≡◌, List, [], ◌∷◌, Some, None, true, false, refl, codes, empty, Text, opening, done, failed, computed_operations, runs, running}
+use Rattle.mmeaning.proofs.Running.{◌≡◌, List, [], ◌∷◌, Some, None, true, false, refl, codes, empty, Text, opening, done, failed, computed_operations, runs, running, at_column}
 
 ruleset lock_running = (computed_operations, computed_locks, running)
 
@@ -28,20 +28,27 @@ no_test = plain_session false
 abbrev true_test : Session
 true_test = plain_session true
 
+-- after so many characters of output
+abbrev after : ℕ → Session → Session
+after n s = record s { cursor = at_column n }
+
 -- sessions of terminals 1 and 2
 abbrev one_session : FinMap nat_cmp Session
 one_session = insert empty 1 no_test
+
+abbrev one_session_after : ℕ → FinMap nat_cmp Session
+one_session_after n = insert empty 1 (after n no_test)
 
 -- a name, those above and those below exclude each other, in one account; if a line halts, the locks of its session go with it
 locks_between_terminals : AreReplied (opening empty) ((1, codes "L +^J(1)") ∷ (2, codes "L +^J:0 W $T") ∷ (3, codes "L +^J(1):0 W $T") ∷ (2, codes "L ^J(1,5)") ∷ (1, codes "S V=1 H") ∷ (1, codes "W V") ∷ (2, codes "L +^J:0 W $T") ∷ []) (done [] ∷ done (codes "0") ∷ done (codes "1") ∷ failed [] Zlocked ∷ halted ∷ failed [] M6 ∷ done (codes "1") ∷ [])
 unfolding runs
 locks_between_terminals =
     replied_first (world (insert empty (held 1 (hers (codes "J") (codes "1" ∷ []))) 1) one_session) _ refl (simp lock_running)
-    (replied_first (world (insert empty (held 1 (hers (codes "J") (codes "1" ∷ []))) 1) (insert one_session 2 no_test)) _ refl (simp lock_running)
-    (replied_first (world (insert (insert empty (held 1 (hers (codes "J") (codes "1" ∷ []))) 1) (held 3 (his (codes "J") (codes "1" ∷ []))) 1) (insert (insert one_session 2 no_test) 3 true_test)) _ refl (simp lock_running)
-    (replied_first (world (insert (insert empty (held 1 (hers (codes "J") (codes "1" ∷ []))) 1) (held 3 (his (codes "J") (codes "1" ∷ []))) 1) (insert (insert (insert one_session 2 no_test) 3 true_test) 2 no_test)) _ refl (simp lock_running)
-    (replied_first (world (insert empty (held 3 (his (codes "J") (codes "1" ∷ []))) 1) (remove (insert (insert (insert one_session 2 no_test) 3 true_test) 2 no_test) 1)) _ refl (simp lock_running)
-    (replied_first (world (insert empty (held 3 (his (codes "J") (codes "1" ∷ []))) 1) (insert (remove (insert (insert (insert one_session 2 no_test) 3 true_test) 2 no_test) 1) 1 no_test)) _ refl (simp lock_running)
+    (replied_first (world (insert empty (held 1 (hers (codes "J") (codes "1" ∷ []))) 1) (insert one_session 2 (after 1 no_test))) _ refl (simp lock_running)
+    (replied_first (world (insert (insert empty (held 1 (hers (codes "J") (codes "1" ∷ []))) 1) (held 3 (his (codes "J") (codes "1" ∷ []))) 1) (insert (insert one_session 2 (after 1 no_test)) 3 (after 1 true_test))) _ refl (simp lock_running)
+    (replied_first (world (insert (insert empty (held 1 (hers (codes "J") (codes "1" ∷ []))) 1) (held 3 (his (codes "J") (codes "1" ∷ []))) 1) (insert (insert (insert one_session 2 (after 1 no_test)) 3 (after 1 true_test)) 2 (after 1 no_test))) _ refl (simp lock_running)
+    (replied_first (world (insert empty (held 3 (his (codes "J") (codes "1" ∷ []))) 1) (remove (insert (insert (insert one_session 2 (after 1 no_test)) 3 (after 1 true_test)) 2 (after 1 no_test)) 1)) _ refl (simp lock_running)
+    (replied_first (world (insert empty (held 3 (his (codes "J") (codes "1" ∷ []))) 1) (insert (remove (insert (insert (insert one_session 2 (after 1 no_test)) 3 (after 1 true_test)) 2 (after 1 no_test)) 1) 1 no_test)) _ refl (simp lock_running)
     (replied_last _ refl (simp lock_running)))))))
 
 -- counts nest; a list is taken whole; a name without a `^` is another
@@ -49,9 +56,9 @@ nested_locks : AreReplied (opening empty) ((1, codes "L +^J,+^J,-^J") ∷ (2, co
 unfolding runs
 nested_locks =
     replied_first (world (insert empty (held 1 (hers (codes "J") [])) 1) one_session) _ refl (simp lock_running)
-    (replied_first (world (insert empty (held 1 (hers (codes "J") [])) 1) (insert one_session 2 no_test)) _ refl (simp lock_running)
-    (replied_first (world empty (insert (insert one_session 2 no_test) 1 no_test)) _ refl (simp lock_running)
-    (replied_first (world (insert (insert empty (held 2 (hers (codes "J") [])) 1) (held 2 (her_local (codes "M"))) 1) (insert (insert (insert one_session 2 no_test) 1 no_test) 2 true_test)) _ refl (simp lock_running)
+    (replied_first (world (insert empty (held 1 (hers (codes "J") [])) 1) (insert one_session 2 (after 1 no_test))) _ refl (simp lock_running)
+    (replied_first (world empty (insert (insert one_session 2 (after 1 no_test)) 1 no_test)) _ refl (simp lock_running)
+    (replied_first (world (insert (insert empty (held 2 (hers (codes "J") [])) 1) (held 2 (her_local (codes "M"))) 1) (insert (insert (insert one_session 2 (after 1 no_test)) 1 no_test) 2 (after 2 true_test))) _ refl (simp lock_running)
     (replied_last _ refl (simp lock_running)))))
 
 -- nothing is released before all is evaluated, and a timeout is no number
@@ -61,7 +68,7 @@ nothing_released_before =
     replied_first (world (insert empty (held 1 (hers (codes "X") [])) 1) one_session) _ refl (simp lock_running)
     (replied_first (world (insert empty (held 1 (hers (codes "X") [])) 1) one_session) _ refl (simp lock_running)
     (replied_first (world (insert empty (held 1 (hers (codes "X") [])) 1) one_session) _ refl (simp lock_running)
-    (replied_first (world (insert empty (held 1 (hers (codes "X") [])) 1) (insert one_session 2 no_test)) _ refl (simp lock_running)
+    (replied_first (world (insert empty (held 1 (hers (codes "X") [])) 1) (insert one_session 2 (after 1 no_test))) _ refl (simp lock_running)
     (replied_last _ refl (simp lock_running)))))
 
 -- a name that is twice in a list counts twice, and each argument without a sign releases
@@ -69,10 +76,10 @@ list_counts_twice : AreReplied (opening empty) ((1, codes "L +(^X,^X) L -^X") �
 unfolding runs
 list_counts_twice =
     replied_first (world (insert empty (held 1 (hers (codes "X") [])) 1) one_session) _ refl (simp lock_running)
-    (replied_first (world (insert empty (held 1 (hers (codes "X") [])) 1) (insert one_session 2 no_test)) _ refl (simp lock_running)
-    (replied_first (world empty (insert (insert one_session 2 no_test) 1 true_test)) _ refl (simp lock_running)
-    (replied_first (world (insert empty (held 2 (hers (codes "X") [])) 1) (insert (insert (insert one_session 2 no_test) 1 true_test) 2 true_test)) _ refl (simp lock_running)
-    (replied_first (world (insert (insert empty (held 2 (hers (codes "X") [])) 1) (held 1 (hers (codes "Z") [])) 1) (insert (insert (insert (insert one_session 2 no_test) 1 true_test) 2 true_test) 1 true_test)) _ refl (simp lock_running)
+    (replied_first (world (insert empty (held 1 (hers (codes "X") [])) 1) (insert one_session 2 (after 1 no_test))) _ refl (simp lock_running)
+    (replied_first (world empty (insert (insert one_session 2 (after 1 no_test)) 1 (after 1 true_test))) _ refl (simp lock_running)
+    (replied_first (world (insert empty (held 2 (hers (codes "X") [])) 1) (insert (insert (insert one_session 2 (after 1 no_test)) 1 (after 1 true_test)) 2 (after 2 true_test))) _ refl (simp lock_running)
+    (replied_first (world (insert (insert empty (held 2 (hers (codes "X") [])) 1) (held 1 (hers (codes "Z") [])) 1) (insert (insert (insert (insert one_session 2 (after 1 no_test)) 1 (after 1 true_test)) 2 (after 2 true_test)) 1 (after 1 true_test))) _ refl (simp lock_running)
     (replied_last _ refl (simp lock_running))))))
 
 -- ---- names and arguments that a text gives
@@ -94,10 +101,10 @@ naked_locks : AreReplied (opening empty) ((1, codes "W 1 L +^(1)") ∷ (1, codes
 unfolding runs
 naked_locks =
     replied_first (world empty one_session) _ refl (simp lock_running)
-    (replied_first (world empty one_session) _ refl (simp lock_running)
-    (replied_first (world empty one_session) _ refl (simp lock_running)
-    (replied_first (world empty one_session) _ refl (simp lock_running)
-    (replied_first (world empty one_session) _ refl (simp lock_running)
+    (replied_first (world empty (one_session_after 1)) _ refl (simp lock_running)
+    (replied_first (world empty (one_session_after 2)) _ refl (simp lock_running)
+    (replied_first (world empty (one_session_after 2)) _ refl (simp lock_running)
+    (replied_first (world empty (one_session_after 2)) _ refl (simp lock_running)
     (replied_last _ refl (simp lock_running))))))
 
 -- a timeout after it makes an operand a name

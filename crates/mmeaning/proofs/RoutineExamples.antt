@@ -1,7 +1,7 @@
 -- SPDX-License-Identifier: Apache-2.0
 -- Routines, DO, GOTO and XECUTE on examples, as proved equations.
 use Rattle.mmeaning.proofs.MeaningWords.{M13, Zsyntax, Zsteps, no_locals, assigned_to, home}
-use Rattle.mmeaning.proofs.Running.{[], ◌∷◌, None, false, refl, codes, done, failed, at_first, at_last, asked, serving_in, holding_in, With, WithSteps, Anywhere, computed_operations, WithEach, at_case, no_more, runs, running}
+use Rattle.mmeaning.proofs.Running.{[], ◌∷◌, None, false, refl, codes, done, failed, at_first, at_last, asked, serving_in, With, WithSteps, Anywhere, computed_operations, WithEach, at_case, no_more, runs, running, at_column}
 
 record Routines : Type 0 where
   routine_with_new : WithEach (codes "R") (codes "T N V S V=2 D U W V Q" ∷ codes "U S V=V+1 Q" ∷ []) (
@@ -66,7 +66,7 @@ routines = record {
   routine_with_new = λ g h. at_case _ refl (simp (running, asked g _ _ h)) (at_case _ refl (simp (running, asked g _ _ h)) no_more);
   no_lines = λ g. at_last _ refl (simp running);
   no_routine = λ g h. at_last _ refl (simp (running, asked g _ _ h));
-  goto_leaves_for = λ g h. at_first (holding_in g (codes "I") (codes "1")) _ refl (simp (running, asked g _ _ h)) (at_last _ refl (simp running));
+  goto_leaves_for = λ g h. at_first (serving_in g (record { locals = assigned_to no_locals (codes "I") [] (codes "1"); naked = None; test = false; cursor = at_column 1 })) _ refl (simp (running, asked g _ _ h)) (at_last _ refl (simp running));
   goto_where_true = λ g h. at_last _ refl (simp (running, asked g _ _ h));
   goto_in_xecute = λ g h. at_case _ refl (simp (running, asked g _ _ h)) (at_case _ refl (simp (running, asked g _ _ h)) no_more);
   label_in_xecute = λ g. at_last _ refl (simp running);

@@ -8,7 +8,7 @@ pub use Rattle.mspec.specs.Act.{Text}
 pub use Rattle.mmeaning.specs.Transition.{new_session}
 pub use Rattle.mmeaning.specs.History.{opening}
 pub use Rattle.mmeaning.proofs.ExampleAccount.{account, with_steps, done, failed}
-pub use Rattle.mmeaning.proofs.LineRuns.{AreAnswered, Answered, AreAnsweredEach, Each, serving, holding, at_first, at_last, at_case, no_more}
+pub use Rattle.mmeaning.proofs.LineRuns.{AreAnswered, Answered, AreAnsweredEach, Each, serving, at_column, holding_after, holding, at_first, at_last, at_case, no_more}
 pub use Rattle.mmeaning.proofs.RoutineRuns.{lines_in, asked, serving_in, holding_in, With, WithSteps, WithEach, Anywhere, computed_operations}
 use Rattle.mmeaning.proofs.MeaningWords.{◌*◌, rules, ◌^◌, no_locals, level_begun, value_of, assigned_to, canonical_value, size_text, computed_maps, computed_numbers, computes, reads_in, Bool}
 use Rattle.mspec.specs.Pieces.{pieces_of}

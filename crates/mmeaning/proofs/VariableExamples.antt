@@ -1,7 +1,7 @@
 -- SPDX-License-Identifier: Apache-2.0
 -- Variables on examples, as proved equations.
 use Rattle.mmeaning.proofs.MeaningWords.{M9, Zsub, Zarg, computes, reads_in}
-use Rattle.mmeaning.proofs.Running.{[], ◌∷◌, refl, codes, gets, done, failed, Answered, holding, at_first, at_last, Each, at_case, no_more, runs, running, numbers}
+use Rattle.mmeaning.proofs.Running.{[], ◌∷◌, refl, codes, gets, done, failed, Answered, holding, at_first, at_last, Each, at_case, no_more, runs, running, numbers, holding_after}
 
 refusals : Each (
     -- and none but 1 and -1
@@ -55,9 +55,9 @@ record Hidden : Type 0 where
 hidden : Hidden
 unfolding runs
 hidden = record {
-  new_ends_with_line = at_first (holding (codes "A") (codes "1")) _ refl (simp running) (at_first (holding (codes "A") (codes "1")) _ refl (simp running) (at_last _ refl (simp running)));
+  new_ends_with_line = at_first (holding (codes "A") (codes "1")) _ refl (simp running) (at_first (holding_after 2 (codes "A") (codes "1")) _ refl (simp running) (at_last _ refl (simp running)));
   new_spares = at_last _ refl (simp running);
   new_after_new = at_first (holding (codes "A") (codes "1")) _ refl (simp running) (at_last _ refl (simp running));
-  kill_where_hidden = at_first (holding (codes "B") (codes "2")) _ refl (simp running) (at_first (holding (codes "B") (codes "2")) _ refl (simp running) (at_last _ refl (simp running)));
+  kill_where_hidden = at_first (holding (codes "B") (codes "2")) _ refl (simp running) (at_first (holding_after 1 (codes "B") (codes "2")) _ refl (simp running) (at_last _ refl (simp running)));
   undone_after_error = at_first (holding (codes "A") (codes "1")) _ refl (simp running) (at_first (holding (codes "A") (codes "1")) _ refl (simp running) (at_last _ refl (simp running)));
 }

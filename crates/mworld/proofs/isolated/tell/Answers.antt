@@ -79,6 +79,15 @@ returns-then-not-is_same-clause-transition g c = λ sure.
     let transition = rw c.deref.ensures.value at (c.line-reply.ensures.transition (sym c.reuse-then-not-is_same.ensures.doubt ∙ sure)) in
     (reply_of c.line-reply.result, rw c.reuse-then-not-is_same.ensures.world transition)
 
+pub returns-clause-transition : goal.returns-clause-transition
+returns-clause-transition g c = λ sure. (reply_of c.line-reply.result, rw c.deref.ensures.value at (c.line-reply.ensures.transition sure))
+
+pub returns-in_err-isolated-clause-transition : goal.returns-in_err-isolated-clause-transition
+returns-in_err-isolated-clause-transition g c = λ sure. (reply_of c.line-reply.result, rw c.deref.ensures.value at (c.line-reply.ensures.transition sure))
+
+pub returns-in_err-push-clause-transition : goal.returns-in_err-push-clause-transition
+returns-in_err-push-clause-transition g c = λ sure. (reply_of c.line-reply.result, rw c.deref.ensures.value at (c.line-reply.ensures.transition sure))
+
 -- ---- and no reply says that the store failed
 
 pub returns-clause-sufficed : goal.returns-clause-sufficed

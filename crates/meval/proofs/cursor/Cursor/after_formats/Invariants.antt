@@ -5,4 +5,4 @@ use Rattle.meval.specs.Sessions.{cursor_of}
 use Rattle.meval.proofs.cursor.Cursor.after_formats.Given as goal
 
 abbrev pub invariant-loop-format : goal.invariant-loop-format
-invariant-loop-format l = after_formats (drop l.format-index l.formats) (cursor_of l.cursor) ≡ after_formats l.formats (cursor_of l.self)
+invariant-loop-format l = after_formats (drop l.format-index l.formats) (cursor_of l.cursor) ≡ after_formats l.formats (cursor_of l.fn.self)

@@ -1,6 +1,6 @@
 -- SPDX-License-Identifier: Apache-2.0
 -- How the calls of this crate are put together.
-use Rattle.mcommand.proofs.CommandWords.{DoubtsOver, Doubts-same, Doubts-then, undoubted, ◌≡◌, ℕ, ◌+◌, ◌<◌, Bool, true, false, cond, List, [], ◌∷◌, ◌++◌, length, drop, get_or, map, next_item, Result, Ok, Err, refl, sym, ap, ◌∙◌, subst, arith, IsErr, IsErrAnd, into_iter_items, into_iter_steps, Text, Act, Gives, ◌>>=◌, give, write, ExprTree, as_truth, Inside, inside, value, Yields, did_then, did_failed, did_gives, did_lost, residual_is, assoc, Ghosts, fault_of, Code, Zmem, truth, Evaluates, KeepsEval, standing_of, eval_here, inside_at, depth_of, Parts, Does, DoesAt, KeepsLoans, here_of}
+use Rattle.mcommand.proofs.CommandWords.{DoubtsOver, Doubts-same, Doubts-then, undoubted, ◌≡◌, ℕ, ◌+◌, ◌<◌, Bool, true, false, cond, List, [], ◌∷◌, ◌++◌, length, drop, get_or, map, next_item, Result, Ok, Err, refl, sym, ap, ◌∙◌, subst, arith, IsErr, IsErrAnd, into_iter_items, into_iter_steps, Text, Act, Gives, ◌>>=◌, give, write, ExprTree, as_truth, Inside, inside, value, Yields, did_then, did_failed, did_gives, did_lost, residual_is, assoc, Ghosts, fault_of, Code, Zmem, truth, Evaluates, KeepsEval, standing_of, eval_here, inside_at, depth_of, Parts, Does, DoesAt, KeepsLoans, here_of, append, move_cursor, after_characters}
 use Rattle.std.specs.Iterator.{Yields as IterYields}
 use Rattle.std.specs.declared.vec.IntoIter.{IntoIter}
 use Rattle.mmeaning.proofs.Yieldings.{yielded}
@@ -119,9 +119,9 @@ does_wanting {g = g} {old = old} {new = new} p f r h same locked locks out = sub
   depth = ap (λ e. e.depth) same;
 })
 
--- a text is written
-pub does_write : {S : Type 0} {g : Ghosts S} (old new : Parts S) (x : Text) → new.out.now.items ≡ old.out.now.items ++ x → new.eval ≡ old.eval → new.locks ≡ old.locks → new.out.ghost_name ≡ old.out.ghost_name → Does g (λ i. write x) (λ (u : Unit {0}). u) old (Ok tt) new
-does_write {g = g} old new x out same locked lent = record {
+-- a text is appended
+pub does_append : {S : Type 0} {g : Ghosts S} (old new : Parts S) (x : Text) → new.out.now.items ≡ old.out.now.items ++ x → new.eval ≡ old.eval → new.locks ≡ old.locks → new.out.ghost_name ≡ old.out.ghost_name → Does g (λ i. append x) (λ (u : Unit {0}). u) old (Ok tt) new
+does_append {g = g} old new x out same locked lent = record {
   doubt = same_doubt g old new _ same;
   at = λ sure. record {
     at = λ n le i. (Gives tt (eval_here g (sym same i) (sym out i) (sym locked i).now).0, (eval_here g (sym same i) (sym out i) (sym locked i).now).1);
@@ -130,6 +130,13 @@ does_write {g = g} old new x out same locked lent = record {
   keeps = keeps_same same (ap (λ locks. locks.ghost_name) locked) lent;
   depth = ap (λ e. e.depth) same;
 }
+
+-- a text is written: it is appended, and its characters are counted
+pub does_write : {S : Type 0} {g : Ghosts S} (old mid : Parts S) {e : Eval S} (x : Text) (n : ℕ) → mid.out.now.items ≡ old.out.now.items ++ x → mid.eval ≡ old.eval → mid.locks ≡ old.locks
+    → mid.out.ghost_name ≡ old.out.ghost_name → n ≡ length x → Evaluates g (λ i. move_cursor (after_characters n)) (λ u. u) mid.eval (Ok tt) e → Does g (λ i. write x) (λ (u : Unit {0}). u) old (Ok tt) (record mid { eval = e })
+does_write {g = g} old mid {e = e} x n out same locked lent count d =
+    does_then (λ i u. move_cursor (after_characters (length x))) (does_append old mid x out same locked lent)
+    (does_evaluated (subst (λ n. Evaluates g (λ i. move_cursor (after_characters n)) (λ (u : Unit {0}). u) mid.eval (Ok tt) e) count d))
 
 -- an evaluation, at a depth of its own
 pub at_evaluated : {S A X : Type 0} {g : Ghosts S} {p : Inside → Act A} {f : X → A} {old : Parts S} {e : Eval S} {r : Result X Code} (d : _) → Evaluates g p f (record old.eval { depth = d }) r e

@@ -20,7 +20,8 @@ pub use Rattle.moperator.specs.Codes.{fault_of}
 pub use Rattle.moperator.specs.declared.code.Code.{Code}
 pub use Rattle.moperator.specs.declared.code.Code.TheVariants.{Zmem}
 pub use Rattle.mspec.proofs.ListPlaces.{next_item, none_left}
-pub use Rattle.mspec.specs.Act.{Act, Gives, Text, ask, give, set_test, write, ◌>>=◌, ◌>>◌}
+pub use Rattle.mspec.specs.Act.{Act, Gives, Text, append, ask, give, move_cursor, set_test, write, ◌>>=◌, ◌>>◌}
+pub use Rattle.mspec.specs.Cursor.{after_characters}
 pub use Rattle.mspec.specs.Plan.{Answer, Give_back, Op, Release, Take}
 pub use Rattle.mspec.specs.TextFunctions.{set_piece_of, set_range_of}
 pub use Rattle.mnodes.proofs.Doubting.{Doubts-same, Doubts-then, undoubted}

@@ -5,3 +5,4 @@ pub mod Conditions
 pub mod Targets
 pub mod ForParameters
 pub mod LockNames
+pub mod Columns

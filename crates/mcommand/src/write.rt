@@ -1,8 +1,12 @@
 // SPDX-License-Identifier: Apache-2.0
 // WRITE.
-ghost use Rattle.std.specs.Prelude.{◌≡◌, ◌++◌, ◌<◌, ℤ, map, pos, length, replicate, OnOk};
-ghost use Rattle.mspec.specs.Act.{append, write, write_formats, cursor_is};
-ghost use Rattle.mspec.specs.Cursor.{format_byte, spaces_to};
+ghost use Rattle.std.specs.Prelude.{◌≡◌, ◌++◌, map, replicate, OnOk};
+ghost use Rattle.mspec.specs.Code.{Zarg};
+ghost use Rattle.mspec.specs.Act.{unless, write_formats};
+ghost use Rattle.mspec.specs.Cursor.{format_byte, is_column, spaces_to};
+ghost use Rattle.mmeaning.specs.Yields.{Yields};
+ghost use Rattle.moperator.specs.Codes.{fault_of};
+ghost use Rattle.mcommand.specs.Columns.{spacing};
 ghost use Rattle.mmeaning.specs.LineMeaning as meaning;
 ghost use Rattle.mtree.specs.Tree.{expr_tree, condition_tree};
 ghost use Rattle.mcommand.specs.Does.{Does};
@@ -47,6 +51,34 @@ fn push_formats(out: &mut Vec<u8>, formats: &[u8]) -> Result<(), AllocError>
     Ok(())
 }
 
+// Appends so many spaces.
+fn push_spaces(out: &mut Vec<u8>, count: usize) -> Result<(), AllocError>
+    ensures { OnOk result (out.new.items ≡ out.old.items ++ replicate count 32) }
+{
+    for _ in 0..count {
+        out.push(b' ')?;
+    }
+    Ok(())
+}
+
+// How many spaces lead from a column to another: none if that is not behind it.
+fn spaces_between(from: u32, to: i64) -> usize
+    ensures { replicate result 32 ≡ spaces_to to from }
+{
+    let from = from as i64;
+    if from < to { (to - from) as usize } else { 0 }
+}
+
+// Refuses a column that no text reaches.
+fn check_column(column: i64) -> Result<(), Code>
+    ensures { Yields fault_of (unless Zarg (is_column column)) (λ u. u) result }
+{
+    if column > MAX_TEXT as i64 {
+        return Err(Code::Zarg);
+    }
+    Ok(())
+}
+
 impl<'a, S: NodeStore> Parts<'a, S> {
     // Writes formats, each a `!` or a `#`.
     fn write_formats(&mut self, formats: &[u8]) -> Result<(), Code>
@@ -59,14 +91,10 @@ impl<'a, S: NodeStore> Parts<'a, S> {
 
     // Writes spaces up to a column, unless the line is there.
     fn write_spaces(&mut self, column: i64) -> Result<(), Code>
-        requires { column ≤ℤ pos MAX_TEXT }
-        ensures { Does S.NodeStore (λ i. cursor_is >>= (λ c. write (spaces_to column c.column))) (λ u. u) self.old result self.new }
+        ensures { Does S.NodeStore (λ i. spacing column) (λ u. u) self.old result self.new }
     {
-        let at = self.eval.cursor().column as i64;
-        let count = if at < column { (column - at) as usize } else { 0 };
-        self.out.reserve(count)?;
-        let length = self.out.len() + count;
-        self.out.resize(length, b' ')?;
+        let count = spaces_between(self.eval.cursor().column, column);
+        push_spaces(self.out, count)?;
         self.eval.wrote(count);
         Ok(())
     }
@@ -78,11 +106,9 @@ impl<'a, S: NodeStore> Parts<'a, S> {
         let Some(e) = tab else {
             return Ok(());
         };
-        let value = self.eval.eval(alloc, e)?;
-        let column = whole_of(&value)?;
-        if column > MAX_TEXT as i64 {
-            return Err(Code::Zarg);
-        }
+        let place = self.eval.eval(alloc, e)?;
+        let column = whole_of(&place)?;
+        check_column(column)?;
         self.write_spaces(column)
     }
 

@@ -27,4 +27,4 @@ pub returns : goal.returns
 returns g c =
     does_then _ (does_evaluated c.in_ok-number.ensures.does)
     (does_then _ (does_yielded c.in_ok-code.ensures.whole)
-    (a_character (coded_character c.in_ok-code.code) c.in-Some.character (sym (ap coded_character (whole_fits c.in_ok-code.code c.in_ok-code.ensures.below)) ∙ sym c.coded_character.ensures ∙ c.in-Some.is) (does_write _ _ _ c.in_ok-push.ensures.items refl refl refl)))
+    (a_character (coded_character c.in_ok-code.code) c.in-Some.character (sym (ap coded_character (whole_fits c.in_ok-code.code c.in_ok-code.ensures.below)) ∙ sym c.coded_character.ensures ∙ c.in-Some.is) (does_write _ _ _ _ c.in_ok-push.ensures.items refl refl refl refl c.wrote.ensures)))

@@ -1,0 +1,6 @@
+-- SPDX-License-Identifier: Apache-2.0
+use Rattle.std.proofs.Common.{◌≡◌, ◌++◌, replicate}
+use Rattle.mcommand.proofs.write.push_spaces.Given as goal
+
+abbrev pub invariant-loop : goal.invariant-loop
+invariant-loop l = l.out.items ≡ l.initial.out.items ++ replicate l.counter 32

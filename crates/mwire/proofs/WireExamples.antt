@@ -92,9 +92,9 @@ unfolding reads_in digits canonical_value no_locals level_begun value_of assigne
 sessions = served (fed (codes "1 S A=\"x\"" ∷ []) ++ codes "1 W A") (simp (gets, computed_maps, computed_numbers))
 
 -- a fault, and output with a line end
-faults : stream_served alice empty (fed (codes "1 W \"x\",!,B" ∷ [])) ≡ fed (codes "1:x" ∷ codes "1!M6" ∷ [])
+faults : stream_served alice empty (fed (codes "1 W !,\"x\",B" ∷ [])) ≡ fed (codes "1:" ∷ codes "1-x" ∷ codes "1!M6" ∷ [])
 unfolding reads_in digits canonical_value no_locals level_begun value_of assigned_to
-faults = served (fed (codes "1 W \"x\",!,B" ∷ [])) (simp (gets, computed_maps, computed_numbers))
+faults = served (fed (codes "1 W !,\"x\",B" ∷ [])) (simp (gets, computed_maps, computed_numbers))
 
 -- lines of each wire_line, and an account without the terminal
 stream : stream_served alice empty (fed ([] ∷ codes "1 W 1+" ∷ codes "hello" ∷ (codes "1 ;" ++ replicate 258 65) ∷ (codes "2 W 1" ++ 13 ∷ []) ∷ codes "1 W 2" ∷ [])) ≡ fed (codes "1!ZSYNTAX" ∷ codes "?!ZWIRE" ∷ codes "?!ZLINE" ∷ codes "2!ZTERM" ∷ codes "1-2" ∷ codes "1." ∷ [])

@@ -100,7 +100,7 @@ _ARGUMENTS = [
     Cause("NEW of a special variable", "Leave it out: there are no $ETRAP, $ESTACK and the like; a line ends at its first code.", "N $ETRAP", "name", r"\$", "", _NEW),
     Cause("NEW of a node or a global", "NEW hides local variables by their names: N A,B.", "N A(1)", "", r"[(^]", "", _NEW),
     _later(1, Cause("WRITE #", "leave it out, or write W $C(12).", "W #", "", "#", r"[ ,!]", _WRITE)),
-    Cause("WRITE ?n", 'Fill up by $JUSTIFY, which sets to the right: W $J(X,20); to the left: W X,$J("",20-$L(X)).', "W X,?20", "", r"\?", r"[ ,!]", _WRITE),
+    _later(1, Cause("WRITE ?n", 'fill up by $JUSTIFY, which sets to the right: W $J(X,20); to the left: W X,$J("",20-$L(X)).', "W X,?20", "", r"\?", r"[ ,!]", _WRITE)),
     _later(1, Cause("WRITE *n", "W $C(65).", "W *65", "operand", r"\*", r"[ ,]", _WRITE)),
     Cause("no comma after !", "Write W !,A: a comma stands between two arguments.", "W !A", "", r"[^ ]", "!", rf"{_WRITE}(?:\S*,)?!"),
     _later(1, Cause("SET $EXTRACT", 'put the text together: S X=$E(X,1,2)_"new"_$E(X,4,$L(X)).', 'S $E(X,3)="n"', "target", r"\$(?:E|EXTRACT)\(")),
@@ -129,9 +129,10 @@ _VALUES = [
     _dollar(r"Z[A-Z]*", "a $Z function or variable", "It is another system's own.", "W $ZV"),
     _later(1, _dollar(r"(?:I|IO|J|JOB|P|PRINCIPAL|S|STORAGE)(?![A-Z(])", "$IO, $JOB, $PRINCIPAL or $STORAGE",
                       "the client knows its terminal's number, and a text has at most 4,095 characters.", "S ^TMP($J)=1")),
-    _dollar(r"(?:ST|STACK|V|VIEW|INCREMENT|D|DEVICE|K|KEY|SY|SYSTEM|X|Y|EC|ECODE|ES|ESTACK|ET|ETRAP|TL|TLEVEL|TR|TRESTART|Q|QUIT)(?![A-Z(])|"
+    _later(1, _dollar(r"[XY](?![A-Z(])", "$X or $Y", "count what is written: S N=N+$L(A) W A.", "I $Y>60 W !")),
+    _dollar(r"(?:ST|STACK|V|VIEW|INCREMENT|D|DEVICE|K|KEY|SY|SYSTEM|EC|ECODE|ES|ESTACK|ET|ETRAP|TL|TLEVEL|TR|TRESTART|Q|QUIT)(?![A-Z(])|"
             r"(?:ST|STACK|V|VIEW|I|INCREMENT)\(", "a special variable or function that is not there",
-            "There is $TEST, and at language 1 $IO, $JOB, $PRINCIPAL and $STORAGE; $INCREMENT(X) is S X=$G(X)+1.", "S X=$I(^N)"),
+            "There is $TEST, and at language 1 $IO, $JOB, $PRINCIPAL, $STORAGE, $X and $Y; $INCREMENT(X) is S X=$G(X)+1.", "S X=$I(^N)"),
     _dollar("[A-Z]+", "a function that is not there", 'docs/LANGUAGE.md, "Functions", has all of them.', "W $FOO(1)"),
     _later(1, Cause("$JUSTIFY with three arguments", "round first: $J(X*100+.5\\1/100,8), for X from 0 on.", "W $J(X,8,2)", "close $JUSTIFY", ",")),
     Cause("more arguments than the function takes", 'docs/LANGUAGE.md, "Functions", has what each takes.', "W $L(1,2,3)", "close $", ","),

@@ -30,7 +30,7 @@ CODES = {
     "M28": Code("exponent with a fraction", "Languages", "The exponent of ** is a whole number: X**(N\\1)."),
     "M94": Code("zero to the power zero", "Languages", "Look at both operands of ** first."),
     "ZARG": Code("argument out of its range", "Functions",
-                 "$ORDER wants a subscript and the direction 1 or -1; SET $PIECE a delimiter and a place of 1 to 500."),
+                 "$ORDER wants a subscript and the direction 1 or -1; SET $PIECE a delimiter and a place of 1 to 500; WRITE ?n a column of at most 4,095."),
     "ZCHAR": Code("character over 127", "Values", "Values and lines are ASCII: write another character."),
     "ZDEPTH": Code("too many levels", "Routines, and texts that are run",
                    "At most 256 levels of DO, XECUTE and indirection, 32 of them indirections. A DO of itself without end?"),

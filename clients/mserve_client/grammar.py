@@ -31,7 +31,7 @@ OF_VALUES = {"A ASCII": (1, 2), "C CHAR": (1, 255), "E EXTRACT": (1, 3), "F FIND
 # Those that a later language has, or has with other counts.
 OF_VALUES_SINCE = {1: {"FN FNUMBER": (2, 3), "J JUSTIFY": (2, 3), "RE REVERSE": (1, 1)}}
 # The special variables, and those that a later language has.
-SPECIALS, SPECIALS_SINCE = ["T TEST"], {1: ["I IO", "J JOB", "P PRINCIPAL", "S STORAGE"]}
+SPECIALS, SPECIALS_SINCE = ["T TEST"], {1: ["I IO", "J JOB", "P PRINCIPAL", "S STORAGE", "X", "Y"]}
 # The language that has HANG, whose letter is that of HALT too.
 HANG_SINCE = 1
 # The functions that SET may assign to: how many values at least and at most after the variable.
@@ -184,7 +184,8 @@ def targets(language: int) -> Step:
 
 def rules(language: int) -> dict[str, Step]:
     """The rules of a language."""
-    formats = [text("[!#]+"), all_of(text(r"\*"), rule("expression"))] if language >= 1 else [text("!+")]
+    column = all_of(text(r"\?"), rule("expression"))
+    formats = [all_of(text("[!#]+"), perhaps(column)), column, all_of(text(r"\*"), rule("expression"))] if language >= 1 else [text("!+")]
     pattern = all_of(rule("atom"), ["many", rule("atom")])
     return {**SHARED, "command": any_of(*COMMANDS, *halts(language)), "expression": expression(OPERATOR if language < 1 else rf"\*\*|{OPERATOR}"),
             "target": targets(language), "written": any_of(*formats, rule("expression")), "pattern": any_of(OPERAND, pattern) if language else pattern, "dollar": any_of(

@@ -14,7 +14,7 @@ COMMANDS = {
     "ELSE": "ELSE  W 1              E: skips the rest of the line if $TEST is 1; two spaces follow it",
     "FOR": "FOR I=1:1:10 W I       F: runs the rest of the line in turns; FOR  turns until QUIT",
     "QUIT": "QUIT:X>9               Q: ends the innermost FOR, else the DO, the XECUTE or the line; it takes no value",
-    "WRITE": "WRITE X,!,\"text\"       W: writes into the reply; ! ends a line; of language 1 # begins a page, and *65 is A",
+    "WRITE": "WRITE X,!,\"text\"       W: writes into the reply; ! ends a line; of language 1 # begins a page, ?20 goes to a column, *65 is A",
     "DO": "DO ADD^R               D: runs lines of a routine; DO ^R; DO without arguments runs the dotted lines below",
     "GOTO": "GOTO ADD^R             G: goes on at a line of a routine",
     "XECUTE": "XECUTE \"S X=1\"         X: runs a text as a line",
@@ -41,6 +41,8 @@ FUNCTIONS = {
     "$JOB": "$J                     the terminal's number; of language 1",
     "$PRINCIPAL": "$P                     the terminal's number; of language 1",
     "$STORAGE": "$S                     how many characters a text may have, 4095; of language 1",
+    "$X": "$X                     how many characters the line of output has so far; of language 1",
+    "$Y": "$Y                     how many lines its page has before that one; of language 1",
     "$TEST": "$T                     1 or 0: what the last IF, or LOCK with a timeout, gave",
 }
 DOT_COMMANDS = {

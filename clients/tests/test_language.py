@@ -149,6 +149,8 @@ def test_language_of_an_account(server: Server) -> None:
     ("W $J(1,2,3,4)", ["$JUSTIFY with three arguments, which needs language 1 of the account's settings", "more arguments than the function takes"]),
     ("H 5", ["HANG, which needs language 1 of the account's settings", None]), ("HALT 5", ["an argument where none is taken", "an argument where none is taken"]),
     ("W $J", ["$IO, $JOB, $PRINCIPAL or $STORAGE, which needs language 1 of the account's settings", None]),
+    ("W $Y", ["$X or $Y, which needs language 1 of the account's settings", None]), ("W A,?5", ["WRITE ?n, which needs language 1 of the account's settings", None]),
+    ("W !?5,", ["WRITE ?n, which needs language 1 of the account's settings", "an operand is missing"]),
     ("R X", ["READ", "READ"]), ("W $re(", ["$REVERSE, which needs language 1 of the account's settings", "an operand is missing"]),
 ])
 def test_cause_by_the_language_of_the_account(server: Server, line: str, names: list[str | None]) -> None:

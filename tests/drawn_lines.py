@@ -74,7 +74,7 @@ class Draw:
 
     def later(self, depth: int) -> Pair:
         """An expression of a later language, whose own nest this deep at most."""
-        special = self.drawn.choice(["$I", "$IO", "$J", "$JOB", "$P", "$PRINCIPAL", "$S", "$STORAGE", "$j", "$io"])
+        special = self.drawn.choice(["$I", "$IO", "$J", "$JOB", "$P", "$PRINCIPAL", "$S", "$STORAGE", "$j", "$io", "$X", "$x", "$Y"])
         return self.drawn.choice([
             lambda: (special, special),
             lambda: joined(["(", self.expression(depth), self.drawn.choice(["**2)", "**3)", "**-1)", "**0)"])]),
@@ -142,6 +142,13 @@ class Draw:
             target = self.reference(2)
         return joined([target, "=", self.expression(2)])
 
+    def written(self) -> Pair:
+        """An argument of WRITE."""
+        if self.language and self.drawn.randrange(4) == 0:
+            formats = self.drawn.choice(["?", "!?", "#!?", "?", "*", "!#"])
+            return joined([formats, self.expression(2)]) if formats[-1] in "?*" else (formats, formats)
+        return self.expression(3)
+
     def entry(self) -> Pair:
         """An argument of DO or GOTO."""
         name = self.drawn.choice(["R^R", "P^R", "^R", "G^G", "H^G", "^G"])
@@ -163,7 +170,7 @@ class Draw:
         if form <= 2:
             return joined([self.word(["S", "SET"]), " ", self.arguments(self.some(self.assignment))])
         if form <= 4:
-            return joined([self.word(["W", "WRITE"]), " ", self.arguments(self.some(lambda: self.expression(3)))])
+            return joined([self.word(["W", "WRITE"]), " ", self.arguments(self.some(self.written))])
         if form == 5:
             return joined([self.word(["K", "KILL"]), " ", self.arguments(self.some(lambda: self.reference(2)))])
         if form == 6:

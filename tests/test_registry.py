@@ -2,18 +2,21 @@
 """The registry of examples/: routines with parameters and functions, which are coming. The second interpreter and GT.M answer its session alike, as
 replies.txt has it: the text of each line, and its code on a line of its own if it ends by one.
 
-GT.M takes the routines as they are. Here their tabs become spaces, as a loader makes of them. The program is not asked: it does not have the forms."""
+GT.M takes the routines as they are. Here their tabs become spaces, as a loader makes of them. The program is asked for what it refuses alone: it does
+not have the forms."""
 from __future__ import annotations
 
 import os
 import re
+import subprocess
+import sys
 from pathlib import Path
 
 import pytest
 from against_gtm import Reply, replies
 from drawn_forms import quoted
 from gtm import Gtm, gtm_folder
-from running import TOP
+from running import OF_LANGUAGE, TOP
 from second_interpreter.languages import COMING
 from second_interpreter.world import LONGEST_LINE, World, deep
 
@@ -50,6 +53,14 @@ def test_gtm_answers_as_shipped(tmp_path: Path) -> None:
     answers = Gtm(tmp_path, ROUTINES).play(SESSION)
     assert told(answers) == (REGISTRY / "replies.txt").read_text(encoding="ascii")
     assert answers == by_second_interpreter()
+
+
+def test_functions_and_parameters_alone_are_in_the_way() -> None:
+    """Of the lines that the program refuses by language 1; no other form is missing."""
+    tool = [sys.executable, Path(TOP, "tools", "coverage.py"), REGISTRY / "routines", "--language", str(max(OF_LANGUAGE))]
+    told = subprocess.run(tool, capture_output=True, text=True, check=True, timeout=120).stdout
+    causes = {row.split(" | ")[0] for row in told.partition("| first cause | lines | routines |\n|---|---|---|\n")[2].strip().split("\n")}
+    assert causes == {"| a label with parameters", "| an extrinsic function", "| parameters", "| QUIT with a value"}
 
 
 def test_it_is_a_program_of_functions() -> None:

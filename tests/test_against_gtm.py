@@ -43,7 +43,7 @@ def test_each_difference_is_one() -> None:
 def test_difference_without_a_reason_is_told() -> None:
     """Without the rows their lines are faults."""
     known = differences()
-    played = list(against_gtm.on_both([[*BEGIN, one.line] for one in known]))
+    played = list(against_gtm.on_both([[*BEGIN, one.line] for one in known], endless=()))
     assert [fault is not None for fault in (first_fault(*one, []) for one in played)] == [not alike(here[-1], there[-1]) for _, here, there in played]
     assert sum(first_fault(*one, []) is not None for one in played) >= len(known) - 1
 

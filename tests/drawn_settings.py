@@ -45,6 +45,7 @@ TEXTS = [
     'S ^{g}({i})=1 W 1/0', 'W "', 'S ^{g}("")=1', 'W $C(200)', 'W "é"', ";" + "x" * 255, 'ZZ', '', 'D NO^R', 'W @"^|"',
     # of language 1, in a routine's line
     'S ^ROUTINE("R",2)="B S ^{g}({i})=$REVERSE(""{v}"") W ^{g}({i}) Q"', 'D B^R', 'D B^R',
+    'S ^|"{o}"|ROUTINE("R",2)="B W !?{i},$X,^{g}({i})?@""1N"" Q"',
     # of language 1, in the line, in a text that it runs, and in names that it looks up
     'W $RE("{v}")', 'S ^{g}({i})=$RE({v}_$G(^{g}({i})))', 'W $L($RE(^|"{o}"|{g}({i})))', 'X "S A=$RE({v}) W A"', 'S A="$RE({v})" W @A',
     'W $J,$IO,$P', 'S ^{g}($J)={v} W $G(^|"{o}"|{g}($J))', 'H {v} W $RE({v})', 'S A="{v}" H @A W $RE(A)',

@@ -16,14 +16,40 @@ Hypothesis draws, so that a difference is shown of the fewest lines that have it
 from __future__ import annotations
 
 from collections import Counter
-from collections.abc import Iterator
+from collections.abc import Callable, Iterator
 
 import pytest
-from drawn_settings import LINES, Case, Line, Runs, Setting, for_cases, later_lines, runs_over, sent_by, told
-from support import reaching
+from drawn_settings import LINES, Account, Case, Line, Runs, Setting, for_cases, later_lines, runs_over, sent_by, told
+from running import run
+from second_interpreter.world import World, deep
+from support import Grant, accounts_of, reaching, shown_to
 
 # So many settings are drawn, of each kind of store.
 SETTINGS = {"memory": 100, "file": 200, "file, two runs": 50}
+# An account of language 0 and one of language 1, who may write each other's routines and X; and one of language 1 who has no tie to them.
+TIED: list[Grant] = [(giver, taker, name, "write") for giver, taker in (("ALICE", "BOB"), ("BOB", "ALICE")) for name in ("ROUTINE", "X")]
+SHARED = Setting({"ALICE": Account([1], 2000, 0), "BOB": Account([2], 2000, 1), "CAROL": Account([3], 2000, 1)}, TIED)
+# Lines with their replies, by the rules: a text is read in the language of the account whose line runs it, whoever wrote it.
+SHARED_LINES = [
+    ('2 S ^|"ALICE"|ROUTINE("R",1)="R W $X,2**3 Q",^|"ALICE"|ROUTINE("R",2)="S W 1 Q"', '2.'),
+    ('1 D S^R', '1-1\n1.'),
+    ('1 D R^R', '1!ZSYNTAX'),
+    ('1 S ^|"BOB"|ROUTINE("R",1)="R W !?2,2**3,$X Q"', '1.'),
+    ('2 D R^R', '2:\n2-  83\n2.'),
+    ('3 W "ab",!#,$X,$Y', '3:ab\n3-\\0C00\n3.'),
+    ('1 W $X', '1!ZSYNTAX'),
+    ('2 W $X,",",$Y,",",$J', '2-4,1,2\n2.'),
+    ('1 S ^X="abc",^|"BOB"|X="W ?12,$FN(1234,"",""),*65"', '1.'),
+    ('2 S $E(^|"ALICE"|X,2)="-" X ^X', '2-   1,234A\n2.'),
+    ('1 W ^X X ^|"BOB"|X', '1-a-c\n1!ZSYNTAX'),
+    ('1 S A="^X?@""3E""" W @A', '1!ZSYNTAX'),
+    ('2 S A="3E" W ^X?@A,^|"ALICE"|X?@A', '2-01\n2.'),
+    ('1 H 1', '1!ZSYNTAX'),
+    ('2 H 1 W $X', '2-20\n2.'),
+    ('2 H', '2.'),
+    ('2 W $X,$Y', '2-00\n2.'),
+    ('3 W $X,$Y S $P(^X,",",2,3)="x" W ^X', '3-20,x\n3.'),
+]
 
 
 def judge(runs: Runs, setting: Setting, parts: list[list[Line]]) -> Iterator[str]:
@@ -75,3 +101,13 @@ def test_each_account_is_shown_the_same(kind: str, count: int) -> None:
     assert seen["reached by nobody"] > 0 and seen["tied"] > 0 and seen["open to all"] > 0
     assert seen["refused by language 0"] > draws / 2 and seen["taken by language 1"] > draws / 2
     assert seen["accounts"] >= 3 * draws and seen["lines"] >= 0.8 * draws * LINES
+
+
+def test_two_languages_with_grants_share_a_host(written: Callable[[str], str]) -> None:
+    """Lines of an account of language 0 and of ones of language 1: what each is answered, among all and shown alone, and by the second interpreter."""
+    stream, replies = ("".join(f"{text}\n" for text in column).encode("ascii") for column in zip(*SHARED_LINES, strict=True))
+    settings = written(SHARED.document())
+    assert run(stream, settings) == (0, replies, b"")
+    assert deep(lambda: World(SHARED.document()).replies(stream)) == replies
+    for name, terminals in accounts_of(settings).items():
+        assert run(stream, settings, only=name) == (0, shown_to(replies, terminals), b"")

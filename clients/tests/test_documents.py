@@ -32,10 +32,13 @@ def test_unknown_code() -> None:
 
 def test_each_command_and_function_of_the_page_has_help() -> None:
     commands = set(re.findall(r"^\| `([A-Z]+)`, `[A-Z]` \|", PAGE, re.MULTILINE))
-    assert commands == set(COMMANDS)
+    later_commands = set(re.findall(r"^\| [1-9] \| `([A-Z]+) ", PAGE, re.MULTILINE))
+    assert later_commands and commands | later_commands == set(COMMANDS)
     functions = {"$" + short + more for short, more in re.findall(r"^\| `\$([A-Z]+)\[([A-Z]+)\]\(", PAGE, re.MULTILINE)}
     later = set(re.findall(r"^\| [1-9] \| `(\$[A-Z]+)\(", PAGE, re.MULTILINE))
-    assert later and functions | later | {"$TEST"} == set(FUNCTIONS)
+    cells = re.findall(r"^\| [1-9] \| (`\$[A-Z]+`[^|]*) \|", PAGE, re.MULTILINE)
+    specials = {word for cell in cells for word in re.findall(r"`(\$[A-Z]+)`(?:, `\$[A-Z]`)?", cell)}
+    assert later and specials and functions | later | specials | {"$TEST"} == set(FUNCTIONS)
 
 
 @pytest.mark.parametrize("word", [*COMMANDS, *FUNCTIONS, *CODES])

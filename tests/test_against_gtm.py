@@ -58,6 +58,12 @@ def test_codes_that_are_alike() -> None:
     assert not alike(Reply("1"), Reply("2")) and not alike(Reply("", "M6"), Reply("", "M7")) and not alike(Reply("", "ZARG"), Reply("")) and not alike(Reply(""), Reply("", "Z1"))
 
 
+def test_replies_as_rows_have_them() -> None:
+    """Controls as on the wire, many spaces by their count, and of a code of GT.M's own the Z alone."""
+    given = [Reply("a\n\x0cb"), Reply(4096 * " ", "M6"), Reply("a  b"), Reply("1", "Z150376010"), Reply("", "ZARG")]
+    assert [against_gtm.shown(one) for one in given] == ["a\\0A\\0Cb", "(4096 spaces)!M6", "a  b", "1!Z", "!ZARG"]
+
+
 def test_what_a_row_explains() -> None:
     row: Difference = differences()[0]
     assert row.explains("W A!B", Reply("", "M6"), Reply("1"))

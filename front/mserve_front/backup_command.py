@@ -16,7 +16,7 @@ from .ending import DEFAULT, FAILED, FOUND, USAGE
 from .figures import VERIFIED
 from .folders import sync_folder, write_whole
 from .settings import BadSettings, Table, journal_settings, read_toml
-from .snapshots import BadSnapshot, Manifest, accounts_of, check, differ, finish, put_back, read_manifest
+from .snapshots import BadSnapshot, Manifest, accounts_of, check, differ, finish, put_back, read_manifest, snapshots_of
 
 NAME = "mbackup"
 STATUSES = "Status: 0 all went well; 1 a snapshot or a store is not what it is to be; 2 the words or the settings are wrong; 3 it cannot be done; " \
@@ -126,11 +126,6 @@ def verified(options: argparse.Namespace) -> int:
     write_whole(options.folder / VERIFIED, json.dumps(note).encode() + b"\n")
     print(f"{latest}: good: a replay from {before or 'the beginning of the journal'} holds the same, in {time.monotonic() - began:.1f} s: {told(manifest)}")
     return 0
-
-
-def snapshots_of(folder: Path) -> list[Path]:
-    """The snapshots of a folder, by their lines."""
-    return sorted(path for path in folder.iterdir() if path.name.isdigit())
 
 
 def compared(options: argparse.Namespace) -> int:

@@ -91,7 +91,7 @@ def words() -> argparse.ArgumentParser:
     one.add_argument("--to", type=Path, default=Path("/var/lib/mserve/islands"), metavar="FOLDER",
                      help="where the islands are kept then (default /var/lib/mserve/islands)")
     one = add("move", move, "move an island to another machine", "Its users work on until the other machine has caught up; then their sessions end, and they "
-              "sign on again.")
+              "sign on again. To its own machine: call it back, if it has not left yet.")
     one.add_argument("island", metavar="ISLAND")
     one.add_argument("machine", metavar="MACHINE")
     one.add_argument("--gone", action="store_true", help="its own machine has ended: do not wait for it")

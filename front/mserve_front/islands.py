@@ -20,9 +20,10 @@ from .control import Refused, asked
 from .doors import held
 from .folders import write_whole
 from .placement import HERE, LEFT, MOVING, READY, TAKING, Island, Machine, Placed
+from .places import first_of
 from .preamble import new_secret
 from .server import HOST, Fault, tell, tied
-from .settings import Limits
+from .settings import JournalSettings, Limits
 from .standing import place_of, read_standing
 from .users import Users, load, save
 
@@ -192,11 +193,18 @@ class Islands:
         house = House(island.name, {kind: held(HOST, 0, shared=True) for kind in ("http", "lines")}, follows, island.settings, pause)
         self._houses[island.name] = house
         if follows:
-            put_aside(self.folder(island.name) / "store")
+            await asyncio.to_thread(self._put_aside, island.name)
         # Apart: a disk takes its time, and users of other islands go on.
         path = await asyncio.to_thread(self._written, island, house)
         words = [*tied(shutil.which("setpriv")), sys.executable, str(COMMAND), "--config", str(path), *(["--follow"] if follows else [])]
         house.process = await asyncio.create_subprocess_exec(*words, stdin=asyncio.subprocess.DEVNULL, start_new_session=True)
+
+    def _put_aside(self, name: str) -> None:
+        """Puts the store of an island aside that is to stand by, if it cannot begin with that. Raises `LogFault`."""
+        store, home = self.folder(name) / "store", self._home
+        standing = read_standing(store)
+        kept = JournalSettings(database=home.database, name=name) if home.database is not None else JournalSettings(self.folder(name) / "journal")
+        put_aside(store, 1 if standing is None or standing.number is None else first_of(kept))
 
     async def _ended(self, name: str, how: signal.Signals = signal.SIGTERM) -> None:
         """Ends the front of an island in order, if it runs here; by SIGUSR1 its users are told that they have moved."""
@@ -222,6 +230,8 @@ class Islands:
             tell(f"island {name}: the standby begins with the journal: {found['fault']}")
             await self._ended(name)
             return False
+        if found["fault"]:
+            self._tell_once(name, f"island {name} does not come yet: {found['fault']}")
         # Where users never rest there is always a line to come: the few that are left are run at the promotion.
         return found["state"] == "standby" and found["fault"] == "" and int(str(found["behind"])) <= NEAR
 
@@ -236,13 +246,17 @@ class Islands:
                 await asyncio.to_thread(asked, self.folder(island.name) / "mfront.control", {"ask": "promote"}, None)
                 house.follows = False
         except Refused as error:
-            # It is asked again and again: what it says is told once.
-            if house.told != str(error):
-                house.told = str(error)
-                tell(f"island {island.name}: {error}")
+            self._tell_once(island.name, f"island {island.name}: {error}")
             return
         await asyncio.to_thread(self._placement.arrived, island.name, self._home.machine.name)
         tell(f"island {island.name} is here")
+
+    def _tell_once(self, name: str, text: str) -> None:
+        """Tells what the front of an island says: it is asked again and again."""
+        house = self._houses.get(name)
+        if house is not None and house.told != text:
+            house.told = text
+            tell(text)
 
     def folder(self, name: str) -> Path:
         """The folder of an island on this machine."""
@@ -291,10 +305,11 @@ def write_secret(path: Path, secret: str) -> None:
         file.write(secret + "\n")
 
 
-def put_aside(store: Path) -> None:
-    """Renames a store of which nobody knows which line it stands at: what stands by begins with the journal. It is served elsewhere, or was."""
+def put_aside(store: Path, first: int = 1) -> None:
+    """Renames a store of which nobody knows which line it stands at, or that stands before what the journal has, which begins with the line `first`: what
+    stands by begins with the journal, or with a snapshot. It is served elsewhere, or was."""
     standing = read_standing(store)
-    if store.exists() and (standing is None or standing.number is None):
+    if store.exists() and (standing is None or standing.number is None or standing.number < first - 1):
         for path in (store, store.with_name(store.name + "-wal"), place_of(store)):
             if path.exists():
                 path.rename(path.with_name(f"{path.name}.old"))

@@ -235,15 +235,32 @@ def _tail_of(folder: Path) -> Tail:
     return Tail(secrets.randbits(63) | 1, 0, 1, 0, 0, told)
 
 
-def first_line(path: Path) -> int | None:
-    """The number of the first line of a file, or of the next one if its first flush has none; None if the file has no whole flush."""
+def _first_flush(path: Path) -> Flush:
+    """The first flush of a file. Raises `Torn` if it has none, and `BadJournal` if that is damaged."""
     with path.open("rb") as file:
         data = file.read(len(MARK) + HEAD_SIZE)
         data += file.read(body_size(data[len(MARK):]))
+    return read_flush(data, len(MARK))[0]
+
+
+def first_line(path: Path) -> int | None:
+    """The number of the first line of a file, or of the next one if its first flush has none; None if the file has no whole flush."""
     try:
-        return read_flush(data, len(MARK))[0].first
+        return _first_flush(path).first
     except (Torn, BadJournal):
         return None
+
+
+def first_of(folder: Path) -> int:
+    """The number of the first line that the journal in a folder has, or of the next one if it has none. Raises `BadJournal` if it is damaged there, and
+    `LogFault` if the disk does not give it."""
+    try:
+        for _, path in files_of(folder):
+            with contextlib.suppress(Torn):
+                return _first_flush(path).first
+    except OSError as error:
+        raise LogFault(f"{folder}: {error.strerror}") from error
+    return 1
 
 
 class FileReader:

@@ -366,6 +366,15 @@ def end_of(place: str, name: str) -> Tail:
         return tail_of(base, name) if begun else Tail(0, 0, 1, 0, 0)
 
 
+def first_of(place: str, name: str) -> int:
+    """The number of the first line that a journal has, or of the next one if it has none. Raises `BadJournal` or `LogFault`."""
+    with connected(place) as base, faults():
+        if base.execute("SELECT to_regclass('mfront_journal')").fetchone() == (None,):
+            return 1
+        row = base.execute("SELECT sequence, flush FROM mfront_journal WHERE name = %s ORDER BY sequence LIMIT 1", (name,)).fetchone()
+        return 1 if row is None else flush_of(name, *row).first
+
+
 def expire_rows(place: str, name: str, journal: int, line: int) -> int:
     """Removes the rows that have no line after this one, but for the last, and gives how many. Raises `BadJournal` if it is another journal."""
     with connected(place) as base, faults():

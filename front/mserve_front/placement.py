@@ -144,10 +144,18 @@ class Placement:
         if island is None:
             raise BadPlacement(f"{name}: there is no such island")
         if island.machine == target:
-            raise BadPlacement(f"{name}: it is at {target}")
+            self._stays(island)
+            return
         if island.state != HERE and not gone:
             raise BadPlacement(f"{name}: it is on its way to {island.target}")
         self._ask("UPDATE mfront_island SET target = %s, state = %s WHERE name = %s", target, TAKING if gone else MOVING, name)
+
+    def _stays(self, island: Island) -> None:
+        """Has an island stay that has not left yet. Raises `BadPlacement`."""
+        if island.state not in (MOVING, TAKING):
+            raise BadPlacement(f"{island.name}: it is at {island.machine}" + (f", and leaves it for {island.target}" if island.target else ""))
+        if not self._ask("UPDATE mfront_island SET target = NULL, state = %s WHERE name = %s AND state = %s RETURNING name", HERE, island.name, island.state):
+            raise BadPlacement(f"{island.name}: it has just left {island.machine}: look at it again (mgate list)")
 
     def turn(self, name: str, before: str, after: str) -> None:
         """Takes an island on from a state to the next, if it is still in that."""

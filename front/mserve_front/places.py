@@ -6,7 +6,7 @@ from typing import Protocol
 
 from . import journal_file
 from .journal import Log, Tail
-from .records import Flush
+from .records import BadJournal, Flush
 from .settings import JournalSettings
 
 
@@ -59,6 +59,18 @@ def said_beside(settings: JournalSettings) -> list[str]:
 def last_line(settings: JournalSettings) -> int:
     """The number of the last line of a journal; 0 if it has none. Raises as `end_of` does."""
     return end_of(settings).next - 1
+
+
+def first_of(settings: JournalSettings) -> int:
+    """The number of the first line that a journal has, or of the next one if it has none: what comes before it may have expired. It is 1 if the journal is
+    damaged there, as who reads it finds then. Raises `LogFault` if it cannot be had now."""
+    try:
+        if settings.folder is not None:
+            return journal_file.first_of(settings.folder)
+        from . import journal_table
+        return journal_table.first_of(str(settings.database), settings.name)
+    except BadJournal:
+        return 1
 
 
 def last_of(settings: JournalSettings, writer: int) -> Flush | None:

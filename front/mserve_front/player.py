@@ -252,7 +252,7 @@ class Stage:
         elif event.unknown:
             lines = f"line {event.unknown[0].number}" if len(event.unknown) == 1 else f"lines {event.unknown[0].number} to {event.unknown[-1].number}"
             self._tell(f"{lines} had no reply when the leader's server ended: what the leader's store held then is in the journal, and stands here too")
-        anew = held is Held.ALL and self._store == "memory"
+        anew = held is Held.ALL and self._store == "memory" and not event.rows
         if held in (Held.CHANGED, Held.ALL) and not anew and (event.rows or self.at or self.child is not None):
             await self._given(event)
         await self._renewed(start.settings, anew)
@@ -265,6 +265,7 @@ class Stage:
                           f"lines {start.base + 1} to {answered} were undone there, and have been run here")
         if start.fresh and self._store != "memory" and self.at:
             raise Stopped(f"before line {start.number} the leader's store was recreated: begin there with an empty store")
+
     async def _given(self, event: Began) -> None:
         """Ends the server, and gives the store the rows of a start. Raises `Stopped`."""
         if self._store == "memory":

@@ -6,6 +6,7 @@ variables and no locks: a snapshot is exact if no terminal had any then, and the
 from __future__ import annotations
 
 import asyncio
+import contextlib
 import hashlib
 import json
 import os
@@ -156,6 +157,23 @@ def read_manifest(folder: Path) -> Manifest:
         raise BadSnapshot(f"{path}: cannot be read: {error.strerror}") from error
     except (ValueError, KeyError, TypeError, AttributeError) as error:
         raise BadSnapshot(f"{path}: is no manifest of a snapshot: {type(error).__name__}: {error}") from error
+
+
+def snapshots_of(folder: Path) -> list[Path]:
+    """The snapshots of a folder, by their lines."""
+    return sorted(path for path in folder.iterdir() if path.name.isdigit())
+
+
+def latest(folder: Path, journal: int, least: int, most: int) -> Path | None:
+    """The latest exact snapshot in a folder that is of a journal, and stands at one of these lines. One whose manifest cannot be read, as while it is being
+    copied there, does not count."""
+    with contextlib.suppress(OSError):
+        for path in reversed(snapshots_of(folder)):
+            with contextlib.suppress(BadSnapshot):
+                found = read_manifest(path)
+                if found.exact and found.journal == journal and least <= found.number <= most:
+                    return path
+    return None
 
 
 def check(folder: Path) -> Manifest:

@@ -12,7 +12,7 @@ import signal
 import socket
 import time
 from collections import deque
-from dataclasses import replace
+from dataclasses import dataclass, field, replace
 from pathlib import Path
 
 from . import ending
@@ -25,20 +25,38 @@ from .history import Began, Event, History
 from .journal import Journal, LogFault, LogTaken
 from .keeper import Promoted
 from .metrics import Metrics
-from .places import end_of, last_line, last_of, reader_of, writer_of
+from .places import end_of, first_of, last_line, last_of, reader_of, writer_of
 from .player import NotYet, Stage, Stopped
 from .records import BadJournal, Flush, Held, LineRecord
 from .server import Fault, NoStart, tell
 from .settings import Settings
+from .snapshots import BadSnapshot, latest, put_back
 from .standbys import SAYS, Said, name_of
 from .standing import Standing, forget_standing, place_of, read_standing, write_standing
 
 # What to do with a store of which nobody knows up to which line it has run the journal.
 SNAPSHOT = "put back a snapshot (mbackup restore)"
+# After which a standby goes on whatever its store holds.
+ALL = "the leader has written all that its store holds into the journal (mbackup take --end-sessions --all)"
 # Seconds between two looks at the journal, and between two after one that failed.
 POLL, RETRY = 0.02, 1.0
 # Lines that are named, of those that a promotion would lose.
 SHOWN = 20
+
+
+@dataclass(slots=True)
+class Passed:
+    """Lines with replies that were not run as they were answered: how many, the first of them, and the number of the last."""
+
+    count: int = 0
+    first: list[LineRecord] = field(default_factory=list)
+    last: int = 0
+
+    def add(self, line: LineRecord) -> None:
+        """One more."""
+        self.count, self.last = self.count + 1, line.number
+        if len(self.first) < SHOWN:
+            self.first.append(line)
 
 
 class Standby:
@@ -61,9 +79,12 @@ class Standby:
         # What it waits for, so that it can go on; and whether that is because its store is not as the leader's.
         self._waits = Fault("it stands still, and waits: {}", "it goes on")
         self._differs = False
+        # The journal's first line, where it does not reach back to what the store has run; and whether that was looked at since the reading began.
+        self._gone: int | None = None
+        self._looked = False
         self._events: deque[Event] = deque()
-        # Lines with replies that it has not run as they were answered.
-        self._lost: list[LineRecord] = []
+        # What would be lost if it were promoted.
+        self._lost = Passed()
         self._idle = False
         self._follows = False
         self._places: dict[int, socket.socket] = {}
@@ -206,6 +227,8 @@ class Standby:
     async def _advanced(self) -> bool:
         """Runs what has come, and says whether anything has. What keeps it from going on it waits for: it is there when it is to be promoted."""
         try:
+            if self._gone is not None and self._stage.child is None:
+                await self._begins_with_snapshot(self._gone)
             came = await self._step()
             if not self._differs:
                 self._waits.goes()
@@ -218,14 +241,17 @@ class Standby:
             # The store is what it was. The journal may be put back.
             self._waits.comes(error)
             await self._reads_again()
+        except LogFault as error:
+            self._fault.comes(error)
         return False
 
     def _stands_still(self, error: Stopped) -> None:
         """Runs no line any more, until a start of the leader gives all that its store holds: this one is not as the leader's was."""
         self._differs, self._waits.text = True, ""
-        self._waits.comes(Stopped(f"{error}. It goes on once the leader has written all that its store holds into the journal (mbackup take "
-                                  "--end-sessions --all), or begin with a snapshot"))
-        self._lost += self._stage.give_up()
+        self._waits.comes(Stopped(f"{error}. It goes on once {ALL}, or begin with a snapshot"))
+        self._gone = None
+        for line in self._stage.give_up():
+            self._lost.add(line)
 
     async def _reads_again(self) -> None:
         """Begins to read after what is run."""
@@ -233,10 +259,63 @@ class Standby:
             await self._stage.drained()
         except Stopped as error:
             self._stands_still(error)
+        await self._reads_from(self._stage.at)
+
+    async def _reads_from(self, line: int | None) -> None:
+        """Begins to read after a line, or with what the journal has."""
         await asyncio.to_thread(self._reader.close)
         self._events.clear()
-        self._history = History(self._stage.at)
-        self._reader = reader_of(self._settings.journal, self._stage.at + 1)
+        self._looked = line is None
+        self._history = History(line)
+        self._reader = reader_of(self._settings.journal, 1 if line is None else line + 1)
+
+    async def _look(self) -> None:
+        """Looks whether the journal reaches back to what is run. Where that has expired, lines are passed over, as by a store that differs: up to a start that
+        gives all. Raises `LogFault`."""
+        kept, at = self._settings.journal, self._stage.at
+        first = await asyncio.to_thread(first_of, kept)
+        self._looked = True
+        if first <= at + 1:
+            return
+        self._differs, self._gone = True, first
+        begins = f"the journal begins with line {first}, and"
+        if self._stage.child is not None:
+            self._waits_for(BadJournal(f"{begins} the store has run it up to line {at}. It goes on once {ALL}, or begin with a snapshot"))
+        else:
+            place = "" if kept.backup is None else f"is in {kept.backup}, or "
+            self._waits_for(BadJournal(f"{begins} there is no store here. It goes on once an exact snapshot of line {first - 1} or later {place}is put back "
+                                       f"(mbackup restore), or once {ALL}"))
+        await self._reads_from(None)
+
+    def _waits_for(self, error: Exception) -> None:
+        """Waits, and tells for what, if that is something else than before."""
+        if self._waits.text != str(error):
+            self._waits.text = ""
+            self._waits.comes(error)
+
+    async def _begins_with_snapshot(self, first: int) -> None:
+        """Begins with a snapshot that was put back, or with the latest one that the journal, which begins with this line, goes on from; if there is one in the
+        folder that the settings name. Raises `LogFault` or `NoStart`."""
+        store, kept = self._store, self._settings.journal
+        if store is None:
+            return
+        try:
+            if not store.exists() and kept.backup is not None:
+                tail = await asyncio.to_thread(end_of, kept)
+                found = await asyncio.to_thread(latest, kept.backup, tail.journal, first - 1, tail.next - 1)
+                if found is not None:
+                    await asyncio.to_thread(put_back, found, store)
+                    tell(f"it begins with the snapshot {found}")
+            standing = read_standing(store)
+            if standing is None or not store.exists():
+                return
+            await self._begins_at(standing)
+        except (BadSnapshot, BadJournal) as error:
+            # It may be being copied there.
+            self._waits_for(error)
+            return
+        self._differs, self._gone, self._lost = False, None, Passed()
+        await self._reads_again()
 
     async def _step(self) -> bool:
         """Runs what has come, and says whether anything has. Raises `Stopped` or `BadJournal`."""
@@ -264,6 +343,8 @@ class Standby:
     async def _read(self) -> BadJournal | None:
         """Reads what has come; what is wrong after it, if anything is."""
         try:
+            if not self._looked:
+                await self._look()
             flushes: list[Flush] = await asyncio.to_thread(self._reader.more)
             self._fault.goes()
         except LogFault as error:
@@ -283,21 +364,20 @@ class Standby:
         """Runs a line, or begins again. While the store differs from the leader's, lines are passed over, up to a start that gives all."""
         if self._differs and not (isinstance(event, Began) and event.held is Held.ALL):
             if isinstance(event, Ran):
-                self._lost.append(event.line)
+                self._lost.add(event.line)
             return
         await self._stage.take(event)
         if self._differs:
-            self._differs = False
-            self._lost.clear()
+            self._differs, self._gone, self._lost = False, None, Passed()
 
     async def _left(self) -> None:
         """Ends in order: the store is known to stand where it does. Raises `NoStart` if it is not as the leader's was."""
-        if not self._differs:
+        if not self._differs or self._gone is not None:
             with contextlib.suppress(Stopped):
                 await self._stage.drained()
-                at, terminals = self._stage.at, tuple(self._stage.open)
+                at, terminals, began = self._stage.at, tuple(self._stage.open), self._stage.child is not None
                 await self._stage.end()
-                if self._store is not None and self._store.exists():
+                if began and self._store is not None and self._store.exists():
                     write_standing(self._store, Standing(self._journal_number, at, terminals))
                 return
         raise NoStart(f"the standby ends, and its store is not to be used: {self._waits.text or 'its server ended'}")
@@ -311,7 +391,7 @@ class Standby:
         return {"state": "standby", "line": self._stage.at, "behind": behind, "seconds": round(self._stage.behind(), 3), "reported": self._stage.reported,
                 # It was idle at its last look, and the journal may have grown since.
                 "caught up": self._idle and not behind and not self._fault.text and not self._waits.text, "fault": self._fault.text or self._waits.text,
-                "differs": self._differs or ""}
+                "differs": self._differs and self._gone is None or ""}
 
     async def _told(self) -> Told:
         """What the operator's page shows."""
@@ -357,6 +437,9 @@ class Standby:
         """Takes the journal, and runs what was answered. Gives what is lost, which is nothing unless it is promoted by force. Raises `Refused` if it cannot
         be promoted, something would be lost, or a stop has come."""
         self._go_on()
+        if self._gone is not None and self._stage.child is None and await self._caught_up() and self._gone is not None:
+            # This comes first: it has nothing to serve with, so that whoever has the journal keeps it.
+            raise Refused(self._waits.text)
         await journal.take(self._force)
         wrong = await self._caught_up()
         # From here to the promotion nothing is waited for, unless something is lost: a stop that comes later is for the service.
@@ -386,11 +469,12 @@ class Standby:
 
     def _told_lost(self) -> list[str]:
         """The lines that were answered, and are not as they were answered here."""
-        if not self._lost:
+        lost = self._lost
+        if not lost.count:
             return []
-        shown = [f"{line.number} (terminal {line.terminal}, {line.user or 'the front'})" for line in self._lost[:SHOWN]]
-        more = f" and {len(self._lost) - SHOWN} more, up to {self._lost[-1].number}" if len(self._lost) > SHOWN else ""
-        return [f"{len(self._lost)} lines that were answered would be lost: {', '.join(shown)}{more}"]
+        shown = [f"{line.number} (terminal {line.terminal}, {line.user or 'the front'})" for line in lost.first]
+        more = f" and {lost.count - SHOWN} more, up to {lost.last}" if lost.count > SHOWN else ""
+        return [f"{lost.count} lines that were answered would be lost: {', '.join(shown)}{more}"]
 
     def _go_on(self) -> None:
         """Raises `Refused` if a stop has come."""

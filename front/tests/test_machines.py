@@ -7,6 +7,7 @@ import asyncio
 import json
 import os
 import re
+import shutil
 import signal
 import ssl
 from collections.abc import Callable, Iterable, Iterator
@@ -15,7 +16,7 @@ from pathlib import Path
 import aiohttp
 import pytest
 from database import Cluster
-from front import FRONT, PASSWORD, Record, at_rest, in_loop, toml, tool
+from front import FRONT, PASSWORD, Record, at_rest, in_loop, toml, tool, until
 from machines import HOSTS, Gate, Program, certificates, islands, ports
 from mserve_front.gate_command import settings_of
 from mserve_front.placement import BadPlacement, Placement
@@ -203,6 +204,57 @@ async def test_an_island_that_had_trouble_is_taken_over(host: Callable[..., Gate
     assert status == 0, told
 
 
+@pytest.mark.long
+@pytest.mark.parametrize("what", ["snapshot", "rows"])
+@in_loop()
+async def test_an_island_whose_journal_was_expired_moves(host: Callable[..., Gate], cluster: Pair, tmp_path: Path, what: str) -> None:
+    """To a machine that has a store of which nobody knows where it stands: it says what it needs while users work on, and goes on by itself once a snapshot is
+    there, or the leader has written all that its store holds."""
+    islands(tmp_path / "islands", 1)
+    first, second = host("one"), host("two")
+    assert first.does("place", "island0", tmp_path / "islands" / "island0.toml", "two")[0] == 0
+    user = Program(first, "user0.0")
+    await user.signed_on()
+    assert await user.told("S ^N=1 W ^N") == "1"
+    await asyncio.to_thread(second.kill)
+    assert first.does("move", "island0", "one", "--gone")[0] == 0
+    await settled(cluster, "island0", "one")
+    await user.signed_on()
+    assert await user.told("S ^N=^N+1 W ^N") == "2"
+    home = first.folder / "islands" / "island0"
+    snapshot = await asyncio.to_thread(expired, home)
+    assert await user.told("S ^N=^N+1 W ^N") == "3"
+    second.again()
+    assert first.does("move", "island0", "two")[0] == 0
+    await until(lambda: f"island island0 does not come yet: the journal begins with line {int(snapshot.name) + 1}" in second.told(), "what it needs")
+    assert (second.folder / "islands" / "island0" / "store.old").exists()
+    assert await user.told("S ^N=^N+1 W ^N") == "4" and "island island0 one moving two" in first.does("list")[1]
+    if what == "snapshot":
+        await asyncio.to_thread(shutil.copytree, snapshot.parent, second.folder / "islands" / "island0" / "backup")
+    else:
+        status, _, told = await asyncio.to_thread(tool("mbackup"), "take", snapshot.parent, "--end-sessions", "--all", "--config", home / "front.toml")
+        assert status == 0, told
+    await settled(cluster, "island0", "two")
+    await user.signed_on()
+    assert await user.told("S ^N=^N+1 W ^N") == "5"
+    user.close()
+    run = tool("mjournal", "--database", cluster.both, "--name", "island0")
+    status, _, told = await asyncio.to_thread(run, "replay", "--program", PROGRAM, "--store", "memory", "--from", snapshot)
+    assert status == 0, told
+
+
+def expired(home: Path) -> Path:
+    """Takes an exact snapshot of an island, and removes what its journal has before that."""
+    config, folder = ("--config", home / "front.toml"), home / "backup"
+    folder.mkdir()
+    status, output, told = tool("mbackup")("take", folder, "--end-sessions", *config)
+    assert status == 0, told
+    snapshot = Path(output.strip())
+    status, _, told = tool("mjournal", *map(str, config))("expire", snapshot)
+    assert status == 0, told
+    return snapshot
+
+
 # Where each journal ends.
 ENDS = "SELECT name, max(sequence) FROM mfront_journal GROUP BY name ORDER BY name"
 
@@ -367,9 +419,18 @@ def test_words_of_mgate(host: Callable[..., Gate], cluster: Pair, tmp_path: Path
                       (lambda: placement.put("x", "account = 1", "one"), "no settings of a server: Shape"),
                       (lambda: placement.put("x", other + GRANT, "one"), "x: these are no settings of a server: Grant: .*NOBODY"),
                       (lambda: placement.put("x", "", "one"), "have no account"),
-                      (lambda: placement.move("island0", "one", False), "it is at one"), (lambda: placement.move("island9", "one", False), "no such island")):
+                      (lambda: placement.move("island0", "one", False), "it is at one$"), (lambda: placement.move("island9", "one", False), "no such island")):
         with pytest.raises(BadPlacement, match=told):
             act()
+    # One that does not arrive is called back, until its machine has let go of it.
+    for state in ("moving", "taking"):
+        cluster.does(f"UPDATE mfront_island SET state = '{state}', target = 'one'")
+        placement.move("island0", "one", False)
+        assert cluster.does("SELECT state, target FROM mfront_island") == [("here", None)]
+    cluster.does("UPDATE mfront_island SET state = 'ready', target = 'one'")
+    with pytest.raises(BadPlacement, match="it is at one, and leaves it for one"):
+        placement.move("island0", "one", False)
+    cluster.does("UPDATE mfront_island SET state = 'here', target = NULL")
     placement.close()
     for table, keys, told in (("machine", {"name": "a b"}, "machine.name: is to be"), ("machine", {"database": None}, "machine.database: is missing"),
                               ("listen", {"port": 0}, "listen.port: is to be a whole number"), ("peers", {"key": None}, "peers.key: is missing")):

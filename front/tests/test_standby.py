@@ -19,7 +19,7 @@ import aiohttp
 import pytest
 from front import SETTINGS, Front, Patience, Person, Ran, in_loop, mjournal, stopped, tool, until
 from mserve_front.control import Refused, asked
-from mserve_front.places import end_of, last_line
+from mserve_front.places import end_of, first_of, last_line
 from mserve_front.service import Service
 from mserve_front.settings import JournalSettings, read_settings
 from mserve_front.standby import Standby
@@ -42,7 +42,8 @@ def leading(start, journal: Path, **more: object) -> Front:
 
 def standby(start, journal: Path, **more: object) -> Front:
     """A standby over a store of its own."""
-    return start(words=["--follow"], awaited="standing by", journal={"folder": str(journal)}, **{"store": "store.db"} | more)
+    kept = {"folder": str(journal)} | ({"backup": more.pop("backup")} if "backup" in more else {})
+    return start(words=["--follow"], awaited="standing by", journal=kept, **{"store": "store.db"} | more)
 
 
 def promoted(front: Front) -> Ran:
@@ -326,6 +327,54 @@ async def test_a_standby_that_is_killed_begins_with_a_snapshot(start, tmp_path: 
     assert promoted(second)[0] == 0
     async with second.person("ada") as ada:
         assert await ada.told("W ^X") == "2"
+
+
+@pytest.mark.long
+@in_loop()
+async def test_a_standby_over_a_journal_that_was_expired(start, tmp_path: Path) -> None:
+    """It says what it needs, takes the journal from nobody, and begins with a snapshot that comes, or with all that the leader's store holds."""
+    leader, journal = leading(start, tmp_path / "journal", roll=4096), tmp_path / "journal"
+    async with leader.person("ada") as ada:
+        await ada.line("S ^X=1")
+        first = await asyncio.to_thread(backup, leader, "--end-sessions")
+        second = standby(start, journal)
+        await caught_up(second, journal)
+        assert second.stop() == 0
+        for number in range(40):
+            await ada.line(f"S ^X({number})={number}")
+        snapshot = await asyncio.to_thread(backup, leader, "--end-sessions")
+        await ada.line("S ^Y=^X(39)")
+        assert mjournal(journal)("expire", snapshot)[0] == 0
+        begins = first_of(JournalSettings(journal))
+        assert int(first.name) + 1 < begins <= int(snapshot.name) + 1
+        # One that stood before that, and one without a store.
+        second.again()
+        second.hears(f"it stands still, and waits: the journal begins with line {begins}, and the store has run it up to line {int(first.name)}. It goes on once")
+        third = standby(start, journal, backup="backup")
+        third.hears(f"it stands still, and waits: the journal begins with line {begins}, and there is no store here. It goes on once an exact snapshot of line "
+                    f"{begins - 1} or later is in {third.folder / 'backup'}, or is put back (mbackup restore), or once the leader has written all")
+        for words in ((), ("--force",)):
+            status, _, told = tool("mfront")("promote", *words, "--config", third.folder / "front.toml")
+            assert status == 3 and f"not promoted: the journal begins with line {begins}" in told
+        assert await ada.told("S ^Z=1 W ^Y") == "39"
+        # What is not one, not exact, or from before is passed over; and one that is damaged is told.
+        for made in (first, snapshot):
+            shutil.copytree(made, third.folder / "backup" / made.name)
+        damaged = third.folder / "backup" / f"{int(snapshot.name) + 1:012d}"
+        damaged.mkdir()
+        (damaged / "manifest.json").write_text((snapshot / "manifest.json").read_text().replace(f'"number": {int(snapshot.name)}', f'"number": {begins}'))
+        third.hears(f"it stands still, and waits: {damaged / 'store'}: there is no such file")
+        shutil.rmtree(damaged)
+        third.hears(f"it begins with the snapshot {third.folder / 'backup' / snapshot.name}")
+        third.hears("it goes on")
+        await caught_up(third, journal)
+        await asyncio.to_thread(backup, leader, "--end-sessions", "--all")
+        second.hears("it goes on")
+        for one in (second, third):
+            await caught_up(one, journal)
+            assert held(one.folder / "store.db") == held(leader.folder / "store.db")
+    await stopped(leader)
+    assert promoted(third)[0] == 0
 
 
 @pytest.mark.long

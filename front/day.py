@@ -166,8 +166,8 @@ def told(day: Day, record: Path) -> str:
     works = [one for one in found if "lines" in one]
     hour = works[:60], works[-60:]
     sizes, opened = ([statistics.median(float(one[key]) for one in some) for some in hour] for key in ("megabytes", "files"))
-    return (f"{len(works)} minutes, {day.users.answered} lines answered, none lost or twice; {day.troubles} troubles, each taken over; {day.snapshots} snapshots "
-            f"verified by a replay; the stores of leader and standby are the replay's\n"
+    return (f"{len(works)} minutes, {day.users.answered} lines answered, none lost or twice; {day.troubles} troubles, each taken over; {day.snapshots} "
+            f"snapshots verified by a replay; the stores of leader and standby are the replay's\n"
             f"median of the minutes: reply {statistics.median(one['median'] for one in works):.1f} ms, 99th percentile "
             f"{statistics.median(one['late'] for one in works):.1f} ms, share of the machine {statistics.median(one['share'] for one in works) * 100:.1f} %\n"
             f"first hour and last hour: {sizes[0]:.0f} and {sizes[1]:.0f} MB, {opened[0]:.0f} and {opened[1]:.0f} open files")

@@ -199,7 +199,8 @@ def main() -> int:
     words = argparse.ArgumentParser(description="Measures what a journal costs: lines in a second, time of a line, replay, and fail-over.")
     words.add_argument("--users", type=int, default=64, help="how many users (default 64)")
     words.add_argument("--seconds", type=float, default=20, help="for how long each (default 20)")
-    words.add_argument("--kinds", nargs="*", choices=KINDS, default=list(KINDS), help="the kinds of journal (default all; none are named: only leaders are killed)")
+    words.add_argument("--kinds", nargs="*", choices=KINDS, default=list(KINDS),
+                       help="the kinds of journal (default all; none are named: only leaders are killed)")
     words.add_argument("--stores", nargs="+", choices=("memory", "file"), default=["memory", "file"], help="the kinds of store (default both)")
     words.add_argument("--replayed", type=int, default=20_000, help="how many lines of each journal are replayed at most (default 20000; 0 for none)")
     words.add_argument("--killed", type=int, default=10, help="how many leaders are killed (default 10)")

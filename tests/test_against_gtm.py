@@ -55,7 +55,8 @@ def test_table_of_the_page_is_the_file_of_differences() -> None:
 
 def test_codes_that_are_alike() -> None:
     assert alike(Reply("1"), Reply("1")) and alike(Reply("1", "M6"), Reply("1", "M6")) and alike(Reply("", "ZARG"), Reply("", "Z150376010"))
-    assert not alike(Reply("1"), Reply("2")) and not alike(Reply("", "M6"), Reply("", "M7")) and not alike(Reply("", "ZARG"), Reply("")) and not alike(Reply(""), Reply("", "Z1"))
+    assert not alike(Reply("1"), Reply("2")) and not alike(Reply("", "M6"), Reply("", "M7"))
+    assert not alike(Reply("", "ZARG"), Reply("")) and not alike(Reply(""), Reply("", "Z1"))
 
 
 def test_replies_as_rows_have_them() -> None:

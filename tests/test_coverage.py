@@ -30,10 +30,13 @@ def test_tables(tmp_path: Path) -> None:
     ran = told(tmp_path, "--apart", 3)
     assert (ran.returncode, ran.stderr) == (0, "")
     assert ran.stdout.strip().split("\n") == [
-        "routines, language 0", "", "| | as they are | as they are loaded |", "|---|---|---|", "| routines of 1, whole | 0 | 1 |", "| lines of 3 | 33.3 % | 100.0 % |",
+        "routines, language 0", "", "| | as they are | as they are loaded |", "|---|---|---|", "| routines of 1, whole | 0 | 1 |",
+        "| lines of 3 | 33.3 % | 100.0 % |",
         "| lines with code of 2 | 50.0 % | 100.0 % |", "", "| first cause | lines | routines |", "|---|---|---|", "",
-        "longer routines, language 0", "", "| | as they are | as they are loaded |", "|---|---|---|", "| routines of 1, whole | 0 | 0 |", "| lines of 4 | 0.0 % | 0.0 % |",
-        "| lines with code of 3 | 0.0 % | 0.0 % |", "", "| first cause | lines | routines |", "|---|---|---|", "| $HOROLOG | 1 | 1 |", "| QUIT with a value | 1 | 1 |",
+        "longer routines, language 0", "", "| | as they are | as they are loaded |", "|---|---|---|", "| routines of 1, whole | 0 | 0 |",
+        "| lines of 4 | 0.0 % | 0.0 % |",
+        "| lines with code of 3 | 0.0 % | 0.0 % |", "", "| first cause | lines | routines |", "|---|---|---|", "| $HOROLOG | 1 | 1 |",
+        "| QUIT with a value | 1 | 1 |",
         "| a label with parameters | 1 | 1 |", "| an extrinsic function | 1 | 1 |"]
 
 

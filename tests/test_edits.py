@@ -184,7 +184,8 @@ def run_over(said: str, tmp_path: Path, monkeypatch: pytest.MonkeyPatch, capsys:
     """The status and the lines of `./test edits mvalue`, with a kit of another form, which prints this and has the edits in must-fail/."""
     (tmp_path / "said").write_text(f"{said}\n", encoding="utf-8")
     rt = tmp_path / "rt"
-    rt.write_text(f'#!/bin/sh\n[ "$*" = "must-fail mvalue" ] || exit 2\n[ -e crates/mvalue/must-fail/bytes_lost.edit ] && cat {tmp_path}/said\n', encoding="utf-8")
+    rt.write_text(f'#!/bin/sh\n[ "$*" = "must-fail mvalue" ] || exit 2\n[ -e crates/mvalue/must-fail/bytes_lost.edit ] && cat {tmp_path}/said\n',
+                  encoding="utf-8")
     rt.chmod(0o755)
     monkeypatch.setenv("PATH", f"{tmp_path}:/usr/bin:/bin")
     monkeypatch.setattr(sys, "__stdout__", sys.stdout)

@@ -83,7 +83,8 @@ def test_a_document_with_a_fault(changes: list[tuple[str, str]], fault: str, wri
     assert run(LINE, written(document), str(tmp_path)) == refused(3, "settings", fault)
 
 
-@pytest.mark.parametrize(("language", "reply"), [("", b"1!ZSYNTAX\n"), ("language = 0\n", b"1!ZSYNTAX\n"), ("language = 1\n", b"1-21\n1.\n")], ids=["none", "0", "1"])
+@pytest.mark.parametrize(("language", "reply"), [("", b"1!ZSYNTAX\n"), ("language = 0\n", b"1!ZSYNTAX\n"), ("language = 1\n", b"1-21\n1.\n")],
+                         ids=["none", "0", "1"])
 def test_language_of_an_account(language: str, reply: bytes, written: Written, store: str) -> None:
     """Over memory, over a file, and of the account alone."""
     settings = written(ACCOUNT.format(1, 2000) + language)

@@ -36,7 +36,7 @@ def read_all(client: socket.socket) -> bytes:
 def send(client: socket.socket, stream: bytes, size: int) -> None:
     """Sends a stream in pieces of a size, and no more."""
     for at in range(0, len(stream), size):
-        client.sendall(stream[at : at + size])
+        client.sendall(stream[at:at + size])
     client.shutdown(socket.SHUT_WR)
 
 

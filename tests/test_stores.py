@@ -106,7 +106,8 @@ def test_a_whole_database(store: str) -> None:
 def others(path: str) -> list[tuple[object, ...]]:
     """What a database has beside the two tables: the schema, and the rows of each other table."""
     with contextlib.closing(sqlite3.connect(path)) as database:
-        found = database.execute("SELECT type, name, sql FROM sqlite_master WHERE tbl_name NOT IN ('node', 'meta') OR name IN ('i', 'w') ORDER BY name").fetchall()
+        found = database.execute("SELECT type, name, sql FROM sqlite_master WHERE tbl_name NOT IN ('node', 'meta') OR name IN ('i', 'w') "
+                                 "ORDER BY name").fetchall()
         names = [name for kind, name, _ in found if kind == "table"]
         return found + [(name, *row) for name in names for row in database.execute(f"SELECT * FROM {name}")]
 

@@ -48,7 +48,8 @@ def blocks():
 
 
 def block_of(file, text):
-    """The block of a file with this text. A line behind `# ` is a comment, and one that is indented is given by the case above it, or by an empty case where there is none."""
+    """The block of a file with this text. A line behind `# ` is a comment, and one that is indented is given by the case above it, or by an empty case where
+    there is none."""
     header, *lines = text.split("\n")
     kind, _, name = header.removeprefix("== ").partition(": ")
     cases = []

@@ -115,7 +115,8 @@ def main() -> int:
         sys.exit(f"coverage: {asked.folder} has no file .m")
     with connection(asked.language) as made:
         all_read = [read(made, texts) for texts in found]
-    for title, group in ("routines", [one for one in all_read if len(one) <= asked.apart]), ("longer routines", [one for one in all_read if len(one) > asked.apart]):
+    groups = ("routines", [one for one in all_read if len(one) <= asked.apart]), ("longer routines", [one for one in all_read if len(one) > asked.apart])
+    for title, group in groups:
         if group:
             print(f"\n{title}, language {asked.language}\n", *table(group), sep="\n", flush=True)
     return 0

@@ -27,7 +27,7 @@ from contextlib import contextmanager
 from dataclasses import dataclass, field
 from glob import glob
 
-from bench import DONE, END, GTM_LOOP, READY, gtm_folder, timed, write_page
+from bench import DONE, GTM_LOOP, READY, gtm_folder, timed, write_page
 from running import require_program, run_words
 
 BEGIN = "<!-- durable.py -->\n"

@@ -88,8 +88,9 @@ def exports(root: str) -> tuple[set[str], set[str]]:
 
 def clauses_behind(lines: list[str], at: int) -> set[str]:
     """The names of the clauses of the function that begins in this line: its body's brace, or a semicolon, ends them."""
-    end = next((i for i in range(at, len(lines)) if lines[i].strip() in ("{", "{}") or lines[i].endswith(";") or lines[i].endswith(" {") and " { " not in lines[i]), len(lines))
-    return {found[1] for line in lines[at : end + 1] if (found := CLAUSE.match(line))}
+    end = next((i for i in range(at, len(lines))
+                if lines[i].strip() in ("{", "{}") or lines[i].endswith(";") or lines[i].endswith(" {") and " { " not in lines[i]), len(lines))
+    return {found[1] for line in lines[at:end + 1] if (found := CLAUSE.match(line))}
 
 
 def read_source(crate: str, traits: set[str]) -> Source:

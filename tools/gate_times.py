@@ -46,7 +46,8 @@ def table(watch, seconds):
     lines.append("| together | " + " | ".join(f"{it:.0f}" for it in sums) + f" ({edits}) |")
     minutes = (sum(sums) + other) / 60
     lines.append("")
-    lines.append(f"{seconds / 60:.0f} minutes by the clock on {len(os.sched_getaffinity(0))} processors, {minutes:.0f} processor minutes, {other / 60:.0f} of them compiling and running.")
+    lines.append(f"{seconds / 60:.0f} minutes by the clock on {len(os.sched_getaffinity(0))} processors, {minutes:.0f} processor minutes, {other / 60:.0f} of "
+                 "them compiling and running.")
     return "\n".join(lines) + "\n"
 
 
@@ -87,7 +88,8 @@ def print_scale(revision, before, now):
     old, new = (sum(sum(it[name][:3]) for name in same) for it in (before, now))
     if new:
         told = sum(now["together"][:3]) * old / new
-        print(f"\nAs at {revision}, with all below: {', '.join(same)}, {old} seconds before and {new} now. By that all crates take {told:.0f} of the seconds before.")
+        print(f"\nAs at {revision}, with all below: {', '.join(same)}, {old} seconds before and {new} now. By that all crates take {told:.0f} of the seconds "
+              "before.")
 
 
 def is_same(revision, name):

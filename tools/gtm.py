@@ -57,8 +57,10 @@ class Gtm:
 
     def _run(self, routine: str | None, lines: str, program: str = "mumps", *words: str) -> str:
         """What a program of GT.M writes. It evaluates both sides of `&` and `!`, and from the left, as the standard has it."""
-        environment = {**os.environ, "gtm_dist": str(self.dist), "gtmgbldir": str(self.folder / "against.gld"), "gtm_chset": "M", "LC_ALL": "C", "gtm_boolean": "1",
-                       "gtm_side_effects": "1", "gtmroutines": f"{self.folder} {self.dist}/libgtmutil.so", "gtm_tmp": str(self.folder), "HOME": str(self.folder)}
+        environment = {**os.environ, "gtm_dist": str(self.dist), "gtmgbldir": str(self.folder / "against.gld"), "gtm_chset": "M", "LC_ALL": "C",
+                       "gtm_boolean": "1",
+                       "gtm_side_effects": "1", "gtmroutines": f"{self.folder} {self.dist}/libgtmutil.so", "gtm_tmp": str(self.folder),
+                       "HOME": str(self.folder)}
         command = [f"{self.dist}/{program}", *(["-run", routine] if routine else words)]
         done = subprocess.run(command, input=lines.encode("latin1"), capture_output=True, timeout=300, env=environment, cwd=self.folder)
         if done.returncode and routine != "against":

@@ -3,8 +3,8 @@
 """Prints transcripts/keys-computed.txt: keys of nodes, and what is left of a key that is changed.
 
 A case `key account name subscripts` is a node, with the bytes of its key below it in hexadecimal. A case `changed bytes` says how
-many of the beginnings of a key, and of the keys with one byte changed, are the key of a node. The rules restated here: a name's bytes are raised by one and end with 00; a canonical number is 01 and its units raised by
-2^127 in sixteen bytes; any other subscript is 02 and its bytes raised by one, ended by 00.
+many of the beginnings of a key, and of the keys with one byte changed, are the key of a node. The rules restated here: a name's bytes are raised by one and end
+with 00; a canonical number is 01 and its units raised by 2^127 in sixteen bytes; any other subscript is 02 and its bytes raised by one, ended by 00.
 """
 import random
 import re

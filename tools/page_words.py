@@ -15,7 +15,8 @@ sys.path.insert(0, os.path.join(TOP, "clients"))
 from mserve_client import causes, codes, grammar, keys, language, reference, routine_files, walk, wire  # noqa: E402
 
 MADE = os.path.join(TOP, "front", "page", "codes.js")
-HEAD = "// SPDX-License-Identifier: Apache-2.0\n// Made by tools/page_words.py from clients/mserve_client: change it there, and run `python3 tools/page_words.py --write`.\n"
+HEAD = ("// SPDX-License-Identifier: Apache-2.0\n"
+        "// Made by tools/page_words.py from clients/mserve_client: change it there, and run `python3 tools/page_words.py --write`.\n")
 
 
 def exported() -> dict[str, tuple[str, object]]:

@@ -29,7 +29,8 @@ def fail(text: str) -> None:
 def require_system() -> None:
     """The program, and the kit that builds it, are for x86-64 Linux."""
     if (platform.system(), platform.machine()) != ("Linux", "x86_64"):
-        fail(f"it runs on x86-64 Linux, and this is {platform.machine()} {platform.system()}: use a machine, a container or a virtual machine of that kind (docs/INSTALL.md)")
+        fail(f"it runs on x86-64 Linux, and this is {platform.machine()} {platform.system()}: use a machine, a container or a virtual machine of that kind "
+             "(docs/INSTALL.md)")
 
 
 def note_compared(start: int) -> None:

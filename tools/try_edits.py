@@ -153,7 +153,9 @@ def fault_of(rows: list[Row], crate: str, stem: str, told: str | None) -> str | 
 def notes_of(page: str) -> dict[str, Note]:
     """What the page says of each crate's edits."""
     rows = page.partition(BEGIN)[2].partition(END)[0]
-    number = lambda text: int(text) if text else None
+
+    def number(text: str) -> int | None:
+        return int(text) if text else None
     return {it[1]: Note(int(it[2]), number(it[3]), number(it[4]), it[5], it[6]) for it in NOTE.finditer(rows)}
 
 
@@ -170,7 +172,7 @@ def pieces_of(paths: list[str], note: Note | None) -> list[list[str]]:
     for count in range(1, len(paths)):
         size = -(-len(paths) // count)
         if note is None or note.seconds is None or cost(note, size) <= MOST_SECONDS:
-            return [paths[at : at + size] for at in range(0, len(paths), size)]
+            return [paths[at:at + size] for at in range(0, len(paths), size)]
     return [[path] for path in paths]
 
 
@@ -232,7 +234,8 @@ def stems(edits: dict[str, list[str]]) -> Iterator[tuple[str, str]]:
 
 def written(page: str, notes: dict[str, Note]) -> str:
     """The page with these notes in its table."""
-    blank = lambda number: "" if number is None else str(number)
+    def blank(number: int | None) -> str:
+        return "" if number is None else str(number)
     rows = "".join(f"| `{crate}` | {note.edits} | {blank(note.seconds)} | {blank(note.base)} | {note.day} | {note.commit} |\n" for crate, note in notes.items())
     before, _, rest = page.partition(BEGIN)
     return f"{before}{BEGIN}{HEAD}{rows}{END}{rest.partition(END)[2]}"

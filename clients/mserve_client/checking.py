@@ -131,7 +131,8 @@ def _of_form(line: SourceLine) -> Finding | None:
         return Finding(0, len(line.label) + 1, f"the label {line.label} has parameters", language.LABEL_PARAMETERS,
                        cause="a label with parameters")
     if not line.level and line.rest and not line.rest.startswith(";"):
-        return Finding(0, len(line.label) + 1, f"the line begins with {(line.label + line.rest)[:20]!r}", language.NO_LABEL, cause="what begins the line is no label")
+        return Finding(0, len(line.label) + 1, f"the line begins with {(line.label + line.rest)[:20]!r}", language.NO_LABEL,
+                       cause="what begins the line is no label")
     if len(line.rest) > LONGEST_REST:
         return Finding(0, 1, f"the line has {len(line.text):,} characters, too many to check",
                        f"Cut it in two: {LONGEST_REST:,} after label and dots can be checked.", cause="a line that is too long")
@@ -144,7 +145,8 @@ def _refused(line: SourceLine, accepted: bool | None, number: int) -> Finding | 
         return None
     found = language.fault(line.rest, number)
     if found is None:
-        return None if accepted is None else Finding(0, before(line) + 1, f"not in the language: {line.rest[:60]}", "The server refuses it.", cause="another cause")
+        return None if accepted is None else Finding(0, before(line) + 1, f"not in the language: {line.rest[:60]}", "The server refuses it.",
+                                                     cause="another cause")
     return Finding(0, before(line) + found.place + 1, f"not in the language: {line.rest[found.command:][:60]}: {found.name}", found.advice,
                    cause=found.name)
 

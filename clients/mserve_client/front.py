@@ -366,7 +366,8 @@ class FrontConnection:
             self._pongs.put(data)
             self._pong()
         elif kind == CLOSE:
-            raise self._over or ServerGone(f"the front at {self.place.origin} ended the session; lines that were sent and have no reply may have been run or not")
+            raise self._over or ServerGone(f"the front at {self.place.origin} ended the session; lines that were sent and have no reply may have been "
+                                           "run or not")
         elif kind == TEXT:
             found = json.loads(data)
             if "event" not in found:

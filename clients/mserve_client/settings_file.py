@@ -95,7 +95,8 @@ def parsed(source: str, data: bytes) -> Settings:
         raise BadSettings(f"{source}: Toml: {error}") from error
     for fault in _shape_faults(document):
         raise BadSettings(f"{source}: Shape: {fault}")
-    settings = Settings(tuple(Account(entry["name"], tuple(entry["terminals"]), entry["steps"], entry.get("language", 0)) for entry in document.get("account", [])),
+    settings = Settings(tuple(Account(entry["name"], tuple(entry["terminals"]), entry["steps"], entry.get("language", 0))
+                              for entry in document.get("account", [])),
                         tuple(Grant(entry["from"], entry["to"], entry["global"], entry["mode"]) for entry in document.get("grant", [])))
     check(source, settings)
     return settings

@@ -12,7 +12,7 @@ from .codes import in_words
 from .extracts import Entry, shown_node
 from .mtext import quoted, reference, set_lines
 from .walk import Walker, free_local, long_reference
-from .wire import LONGEST_LINE, ClientError, Connection, Reply
+from .wire import LONGEST_LINE, ClientError, Connection
 
 # The room that a reference may take in a line that sets a part of a text.
 ROOM = 100

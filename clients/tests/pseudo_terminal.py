@@ -54,7 +54,8 @@ def opened(*words: str, rows: int = 24, without: str = "", **variables: str) -> 
     """A shell with these words at a prompt; `without` names a module that is not to be found."""
     near, far = pty.openpty()
     hook = f"import sys; sys.modules[{without!r}] = None; " if without else "import sys; "
-    start = hook + f"import fcntl, termios; fcntl.ioctl(0, termios.TIOCSCTTY, 0); sys.path.insert(0, {str(CLIENTS)!r}); from mserve_client.shell import main; sys.exit(main())"
+    start = hook + (f"import fcntl, termios; fcntl.ioctl(0, termios.TIOCSCTTY, 0); sys.path.insert(0, {str(CLIENTS)!r}); "
+                    "from mserve_client.shell import main; sys.exit(main())")
     process = subprocess.Popen([sys.executable, "-c", start, *words], stdin=far, stdout=far, stderr=far, start_new_session=True,
                                env={**os.environ, "TERM": "xterm", "LINES": str(rows), "COLUMNS": "200", "PROMPT_TOOLKIT_NO_CPR": "1", **variables})
     os.close(far)

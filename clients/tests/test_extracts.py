@@ -130,7 +130,8 @@ def test_file_that_is_no_extract() -> None:
         read(b"#!/bin/sh\nexit\n\n")
 
 
-NODES = st.tuples(st.sampled_from(["X", "%Z9"]), st.lists(st.text(st.characters(max_codepoint=127), min_size=1, max_size=6) | st.integers().map(str), max_size=4)
+NODES = st.tuples(st.sampled_from(["X", "%Z9"]),
+                  st.lists(st.text(st.characters(max_codepoint=127), min_size=1, max_size=6) | st.integers().map(str), max_size=4)
                   .map(tuple), st.text(st.characters(max_codepoint=127), max_size=30))
 
 

@@ -31,8 +31,10 @@ HEAD = "GT.M MUPIP EXTRACT\n26-NOV-2026  01:45:37 ZWR\n"
 DEEP = tuple("s" * 250 + str(number) for number in range(15))
 DEEP_NODE = "^X(" + ",".join(f'"{text}"' for text in DEEP) + ")"
 # Nodes of many kinds, as GT.M writes them, in the order in which it does.
-NODES = ['^X="root"', '^X(-1.5)="negative"', '^X(.000000000000000001)=""', '^X(1)="q""uote"', '^X(1,"a b",3)="' + "t" * 600 + '"', '^X(2)=$C(10,13)_"x"_$C(0)_"y"_$C(127)',
-         '^X("-0")="1"', '^X("01")="' + '""' * 300 + '"', '^X("a",$C(9)_"b"_$C(10))="1000"', '^X("a""b")=$C(1)', DEEP_NODE + '="deep"', '^Y("z")="' + "y" * 4095 + '"']
+NODES = ['^X="root"', '^X(-1.5)="negative"', '^X(.000000000000000001)=""', '^X(1)="q""uote"', '^X(1,"a b",3)="' + "t" * 600 + '"',
+         '^X(2)=$C(10,13)_"x"_$C(0)_"y"_$C(127)',
+         '^X("-0")="1"', '^X("01")="' + '""' * 300 + '"', '^X("a",$C(9)_"b"_$C(10))="1000"', '^X("a""b")=$C(1)', DEEP_NODE + '="deep"',
+         '^Y("z")="' + "y" * 4095 + '"']
 ZWR = HEAD + "".join(node + "\n" for node in NODES)
 
 
@@ -128,7 +130,8 @@ def test_import_through_a_terminal_says_which_nodes_stand(server: Server, comman
     (tmp_path / "in.zwr").write_text(HEAD + '^X(1)="a"\n^X(2)=$C(' + ",".join(["10"] * 40) + ')\n^X(3)="c"\n')
     ran = command("mglobal", server.port, SHORT, "import", "in.zwr")
     assert ran.status == 1
-    assert ran.told == ("mglobal: line 4: ^X(2) was answered ZSTEPS: steps used up; 2 nodes stand, those up to line 3, and 1 of the lines after it that were on their "
+    assert ran.told == ("mglobal: line 4: ^X(2) was answered ZSTEPS: steps used up; 2 nodes stand, those up to line 3, and 1 of the lines after it that were "
+                        "on their "
                         "way already\n")
 
 
@@ -137,7 +140,8 @@ def test_export_through_a_terminal_wants_names(server: Server, command: Command)
     assert ran.status == 1 and "name the globals" in ran.told
 
 
-@pytest.mark.parametrize(("text", "told"), [("X", "a global is ^NAME"), ("^X(1", "no ) after the subscripts"), ("^X(A)", "no text"), ('^X("")', "its subscript 1 is empty"),
+@pytest.mark.parametrize(("text", "told"), [("X", "a global is ^NAME"), ("^X(1", "no ) after the subscripts"), ("^X(A)", "no text"),
+                                            ('^X("")', "its subscript 1 is empty"),
                                             ("^X(1)2", "no global"), ("^1", "no node")])
 def test_names_that_are_none(server: Server, command: Command, text: str, told: str) -> None:
     ran = command("mglobal", server.port, ALICE, "count", text)
@@ -183,7 +187,8 @@ def test_file_is_left_as_the_program_leaves_it(command: Command, tmp_path: Path)
         assert not (tmp_path / f"{name}-wal").exists() or (tmp_path / f"{name}-wal").stat().st_size < 512
         with sqlite3.connect(tmp_path / name) as base:
             found.append([base.execute(words).fetchall() for words in (
-                "SELECT sql FROM sqlite_master ORDER BY rowid", "SELECT * FROM meta", "SELECT k, v FROM node ORDER BY k", "PRAGMA journal_mode", "PRAGMA integrity_check")])
+                "SELECT sql FROM sqlite_master ORDER BY rowid", "SELECT * FROM meta", "SELECT k, v FROM node ORDER BY k", "PRAGMA journal_mode",
+                "PRAGMA integrity_check")])
         base.close()
     assert found[0] == found[1]
 
@@ -216,7 +221,8 @@ def test_interrupt_of_a_straight_import(command: Command, tmp_path: Path) -> Non
     (tmp_path / "good.zwr").write_text(HEAD + '^X(1)="old"\n')
     assert command("mglobal", "store.db", "LAB", "import", "--new-account", "good.zwr").status == 0
     os.mkfifo(tmp_path / "pipe")
-    process = subprocess.Popen([sys.executable, CLIENTS / "mglobal", "store.db", "LAB", "import", "--new-account", "pipe"], cwd=tmp_path, stdout=subprocess.PIPE, stderr=subprocess.PIPE)
+    process = subprocess.Popen([sys.executable, CLIENTS / "mglobal", "store.db", "LAB", "import", "--new-account", "pipe"], cwd=tmp_path,
+                               stdout=subprocess.PIPE, stderr=subprocess.PIPE)
     with open(tmp_path / "pipe", "wb") as pipe:
         pipe.write(HEAD.encode() + b"".join(b'^X(%d)="new"\n' % number for number in range(20_000)))
         pipe.flush()
@@ -233,7 +239,8 @@ def test_dry_run_changes_nothing(command: Command, tmp_path: Path) -> None:
 
 
 @pytest.mark.parametrize(("words", "told"), [
-    (("store.db", "LAB", "import", "none.zwr"), "none.zwr: No such file or directory"), (("none/store.db", "LAB", "import", "--new-account", "in.zwr"), "unable to open database file"),
+    (("store.db", "LAB", "import", "none.zwr"), "none.zwr: No such file or directory"),
+    (("none/store.db", "LAB", "import", "--new-account", "in.zwr"), "unable to open database file"),
     ((".", "LAB", "count"), "unable to open database file"), (("store.db", "LAB", "import", "--new-account", "."), ".: Is a directory"),
 ])
 def test_files_that_cannot_be_opened(command: Command, tmp_path: Path, words: tuple[str, ...], told: str) -> None:
@@ -248,7 +255,8 @@ def test_compare(command: Command, tmp_path: Path) -> None:
     (tmp_path / "c.zwr").write_text(HEAD + '^X(2)="B"\n^X(1)="c"\n')
     assert command("mglobal", "store.db", "LAB", "import", "--new-account", "a.zwr").status == 0
     ran = command("mglobal", "store.db", "LAB", "compare", "b.zwr")
-    assert ran.output.splitlines() == ["only in the store: ^X(1)", "different: ^X(2)", "only in the file: ^X(3)", "only in the file: ^Z", "only in the store: ^A, 1 node",
+    assert ran.output.splitlines() == ["only in the store: ^X(1)", "different: ^X(2)", "only in the file: ^X(3)", "only in the file: ^Z",
+                                       "only in the store: ^A, 1 node",
                                        "5 nodes compared: 5 nodes different"]
     assert ran.status == 1
     ran = command("mglobal", "store.db", "LAB", "compare", "c.zwr")
@@ -380,8 +388,10 @@ def test_node_that_is_refused_among_others(server: Server, place: int) -> None:
 
 
 # A name, or a word for a person, of thirty languages.
-NAMES_OF_LANGUAGES = ["Müller", "Noël", "Muñoz", "São", "Dvořák", "Łukasz", "Szűcs", "Šimić", "Ștefan", "Çelik", "Øystein", "Åsa", "Þóra", "Siân", "Ċensu", "Jānis", "Žemaitė", "Õnne",
-                      "Иван", "Юлія", "Παύλος", "Արամ", "გიორგი", "אברהם", "محمد", "فریدون", "अमित", "தமிழ்", "สมชาย", "Nguyễn", "陈伟", "佐藤ゆき", "김철수", "𝔘𝔫𝔦", "👩‍⚕️"]
+NAMES_OF_LANGUAGES = ["Müller", "Noël", "Muñoz", "São", "Dvořák", "Łukasz", "Szűcs", "Šimić", "Ștefan", "Çelik", "Øystein", "Åsa", "Þóra", "Siân", "Ċensu",
+                      "Jānis", "Žemaitė", "Õnne",
+                      "Иван", "Юлія", "Παύλος", "Արամ", "გიორგი", "אברהם", "محمد", "فریدون", "अमित", "தமிழ்", "สมชาย", "Nguyễn", "陈伟", "佐藤ゆき", "김철수", "𝔘𝔫𝔦",
+                      "👩‍⚕️"]
 
 
 @pytest.mark.parametrize("way", ["straight", "terminal"])
@@ -429,7 +439,8 @@ def test_file_that_another_process_has(command: Command, tmp_path: Path) -> None
 
 
 @pytest.mark.parametrize(("made", "told"), [
-    (None, "there is no such file"), ("text", "it is no database"), ("other", "it has tables of others alone"), ("version", "is of version 1"), ("none", "is of version none"),
+    (None, "there is no such file"), ("text", "it is no database"), ("other", "it has tables of others alone"), ("version", "is of version 1"),
+    ("none", "is of version none"),
 ])
 def test_files_that_are_no_stores(command: Command, tmp_path: Path, made: str | None, told: str) -> None:
     path = tmp_path / "store.db"

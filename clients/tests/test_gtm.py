@@ -33,7 +33,8 @@ STEP S S(L)=$O(@R(L)@(S(L))) I S(L)="" S L=L-1 Q
 """
 # Texts of every kind that both systems have as subscripts, in no order.
 SUBSCRIPTS = ["1", "-1", "10", "9", "-10", ".5", "-.5", "1.25", "123456789012345678", "-123456789012345678", ".000000000000000001", "999999999999999999",
-              "1234567890123456789", "0123", "01", "1.0", "-0", "+1", "1E5", "1e5", "--1", "1.", "0.5", "a", "A", "Z", "%", " ", " 1", "1 ", "a b", 'a"b', '""', ",", "a,b",
+              "1234567890123456789", "0123", "01", "1.0", "-0", "+1", "1E5", "1e5", "--1", "1.", "0.5", "a", "A", "Z", "%", " ", " 1", "1 ", "a b", 'a"b', '""',
+              ",", "a,b",
               "(", ")", "=", "^X", "\t", "\n", "a\x01b", "\x7f", "\x1f", "~", "_", "a_b", "$C(9)", "x" * 200]
 
 
@@ -50,7 +51,8 @@ class Gtm:
 
     def run(self, program: str, *words: str, stdin: str = "") -> str:
         """What a program of GT.M writes."""
-        done = subprocess.run([f"{FOUND[-1]}/{program}", *words], input=stdin.encode(), capture_output=True, timeout=60, env=self.environment(), cwd=self.folder)
+        done = subprocess.run([f"{FOUND[-1]}/{program}", *words], input=stdin.encode(), capture_output=True, timeout=60, env=self.environment(),
+                              cwd=self.folder)
         assert done.returncode == 0, (done.stdout, done.stderr)
         return done.stdout.decode("latin1")
 
@@ -138,7 +140,8 @@ def test_what_gtm_has_and_mserve_has_not(command: Command, tmp_path: Path) -> No
     base.extract("there.zwr")
     ran = command("mglobal", "store.db", "A", "import", "--new-account", "gtm/there.zwr", "--skip")
     assert ran.output.startswith("2 nodes imported, 5 lines cannot come in") and ran.status == 1
-    for reason in ("^X: the number 1000000000000000000 is no number here", "^X: the number .0000000000000000001 is no number here", "has the code 233", "has the code 200",
+    for reason in ("^X: the number 1000000000000000000 is no number here", "^X: the number .0000000000000000001 is no number here", "has the code 233",
+                   "has the code 200",
                    "^X(3): its text has 4,096 characters"):
         assert reason in ran.told
     assert command("mglobal", "store.db", "A", "count").output == "^X: 2 nodes\n"

@@ -31,7 +31,8 @@ Rows = list[tuple[bytes, bytes]]
 
 def settings_of(grants: list[tuple[str, str]], names: tuple[str, ...] = NAMES) -> Settings:
     """Accounts of one terminal each, every other one with language 1, and grants between them."""
-    return Settings(tuple(Account(name, (number,), 2000, 1 - number % 2) for number, name in enumerate(names, 1)), tuple(Grant(giver, taker, "X", "read") for giver, taker in grants))
+    return Settings(tuple(Account(name, (number,), 2000, 1 - number % 2) for number, name in enumerate(names, 1)),
+                    tuple(Grant(giver, taker, "X", "read") for giver, taker in grants))
 
 
 def island_by_definition(settings: Settings, account: str) -> set[str]:
@@ -93,7 +94,8 @@ def test_program_that_prints_islands() -> None:
 def test_islands_of_the_most_accounts(count: int, tied: bool) -> None:
     """Each alone, or all in a chain: within seconds."""
     names = tuple(f"A{number}" for number in range(count))
-    settings = Settings(tuple(Account(name, (), 1) for name in names), tuple(Grant(one, two, "X", "read") for one, two in zip(names, names[1:])) if tied else ())
+    settings = Settings(tuple(Account(name, (), 1) for name in names),
+                        tuple(Grant(one, two, "X", "read") for one, two in zip(names, names[1:])) if tied else ())
     document = str(settings).replace(" ", "").encode()
     assert len(document) <= 1_000_000
     assert islands.islands_of(document) == ([list(names)] if tied else [[name] for name in names])
@@ -102,7 +104,8 @@ def test_islands_of_the_most_accounts(count: int, tied: bool) -> None:
 def test_program_that_cannot_be_had(source: islands.Pair, command: Command, tmp_path: Path) -> None:
     """It is told which one was wanted, and nothing is made."""
     for name, text, told in (("absent", None, "cannot be run: No such file or directory. The variable MISLANDS names another one"),
-                             ("fails", "#!/bin/sh\nexit 3\n", "ended with status 3"), ("others", "#!/bin/sh\necho A B C\n", "printed other accounts than those of")):
+                             ("fails", "#!/bin/sh\nexit 3\n", "ended with status 3"),
+                             ("others", "#!/bin/sh\necho A B C\n", "printed other accounts than those of")):
         path = tmp_path / name
         if text is not None:
             path.write_text(text)
@@ -120,14 +123,18 @@ def test_settings_there_and_back(tmp_path: Path) -> None:
     assert str(settings) == Path(SETTINGS).read_text()
 
 
-GOOD = '[[account]]\nname = "A"\nterminals = [1]\nsteps = 1\n\n[[account]]\nname = "B"\nterminals = []\nsteps = 1\n\n[[grant]]\nfrom = "A"\nto = "B"\nglobal = "X"\nmode = "read"\n'
+GOOD = ('[[account]]\nname = "A"\nterminals = [1]\nsteps = 1\n\n[[account]]\nname = "B"\nterminals = []\nsteps = 1\n\n'
+        '[[grant]]\nfrom = "A"\nto = "B"\nglobal = "X"\nmode = "read"\n')
 
 
 @pytest.mark.parametrize(("old", "new", "fault"), [
-    ("=", "", "Toml"), ("steps = 1\n\n[[account]]", "\n[[account]]", "Shape"), ("[[grant]]", "x = 1\n[[grant]]", "Shape"), ("[1]", '["1"]', "Shape"), ("steps = 1\n", "steps = true\n", "Shape"),
+    ("=", "", "Toml"), ("steps = 1\n\n[[account]]", "\n[[account]]", "Shape"), ("[[grant]]", "x = 1\n[[grant]]", "Shape"), ("[1]", '["1"]', "Shape"),
+    ("steps = 1\n", "steps = true\n", "Shape"),
     ('"A"', '"A_B"', "Name"), ('name = "B"', 'name = "A"', "Name"), ("[1]", "[0]", "Terminal"), ("[]", "[1]", "Terminal"), ("[]", "[10000]", "Terminal"),
-    ("steps = 1\n", "steps = 1\nlanguage = 2\n", "Shape"), ("[[grant]]", "[[grant]]\nlanguage = 1", "Shape"), ("steps = 1\n", "steps = 1\nlanguage = false\n", "Shape"),
-    ("steps = 1\n", "steps = 0\n", "Steps"), ("steps = 1\n", "steps = 1000001\n", "Steps"), ('"X"', '"1X"', "Grant"), ('"read"', '"READ"', "Grant"), ('to = "B"', 'to = "C"', "Grant"),
+    ("steps = 1\n", "steps = 1\nlanguage = 2\n", "Shape"), ("[[grant]]", "[[grant]]\nlanguage = 1", "Shape"),
+    ("steps = 1\n", "steps = 1\nlanguage = false\n", "Shape"),
+    ("steps = 1\n", "steps = 0\n", "Steps"), ("steps = 1\n", "steps = 1000001\n", "Steps"), ('"X"', '"1X"', "Grant"), ('"read"', '"READ"', "Grant"),
+    ('to = "B"', 'to = "C"', "Grant"),
     ('to = "B"', 'to = "A"', "Grant"),
 ])
 def test_settings_that_the_program_refuses(tmp_path: Path, old: str, new: str, fault: str) -> None:
@@ -191,7 +198,8 @@ def test_list(source: islands.Pair, command: Command) -> None:
     assert [re.sub(r", [\d,]+ bytes", "", line) for line in ran.output.splitlines()] == [
         "A: 3 accounts, 3 terminals, 6 nodes: A C E", "B: 1 account, 1 terminal, 0 nodes: B", "D: 1 account, 1 terminal, 400 nodes: D",
         "not in the settings: 12 nodes: B1 OLD", "3 islands, 5 accounts"]
-    assert command("misland", "list", source.settings).output == "A: 3 accounts, 3 terminals: A C E\nB: 1 account, 1 terminal: B\nD: 1 account, 1 terminal: D\n3 islands, 5 accounts\n"
+    assert command("misland", "list", source.settings).output == (
+        "A: 3 accounts, 3 terminals: A C E\nB: 1 account, 1 terminal: B\nD: 1 account, 1 terminal: D\n3 islands, 5 accounts\n")
 
 
 def test_split_and_join(source: islands.Pair, command: Command, tmp_path: Path) -> None:
@@ -262,7 +270,8 @@ def damaged(source: islands.Pair, tmp_path: Path, how: str) -> None:
 
 
 @pytest.mark.parametrize(("how", "told"), [
-    ("row", "a row that mserve did not write"), ("version", "of version 1"), ("table", "more is a rule of others on its tables"), ("database", "it is no database"), ("cut", "malformed"),
+    ("row", "a row that mserve did not write"), ("version", "of version 1"), ("table", "more is a rule of others on its tables"),
+    ("database", "it is no database"), ("cut", "malformed"),
     ("store", "there is no such file"), ("settings", "Shape: there is no key x"), ("folder", "it is there already"),
 ])
 def test_what_cannot_be_split(source: islands.Pair, command: Command, tmp_path: Path, how: str, told: str) -> None:
@@ -389,7 +398,8 @@ def test_a_customer_moves_by_the_commands_of_the_page(tmp_path: Path) -> None:
     for folder, part in zip((here, there), settings.parts([names[:3], names[3:]])):
         placed(folder, part)
     before = {"BANK": '1 S ^X(1)="bank",A=1\n', "CLINIC": '2 S ^X(1)="clinic",A=1 L +^X\n', "LAB": '3 S ^X(1)="lab"\n', "SHOP": '4 S ^X(1)="shop"\n'}
-    behind = {"BANK": '1 W ^X(1),$D(A) S ^X(2)=1\n', "CLINIC": '2 W ^X(1),^|"LAB"|X(1),$D(A),$D(^X(2)) S ^X(2)=1\n2 W ^|"BANK"|X(1)\n', "LAB": '3 L +^X W $D(^X)\n', "SHOP": '4 W ^X(1),$O(^X(1))\n'}
+    behind = {"BANK": '1 W ^X(1),$D(A) S ^X(2)=1\n', "CLINIC": '2 W ^X(1),^|"LAB"|X(1),$D(A),$D(^X(2)) S ^X(2)=1\n2 W ^|"BANK"|X(1)\n',
+              "LAB": '3 L +^X W $D(^X)\n', "SHOP": '4 W ^X(1),$O(^X(1))\n'}
     answered(whole, "".join(before.values()))
     answered(here, "".join(before[name] for name in names[:3]))
     answered(there, before["SHOP"])

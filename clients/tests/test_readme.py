@@ -32,5 +32,6 @@ def test_examples_of_the_page(server: Server, tmp_path: Path) -> None:
     assert len(examples()) >= 6
     for command, typed, output in examples():
         words = command.replace(" 9000 1", f" {server.port} 3")
-        done = subprocess.run(["bash", "-c", words], input=typed.encode(), capture_output=True, timeout=60, cwd=tmp_path, env={**os.environ, "HOME": str(tmp_path)})
+        done = subprocess.run(["bash", "-c", words], input=typed.encode(), capture_output=True, timeout=60, cwd=tmp_path,
+                              env={**os.environ, "HOME": str(tmp_path)})
         assert (done.stdout.decode(), done.stderr) == (PLACE.sub("", output), b""), command

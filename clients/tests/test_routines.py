@@ -66,7 +66,8 @@ def test_folder_is_loaded_saved_and_equal(server: Server, command: Command, tmp_
 
 def test_load_replaces_a_routine_whole(server: Server, command: Command, tmp_path: Path) -> None:
     with server.connection() as connection:
-        connection.send('S ^ROUTINE("R",1)="R",^ROUTINE("R",1.5)=" W 1",^ROUTINE("R",-2)=" Q",^ROUTINE("R","note")="x",^ROUTINE("R",7,1)="y",^ROUTINE("S",1)="S"')
+        connection.send('S ^ROUTINE("R",1)="R",^ROUTINE("R",1.5)=" W 1",^ROUTINE("R",-2)=" '
+                        'Q",^ROUTINE("R","note")="x",^ROUTINE("R",7,1)="y",^ROUTINE("S",1)="S"')
     (tmp_path / "R.m").write_text("R W 2\n")
     ran = command("mroutine", server.port, 1, "load", "R.m")
     assert (ran.output, ran.status) == ("R: 1 line from R.m\n", 0)
@@ -120,7 +121,8 @@ def test_interrupt_of_a_load(server: Server, monkeypatch: pytest.MonkeyPatch) ->
 
 @pytest.mark.parametrize(("name", "data", "told"), [
     ("A B.m", b"", "A B.m: no name of a routine: a file is NAME.m"), ("1.m", b"", "1.m: no name of a routine"), ("A.txt", b"", "A.txt: no name of a routine"),
-    ("A.m", b"A\n ; caf\xc3\xa9\n", "A.m:2:7: the character '\xc3\xa9' is over 127"), ("A.m", b"A ;" + b"x" * 4093, "A.m:1: 4,096 characters: a line has at most 4,095"),
+    ("A.m", b"A\n ; caf\xc3\xa9\n", "A.m:2:7: the character '\xc3\xa9' is over 127"),
+    ("A.m", b"A ;" + b"x" * 4093, "A.m:1: 4,096 characters: a line has at most 4,095"),
     ("NONE.m", None, "NONE.m: No such file or directory"),
 ])
 def test_files_that_are_no_routines(server: Server, command: Command, tmp_path: Path, name: str, data: bytes | None, told: str) -> None:
@@ -231,7 +233,8 @@ def test_check_runs_nothing_and_leaves_the_session(server: Server) -> None:
         assert connection.send("W A,$T,$D(^X),%m,%m1(1),$D(%m2)").rest == "110230"
 
 
-@pytest.mark.parametrize("text", ["", ";", " ;x", " Q", " Q:A  W 1", "L S (A,B)=$P(X,\",\",2) ;x", " F I=1:1:3 W I,! Q:I=2", " . . D A^B:X>1,^C", " L +(A,^B(1)):0",
+@pytest.mark.parametrize("text", ["", ";", " ;x", " Q", " Q:A  W 1", "L S (A,B)=$P(X,\",\",2) ;x", " F I=1:1:3 W I,! Q:I=2", " . . D A^B:X>1,^C",
+                                  " L +(A,^B(1)):0",
                                   "%", " W \"" + "x" * 4080 + "\"", " ;" + "x" * 4089], ids=lambda text: text[:20])
 def test_lines_in_the_language(server: Server, text: str) -> None:
     with server.connection() as connection:
@@ -239,7 +242,8 @@ def test_lines_in_the_language(server: Server, text: str) -> None:
 
 
 @pytest.mark.parametrize(("text", "place"), [
-    ("S A=1 W $H", 8), ("W 1 F  R X", 7), ('W "a b $$" W $$X', 13), ("I A(1, 2)=3", 6), ("F I=1:1 Q:I>3  H 5", 17), ("S X=", 4), ("W 1  Q 5", 7), ("D  U 0", 3), ("W 1 W", 5),
+    ("S A=1 W $H", 8), ("W 1 F  R X", 7), ('W "a b $$" W $$X', 13), ("I A(1, 2)=3", 6), ("F I=1:1 Q:I>3  H 5", 17), ("S X=", 4), ("W 1  Q 5", 7), ("D  U 0", 3),
+    ("W 1 W", 5),
 ])
 def test_place_of_what_is_refused(server: Server, text: str, place: int) -> None:
     """The column is that of the fault, counted from 1 in the line with the space before it."""
@@ -323,7 +327,8 @@ def test_unit_tests(server: Server, command: Command, tmp_path: Path) -> None:
     ran = command("mroutine", server.port, 1, "test", "t")
     assert ran.output.splitlines() == [
         "TAP version 13", "ok 1 - TSUM^TCALC: 1 and 2", "ok 2 - TSUM^TCALC: above two", "# a note", "not ok 3 - TWRONG^TCALC: one", "# got:  1", "# want: 2",
-        "not ok 4 - TFAULT^TCALC: M6: undefined local variable", "not ok 5 - TNONE^TCALC: it made no check: D OK^%TEST or EQ^%TEST", "ok 6 - TLEFT^TCALC: no variable is left", "1..6"]
+        "not ok 4 - TFAULT^TCALC: M6: undefined local variable", "not ok 5 - TNONE^TCALC: it made no check: D OK^%TEST or EQ^%TEST",
+        "ok 6 - TLEFT^TCALC: no variable is left", "1..6"]
     assert (ran.status, ran.told) == (1, "") and nodes(server) == before
     (tmp_path / "t" / "TCALC.m").write_text("TCALC ;\n" + "\n".join(TESTS.splitlines()[1:5]) + "\n")
     assert command("mroutine", server.port, 1, "test", "t").status == 0
@@ -349,7 +354,8 @@ def test_routines_in_utf_8(server: Server, command: Command, tmp_path: Path) -> 
 
 def test_edit(server: Server, command: Command, tmp_path: Path) -> None:
     """The editor of EDITOR gets the routine as a file; what it leaves is checked and loaded, and what was not changed is left."""
-    (tmp_path / "editor").write_text("#!/bin/sh\ncat \"$1\" >>seen\nif [ -e fail ]; then exit 1; fi\nif [ -e keep ]; then exit 0; fi\necho \" W 1 2\" >>\"$1\"\n")
+    (tmp_path / "editor").write_text("#!/bin/sh\ncat \"$1\" >>seen\nif [ -e fail ]; then exit 1; fi\nif [ -e keep ]; then exit 0; fi\necho \" W 1 2\" "
+                                     ">>\"$1\"\n")
     (tmp_path / "editor").chmod(0o755)
     with server.connection() as connection:
         routines.load(connection, "A", ["A", " Q"])
@@ -359,7 +365,8 @@ def test_edit(server: Server, command: Command, tmp_path: Path) -> None:
     (tmp_path / "keep").touch()
     assert command("mshell", server.port, 1, stdin=".edit A\n", EDITOR="./editor", VISUAL="").output == ""
     (tmp_path / "fail").touch()
-    assert "the editor ended with a fault: nothing was loaded" in command("mshell", server.port, 1, stdin=".edit NEW\n.edit 1\n", EDITOR="./editor", VISUAL="").output
+    assert "the editor ended with a fault: nothing was loaded" in command("mshell", server.port, 1, stdin=".edit NEW\n.edit 1\n", EDITOR="./editor",
+                                                                          VISUAL="").output
     assert set(name for name, _ in nodes(server)) == {"A"}
 
 

@@ -37,13 +37,20 @@ to = "CLINIC"
 global = "RESULT"
 mode = "read"
 """
-CHANGES = [("account", "acount"), ("[[", "["), ("]]", "]"), ('"CLINIC"', '"CL-INIC"'), ('"CLINIC"', "'LAB'"), ('"LAB"', '"CLINIC"'), ("[1, 2]", "[1, 1]"), ("[1, 2]", "[0]"), ("3,", "2,"),
-           ("3,", '"3",'), ("3,", "99999999999999999999,"), ("2000", "0"), ("2000", "1000001"), ("2000", "2e3"), ("2000", "true"), ("1_000", "-1"), ("steps", "step"), ("name", "names"),
-           ('mode = "read"', ""), ('"read"', '"READ"'), ('"RESULT"', '"^RESULT"'), ('to = "CLINIC"', 'to = "LAB"'), ("global", "# global"), ("grant", "account"),
-           ('"LAB"', '"""LAB"""'), ("[\n", "[ # more\n"), ("name =", '"name" ='), ("=", "=="), ('"', ""), ("\n", "\r\n"), ("\n", "\r"), ("steps = 2000", "steps = 2000\nsteps = 1"),
-           ("# two", "x = 1\n# two"), ("# two", "\ufeff# two"), ("two", "tw\0o"), ("two", "zw\u00f6lf"), ('"CLINIC"', '"KLINIK\u00c4"'), ("[[grant]]", "[x]\ny = 1979-05-27\n[[grant]]"),
-           ("4,", "4, 5, 6, 7, 4,"), ("2000", "0x7D0"), ("2000", "02000"), ("2000", "+2000"), ("name", "na.me"), ("[[grant]]", "[[grant.x]]"), ("[1, 2]", "[1, [2]]"), ("[1, 2]", "{a = 1}"),
-           *[("steps = 2000", f"steps = 2000\nlanguage = {value}") for value in ("0", "1", "1", "+1", "2", "-1", "true", '"1"', "1.0", "[1]", "99999999999999999999", "0x1")],
+CHANGES = [("account", "acount"), ("[[", "["), ("]]", "]"), ('"CLINIC"', '"CL-INIC"'), ('"CLINIC"', "'LAB'"), ('"LAB"', '"CLINIC"'), ("[1, 2]", "[1, 1]"),
+           ("[1, 2]", "[0]"), ("3,", "2,"),
+           ("3,", '"3",'), ("3,", "99999999999999999999,"), ("2000", "0"), ("2000", "1000001"), ("2000", "2e3"), ("2000", "true"), ("1_000", "-1"),
+           ("steps", "step"), ("name", "names"),
+           ('mode = "read"', ""), ('"read"', '"READ"'), ('"RESULT"', '"^RESULT"'), ('to = "CLINIC"', 'to = "LAB"'), ("global", "# global"),
+           ("grant", "account"),
+           ('"LAB"', '"""LAB"""'), ("[\n", "[ # more\n"), ("name =", '"name" ='), ("=", "=="), ('"', ""), ("\n", "\r\n"), ("\n", "\r"),
+           ("steps = 2000", "steps = 2000\nsteps = 1"),
+           ("# two", "x = 1\n# two"), ("# two", "\ufeff# two"), ("two", "tw\0o"), ("two", "zw\u00f6lf"), ('"CLINIC"', '"KLINIK\u00c4"'),
+           ("[[grant]]", "[x]\ny = 1979-05-27\n[[grant]]"),
+           ("4,", "4, 5, 6, 7, 4,"), ("2000", "0x7D0"), ("2000", "02000"), ("2000", "+2000"), ("name", "na.me"), ("[[grant]]", "[[grant.x]]"),
+           ("[1, 2]", "[1, [2]]"), ("[1, 2]", "{a = 1}"),
+           *[("steps = 2000", f"steps = 2000\nlanguage = {value}")
+             for value in ("0", "1", "1", "+1", "2", "-1", "true", '"1"', "1.0", "[1]", "99999999999999999999", "0x1")],
            ('mode = "read"', 'mode = "read"\nlanguage = 1'), ("language = 1", "languages = 1"), ("steps = 1_000", "steps = 0\nlanguage = 1")]
 CHARACTERS = "[]={}\"'#.,\\\n\t 0aZ_-\u00e9"
 
@@ -84,13 +91,19 @@ def test_drawn_documents_have_the_programs_word(times: int) -> None:
 
 
 @pytest.mark.parametrize(("old", "new", "line", "key", "text"), [
-    ("steps = 2000", "steps = ", 5, "", "no TOML, at column 9"), ("[[grant]]", "[grant", 15, "", "no TOML"), ("1_000", "9" * 20, 13, "steps", "has more than 64 bits"),
+    ("steps = 2000", "steps = ", 5, "", "no TOML, at column 9"), ("[[grant]]", "[grant", 15, "", "no TOML"),
+    ("1_000", "9" * 20, 13, "steps", "has more than 64 bits"),
     ("  4,", "  99999999999999999999,", 9, "terminals", "has more than 64 bits"), ("# two", "x = 1\n# two", 1, "x", "there is no such key"),
-    ("steps = 1_000", "step = 1", 13, "step", "there is no such key"), ('mode = "read"', "", 15, "mode", "is missing"), ("2000", "true", 5, "steps", "has another type"),
-    ("3,", '"3",', 9, "terminals", "has another type"), ('"LAB"', '"L A B"', 8, "name", "'L A B' is no name of an account"), ('"LAB"', '"CLINIC"', 8, "name", "CLINIC is an account already, of line 3"),
+    ("steps = 1_000", "step = 1", 13, "step", "there is no such key"), ('mode = "read"', "", 15, "mode", "is missing"),
+    ("2000", "true", 5, "steps", "has another type"),
+    ("3,", '"3",', 9, "terminals", "has another type"), ('"LAB"', '"L A B"', 8, "name", "'L A B' is no name of an account"),
+    ('"LAB"', '"CLINIC"', 8, "name", "CLINIC is an account already, of line 3"),
     ("2000", "2000\nlanguage = 2", 6, "language", "is not 0 or 1"), ("2000", "2000\nlanguage = true", 6, "language", "is not 0 or 1"),
-    ('mode = "read"', 'mode = "read"\nlanguage = 1', 20, "language", "there is no such key"), ("4,", "1,", 9, "terminals", "1 is a terminal already, of line 4"), ("4,", "10000,", 9, "terminals", "10000 is not 1 to 9,999"), ("1_000", "0", 13, "steps", "0 is not 1 to 1,000,000"),
-    ('to = "CLINIC"', 'to = "CLINC"', 17, "to", "'CLINC' is no account"), ('"RESULT"', '"^RESULT"', 18, "global", "'^RESULT' is no name of a global"), ('"read"', '"Read"', 19, "mode", "'Read' is no mode"),
+    ('mode = "read"', 'mode = "read"\nlanguage = 1', 20, "language", "there is no such key"),
+    ("4,", "1,", 9, "terminals", "1 is a terminal already, of line 4"), ("4,", "10000,", 9, "terminals", "10000 is not 1 to 9,999"),
+    ("1_000", "0", 13, "steps", "0 is not 1 to 1,000,000"),
+    ('to = "CLINIC"', 'to = "CLINC"', 17, "to", "'CLINC' is no account"), ('"RESULT"', '"^RESULT"', 18, "global", "'^RESULT' is no name of a global"),
+    ('"read"', '"Read"', 19, "mode", "'Read' is no mode"),
     ('to = "CLINIC"', 'to = "LAB"', 17, "to", "LAB grants something to itself"), ("[[account]]", "[account]", 2, "account", "it is no list"),
 ])
 def test_place_of_a_fault(old: str, new: str, line: int, key: str, text: str) -> None:
@@ -103,7 +116,8 @@ def test_each_fault_is_told(command: Command, tmp_path: Path) -> None:
     (tmp_path / "s.toml").write_text(GOOD.replace("[1, 2]", "[0, 2, 3]").replace('"read"', '"x"').replace("2000", "0"))
     ran = command("msettings", "s.toml")
     assert [line for line in ran.output.splitlines() if not line.startswith(" ")] == [
-        "s.toml:4: terminals: 0 is not 1 to 9,999", "s.toml:9: terminals: 3 is a terminal already, of line 4", "s.toml:5: steps: 0 is not 1 to 1,000,000", "s.toml:19: mode: 'x' is no mode"]
+        "s.toml:4: terminals: 0 is not 1 to 9,999", "s.toml:9: terminals: 3 is a terminal already, of line 4", "s.toml:5: steps: 0 is not 1 to 1,000,000",
+        "s.toml:19: mode: 'x' is no mode"]
     assert ran.status == 1 and ran.output.splitlines()[1] == "    Take another number."
 
 
@@ -150,7 +164,8 @@ def later_version(path: Path, version: int = 9) -> None:
 @pytest.mark.parametrize(("made", "word", "text"), [
     (None, "", ""), (a_text, "Store", "it is no store: it is no database"), (a_rule, "Store", "more is a rule of others on its tables"),
     (one_table, "BadVersion", "of `node` and `meta` one is missing"), (lambda path: later_version(path, 2), "", ""),
-    (later_version, "BadVersion", "it is of version 9, and this program is for 2"), (lambda path: path.mkdir(), "Store", "it is a folder"), (lambda path: path.touch(), "", ""),
+    (later_version, "BadVersion", "it is of version 9, and this program is for 2"), (lambda path: path.mkdir(), "Store", "it is a folder"),
+    (lambda path: path.touch(), "", ""),
 ])
 def test_stores_have_the_programs_word(tmp_path: Path, made: Callable[[Path], None] | None, word: str, text: str) -> None:
     """The same word as the program's, and nothing is changed."""
@@ -198,7 +213,8 @@ def test_store_without_the_right_to_it(tmp_path: Path) -> None:
     path.touch(mode=0o600)
     path.parent.chmod(0o755)
     words = ["setpriv", "--reuid=65534", "--regid=65534", "--clear-groups", "/usr/bin/python3", "-c",
-             f"import sys; sys.path.insert(0, {str(Path(settings_check.__file__).parent.parent)!r}); from mserve_client import store_check; print(store_check.fault({str(path)!r}).text)"]
+             f"import sys; sys.path.insert(0, {str(Path(settings_check.__file__).parent.parent)!r}); from mserve_client import store_check; "
+             f"print(store_check.fault({str(path)!r}).text)"]
     assert "may not be written by the user 65534" in subprocess.run(words, capture_output=True, text=True, timeout=60).stdout
     path.parent.chmod(0o777)
     assert "it may not be read and written by the user 65534" in subprocess.run(words, capture_output=True, text=True, timeout=60).stdout

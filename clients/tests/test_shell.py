@@ -31,7 +31,8 @@ def test_lines_that_no_code_answers(server: Server, command: Command, lines: str
 
 
 @pytest.mark.parametrize(("line", "output"), [
-    ("W \"é\"", "ZCHAR: character over 127: column 4: a character over 127\n"), ("W " + "1" * 300, "ZLINE: line too long\n"), ("HELLO", "ZSYNTAX: not in the language: column 1: no command has this name\n"),
+    ("W \"é\"", "ZCHAR: character over 127: column 4: a character over 127\n"), ("W " + "1" * 300, "ZLINE: line too long\n"),
+    ("HELLO", "ZSYNTAX: not in the language: column 1: no command has this name\n"),
     ("F  S Z=1", "ZSTEPS: steps used up\n"), ("W 5,!,B", "5\nM6: undefined local variable\n"), ("L +^X", "ZLOCKED: locked by another terminal\n"),
     (".nothing", ".nothing: no such command; .help names them\n"), (".help NOTHING", "NOTHING: no command, function or code; .help lists them\n"),
     (".show", ".show wants a variable by its name, as .show ^X(1), .show X, or .show ^|\"LAB\"|X\n"),
@@ -115,8 +116,8 @@ def test_load_save_check_and_run(server: Server, command: Command, tmp_path: Pat
     (tmp_path / "SQ.m").write_text("SQ\tW N*N\n\tQ\n")
     (tmp_path / "BAD.m").write_text("BAD\tW $H\n")
     (tmp_path / "lines").write_text("S N=3 D ^SQ\nW B\nW 4\n")
-    ran = command("mshell", server.port, 1, stdin="\n".join([".load SQ.m", "S N=5 D ^SQ", ".save SQ COPY.m", ".save SQ", ".check SQ.m", ".check BAD.m", ".run lines",
-                                                           ".run lines all", ".run lines twice"]))
+    typed = [".load SQ.m", "S N=5 D ^SQ", ".save SQ COPY.m", ".save SQ", ".check SQ.m", ".check BAD.m", ".run lines", ".run lines all", ".run lines twice"]
+    ran = command("mshell", server.port, 1, stdin="\n".join(typed))
     assert ran.output.splitlines() == [
         "SQ: 2 lines from SQ.m", "25", "SQ: COPY.m", "SQ.m is there already: give another file, .save SQ FILE", "SQ.m: 2 lines, all in the language",
         "BAD.m:1:7: not in the language: W $H: $HOROLOG", '    The server has no clock: the client sends the time: S NOW="67530,43200".',
@@ -136,8 +137,10 @@ def test_time(server: Server, command: Command) -> None:
     assert re.fullmatch(r"7\n\d+\.\d ms\n8\neach line is timed\n9\n\d+\.\d ms\nlines are timed no more\n", ran.output)
 
 
-@pytest.mark.parametrize(("word", "text"), [("$ORDER", "the next subscript"), ("$o", "the next subscript"), ("set", "gives variables texts"), ("S", "gives variables"),
-                                            ("M7", "undefined global variable"), ("m7", 'docs/LANGUAGE.md, "Variables"'), (".show", "and all below it"), ("$TR", "exchanged")])
+@pytest.mark.parametrize(("word", "text"), [("$ORDER", "the next subscript"), ("$o", "the next subscript"), ("set", "gives variables texts"),
+                                            ("S", "gives variables"),
+                                            ("M7", "undefined global variable"), ("m7", 'docs/LANGUAGE.md, "Variables"'), (".show", "and all below it"),
+                                            ("$TR", "exchanged")])
 def test_help_of_a_word(server: Server, command: Command, word: str, text: str) -> None:
     ran = command("mshell", server.port, 1, stdin=f".help {word}\n")
     assert text in ran.output and ran.status == 0
@@ -151,7 +154,8 @@ def test_the_session_keeps_what_the_commands_do_not_touch(server: Server, comman
 
 @pytest.mark.parametrize(("before", "length", "words"), [
     ("", 0, {"SET", "WRITE"}), ("WR", 2, {"WRITE"}), ("S X=1 w", 1, {"WRITE"}), ("W $O", 2, {"$ORDER"}), ("W $", 1, {"$TEST", "$GET"}), (".he", 3, {".help"}),
-    ("D ^", 1, {"^SQ", "^%UP"}), ("S X=1 DO ^S", 2, {"^SQ"}), ("W ^", 1, {"^ROUTINE", "^DATA", "^INR"}), ("W ^DA", 3, {"^DATA"}), ("W ^NOT", 4, set()), (".save S", 1, {"SQ"}),
+    ("D ^", 1, {"^SQ", "^%UP"}), ("S X=1 DO ^S", 2, {"^SQ"}), ("W ^", 1, {"^ROUTINE", "^DATA", "^INR"}), ("W ^DA", 3, {"^DATA"}), ("W ^NOT", 4, set()),
+    (".save S", 1, {"SQ"}),
     (".show ^D", 2, {"^DATA"}), ("W 1+1", 0, set()),
 ])
 def test_completion(server: Server, before: str, length: int, words: set[str]) -> None:
@@ -283,7 +287,8 @@ def test_fault_is_shown_with_its_place(server: Server, tmp_path: Path) -> None:
         shell.answers("W Müller", "     ^ ZCHAR: a character over 127")
 
 
-@pytest.mark.parametrize(("line", "text"), [("help", ".help lists what can be typed here"), ("?", ".help lists"), ("exit", ".quit leaves"), ("QUIT", ".quit leaves")])
+@pytest.mark.parametrize(("line", "text"),
+                         [("help", ".help lists what can be typed here"), ("?", ".help lists"), ("exit", ".quit leaves"), ("QUIT", ".quit leaves")])
 def test_words_of_a_person_who_does_not_know_the_shell(server: Server, tmp_path: Path, line: str, text: str) -> None:
     with terminal(server, tmp_path) as shell:
         shell.answers(line, text)

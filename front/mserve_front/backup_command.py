@@ -44,8 +44,8 @@ def words() -> argparse.ArgumentParser:
     one = add("check", checked, "check a snapshot", "Its store has to be sound, and to hold what was noted.")
     one.add_argument("snapshot", type=Path, metavar="SNAPSHOT")
     one = add("verify", verified, "verify the latest snapshot of a folder by a replay", "The exact snapshot before it, or nothing if there is none, is put "
-              "into a scratch store, and the journal is run from there to the line of the latest one: each reply is compared, and what each account holds then. It "
-              "is noted beside the snapshots, for the front's figures.")
+              "into a scratch store, and the journal is run from there to the line of the latest one: each reply is compared, and what each account holds "
+              "then. It is noted beside the snapshots, for the front's figures.")
     one.add_argument("folder", type=Path, metavar="FOLDER")
     one.add_argument("--config", type=Path, default=Path(DEFAULT), metavar="FILE", help=f"the settings of the front (default {DEFAULT})")
     one.add_argument("--scratch", type=Path, metavar="FOLDER", help="where the scratch store is made (default: the folder of snapshots)")

@@ -307,5 +307,3 @@ def refusal(status: int, why: str) -> bytes:
     body = json.dumps({"error": why}).encode()
     return (f"HTTP/1.1 {status} {REASONS[status]}\r\nContent-Type: application/json\r\nContent-Length: {len(body)}\r\nRetry-After: 1\r\n"
             "Cache-Control: no-store\r\nConnection: close\r\n\r\n").encode() + body
-
-

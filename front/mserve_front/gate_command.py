@@ -112,7 +112,8 @@ def settings_of(options: argparse.Namespace) -> tuple[Home, Doorway]:
         raise machine.fault("database", "is missing: the database of the placement and of the journals. A machine that is alone has no [peers]")
     port = _port(peers, "port") if database is not None else 0
     home = Home(Machine(name, str(host), port), machine.needed_file("folder"), machine.needed_file("users"), database,
-                str(machine.file("program", PROGRAM)), tuple(listen.texts("origins", [])), characters_of(machine), audit.truth("texts", False), limits_of(limits))
+                str(machine.file("program", PROGRAM)), tuple(listen.texts("origins", [])), characters_of(machine), audit.truth("texts", False),
+                limits_of(limits))
     others = None if database is None else Peers(peers.needed_file("certificate"), peers.needed_file("key"), peers.needed_file("authority"))
     doorway = Doorway(str(host), _port(listen, "port"), _port(listen, "lines_port"), listen.needed_file("certificate"), listen.needed_file("key"), others,
                       admin.file("socket"))

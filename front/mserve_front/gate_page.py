@@ -39,7 +39,8 @@ class GatePage(Page):
         fronts = [one for one in found.values() if one is not None]
         return {"time": round(time.time()), "state": f"Machine {self._machine}: {len(here)} of {len(placed)} islands are here",
                 "islands": [row(island, found[island.name]) for island in placed], "alarms": alarms,
-                "users": [user for one in fronts for user in one.get("users", [])], "accounts": [account for one in fronts for account in one.get("accounts", [])],
+                "users": [user for one in fronts for user in one.get("users", [])],
+                "accounts": [account for one in fronts for account in one.get("accounts", [])],
                 "figures": {"islands": len(placed), "islands here": len(here), "machines": len(self._islands.machines)},
                 "points": together([one.get("points", []) for one in fronts]), "step": STEP}
 

@@ -274,7 +274,8 @@ class Islands:
         tables = {"server": {"program": home.program, "settings": "settings.toml", "store": "store", "text": home.text},
                   "listen": {"port": house.port("http"), "lines_port": house.port("lines"), "origins": list(home.origins), "gate": "gate.secret"},
                   # One machine's file can be changed here; that of several is for who keeps it.
-                  "users": {"file": "users.json"} | ({"machine": str(home.users)} if home.database is None else {}), "audit": {"file": "audit.log", "texts": home.texts},
+                  "users": {"file": "users.json"} | ({"machine": str(home.users)} if home.database is None else {}),
+                  "audit": {"file": "audit.log", "texts": home.texts},
                   "journal": {"backup": "backup"} | ({"folder": "journal"} if home.database is None else {"database": home.database, "name": island.name}),
                   "metrics": {"token": "metrics.token"}, "admin": {"socket": "admin.socket"},
                   "limits": {name: int(value) for name, value in asdict(home.limits).items()}}

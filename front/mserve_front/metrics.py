@@ -66,7 +66,7 @@ class Metrics:
         lines += family("mfront_signed_on", "gauge", "Sessions that are signed on, by their way.", {f'way="{way}"': n for way, n in signed_on.items()})
         lines += family("mfront_sign_ons_total", "counter", "Attempts to sign on, by their end.", {f'end="{end}"': n for end, n in self.sign_ons.items()})
         lines += family("mfront_lines_total", "counter", "Lines that were answered, by their code; none for a line run to its end.",
-                         {f'code="{code}"': n for code, n in sorted(self.replies.items())})
+                        {f'code="{code}"': n for code, n in sorted(self.replies.items())})
         lines += family("mfront_lines_waiting", "gauge", "Lines that have no reply yet.", {"": waiting})
         lines += family("mfront_longest_wait_seconds", "gauge", "The longest wait for a reply in the last minute or two.", {"": max(oldest, self.longest())})
         lines += family("mfront_child_restarts_total", "counter", "How often the server was started or connected to again.", {"": self.restarts})

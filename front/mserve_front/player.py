@@ -15,7 +15,7 @@ from pathlib import Path
 from mserve_client import ClientError
 
 from . import enclosure
-from .connection import Connection, NoStart, joined
+from .connection import Connection, joined
 from .history import CUT_SHORT, Answered, Began, Event
 from .lines import HALT, Line
 from .records import Held, LineRecord, StartRecord

@@ -72,8 +72,8 @@ class ReplyRecord:
 @dataclass(frozen=True, slots=True)
 class StartRecord:
     """A start of version 1, which is read and no longer written: all sessions began again before the line of this number. Of the lines before it that have
-    no reply, those up to `sent` may have been run, and those after it were not. `base` is the last line that the store has, where that is known; `fresh` says that the store was made again; `settings`
-    are the server's."""
+    no reply, those up to `sent` may have been run, and those after it were not. `base` is the last line that the store has, where that is known; `fresh` says
+    that the store was made again; `settings` are the server's."""
 
     number: int
     time: int

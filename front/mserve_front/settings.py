@@ -205,7 +205,8 @@ def read_settings(path: Path, volatile: bool) -> Settings:
         raise BadSettings(f"{path}: {name}: there is no such table")
     taken = {name: Table(path, name, tables.get(name, {})) for name in TABLES}
     users = taken["users"].needed_file("file")
-    settings = Settings(path=path, users_of_machine=taken["users"].file("machine"), **_server(taken["server"], volatile), **_listen(taken["listen"]), users=users,
+    settings = Settings(path=path, users_of_machine=taken["users"].file("machine"), **_server(taken["server"], volatile), **_listen(taken["listen"]),
+                        users=users,
                         journal=journal_settings(taken["journal"], users.parent), audit=taken["audit"].file("file"), texts=taken["audit"].truth("texts", False),
                         metrics_from=_networks(taken["metrics"]), metrics_token=taken["metrics"].secret("token"),
                         admin=taken["admin"].file("socket"), limits=limits_of(taken["limits"]))

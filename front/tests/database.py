@@ -19,7 +19,8 @@ PROGRAMS = sorted(Path("/usr/lib/postgresql").glob("*/bin"), key=lambda path: in
 USER = "postgres"
 # Less memory and fewer processes than a service has. Its processes are killed here, and the machine is not: so nothing waits for the disk.
 IN_MEMORY = "/dev/shm" if os.access("/dev/shm", os.W_OK) else "/tmp"
-OPTIONS = "-c listen_addresses= -c fsync=off -c shared_buffers=8MB -c max_wal_senders=4 -c autovacuum=off -c wal_keep_size=64MB -c jit=off -c wal_retrieve_retry_interval=200"
+OPTIONS = ("-c listen_addresses= -c fsync=off -c shared_buffers=8MB -c max_wal_senders=4 -c autovacuum=off -c wal_keep_size=64MB -c jit=off "
+           "-c wal_retrieve_retry_interval=200")
 
 
 def _owner() -> list[str]:

@@ -167,7 +167,8 @@ async def test_a_leader_shows_how_far_its_standbys_are_behind(start, tmp_path: P
     second, third = standby(start, tmp_path / "journal"), standby(start, tmp_path / "journal")
 
     async def seen(*lines: int) -> list[dict[str, Any]]:
-        found = await shows(leader.folder, lambda found: sorted(one["lines"] for one in found.get("standbys", [])) == list(lines), f"standbys behind by {lines}")
+        found = await shows(leader.folder, lambda found: sorted(one["lines"] for one in found.get("standbys", [])) == list(lines),
+                            f"standbys behind by {lines}")
         return found.get("standbys", [])
     async with leader.person("ada") as ada:
         await ada.line("S ^X=1")

@@ -171,7 +171,8 @@ def test_secrets_that_are_not_given(command: Callable[..., Ran], tmp_path: Path)
 
 def test_a_token_says_whose_it_is(lasting: Front, token: str) -> None:
     """It opens lines, in a session of its own each time. That it is no password of a page, `test_password.py` shows."""
-    with FrontConnection(lasting.origin, "", token, authority=authority(lasting)) as one, FrontConnection(lasting.origin, "", token, authority=authority(lasting)) as other:
+    with (FrontConnection(lasting.origin, "", token, authority=authority(lasting)) as one,
+          FrontConnection(lasting.origin, "", token, authority=authority(lasting)) as other):
         assert one.user == other.user == "ada" and one.terminal != other.terminal
         assert one.send("S A=1 W A").rest == "1" and other.send("W $D(A)").rest == "0"
 
@@ -323,7 +324,8 @@ def test_bytes_that_are_no_utf_8(in_utf_8: Front) -> None:
 def test_text_of_the_settings(tmp_path: Path) -> None:
     """Other words are refused, with the key."""
     (tmp_path / "front.toml").write_text(toml({"server": {"settings": str(SETTINGS), "store": "memory", "text": "latin1"}, "users": {"file": "users.json"}}))
-    done = subprocess.run([sys.executable, FRONT / "mfront", "check", "--volatile", "--config", tmp_path / "front.toml"], capture_output=True, text=True, timeout=60)
+    done = subprocess.run([sys.executable, FRONT / "mfront", "check", "--volatile", "--config", tmp_path / "front.toml"], capture_output=True, text=True,
+                          timeout=60)
     assert done.returncode == 2 and 'server.text: is to be "ascii", or "utf-8"' in done.stderr
 
 

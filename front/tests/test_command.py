@@ -264,6 +264,7 @@ def test_file_is_replaced_whole(command: Run, tmp_path: Path) -> None:
 
 def test_a_reload_that_comes_before_it_is_heard_of_ends_nothing() -> None:
     """logrotate sends it whenever it runs, also while a front begins."""
-    code = "import asyncio, os, signal\nfrom mserve_front import ending\nasync def work():\n    os.kill(os.getpid(), signal.SIGHUP)\n    return 7\nprint(ending.run(work()))"
+    code = ("import asyncio, os, signal\nfrom mserve_front import ending\n"
+            "async def work():\n    os.kill(os.getpid(), signal.SIGHUP)\n    return 7\nprint(ending.run(work()))")
     done = subprocess.run([COMMAND[0], "-c", code], capture_output=True, text=True, cwd=FRONT, timeout=2 * Patience.seconds)
     assert (done.returncode, done.stdout) == (0, "7\n"), done.stderr

@@ -11,7 +11,8 @@ from front import Front
 from mserve_front.document import LANGUAGE, anchor, page_of
 
 # What the page may have: no script, no style of its own, no form.
-TAGS = {"html", "head", "meta", "title", "link", "body", "main", "h1", "h2", "h3", "p", "ul", "li", "div", "table", "tr", "th", "td", "code", "strong", "em", "a"}
+TAGS = {"html", "head", "meta", "title", "link", "body", "main", "h1", "h2", "h3", "p", "ul", "li", "div", "table", "tr", "th", "td", "code", "strong", "em",
+        "a"}
 ATTRIBUTES = {"lang", "charset", "name", "content", "rel", "href", "type", "class", "id", "tabindex", "scope"}
 EMPTY = {"meta", "link"}
 

@@ -1,8 +1,8 @@
 # SPDX-License-Identifier: Apache-2.0
 """Isolation through the front: drawn streams of all accounts, their users at once, and each account is told the same as alone.
 
-Settings, lines and the check of who reaches whom are those of tests/drawn_settings.py and tests/support.py. An account is told alone what `mserve run` answers to the lines
-of the accounts that reach it; so that this can be compared, the users of accounts that reach one another send in the drawn order, and all others
+Settings, lines and the check of who reaches whom are those of tests/drawn_settings.py and tests/support.py. An account is told alone what `mserve run` answers
+to the lines of the accounts that reach it; so that this can be compared, the users of accounts that reach one another send in the drawn order, and all others
 send at the same time as they like. Some accounts have language 0, and some language 1."""
 from __future__ import annotations
 

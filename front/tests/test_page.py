@@ -4,7 +4,6 @@ from __future__ import annotations
 
 import re
 
-import page_driver
 import pytest
 from front import PASSWORD, USERS, Front, write_users
 from page_driver import PAGE, Browser, Opened, browsers, page_front, pool  # noqa: F401

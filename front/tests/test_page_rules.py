@@ -149,9 +149,11 @@ def as_told(found: language.Fault) -> dict[str, object]:
 @pytest.mark.parametrize("number", language.LANGUAGES)
 def test_verdicts_and_causes_of_drawn_texts(browser: Browser, request: pytest.FixtureRequest, number: int) -> None:
     """The page reads the grammars and the causes as the clients do: 1,000 texts, and `--count` times as many."""
-    texts = drawn_texts.drawn_texts(random.Random(72), [*(cause.example for cause in CAUSES), *drawn_texts.LATER * 5], 1000 * request.config.getoption("--count", 1))
+    texts = drawn_texts.drawn_texts(random.Random(72), [*(cause.example for cause in CAUSES), *drawn_texts.LATER * 5],
+                                    1000 * request.config.getoption("--count", 1))
     given = browser.module("""const { fault, pointed } = await import("/page/language.js");
-                              return given[0].map((text) => { const found = fault(text, given[1]); return found && [found, pointed(text, found)]; });""", texts, number)
+                              return given[0].map((text) => { const found = fault(text, given[1]); return found && [found, pointed(text, found)]; });""",
+                           texts, number)
     for text, found in zip(texts, given, strict=True):
         wanted = language.fault(text, number)
         assert found == (wanted and [as_told(wanted), language.pointed(text, dataclasses.replace(wanted, advice=advice_of(wanted.advice)))]), text

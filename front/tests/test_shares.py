@@ -12,7 +12,7 @@ from dataclasses import dataclass
 from types import SimpleNamespace
 
 import pytest
-from front import PASSWORD, Front, busy, in_loop, until
+from front import PASSWORD, busy, in_loop, until
 from mserve_front import shares as shares_module
 from mserve_front.shares import ACCOUNT_WINDOW, LONG_WINDOW, WINDOW, Shares, may_take_long
 from mserve_front.users import HASHER

@@ -333,7 +333,8 @@ async def test_without_a_certificate_it_says_so(start) -> None:
         assert await ada.told("W 1") == "1"
 
 
-@pytest.mark.parametrize(("host", "status"), [("localhost", 200), ("127.0.0.1:80", 200), ("[::1]:{port}", 200), ("evil.example", 421), ("127.0.0.1.evil.example:{port}", 421)])
+@pytest.mark.parametrize(("host", "status"),
+                         [("localhost", 200), ("127.0.0.1:80", 200), ("[::1]:{port}", 200), ("evil.example", 421), ("127.0.0.1.evil.example:{port}", 421)])
 @pytest.mark.parametrize("path", ["/health", "/metrics", "/"])
 @in_loop()
 async def test_without_a_certificate_another_name_is_not_this_service(plain: Front, path: str, host: str, status: int) -> None:

@@ -251,6 +251,7 @@ async def test_a_standby_takes_over_once_the_leader_is_stopped(start, tmp_path: 
         assert not waits.done() and await ada.told("S ^X=^X+1 W ^X") == "2"
         began = time.monotonic()
         assert await asyncio.to_thread(leader.stop) == 0
+
     async def serves() -> bool:
         try:
             return await answers(second)
@@ -349,7 +350,8 @@ async def test_a_standby_over_a_journal_that_was_expired(start, tmp_path: Path) 
         assert int(first.name) + 1 < begins <= int(snapshot.name) + 1
         # One that stood before that, and one without a store.
         second.again()
-        second.hears(f"it stands still, and waits: the journal begins with line {begins}, and the store has run it up to line {int(first.name)}. It goes on once")
+        second.hears(f"it stands still, and waits: the journal begins with line {begins}, and the store has run it up to line {int(first.name)}. It goes on "
+                     "once")
         third = standby(start, journal, backup="backup")
         third.hears(f"it stands still, and waits: the journal begins with line {begins}, and there is no store here. It goes on once an exact snapshot of line "
                     f"{begins - 1} or later is in {third.folder / 'backup'}, or is put back (mbackup restore), or once the leader has written all")
@@ -381,7 +383,7 @@ async def test_a_standby_over_a_journal_that_was_expired(start, tmp_path: Path) 
 @in_loop()
 async def test_a_standby_that_cannot_go_on(start, tmp_path: Path) -> None:
     """Other settings are waited for."""
-    leader = leading(start, tmp_path / "journal")
+    leading(start, tmp_path / "journal")
     other = tmp_path / "other.toml"
     other.write_text('[[account]]\nname = "CLINIC"\nterminals = [1]\nsteps = 5\n')
     second = standby(start, tmp_path / "journal", settings=other, users={"ada": "CLINIC"})

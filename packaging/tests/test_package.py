@@ -13,7 +13,6 @@ import re
 import shlex
 import shutil
 import subprocess
-import sys
 import time
 from collections.abc import Iterator
 from pathlib import Path
@@ -91,7 +90,8 @@ class Root:
         """The words that run a command of a shell in this root, in the tree's folder."""
         inner = f"cd {shlex.quote(str(TOP))} && {command}"
         place = shlex.quote(str(self.place))
-        return self._words(f"exec env -u PYTHONPATH -u PYTHONPYCACHEPREFIX LC_ALL=C.UTF-8 PATH=/usr/sbin:/usr/bin:/sbin:/bin chroot {place} bash -c {shlex.quote(inner)}")
+        return self._words(f"exec env -u PYTHONPATH -u PYTHONPYCACHEPREFIX LC_ALL=C.UTF-8 PATH=/usr/sbin:/usr/bin:/sbin:/bin chroot {place} bash -c "
+                           f"{shlex.quote(inner)}")
 
     def run(self, command: str, told: str = "") -> str:
         """Runs a command of a shell in this root: what it writes. It has to end well."""
@@ -162,7 +162,8 @@ def test_package_has_each_command_its_page_and_the_units(package: Path) -> None:
     pages = [page for folder in ("docs", "clients/man", "front/man") for page in (TOP / folder).glob("*.1")]
     names = [page.name.replace("msettings", "mserve-settings") for page in pages]
     assert len(names) >= 9 and all(f" ./usr/share/man/man1/{name}.gz\n" in listed for name in names)
-    for path in (*(f"lib/systemd/system/{unit}" for unit in UNITS), "usr/lib/mserve/mserve", "usr/share/bash-completion/completions/mserve", "etc/mserve/front.toml",
+    for path in (*(f"lib/systemd/system/{unit}" for unit in UNITS), "usr/lib/mserve/mserve", "usr/share/bash-completion/completions/mserve",
+                 "etc/mserve/front.toml",
                  "usr/share/mserve/front/page/index.html", "usr/share/mserve/docs/LANGUAGE.md", "usr/share/doc/mserve/docs/LANGUAGE.md"):
         assert f" ./{path}\n" in listed
     assert "__pycache__" not in listed and "/tests/" not in listed

@@ -21,7 +21,7 @@ import time
 from datetime import UTC, datetime
 from pathlib import Path
 
-sys.path.insert(0, str(Path(__file__).resolve().parent / "tests"))
+sys.path[:0] = [str(Path(__file__).resolve().parent / folder) for folder in ("tests", "tests/steps", ".", "../clients", "../tools")]
 
 from database import IN_MEMORY  # noqa: E402
 from front import Patience, Person, Record, tool, until  # noqa: E402

@@ -19,7 +19,7 @@ import time
 from dataclasses import dataclass
 from pathlib import Path
 
-sys.path.insert(0, str(Path(__file__).resolve().parent / "tests"))
+sys.path[:0] = [str(Path(__file__).resolve().parent / folder) for folder in ("tests", ".", "../clients", "../tools")]
 
 from database import Cluster, required  # noqa: E402
 from machines import HOSTS, Gate, Program, certificates, islands, ports  # noqa: E402

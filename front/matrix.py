@@ -20,7 +20,7 @@ from dataclasses import dataclass
 from datetime import UTC, datetime
 from pathlib import Path
 
-sys.path.insert(0, str(Path(__file__).resolve().parent / "tests"))
+sys.path[:0] = [str(Path(__file__).resolve().parent / folder) for folder in ("tests", "tests/steps", ".", "../clients", "../tools")]
 
 from database import IN_MEMORY, Cluster  # noqa: E402
 from front import Patience  # noqa: E402

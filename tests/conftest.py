@@ -6,18 +6,15 @@ from __future__ import annotations
 
 import os
 import subprocess
-import sys
 import tempfile
 from collections.abc import Callable, Iterator
 from pathlib import Path
 
 import hypothesis
 import pytest
+import running
 
 TESTS = Path(__file__).resolve().parent
-sys.path[:0] = [str(TESTS), str(TESTS.parent / "tools")]
-
-import running  # noqa: E402
 
 # The same cases in each run, and no deadline: the machine may be busy. A case is a run of the program, so none is too slow or too large.
 hypothesis.settings.register_profile("tests", deadline=None, derandomize=True, database=None,

@@ -7,18 +7,14 @@ sessions end at that moment too; and joined again, the parts have the whole's gl
 from __future__ import annotations
 
 import sqlite3
-import sys
 import tempfile
 from collections import Counter
 from pathlib import Path
 
 import pytest
 from drawn_settings import REPLY, Case, Line, Setting, for_cases, runs_over, sent_by
-from running import IN_MEMORY, TOP, run
-
-sys.path.append(str(Path(TOP) / "clients"))
-
-from mserve_client import islands, settings_file  # noqa: E402
+from mserve_client import islands, settings_file
+from running import IN_MEMORY, run
 
 SETTINGS = 100
 

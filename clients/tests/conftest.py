@@ -17,13 +17,10 @@ from pathlib import Path
 
 import hypothesis
 import pytest
+import running
+from mserve_client import Connection
 
 CLIENTS = Path(__file__).resolve().parent.parent
-sys.path[:0] = [str(CLIENTS), str(CLIENTS.parent / "tools")]
-
-import running  # noqa: E402
-from mserve_client import Connection  # noqa: E402
-
 # The same cases in each run, and no deadline: the machine may be busy.
 hypothesis.settings.register_profile("house", deadline=None, max_examples=40, derandomize=True, database=None)
 hypothesis.settings.load_profile("house")

@@ -20,13 +20,10 @@ from typing import Any, Protocol
 import aiohttp
 import argon2
 import pytest
+import running
+from mserve_front.control import asked
 
 FRONT = Path(__file__).resolve().parent.parent
-sys.path[:0] = [str(FRONT), str(FRONT.parent / "clients"), str(FRONT.parent / "tools")]
-
-import running  # noqa: E402
-from mserve_front.control import asked  # noqa: E402
-
 COMMAND = [sys.executable, str(FRONT / "mfront")]
 SETTINGS = FRONT / "tests" / "settings.toml"
 # The same, but that LAB has language 1.

@@ -22,10 +22,9 @@ from mserve_client.wire import NoServer, Reply, ServerGone
 from mserve_front.gate import Gate, Request
 from mserve_front.http_head import read_head
 from mserve_front.users import token_hash
+from pseudo_terminal import opened
 
 CLIENTS = FRONT.parent / "clients"
-sys.path.append(str(CLIENTS / "tests"))
-from pseudo_terminal import opened  # noqa: E402
 
 Ran = subprocess.CompletedProcess[str]
 

@@ -8,18 +8,14 @@ from __future__ import annotations
 
 import asyncio
 import random
-import sys
 from pathlib import Path
 
 import pytest
-from front import FRONT, Front, Person, in_loop
+from drawn_settings import Runs, Setting, drawn_lines, drawn_setting, sent_by, told
+from front import Front, Person, in_loop
 from mserve_client.wire import Reply, ReplyReader
 from mserve_front.lines import Line, Refused
-
-sys.path.append(str(FRONT.parent / "tests"))
-
-from drawn_settings import Runs, Setting, drawn_lines, drawn_setting, sent_by, told  # noqa: E402
-from support import reaching  # noqa: E402
+from support import reaching
 
 SETTINGS = 6
 ROUNDS = 3

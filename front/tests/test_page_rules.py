@@ -10,6 +10,7 @@ import sys
 from collections.abc import Iterator
 from pathlib import Path
 
+import drawn_texts
 import page_driver
 import pytest
 import running
@@ -24,8 +25,6 @@ from page_driver import PAGE, Browser, page_front  # noqa: F401
 from page_words import advice_of
 
 TOP = FRONT.parent
-sys.path.append(str(TOP / "clients" / "tests"))
-import drawn_texts  # noqa: E402
 
 TERMINAL, LATER_TERMINAL = 1, 1001
 # The lists of cases that the clients' tests have, by the name of the test.
@@ -41,7 +40,7 @@ print(json.dumps({name: getattr(tests, name).pytestmark[0].args[1] for name in n
 @pytest.fixture(scope="module")
 def cases() -> dict[str, list]:
     """The cases of clients/tests/test_routines.py."""
-    words = [sys.executable, "-c", CASES, str(TOP / "clients"), str(TOP / "clients" / "tests")]
+    words = [sys.executable, "-c", CASES, *(str(TOP / folder) for folder in ("clients", "clients/tests", "tools"))]
     return json.loads(subprocess.run(words, check=True, capture_output=True, timeout=60).stdout)
 
 

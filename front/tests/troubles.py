@@ -17,15 +17,12 @@ from pathlib import Path
 
 from database import Cluster
 from front import FRONT, Patience, Person, until
+from killing import MACHINE, STEPS, WHATS
 from running import PROGRAM
 from test_replay import held
 from test_restarts import BESIDE, Counting
 
 PLACE = Path(__file__).resolve().parent / "steps"
-sys.path.insert(0, str(PLACE))
-
-from killing import MACHINE, STEPS, WHATS  # noqa: E402
-
 # What is done then: the leader goes on or is started again; the standby is promoted, and the leader stands by; its machine is gone, and a new standby begins
 # with the journal; it is stopped in order, and takes the journal back; its place moves to the standby, as a gate has an island move.
 THENS = ("go on", "promote", "gone", "in order", "move")

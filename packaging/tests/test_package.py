@@ -285,7 +285,7 @@ def used(root: Root) -> None:
 
 BROWSE = """
 import sys
-sys.path.insert(0, "front/tests")
+sys.path[:0] = ["front/tests", "front", "clients", "tools"]
 from page_driver import Browser
 browser = Browser()
 try:

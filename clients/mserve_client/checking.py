@@ -14,11 +14,12 @@ from dataclasses import dataclass, replace
 from enum import Enum
 
 from . import grammar, keys, language
+from .grammar import LANGUAGES
 from .mtext import is_barred, set_lines
 from .routine_files import Source, SourceLine, source_line
 from .routines import is_line, nodes_of
 from .walk import Refused, asked, free_local
-from .wire import LONGEST_LINE, ClientError, Connection
+from .wire import LONGEST_LINE, ClientError, Connected
 
 GUARD = "Q  "
 LONGEST_REST = keys.MAX_TEXT - len(GUARD)
@@ -58,23 +59,23 @@ class Entry:
     routine: str
 
 
-def language_of(connection: Connection) -> int:
+def language_of(connection: Connected) -> int:
     """The language of the terminal's account: the newest one that the server takes a new line of."""
     replies = connection.pipeline(GUARD + line for line in grammar.NEW_LINES.values())
     taken = [number for (number, line), reply in zip(grammar.NEW_LINES.items(), replies, strict=True) if _is_accepted(line, reply.code)]
     return max(taken, default=language.PROFILE)
 
 
-def fault_of(connection: Connection, text: str) -> language.Fault | None:
+def fault_of(connection: Connected, text: str) -> language.Fault | None:
     """Why the server has refused a line. It is asked for the account's language only if the verdicts of several leave that open."""
-    told = {number: language.fault(text, number) for number in language.LANGUAGES}
+    told = {number: language.fault(text, number) for number in LANGUAGES}
     refusing = {number: fault for number, fault in told.items() if fault is not None}
     if len(set(refusing.values())) < 2:
         return next(iter(refusing.values()), None)
     return told[language_of(connection)]
 
 
-def check(connection: Connection, lines: list[SourceLine], number: int | None = None) -> list[Finding]:
+def check(connection: Connected, lines: list[SourceLine], number: int | None = None) -> list[Finding]:
     """What is not in a language, the account's if no other is named, line by line, and what means something else in M."""
     own = language_of(connection)
     number = own if number is None else number
@@ -87,7 +88,7 @@ def check(connection: Connection, lines: list[SourceLine], number: int | None = 
     return found
 
 
-def accepted_rests(connection: Connection, rests: list[str]) -> Iterator[bool]:
+def accepted_rests(connection: Connected, rests: list[str]) -> Iterator[bool]:
     """Whether the server takes each of these lines of M."""
     replies = connection.pipeline(GUARD + rest for rest in rests if _is_short(rest))
     answer = iter([reply.code for reply in replies])
@@ -101,12 +102,12 @@ def _is_short(rest: str) -> bool:
 
 
 def _is_accepted(line: str, code: str | None) -> bool:
-    if code not in (None, "ZSYNTAX"):
+    if code is not None and code != "ZSYNTAX":
         raise Refused(line, code)
     return code is None
 
 
-def _long_answer(connection: Connection, rest: str) -> str | None:
+def _long_answer(connection: Connected, rest: str) -> str | None:
     """The code that a line is answered which is too long for the wire."""
     if len(rest) > LONGEST_REST:
         return "ZSYNTAX"
@@ -188,7 +189,7 @@ def _may_call(line: SourceLine) -> bool:
 class Labels:
     """The labels of routines: of those that are checked, and of those that the account has."""
 
-    def __init__(self, connection: Connection, checked: list[Source]) -> None:
+    def __init__(self, connection: Connected, checked: list[Source]) -> None:
         self._connection = connection
         self._known: dict[str, set[str] | None] = {source.name: {line.label for line in source.lines if line.label} for source in checked}
 
@@ -211,7 +212,7 @@ class Labels:
                               "A label begins its line, and its case of letters counts: M13.", Kind.MISSING)
 
 
-def findings(connection: Connection, checked: list[Source], number: int | None = None) -> Iterator[tuple[Source, list[Finding]]]:
+def findings(connection: Connected, checked: list[Source], number: int | None = None) -> Iterator[tuple[Source, list[Finding]]]:
     """What is to be said of each of some routines, line by line, by a language, the account's if no other is named."""
     number = language_of(connection) if number is None else number
     labels = Labels(connection, checked)

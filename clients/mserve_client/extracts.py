@@ -146,12 +146,12 @@ def rows(file: IO[bytes], form: Form, account: str, tell: Callable[[Problem], No
     """The keys and the texts of a file's nodes in an account; `tell` gets what cannot come in."""
     name, lines = numbered(file, form)
     for found in _zwr_rows(lines, account, form) if name == "zwr" else READERS[name](lines, form):
-        if type(found) is tuple:
-            yield found
+        if isinstance(found, Problem):
+            tell(found)
         elif isinstance(found, Entry):
             yield keys.key(account, found.name, found.subscripts), found.text.encode("ascii")
         else:
-            tell(found)
+            yield found
 
 
 def numbered(file: IO[bytes], form: Form) -> tuple[str, Iterator[tuple[int, str]]]:
@@ -255,8 +255,9 @@ def _plain_parent(text: str) -> tuple[str, keys.Subscripts] | None:
     found = _PLAIN_NODE.fullmatch(text)
     if found is None or not keys.is_name(found[1]):
         return None
-    parts = [_plain_last(part + ")") for part in _PARTS.findall(found[2] or "")]
-    return None if None in parts or len(parts) >= keys.MAX_SUBSCRIPTS else (found[1], tuple(parts))
+    read = [_plain_last(part + ")") for part in _PARTS.findall(found[2] or "")]
+    parts = tuple(part for part in read if part is not None)
+    return None if len(parts) < len(read) or len(parts) >= keys.MAX_SUBSCRIPTS else (found[1], parts)
 
 
 @lru_cache(1 << 13)
@@ -300,7 +301,7 @@ def parsed_node(line: str, at: int) -> tuple[str, keys.Subscripts, int]:
 
 def _parsed_text(line: str, at: int) -> tuple[str, int, bool]:
     """The text that is written from a place on, the place after it, and whether it is a bare number."""
-    parts = []
+    parts: list[str] = []
     while True:
         found = _TOKEN.match(line, at)
         if found is None:

@@ -110,7 +110,7 @@ def way(chosen: argparse.Namespace) -> Iterator[Way]:
 def is_named(chosen: argparse.Namespace) -> bool:
     """Whether the words or the settings name the account of a store file. NotWanted, if mserve refuses the settings."""
     if chosen.new_account or chosen.settings is None:
-        return chosen.new_account
+        return bool(chosen.new_account)
     # Most imports and exports have no settings, and start without their reader.
     from . import settings_file
     try:
@@ -181,8 +181,7 @@ class Far:
     """How far an export through a terminal is, for a person: by the children of its globals, which are counted first."""
 
     def __init__(self, found: Way, wanted: list[tuple[str, keys.Subscripts]]) -> None:
-        is_asked = isinstance(found, TerminalWay) and sys.stderr.isatty()
-        self._total = sum(found.children(*place) for place in wanted) if is_asked else 0
+        self._total = sum(found.children(*place) for place in wanted) if isinstance(found, TerminalWay) and sys.stderr.isatty() else 0
         self._seen = 0
 
     def part(self) -> float:

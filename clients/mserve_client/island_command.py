@@ -35,7 +35,8 @@ def words(_: list[str] | None = None) -> argparse.ArgumentParser:
     cut = acts.add_parser("split", help="make a folder of parts, one for each island")
     for act in (shown, cut):
         act.add_argument("settings", type=Path, metavar="SETTINGS", help="a settings file")
-        act.add_argument("store", type=Path, metavar="STORE", help="the store file of that server", nargs="?" if act is shown else None)
+        store = act.add_argument("store", type=Path, metavar="STORE", help="the store file of that server")
+        store.nargs = "?" if act is shown else None
     cut.add_argument("accounts", nargs="*", metavar="ACCOUNT", help="only the islands of these accounts; all others stay together, in the-rest")
     join = acts.add_parser("join", help="make one part of several")
     join.add_argument("parts", nargs="+", type=Path, metavar="PART", help="a part, or a folder of parts")

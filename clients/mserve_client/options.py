@@ -7,9 +7,9 @@ import getpass
 import os
 import sys
 from collections.abc import Callable
-from typing import TYPE_CHECKING, TypeAlias
+from typing import TYPE_CHECKING, Any
 
-from .wire import HOST, PATIENCE, ClientError, Connection
+from .wire import HOST, PATIENCE, ClientError, Connected, Connection
 
 if TYPE_CHECKING:
     # A command that has no front starts without HTTP and TLS, which it would spend a third of its start on.
@@ -28,7 +28,7 @@ class NoSecret(ClientError):
     """There is no password and no token; the text says how to give one."""
 
 
-def parser(name: str, about: str, **more: object) -> argparse.ArgumentParser:
+def parser(name: str, about: str, **more: Any) -> argparse.ArgumentParser:
     """The reader of a command's words, with --host and --timeout, and those of a front."""
     words = argparse.ArgumentParser(prog=name, description=about, epilog=STATUSES, formatter_class=argparse.RawDescriptionHelpFormatter, **more)
     words.add_argument("--host", default=HOST, help=f"where the server listens (default {HOST})")
@@ -108,15 +108,15 @@ def whole(text: str, most: int) -> int:
     return int(text)
 
 
-Line: TypeAlias = "Connection | FrontConnection"
-
-
-def connected(options: argparse.Namespace, known: str | None = None) -> Line:
+def connected(options: argparse.Namespace, known: str | None = None) -> Connected:
     """The connection that the words ask for; `known` is the secret, if it was asked for before."""
     if options.front is not None and options.user is None and known is None and options.token is None and TOKEN not in os.environ:
         raise NoSecret(f"--user NAME is missing: who signs on at the front; or --token FILE, or a token in the variable {TOKEN}")
-    made = Connection(options.port, options.terminal, host=options.host, timeout=options.timeout or None) if options.front is None else signed_on(
-        options, secret(options) if known is None else known)
+    made: Connected
+    if options.front is None:
+        made = Connection(options.port, options.terminal, host=options.host, timeout=options.timeout or None)
+    else:
+        made = signed_on(options, secret(options) if known is None else known)
     made.in_utf_8 = made.in_utf_8 or options.text == "utf-8"
     return made
 

@@ -80,7 +80,5 @@ def explained(word: str) -> list[str]:
 
 def abbreviation(name: str, text: str) -> str:
     """The short word of a command or function."""
-    if name.startswith("$"):
-        return re.match(r"\$[A-Z]+", text)[0]
-    found = re.search(r"\s([A-Z]): ", text)
+    found = re.match(r"(\$[A-Z]+)", text) if name.startswith("$") else re.search(r"\s([A-Z]): ", text)
     return found[1] if found else name

@@ -6,14 +6,17 @@ import argparse
 import difflib
 import os
 import sys
+from collections.abc import Callable
 
-from . import language, options, routines, unit_tests
+from . import options, routines, unit_tests
 from .checking import Finding, Kind, findings
+from .grammar import LANGUAGES
 from .options import FOUND, counted
 from .routine_files import BadFile, Source, file_name, file_text, refuse_over, sources, stored_source, with_tabs_of
-from .wire import ClientError, Connection
+from .wire import ClientError, Connected
 
 NAME = "mroutine"
+Act = Callable[[Connected, list[Source], argparse.Namespace], int]
 ABOUT = """Routines between files and the account of a terminal.
 
   mroutine 9000 1 check clinic/        says what is not in the language, and what to write instead
@@ -38,7 +41,7 @@ def words(arguments: list[str] | None = None) -> argparse.ArgumentParser:
                         ("diff", "compare files with the account's routines; status 1 if they differ")):
         acts.add_parser(name, help=about, description=about).add_argument("paths", nargs="+", metavar="FILE.m|FOLDER")
     acts.choices["load"].add_argument("--check", action="store_true", help="load nothing if a line of any file is not in the language")
-    acts.choices["check"].add_argument("--language", type=int, choices=sorted(language.LANGUAGES), metavar="NUMBER",
+    acts.choices["check"].add_argument("--language", type=int, choices=sorted(LANGUAGES), metavar="NUMBER",
                                        help="the language of the verdicts: 0, the profile, or 1 (default: the account's, as the server tells it)")
     acts.add_parser("list", help="name the account's routines, each with its count of lines")
     save = acts.add_parser("save", help="write routines to files")
@@ -65,7 +68,7 @@ def run(chosen: argparse.Namespace) -> int:
         return FOUND
 
 
-def check(connection: Connection, files: list[Source], chosen: argparse.Namespace) -> int:
+def check(connection: Connected, files: list[Source], chosen: argparse.Namespace) -> int:
     """Says what is not in the language, which labels and routines are not there, and what means something else in M."""
     kinds = [finding.kind for finding in show_findings(connection, files, chosen.language)]
     told = [f"{counted(len(files), 'file')}, {counted(sum(len(source.lines) for source in files), 'line')}: "
@@ -78,7 +81,7 @@ def check(connection: Connection, files: list[Source], chosen: argparse.Namespac
     return FOUND if {Kind.REFUSED, Kind.MISSING} & set(kinds) else 0
 
 
-def show_findings(connection: Connection, files: list[Source], number: int | None = None) -> list[Finding]:
+def show_findings(connection: Connected, files: list[Source], number: int | None = None) -> list[Finding]:
     """Prints what is to be said of files' lines by a language, the account's if no other is named, and gives it."""
     shown: list[Finding] = []
     for source, found in findings(connection, files, number):
@@ -90,7 +93,7 @@ def show_findings(connection: Connection, files: list[Source], number: int | Non
     return shown
 
 
-def load(connection: Connection, files: list[Source], chosen: argparse.Namespace) -> int:
+def load(connection: Connected, files: list[Source], chosen: argparse.Namespace) -> int:
     """Replaces routines by files."""
     refuse_over(files)
     if chosen.check and any(finding.kind is Kind.REFUSED for finding in show_findings(connection, files)):
@@ -101,7 +104,7 @@ def load(connection: Connection, files: list[Source], chosen: argparse.Namespace
     return 0
 
 
-def load_all(connection: Connection, files: list[Source]) -> None:
+def load_all(connection: Connected, files: list[Source]) -> None:
     """Replaces routines by files, each whole."""
     for number, source in enumerate(files):
         try:
@@ -114,7 +117,7 @@ def load_all(connection: Connection, files: list[Source]) -> None:
             options.tell(NAME, f'{source.name}: {counted(len(others), "node")} of ^ROUTINE("{source.name}") that were no lines are gone with the old routine')
 
 
-def diff(connection: Connection, files: list[Source], _: argparse.Namespace) -> int:
+def diff(connection: Connected, files: list[Source], _: argparse.Namespace) -> int:
     """Compares files with the account's routines."""
     different = 0
     for source in files:
@@ -126,14 +129,14 @@ def diff(connection: Connection, files: list[Source], _: argparse.Namespace) -> 
     return FOUND if different else 0
 
 
-def names(connection: Connection, *_: object) -> int:
+def names(connection: Connected, *_: object) -> int:
     """Names the account's routines."""
     for name, texts in routines.all_routines(connection):
         print(f"{name}: {counted(len(texts), 'line')}")
     return 0
 
 
-def save(connection: Connection, _: list[Source], chosen: argparse.Namespace) -> int:
+def save(connection: Connected, _: list[Source], chosen: argparse.Namespace) -> int:
     """Writes routines to files."""
     wanted = [(name, routines.texts_of(connection, name)) for name in chosen.routines] if chosen.routines else routines.all_routines(connection)
     for name, texts in wanted:
@@ -164,7 +167,7 @@ def write_whole(path: str, text: str) -> None:
             os.unlink(part)
 
 
-def delete(connection: Connection, _: list[Source], chosen: argparse.Namespace) -> int:
+def delete(connection: Connected, _: list[Source], chosen: argparse.Namespace) -> int:
     """Deletes routines."""
     with routines.deploying(connection):
         for name in chosen.routines:
@@ -173,7 +176,7 @@ def delete(connection: Connection, _: list[Source], chosen: argparse.Namespace) 
     return 0
 
 
-def test(connection: Connection, files: list[Source], _: argparse.Namespace) -> int:
+def test(connection: Connected, files: list[Source], _: argparse.Namespace) -> int:
     """Runs the unit tests of routines."""
     refuse_over(files)
     report = unit_tests.Report()
@@ -185,5 +188,5 @@ def test(connection: Connection, files: list[Source], _: argparse.Namespace) -> 
     return FOUND if report.failed or not report.points else 0
 
 
-ACTS = {"check": check, "load": load, "diff": diff, "list": names, "save": save, "delete": delete, "test": test}
+ACTS: dict[str, Act] = {"check": check, "load": load, "diff": diff, "list": names, "save": save, "delete": delete, "test": test}
 main = options.command(NAME, words, run)

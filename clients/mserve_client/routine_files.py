@@ -49,7 +49,9 @@ class Source:
 
 def source_line(text: str) -> SourceLine:
     """A line of a file cut into its parts. Tabs become spaces, but for those of strings and comments."""
-    label, level, rest = _HEAD.fullmatch(text).groups(default="")
+    found = _HEAD.fullmatch(text)
+    assert found is not None, "each part may be empty"
+    label, level, rest = found.groups(default="")
     return SourceLine(label, level.replace("\t", " "), _TAB.sub(lambda found: found[1] or " ", rest))
 
 

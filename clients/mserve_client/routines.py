@@ -10,7 +10,7 @@ from . import keys
 from .codes import in_words
 from .mtext import reference, set_lines
 from .walk import ROUTINE, Node, Walker, asked, routine_names
-from .wire import ClientError, Connection, ServerGone
+from .wire import ClientError, Connected, ServerGone
 
 
 class NoRoutine(ClientError):
@@ -34,7 +34,7 @@ class Stopped(Exception):
 
 
 @contextmanager
-def deploying(connection: Connection) -> Iterator[None]:
+def deploying(connection: Connected) -> Iterator[None]:
     """Holds the lock ^ROUTINE for the block, which all who change routines by these clients take. Deploying if another terminal has it."""
     code = connection.send(f"L +{ROUTINE}").code
     if code == "ZLOCKED":
@@ -49,7 +49,7 @@ def deploying(connection: Connection) -> Iterator[None]:
             connection.send(f"L -{ROUTINE}")
 
 
-def nodes_of(connection: Connection, name: str) -> list[Node]:
+def nodes_of(connection: Connected, name: str) -> list[Node]:
     """All nodes of ^ROUTINE("name"), in their order; empty if there is none."""
     return list(Walker(connection, ROUTINE).nodes((name,)))
 
@@ -59,13 +59,13 @@ def is_line(node: Node) -> bool:
     return len(node[0]) == 2 and keys.units(node[0][1]) is not None
 
 
-def all_routines(connection: Connection) -> list[tuple[str, list[str]]]:
+def all_routines(connection: Connected) -> list[tuple[str, list[str]]]:
     """The account's routines, and their lines."""
     found = [(name, [node[1] for node in nodes_of(connection, name) if is_line(node)]) for name in routine_names(connection)]
     return [(name, texts) for name, texts in found if texts]
 
 
-def texts_of(connection: Connection, name: str) -> list[str]:
+def texts_of(connection: Connected, name: str) -> list[str]:
     """The lines of a routine. NoRoutine if there are none."""
     texts = [node[1] for node in nodes_of(connection, name) if is_line(node)]
     if not texts:
@@ -73,7 +73,7 @@ def texts_of(connection: Connection, name: str) -> list[str]:
     return texts
 
 
-def load(connection: Connection, name: str, texts: list[str]) -> list[Node]:
+def load(connection: Connected, name: str, texts: list[str]) -> list[Node]:
     """Replaces a routine by these lines, whole, or puts the old one back and raises LoadFailed. The nodes that were there and were no lines."""
     old = nodes_of(connection, name)
     try:
@@ -89,7 +89,7 @@ def load(connection: Connection, name: str, texts: list[str]) -> list[Node]:
     return [node for node in old if not is_line(node)]
 
 
-def replace(connection: Connection, name: str, nodes: Iterable[Node]) -> None:
+def replace(connection: Connected, name: str, nodes: Iterable[Node]) -> None:
     """Kills ^ROUTINE("name") and sets these nodes. Stopped, with the node, at the first line that is answered by a code: what is sent already
     is run yet."""
     sent: list[keys.Subscripts] = []
@@ -112,7 +112,7 @@ def replace(connection: Connection, name: str, nodes: Iterable[Node]) -> None:
         raise stop
 
 
-def _put_back(connection: Connection, name: str, old: list[Node]) -> str:
+def _put_back(connection: Connected, name: str, old: list[Node]) -> str:
     """Puts the nodes back that a routine had; says how that ended."""
     with interrupts_later():
         try:
@@ -137,7 +137,7 @@ def interrupts_later() -> Iterator[None]:
         raise KeyboardInterrupt
 
 
-def delete(connection: Connection, name: str) -> None:
+def delete(connection: Connected, name: str) -> None:
     """Deletes a routine with all that stands below ^ROUTINE("name"). NoRoutine if there is none."""
     texts_of(connection, name)
     asked(connection, f"K {reference(ROUTINE, (name,))}")

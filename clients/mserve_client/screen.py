@@ -81,14 +81,15 @@ def _with_toolkit(history: str | None, complete: Completer) -> Callable[[str], s
     from prompt_toolkit import PromptSession
     from prompt_toolkit.completion import Completer as Base
     from prompt_toolkit.completion import Completion
+    from prompt_toolkit.document import Document
     from prompt_toolkit.history import FileHistory, InMemoryHistory
 
     class Words(Base):
-        def get_completions(self, document: object, event: object) -> Iterator[Completion]:
+        def get_completions(self, document: Document, event: object) -> Iterator[Completion]:
             length, words = complete(document.text_before_cursor)
             return (Completion(word, -length) for word in words)
 
-    session = PromptSession(history=FileHistory(history) if history else InMemoryHistory(), completer=Words(), complete_while_typing=False)
+    session: PromptSession[str] = PromptSession(history=FileHistory(history) if history else InMemoryHistory(), completer=Words(), complete_while_typing=False)
     return session.prompt
 
 

@@ -9,6 +9,7 @@ import re
 import tomllib
 from collections.abc import Iterator
 from dataclasses import dataclass, field
+from typing import Any
 
 from . import keys
 from .settings_file import ACCOUNT_KEYS, GRANT_KEYS, LANGUAGE, MAX_BYTES, MAX_ENTRIES, MAX_STEPS, MAX_TERMINAL, MODES, is_language
@@ -21,7 +22,8 @@ _FIRST = re.compile(r"\[*\s*[\"']?([^\"'\]. \t]*)")
 _KEY = re.compile(r"\s*[\"']?([\w-]+)[\"']?\s*(?:\.[^=]*)?=")
 WANTED = {"name": 'a text: name = "CLINIC"', "terminals": "a list of whole numbers: terminals = [1, 2]", "steps": "a whole number: steps = 2000",
           "from": 'a text: from = "LAB"', "to": 'a text: to = "CLINIC"', "global": 'a text: global = "RESULT"', "mode": 'a text: mode = "read"'}
-Table = dict[str, object]
+# A table of TOML: what its values are is found here.
+Table = dict[str, Any]
 
 
 @dataclass(frozen=True, slots=True)
@@ -50,13 +52,14 @@ class Places:
     def of(self, name: str, number: int, key: str = "") -> int:
         """The line of a key of an entry, counted from 0; of the entry or the list, where that is not known."""
         found = self.entries.get(name, [])
-        entry = found[number] if number < len(found) else {}
-        return entry.get(key) or entry.get("") or self.top.get(name, 0)
+        entry: dict[str, int] = found[number] if number < len(found) else {}
+        return entry.get(key, 0) or entry.get("", 0) or self.top.get(name, 0)
 
 
 def places(text: str) -> Places:
     """Where the entries of a document of TOML stand."""
-    found, entry = Places(), None
+    found = Places()
+    entry: dict[str, int] | None = None
     for line, statement in statements(text):
         header = _HEADER.match(statement)
         if header:
@@ -64,7 +67,7 @@ def places(text: str) -> Places:
             found.entries.setdefault(header[1], []).append(entry)
         elif statement.startswith("["):
             entry = None
-            found.top.setdefault(_FIRST.match(statement)[1], line)
+            found.top.setdefault(first[1] if (first := _FIRST.match(statement)) else "", line)
         elif key := _KEY.match(statement):
             (found.top if entry is None else entry).setdefault(key[1], line)
     return found
@@ -121,7 +124,7 @@ def _large(document: object, where: Places, name: str = "", number: int = 0, key
     for part, value in enumerate(document) if isinstance(document, list) else ():
         yield from _large(value, where, name, number if key else part, key)
     for part, value in document.items() if isinstance(document, dict) else ():
-        yield from _large(value, where, name or part, number, part if name else "")
+        yield from _large(value, where, name or str(part), number, str(part) if name else "")
 
 
 def _shape(document: Table, where: Places) -> Iterator[Fault]:

@@ -8,6 +8,7 @@ import tomllib
 from . import options, settings_check, store_check
 from .options import FOUND, counted
 from .settings_check import Fault
+from .settings_file import MAX_BYTES
 
 NAME = "msettings"
 ABOUT = """Says what is wrong with a settings file, each fault with its line, its key and what to do; and with --store, why a store is refused.
@@ -32,7 +33,7 @@ def run(chosen: argparse.Namespace) -> int:
     """Says what is wrong."""
     try:
         with open(chosen.settings, "rb") as file:
-            data = file.read(settings_check.MAX_BYTES + 1)
+            data = file.read(MAX_BYTES + 1)
     except OSError as error:
         data, found = b"", [Fault("Read", 0, "", f"it cannot be read: {error.strerror}", "Name a file that is there and may be read.")]
     else:

@@ -14,10 +14,10 @@ from .wire import ClientError
 
 MAX_ENTRIES, MAX_TERMINAL, MAX_STEPS, MAX_BYTES = 9_999, 9_999, 1_000_000, 1_000_000
 MODES = ("read", "write")
-ACCOUNT_KEYS = {"name": str, "terminals": list, "steps": int}
+ACCOUNT_KEYS: dict[str, type] = {"name": str, "terminals": list, "steps": int}
 # The one key that may be absent, with its values.
 LANGUAGE, LANGUAGES = "language", (0, 1)
-GRANT_KEYS = {"from": str, "to": str, "global": str, "mode": str}
+GRANT_KEYS: dict[str, type] = {"from": str, "to": str, "global": str, "mode": str}
 
 
 class BadSettings(ClientError):

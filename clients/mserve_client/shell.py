@@ -20,12 +20,12 @@ from typing import Self
 
 from . import checking, escape, keys, language, mtext, options, reference, routines
 from .codes import CODES, in_words, place
-from .options import FOUND, Line, counted
+from .options import FOUND, counted
 from .routine_command import write_whole
 from .routine_files import Source, file_name, file_text, refuse_over, sources, stored_source
 from .screen import Screen, history_file, is_person, pages, prompt
 from .walk import Refused, Walker, asked, routine_names
-from .wire import ClientError, NoServer, Reply, ServerGone, TimedOut
+from .wire import ClientError, Connected, NoServer, Reply, ServerGone, TimedOut
 
 NAME = "mshell"
 ABOUT = """Runs lines of M as a terminal, and shows their replies.
@@ -56,7 +56,7 @@ class Trouble(ClientError):
 class Shell:
     """Lines and commands of one terminal, and what they show."""
 
-    def __init__(self, connection: Line, screen: Screen, person: bool, connect: Callable[[], Line] | None = None) -> None:
+    def __init__(self, connection: Connected, screen: Screen, person: bool, connect: Callable[[], Connected] | None = None) -> None:
         """`connect` makes a connection again, once the server that went away is back."""
         self._connection, self._screen, self._person, self._connect = connection, screen, person, connect
         self._names = {"ROUTINE"}
@@ -114,7 +114,7 @@ class Shell:
             self._complain(str(error))
             self._come_back(self._connect)
 
-    def _come_back(self, connect: Callable[[], Line]) -> None:
+    def _come_back(self, connect: Callable[[], Connected]) -> None:
         """Connects again, as soon as there is a server."""
         before = self._connection
         before.close()
@@ -191,7 +191,7 @@ class Shell:
         if fault is not None and self._person:
             for text in language.pointed(_CONTROL.sub(" ", line), fault):
                 self._screen.show(f"  {text}", "code")
-        elif fault is not None:
+        elif fault is not None and reply.code is not None:
             self._screen.show(f"{in_words(reply.code)}: column {fault.place + 1}: {fault.name}", "code")
         elif reply.code is not None:
             where = f"  ({place(reply.code)})" if self._person and place(reply.code) else ""
@@ -365,7 +365,8 @@ class Shell:
         return self._complete_line(before)
 
     def _complete_line(self, before: str) -> tuple[int, list[str]]:
-        token = re.search(r"(?:\$|\^%?|)[A-Za-z0-9]*$", before)[0]
+        found = re.search(r"(?:\$|\^%?|)[A-Za-z0-9]*$", before)
+        token = found[0] if found else ""
         if token.startswith("$"):
             return len(token), [name for name in reference.FUNCTIONS if name.startswith(token.upper())]
         if token.startswith("^"):

@@ -12,7 +12,7 @@ from .codes import in_words
 from .extracts import Entry, shown_node
 from .mtext import quoted, reference, set_lines
 from .walk import Walker, free_local, long_reference
-from .wire import LONGEST_LINE, ClientError, Connection
+from .wire import LONGEST_LINE, ClientError, Connected
 
 # The room that a reference may take in a line that sets a part of a text.
 ROOM = 100
@@ -58,7 +58,7 @@ class Sent(NamedTuple):
 class TerminalWay:
     """The nodes that a terminal sees."""
 
-    def __init__(self, connection: Connection) -> None:
+    def __init__(self, connection: Connected) -> None:
         self._connection = connection
 
     def nodes(self, name: str, subscripts: keys.Subscripts = ()) -> Iterator[tuple[keys.Subscripts, str]]:
@@ -158,6 +158,7 @@ def entry_lines(entry: Entry, local: str) -> list[str]:
 def stopped_text(tally: Tally) -> str:
     """Where an import stopped, and what stands."""
     entry = tally.refused
+    assert entry is not None, "it stopped at one"
     text = f"line {entry.line}: {shown_node(entry.name, entry.subscripts)} was answered {in_words(tally.code)}; {tally.stand:,} nodes stand"
     if tally.last is not None:
         text += f", those up to line {tally.last.line}"

@@ -18,7 +18,7 @@ from .codes import in_words
 from .mtext import reference
 from .routine_files import Source
 from .walk import ROUTINE, Node, asked
-from .wire import Connection, Reply
+from .wire import Connected, Reply
 
 HELPER = "%TEST"
 HELPERS = [
@@ -58,7 +58,7 @@ def tests_of(source: Source) -> list[str]:
 
 
 @contextmanager
-def loaded(connection: Connection, sources: list[Source]) -> Iterator[None]:
+def loaded(connection: Connected, sources: list[Source]) -> Iterator[None]:
     """Loads routines and the helpers for the block, and puts back what was there before."""
     texts = {source.name: source.texts() for source in sources} | {HELPER: HELPERS}
     before = {name: routines.nodes_of(connection, name) for name in texts}
@@ -72,7 +72,7 @@ def loaded(connection: Connection, sources: list[Source]) -> Iterator[None]:
                 put_back(connection, name, nodes)
 
 
-def put_back(connection: Connection, name: str, nodes: list[Node]) -> None:
+def put_back(connection: Connected, name: str, nodes: list[Node]) -> None:
     """Gives a routine the nodes of before."""
     if nodes:
         routines.replace(connection, name, nodes)
@@ -80,7 +80,7 @@ def put_back(connection: Connection, name: str, nodes: list[Node]) -> None:
         asked(connection, f"K {reference(ROUTINE, (name,))}")
 
 
-def run(connection: Connection, sources: list[Source], report: Report) -> Iterator[str]:
+def run(connection: Connected, sources: list[Source], report: Report) -> Iterator[str]:
     """The lines of TAP: those of each test as it has ended, and the plan."""
     yield "TAP version 13"
     for source in sources:
@@ -91,7 +91,7 @@ def run(connection: Connection, sources: list[Source], report: Report) -> Iterat
     yield f"1..{report.points}"
 
 
-def fresh(connection: Connection) -> None:
+def fresh(connection: Connected) -> None:
     """Begins a new session, which holds the lock of those who change routines."""
     connection.send("HALT")
     connection.send(f"L +{ROUTINE}")

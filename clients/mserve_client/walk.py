@@ -15,7 +15,7 @@ from itertools import count
 from . import keys
 from .codes import in_words
 from .mtext import quoted, reference, set_lines
-from .wire import LONGEST_LINE, ClientError, Connection, Reply, ServerGone, TimedOut
+from .wire import LONGEST_LINE, ClientError, Connected, Reply, ServerGone, TimedOut
 
 # Local variables of the lines, which NEW hides; others, if one of these is walked over.
 INDEX, TURN = "%i", "%t"
@@ -61,7 +61,7 @@ class Children:
 Node = tuple[keys.Subscripts, str]
 
 
-def asked(connection: Connection, line: str) -> Reply:
+def asked(connection: Connected, line: str) -> Reply:
     """The reply of a line that must not be answered by a code."""
     reply = connection.send(line)
     if reply.code is not None:
@@ -69,7 +69,7 @@ def asked(connection: Connection, line: str) -> Reply:
     return reply
 
 
-def free_local(connection: Connection) -> str:
+def free_local(connection: Connected) -> str:
     """The name of a local variable that the session does not have. Who uses it kills it afterwards: a line's own level is too short for NEW."""
     names = (f"{LOCAL}{number or ''}" for number in count())
     return next(name for name in names if asked(connection, f"W $D({name})").rest == "0")
@@ -86,7 +86,7 @@ def long_reference(name: str, subscripts: keys.Subscripts, local: str) -> tuple[
 class Walker:
     """Reads the nodes of one variable: `name` is as it is written in a line, `^X`, `X` or `^|"LAB"|X`."""
 
-    def __init__(self, connection: Connection, name: str) -> None:
+    def __init__(self, connection: Connected, name: str) -> None:
         self._connection, self._name = connection, name
         self._index, self._turn = OTHERS if name in (INDEX, TURN) else (INDEX, TURN)
         self._count = BATCH
@@ -213,7 +213,7 @@ class Walker:
 
 def children_of(reply: Reply, count: int, line: str) -> Children:
     """The children that a reply writes, of which up to `count` were asked for. A line whose steps were used up has written some first ones."""
-    if reply.code not in (None, "ZSTEPS"):
+    if reply.code is not None and reply.code != "ZSTEPS":
         raise Refused(line, reply.code)
     found, lines = [], iter(reply.lines)
     for head in lines:
@@ -227,6 +227,6 @@ def children_of(reply: Reply, count: int, line: str) -> Children:
     return Children(found, reply.code is None and len(found) < count)
 
 
-def routine_names(connection: Connection) -> list[str]:
+def routine_names(connection: Connected) -> list[str]:
     """The names of the account's routines."""
     return [child.subscript for child in Walker(connection, ROUTINE).children() if child.has_more and keys.is_name(child.subscript)]

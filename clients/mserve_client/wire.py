@@ -20,8 +20,12 @@ from collections.abc import Iterable, Iterator
 from dataclasses import dataclass
 from select import select
 from types import TracebackType
+from typing import TYPE_CHECKING, TypeAlias
 
 from .holder import holder, listener
+
+if TYPE_CHECKING:
+    from .front import FrontConnection
 
 HOST = "127.0.0.1"
 # The hosts whose processes can be looked at.
@@ -138,6 +142,10 @@ def line_bytes(terminal: int, text: str | bytes) -> bytes:
     if b"\n" in data:
         raise BadLine('a line cannot have a line feed in it: write "first"_$CHAR(10)_"second"')
     return b"%d %s%s\n" % (terminal, data, b"\r" if data.endswith(b"\r") else b"")
+
+
+# A terminal's connection: to the server, or through a front.
+Connected: TypeAlias = "Connection | FrontConnection"
 
 
 class Connection:

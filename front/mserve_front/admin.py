@@ -10,6 +10,7 @@ from collections import deque
 from collections.abc import Awaitable, Callable, Mapping
 from dataclasses import dataclass
 from pathlib import Path
+from typing import Any
 
 from aiohttp import web
 
@@ -61,7 +62,8 @@ ALARMS = (
 )
 
 
-Told = dict[str, object]
+# What is told, as JSON has it.
+Told = dict[str, Any]
 
 
 def alarms_of(figures: Mapping[str, float]) -> list[Told]:
@@ -100,7 +102,7 @@ class Page:
     async def end(self) -> None:
         """Listens no more."""
         runner, self._runner = self._runner, None
-        if runner is not None:
+        if runner is not None and self._path is not None:
             await runner.cleanup()
             self._path.unlink(missing_ok=True)
 

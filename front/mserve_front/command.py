@@ -10,13 +10,15 @@ import sys
 import time
 from collections.abc import Callable
 from pathlib import Path
+from typing import TypeAlias
 
 from . import ending
-from .control import Refused, asked
+from .connection import NoStart
+from .control import Answered, Refused, asked
 from .faults import TAKEN
 from .figures import of_standby
 from .passwords import LEAST
-from .server import NoStart, tell
+from .server import tell
 from .settings import BadSettings, Settings, Table, journal_settings, read_settings, read_terminals, read_toml
 from .slices import SHORT, take_slices
 from .users import NAME, BadUsers, User, changed, load, new_token, password_hash
@@ -51,12 +53,16 @@ def words() -> argparse.ArgumentParser:
     return parser
 
 
-def _kinds(commands: argparse._SubParsersAction, name: str, about: str) -> Callable[..., argparse.ArgumentParser]:
+Commands: TypeAlias = "argparse._SubParsersAction[argparse.ArgumentParser]"
+
+
+def _kinds(commands: Commands, name: str, about: str) -> Callable[..., argparse.ArgumentParser]:
     parser = commands.add_parser(name, epilog=STATUSES, description=about, help=about)
-    return parser.add_subparsers(title="commands", metavar="COMMAND", required=True).add_parser
+    kinds: Commands = parser.add_subparsers(title="commands", metavar="COMMAND", required=True)
+    return kinds.add_parser
 
 
-def _user_words(commands: argparse._SubParsersAction, shared: argparse.ArgumentParser) -> None:
+def _user_words(commands: Commands, shared: argparse.ArgumentParser) -> None:
     add = _kinds(commands, "user", "Adds, changes, removes and lists users.")
     secret = f"A password is asked for twice, or read as a line from a pipe. It has at least {LEAST} characters."
     one = add("add", parents=[shared], epilog=STATUSES, description=f"Adds a user of an account. {secret}", help="add a user of an account")
@@ -74,7 +80,7 @@ def _user_words(commands: argparse._SubParsersAction, shared: argparse.ArgumentP
     one.set_defaults(act=list_users)
 
 
-def _token_words(commands: argparse._SubParsersAction, shared: argparse.ArgumentParser) -> None:
+def _token_words(commands: Commands, shared: argparse.ArgumentParser) -> None:
     add = _kinds(commands, "token", "Adds, removes and lists tokens, by which programs send lines.")
     one = add("add", parents=[shared], epilog=STATUSES, description="Gives a user a token, and prints it once.", help="give a user a token")
     one.add_argument("name", metavar="USER")
@@ -89,7 +95,7 @@ def _token_words(commands: argparse._SubParsersAction, shared: argparse.Argument
     one.set_defaults(act=list_tokens)
 
 
-def _journal_words(commands: argparse._SubParsersAction, shared: argparse.ArgumentParser) -> None:
+def _journal_words(commands: Commands, shared: argparse.ArgumentParser) -> None:
     one = commands.add_parser("status", parents=[shared], epilog=STATUSES, help="say where a front with a journal, or a standby, is",
                               description="Says of a front that keeps a journal, or of a standby, at which line it is, and how far behind the leader.")
     one.add_argument("--metrics", action="store_true", help="in the text format of Prometheus, for a collector of text files")
@@ -175,7 +181,7 @@ def promote(options: argparse.Namespace) -> None:
     print(f"promoted after line {found['line']}, in {found['seconds']} s" + (f"; not run: {', '.join(map(str, unsent))}" if unsent else ""))
 
 
-def _promoted(control: Path, force: bool, until: float) -> dict[str, object]:
+def _promoted(control: Path, force: bool, until: float) -> Answered:
     """The answer of a standby that is promoted; while another front has the journal it is asked again, up to a moment. Raises `Refused`."""
     while True:
         try:
@@ -201,8 +207,8 @@ def checked(options: argparse.Namespace) -> None:
     async def made() -> Service:
         return Service(settings)
     asyncio.run(made())
-    for key, path in (("server.store", settings.store and Path(settings.store)), ("listen.key", settings.key), ("audit.file", settings.audit),
-                      ("journal.folder", settings.journal.folder)):
+    store = None if settings.store is None else Path(settings.store)
+    for key, path in (("server.store", store), ("listen.key", settings.key), ("audit.file", settings.audit), ("journal.folder", settings.journal.folder)):
         if path is not None and path.exists() and path.stat().st_mode & 0o007:
             raise BadSettings(f"{options.config}: {key}: {path}: every user of the machine may read it: chmod o= {path}")
     print(f"{options.config}: good: {len(load(settings.users))} users, {sum(map(len, settings.terminals.values()))} terminals")

@@ -9,8 +9,10 @@ import os
 import socket
 from collections.abc import Awaitable, Callable, Iterator
 from pathlib import Path
+from typing import Any
 
-Answered = dict[str, object]
+# An answer, as JSON has it.
+Answered = dict[str, Any]
 Handler = Callable[[dict[str, object]], Awaitable[Answered]]
 LONGEST = 65_536
 # Seconds for a peer to send its request.
@@ -105,7 +107,7 @@ def asked(path: Path, request: dict[str, object], timeout: float | None) -> Answ
         raise Refused(f"{path}: no front that keeps a journal is there: {error.strerror}") from error
     if not line:
         raise Refused(f"{path}: the front ended before it answered")
-    answer = json.loads(line)
+    answer: Answered = json.loads(line)
     if "error" in answer:
         raise Refused(str(answer["error"]))
     return answer

@@ -44,7 +44,7 @@ def page_of(text: str) -> str:
     """The page of a document."""
     parts = list(_parts(text))
     title = html.escape(parts[0].partition(" ")[2]) if parts and parts[0].startswith("# ") else "mserve"
-    made = []
+    made: list[str] = []
     for is_list, some in itertools.groupby(parts, lambda part: part.startswith("- ")):
         made += ["<ul>\n", *map(_part, some), "</ul>\n"] if is_list else map(_part, some)
     return HEAD.format(title=title) + "".join(made) + END

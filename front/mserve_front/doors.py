@@ -7,12 +7,14 @@ from __future__ import annotations
 
 import asyncio
 import asyncio.sslproto
+import functools
 import json
 import socket
 import ssl
 import time
 from collections import Counter, OrderedDict
-from collections.abc import Callable
+from collections.abc import Callable, Coroutine
+from typing import Any
 
 from .fair import Pace
 from .http_head import END, BadRequest, Head, read_head
@@ -36,7 +38,8 @@ REASONS = {400: "Bad Request", 413: "Content Too Large", 431: "Request Header Fi
 # No delay for small frames; a peer that is gone without a word is noticed within three minutes.
 OPTIONS = ((socket.IPPROTO_TCP, socket.TCP_NODELAY, 1), (socket.SOL_SOCKET, socket.SO_KEEPALIVE, 1), (socket.IPPROTO_TCP, socket.TCP_KEEPIDLE, 60),
            (socket.IPPROTO_TCP, socket.TCP_KEEPINTVL, 15), (socket.IPPROTO_TCP, socket.TCP_KEEPCNT, 4),
-           (socket.IPPROTO_TCP, socket.TCP_USER_TIMEOUT, 120_000))
+           # Linux has it, and the types of mypy do not say so.
+           (socket.IPPROTO_TCP, socket.TCP_USER_TIMEOUT, 120_000))  # type: ignore[attr-defined]
 
 
 def spare_memory() -> None:
@@ -44,7 +47,8 @@ def spare_memory() -> None:
     256 KB ahead, and users' lines are short: for thousands of users that was most of the memory."""
     if hasattr(asyncio.sslproto.SSLProtocol, "max_size"):
         asyncio.sslproto.SSLProtocol.max_size = CHUNK
-    asyncio.sslproto.constants.FLOW_CONTROL_HIGH_WATER_SSL_READ = TLS_WAITING
+    # asyncio has no word for it.
+    asyncio.sslproto.constants.FLOW_CONTROL_HIGH_WATER_SSL_READ = TLS_WAITING  # type: ignore[attr-defined]
 
 
 def strict(context: ssl.SSLContext) -> None:
@@ -139,7 +143,7 @@ class Door(asyncio.Protocol):
         gate, self.gate = self.gate, None
         line = bytes(self._held[:max(end, 0)])
         del self._held[:end + 1]
-        if not gate(self, line):
+        if gate is None or not gate(self, line):
             self.cut()
         return True
 
@@ -276,6 +280,8 @@ class HttpDoor(Door):
         """Answers what is no request, and ends the connection."""
         body = json.dumps({"error": str(error)}).encode()
         self._held.clear()
+        if self.transport is None:
+            return
         self.transport.write((f"HTTP/1.1 {error.status} {REASONS[error.status]}\r\nContent-Type: application/json\r\nContent-Length: {len(body)}\r\n"
                               "Cache-Control: no-store\r\nX-Content-Type-Options: nosniff\r\nConnection: close\r\n\r\n").encode() + body)
         self.transport.close()
@@ -296,7 +302,7 @@ class Doors:
         self._places = places
         self._context = context
         self._of_address: Counter[str] = Counter()
-        self._doors: dict[asyncio.Protocol, Door] = {}
+        self._doors: dict[asyncio.BaseProtocol, Door] = {}
         # Those whose peers are not signed on, the oldest first.
         self._unknown: OrderedDict[Door, None] = OrderedDict()
         self._unknown_of: Counter[str] = Counter()
@@ -361,12 +367,12 @@ class Doors:
             self._unknown[door] = None
             self._count(self._unknown_of, place, 1)
             self._count(self._of_address, place, 1)
-            self.unsigned.enter(place, lambda door=door, peer=peer: self._begin(door, peer), CONNECTION_COST)
+            self.unsigned.enter(place, functools.partial(self._begin, door, peer), CONNECTION_COST)
             await asyncio.sleep(0)
 
     def _introduced(self, door: Door, line: bytes) -> bool:
         """Takes what a gate says of a user, and counts the connection as one of the user's address."""
-        address = told_by(line, self._gate)
+        address = None if self._gate is None else told_by(line, self._gate)
         if address is None:
             return False
         before, place = door.place, network_of(address)
@@ -420,7 +426,7 @@ class Doors:
         if counter[place] <= 0:
             del counter[place]
 
-    def _spawn(self, work: object) -> asyncio.Task[None]:
+    def _spawn(self, work: Coroutine[Any, Any, None]) -> asyncio.Task[None]:
         task = asyncio.get_running_loop().create_task(work)
         self._tasks.add(task)
         task.add_done_callback(self._done)

@@ -21,20 +21,20 @@ NOT_YET = (errno.ECONNREFUSED, errno.ENETUNREACH, errno.EADDRNOTAVAIL)
 _libc = ctypes.CDLL(None, use_errno=True)
 
 
-def checked(result):
+def checked(result: int) -> int:
     """The result of a call of the C library. Raises OSError."""
     if result < 0:
         raise OSError(ctypes.get_errno(), os.strerror(ctypes.get_errno()))
     return result
 
 
-def write(path, text):
+def write(path: str, text: str) -> None:
     """Writes a file of /proc."""
     with open(path, "w", encoding="ascii") as file:
         file.write(text)
 
 
-def enclose():
+def enclose() -> None:
     """Has this process in a network of its own, whose loopback is up."""
     user, group = os.geteuid(), os.getegid()
     checked(_libc.unshare(CLONE_NEWUSER | CLONE_NEWNET))
@@ -48,7 +48,7 @@ def enclose():
     any_socket.close()
 
 
-def begin(parent, there, count):
+def begin(parent: int, there: _socket.socket, count: int) -> None:
     """Has this process, a child that becomes a program, in a network of its own, and has it end with the parent. So many sockets that are in this network
     are sent over another one: who has them connects by them."""
     enclose()
@@ -59,7 +59,7 @@ def begin(parent, there, count):
         raise OSError(errno.ESRCH, "the parent has ended")
 
 
-def network(process):
+def network(process: int | str) -> str:
     """What tells the network of a process from others; empty if it has ended."""
     try:
         return os.readlink(f"/proc/{process}/ns/net")
@@ -67,7 +67,7 @@ def network(process):
         return ""
 
 
-def connect(process, port):
+def connect(process: int, port: int) -> None:
     """Sends a connection to a port in the network of a process, once somebody listens there."""
     own, pause = network("self"), FIRST_PAUSE
     while network(process) == own:

@@ -15,7 +15,7 @@ import sys
 import time
 from collections.abc import Sequence
 from pathlib import Path
-from typing import NoReturn
+from typing import Any, NoReturn
 
 from . import enclosed
 
@@ -24,7 +24,7 @@ HELPER = [sys.executable, "-I", "-S", str(Path(__file__).with_name("enclosed.py"
 LOOPBACK, PORT, WAYS = "127.0.0.1", 9000, 4
 # How a server is started. It has the signals that Python ignores ignored too: a file that is as long as it may be, or a peer that is gone, is an answer of
 # the system to it, and not its end.
-APART = {"stdin": asyncio.subprocess.DEVNULL, "stdout": asyncio.subprocess.DEVNULL, "start_new_session": True, "restore_signals": False}
+APART: dict[str, Any] = {"stdin": asyncio.subprocess.DEVNULL, "stdout": asyncio.subprocess.DEVNULL, "start_new_session": True, "restore_signals": False}
 # Seconds between two attempts to connect: the first and the longest; and what says that nobody listens yet: a socket that was refused is aborted once more.
 FIRST_PAUSE, LONGEST_PAUSE = 0.002, 0.1
 NOT_YET = (ConnectionRefusedError, ConnectionAbortedError)
@@ -101,7 +101,7 @@ async def helped(process: int, port: int) -> socket.socket | None:
     """The same, by a helper."""
     here, there = socket.socketpair()
     with here, there:
-        helper = await asyncio.create_subprocess_exec(*HELPER, str(process), str(port), stdin=there, stdout=asyncio.subprocess.DEVNULL,
+        helper = await asyncio.create_subprocess_exec(*HELPER, str(process), str(port), stdin=there.fileno(), stdout=asyncio.subprocess.DEVNULL,
                                                       start_new_session=True)
         try:
             if await helper.wait() != 0:

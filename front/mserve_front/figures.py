@@ -6,7 +6,7 @@ from __future__ import annotations
 import json
 import os
 import time
-from collections import Counter
+from collections import Counter, defaultdict
 from collections.abc import Mapping, Sequence
 from pathlib import Path
 
@@ -22,7 +22,7 @@ class ByAccount:
     def __init__(self, terminals: Mapping[str, Sequence[int]]) -> None:
         self.know(terminals)
         self._count: Counter[str] = Counter()
-        self._waited: Counter[str] = Counter()
+        self._waited: defaultdict[str, float] = defaultdict(float)
         self._longest: tuple[dict[str, float], dict[str, float]] = ({}, {})
         self._span = time.monotonic()
 

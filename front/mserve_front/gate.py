@@ -13,10 +13,10 @@ from collections.abc import Awaitable, Callable
 from typing import NamedTuple
 
 from .doors import CHUNK, Door, Doors
+from .connection import HOST
 from .http_head import END, BadRequest, Head, read_head
 from .islands import Islands
 from .preamble import preamble
-from .server import HOST
 from .users import token_hash
 
 # Bytes of a head and of a body, and seconds for them to come, and for a connection to be made.
@@ -92,8 +92,8 @@ Serve = Callable[[Outer], Awaitable[None]]
 class Gate:
     """Carries the connections of a machine."""
 
-    def __init__(self, name: str, islands: Islands, peers: ssl.SSLContext) -> None:
-        """`peers` is what this machine shows others, and wants of them."""
+    def __init__(self, name: str, islands: Islands, peers: ssl.SSLContext | None) -> None:
+        """`peers` is what this machine shows others, and wants of them; it is None for one that is alone."""
         self._name = name
         self._islands = islands
         self._peers = peers
@@ -237,7 +237,8 @@ class Gate:
             reader = asyncio.StreamReader(limit=HEAD)
             # The time counts for the handshake; what comes after it has its own.
             door = Door(asyncio.StreamReaderProtocol(reader, guarded), doors.deadline(), place, left)
-            door.ready = lambda: len(reader._buffer) > HEAD
+            # A reader has no other word for what it has.
+            door.ready = lambda: len(reader._buffer) > HEAD  # type: ignore[attr-defined]
             return door
         return made
 

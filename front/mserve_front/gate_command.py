@@ -101,8 +101,8 @@ def words() -> argparse.ArgumentParser:
 def settings_of(options: argparse.Namespace) -> tuple[Home, Doorway]:
     """The settings of the machine. Raises `BadSettings`."""
     tables = read_toml(options.config)
-    for name in tables.keys() - set(TABLES):
-        raise BadSettings(f"{options.config}: {name}: there is no such table")
+    for other in tables.keys() - set(TABLES):
+        raise BadSettings(f"{options.config}: {other}: there is no such table")
     machine, listen, peers, admin, audit, limits = taken = [Table(options.config, name, tables.get(name, {})) for name in TABLES]
     name, host = machine.text("name"), listen.text("host", "127.0.0.1")
     if name is None or not NAME.fullmatch(name):
@@ -141,7 +141,7 @@ class Contexts:
         """Reads the certificates, for the connections that come from now on. Raises `BadSettings`."""
         load(self.users, doorway.certificate, doorway.key)
         for context in (self.inward, self.outward):
-            if context is not None:
+            if context is not None and doorway.peers is not None:
                 load(context, doorway.peers.certificate, doorway.peers.key, doorway.peers.authority)
 
 
@@ -244,7 +244,9 @@ async def swept(*doors: Doors) -> None:
 
 def placed_of(home: Home) -> Placed:
     """Where the islands are noted: in the database, or in the folder of a machine that is alone."""
-    return LocalPlacement(home.folder, home.machine) if home.database is None else Placement(home.database)
+    if home.database is None:
+        return LocalPlacement(home.folder, home.machine)
+    return Placement(home.database)
 
 
 def placement_of(options: argparse.Namespace) -> Placed:

@@ -33,7 +33,7 @@ class GatePage(Page):
         placed = list(self._islands.placed.values())
         found = dict(zip((island.name for island in placed), await asyncio.gather(*map(self._asked, placed)), strict=True))
         here = [island for island in placed if island.machine == self._machine]
-        alarms = [{**alarm, "what": f"{name}: {alarm['what']}"} for name, one in found.items() if one is not None for alarm in one["alarms"]]
+        alarms: list[Told] = [{**alarm, "what": f"{name}: {alarm['what']}"} for name, one in found.items() if one is not None for alarm in one["alarms"]]
         alarms += [{"what": f"{island.name}: its front does not answer.", "do": SILENT, "value": 0} for island in here
                    if found[island.name] is None and island.state == HERE]
         fronts = [one for one in found.values() if one is not None]

@@ -61,9 +61,9 @@ def read_head(data: bytes, most_body: int) -> Head:
     """The head that these bytes are, up to its empty line. Raises `BadRequest`."""
     lines = data.removesuffix(END).split(b"\r\n")
     first, fields = _FIRST.fullmatch(lines[0]), [_FIELD.fullmatch(line) for line in lines[1:]]
-    if first is None or None in fields:
+    found = tuple((field[1].decode("ascii"), field[2].decode("latin1")) for field in fields if field is not None)
+    if first is None or len(found) < len(fields):
         raise BadRequest(400, "this is no request that the service has")
-    found = tuple((field[1].decode("ascii"), field[2].decode("latin1")) for field in fields)
     names = [name.lower() for name, _ in found]
     if names.count("host") != 1 or any(names.count(name) > 1 for name in _ONCE):
         raise BadRequest(400, "a field is missing, or stands twice")

@@ -16,13 +16,14 @@ import time
 from dataclasses import asdict, dataclass, field
 from pathlib import Path
 
+from .connection import HOST
 from .control import Refused, asked
 from .doors import held
 from .folders import write_whole
 from .placement import HERE, LEFT, MOVING, READY, TAKING, Island, Machine, Placed
 from .places import first_of
 from .preamble import new_secret
-from .server import HOST, Fault, tell, tied
+from .server import Fault, tell, tied
 from .settings import JournalSettings, Limits
 from .standing import place_of, read_standing
 from .users import Users, load, save
@@ -271,7 +272,8 @@ class Islands:
         if not (folder / "metrics.token").exists():
             write_secret(folder / "metrics.token", new_secret())
         self._write_users(island)
-        tables = {"server": {"program": home.program, "settings": "settings.toml", "store": "store", "text": home.text},
+        tables: dict[str, dict[str, object]] = {
+                  "server": {"program": home.program, "settings": "settings.toml", "store": "store", "text": home.text},
                   "listen": {"port": house.port("http"), "lines_port": house.port("lines"), "origins": list(home.origins), "gate": "gate.secret"},
                   # One machine's file can be changed here; that of several is for who keeps it.
                   "users": {"file": "users.json"} | ({"machine": str(home.users)} if home.database is None else {}),

@@ -13,7 +13,7 @@ import time
 from collections.abc import Callable, Iterator
 from concurrent.futures import ThreadPoolExecutor
 from dataclasses import dataclass
-from typing import Protocol
+from typing import Any, Generic, Protocol, TypeVar
 
 from .faults import HeldBack, NoJournal
 from .history import CUT_SHORT
@@ -80,10 +80,14 @@ class Asked(Protocol):
     number: int
 
 
-class Carrier(Protocol):
+A = TypeVar("A", bound=Asked)
+T = TypeVar("T")
+
+
+class Carrier(Protocol[A]):
     """What sends lines once they are durable."""
 
-    def go_on(self, chosen: list[Asked]) -> bool:
+    def go_on(self, chosen: list[A]) -> bool:
         """Sends lines, and says whether it did."""
 
     def refuse(self, why: str) -> None:
@@ -91,11 +95,11 @@ class Carrier(Protocol):
 
 
 @dataclass(slots=True)
-class _Lines:
+class _Lines(Generic[A]):
     """Lines that are to be sent."""
 
-    carrier: Carrier
-    asks: list[Asked]
+    carrier: Carrier[A]
+    asks: list[A]
 
 
 @dataclass(slots=True)
@@ -130,7 +134,11 @@ class _Start:
     number: int = 0
 
 
-_Entry = _Lines | _Reply | _Rows | _Start
+def _next_of(parts: Iterator[bytes]) -> bytes | None:
+    return next(parts, None)
+
+
+_Entry = _Lines[Any] | _Reply | _Rows | _Start
 
 
 class Witness(Protocol):
@@ -201,7 +209,7 @@ class Journal:
     async def begin(self, held: Held, base: int, settings: bytes, parts: Iterator[bytes] = iter(())) -> None:
         """Notes that all sessions begin again, and what the store holds then: `parts` are its rows, if these are to be given. Raises `NoJournal`."""
         count = 0
-        while (part := await asyncio.to_thread(next, parts, None)) is not None:
+        while (part := await asyncio.to_thread(_next_of, parts)) is not None:
             await self._kept(_Rows(count, part, asyncio.get_running_loop().create_future()))
             count += 1
         await self._kept(_Start(held, base, count, settings, asyncio.get_running_loop().create_future()))
@@ -221,7 +229,7 @@ class Journal:
         self._kick()
         await entry.done
 
-    def lines(self, carrier: Carrier, asks: list[Asked]) -> None:
+    def lines(self, carrier: Carrier[A], asks: list[A]) -> None:
         """Has lines sent once they are durable."""
         self._waiting.append(_Lines(carrier, asks))
         self._kick()
@@ -259,7 +267,7 @@ class Journal:
         self._thread.shutdown(wait=False)
         return whole
 
-    async def _in_thread(self, act: Callable[..., object], *given: object) -> object:
+    async def _in_thread(self, act: Callable[..., T], *given: object) -> T:
         return await asyncio.get_running_loop().run_in_executor(self._thread, act, *given)
 
     def _kick(self) -> None:

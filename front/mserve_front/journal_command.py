@@ -298,8 +298,9 @@ async def _begin(replay: Replay, options: argparse.Namespace, part: Path) -> Non
 
 
 def _program(options: argparse.Namespace) -> Path:
-    if options.program is not None:
-        return options.program
+    named: Path | None = options.program
+    if named is not None:
+        return named
     if options.folder is None and options.database is None:
         server = read_toml(options.config).get("server", {})
         program = Table(options.config, "server", server).file("program")

@@ -30,6 +30,7 @@ NAME = re.compile(r"(\d{20})(?:-(\d+))?\.journal", re.ASCII)
 def order_of(path: Path) -> tuple[int, int]:
     """Where a file stands among others."""
     found = NAME.fullmatch(path.name)
+    assert found is not None, "other files were passed over"
     return int(found[1]), int(found[2] or 0)
 
 
@@ -228,7 +229,7 @@ def _tail_of(folder: Path) -> Tail:
             continue
         if rest:
             told = f"{path}: a torn flush of {rest} bytes at its end counts for nothing: it is not durable"
-        if begins is not None:
+        if begins is not None and last is not None:
             if begins.sequence != first:
                 raise BadJournal(f"{path}: it begins with flush {begins.sequence}")
             return Tail(last.journal, last.sequence, last.next, last.answered, last.time, told, last.writer)
@@ -347,7 +348,7 @@ class FileReader:
     def _here(self, later: int | None) -> list[Flush]:
         """Some of the flushes that have come in this file; `later` is the first flush of the file after it."""
         found: list[Flush] = []
-        while not found and (data := self._file.read(READ)):
+        while not found and self._file is not None and (data := self._file.read(READ)):
             self._rest += data
             if self._at == 0 and _is_marked(self._path, self._rest):
                 self._at, self._rest = len(MARK), self._rest[len(MARK):]

@@ -13,6 +13,7 @@ import time
 import zlib
 from collections.abc import Generator, Iterator
 from selectors import EVENT_READ, EVENT_WRITE
+from typing import Any, LiteralString
 
 import psycopg
 from psycopg.conninfo import conninfo_to_dict, make_conninfo
@@ -52,7 +53,7 @@ ROWS = 256
 Process = tuple[int, object]
 
 
-class Answered(psycopg.Connection):
+class Answered(psycopg.Connection[tuple[Any, ...]]):
     """A connection whose statements end: one that the database is not at any more is given up."""
 
     # How it is connected to, and its process of the database; None until that is known.
@@ -61,7 +62,7 @@ class Answered(psycopg.Connection):
     # Seconds after which a statement is given up whatever the database is at.
     longest = math.inf
 
-    def wait(self, gen: Generator[int, int, object], *_: object, **__: object) -> object:
+    def wait(self, gen: Generator[Any, Any, Any], *_: Any, **__: Any) -> Any:
         """Runs what `gen` does between two waits for the socket. Raises `psycopg.OperationalError` for what is given up."""
         began = time.monotonic()
         try:
@@ -118,6 +119,7 @@ def opened(place: str) -> Answered:
         except psycopg.Error as error:
             faults_of.append(error)
             continue
+        assert isinstance(base, Answered)
         base.place = one
         return base
     raise psycopg.OperationalError("; ".join(map(str, faults_of)))
@@ -127,7 +129,8 @@ def connected(place: str) -> Answered:
     """A connection. Raises `LogFault`."""
     with faults():
         base = opened(place)
-        base.own = base.execute(SELF).fetchone()
+        row = base.execute(SELF).fetchone()
+        base.own = None if row is None else (row[0], row[1])
         return base
 
 
@@ -143,6 +146,13 @@ def faults() -> Iterator[None]:
         yield
     except psycopg.Error as error:
         raise LogFault(told(error)) from error
+
+
+def value_of(base: Answered, statement: LiteralString, *given: object) -> Any:
+    """The one value that a statement gives."""
+    row = base.execute(statement, given).fetchone()
+    assert row is not None, "it gives a row in any case"
+    return row[0]
 
 
 def tail_of(base: Answered, name: str) -> Tail:
@@ -180,15 +190,15 @@ class TableLog:
 
     def take(self, force: bool = False) -> Tail:
         """Takes the lock, makes the table if it is not there, and finds the end. With `force` the connection of the one who has the lock is ended."""
-        self._base = connected(self._place)
+        self._base = base = connected(self._place)
         with faults():
-            self._refuse_replica()
+            self._refuse_replica(base)
             if force:
-                self._end_holder(self._holder())
-            self._lock()
-            if self._base.execute("SELECT to_regclass('mfront_journal')").fetchone() == (None,):
-                self._base.execute(TABLE)
-            tail = tail_of(self._base, self._name)
+                self._end_holder(base, self._holder(base))
+            self._lock(base)
+            if value_of(base, "SELECT to_regclass('mfront_journal')") is None:
+                base.execute(TABLE)
+            tail = tail_of(base, self._name)
         self._kept = self._tried = tail.sequence
         self._writer = tail.writer
         return tail
@@ -206,14 +216,14 @@ class TableLog:
         """Connects again, takes the lock, and gives the last row: one that failed may be there all the same, and gone again if a replica took over that had
         not got it. `LogTaken` if others wrote meanwhile."""
         self.close()
-        self._base = connected(self._place)
+        self._base = base = connected(self._place)
         with faults():
-            self._refuse_replica()
-            if (holder := self._holder()) in self._own:
+            self._refuse_replica(base)
+            if (holder := self._holder(base)) in self._own:
                 # The database has not seen the end of a connection before this one.
-                self._end_holder(holder)
-            self._lock()
-            tail = tail_of(self._base, self._name)
+                self._end_holder(base, holder)
+            self._lock(base)
+            tail = tail_of(base, self._name)
         if not self._kept <= tail.sequence <= self._tried or tail.sequence > self._kept and tail.writer != self._writer:
             raise LogTaken("another front has written this journal, or the database has lost a part of it")
         return tail.sequence
@@ -232,41 +242,43 @@ class TableLog:
             with contextlib.suppress(OSError, psycopg.Error), socket.socket(fileno=os.dup(base.fileno())) as peer:
                 peer.shutdown(socket.SHUT_RDWR)
 
-    def _refuse_replica(self) -> None:
+    def _refuse_replica(self, base: Answered) -> None:
         """Raises `LogFault` if the database is a replica: it may be behind, and nothing can be written there."""
-        if self._base.execute("SELECT pg_is_in_recovery()").fetchone()[0]:
+        if value_of(base, "SELECT pg_is_in_recovery()"):
             self.close()
             raise LogFault("database: it is a replica, and read-only: promote it, or connect to the primary (target_session_attrs=read-write)")
 
-    def _holder(self) -> Process | None:
+    def _holder(self, base: Answered) -> Process | None:
         """The process of the database that has the lock, and since when it is there; None if nobody has it."""
-        return self._base.execute(HOLDER, (LOCK, key_of(self._name) % (1 << 32))).fetchone()
+        row = base.execute(HOLDER, (LOCK, key_of(self._name) % (1 << 32))).fetchone()
+        return None if row is None else (row[0], row[1])
 
-    def _end_holder(self, holder: Process | None) -> None:
+    def _end_holder(self, base: Answered, holder: Process | None) -> None:
         """Ends the connection that has the lock, and waits until it is over."""
         end = time.monotonic() + ENDING
-        while holder is not None and self._holder() == holder and time.monotonic() < end:
-            self._base.execute("SELECT pg_terminate_backend(%s)", (holder[0],))
+        while holder is not None and self._holder(base) == holder and time.monotonic() < end:
+            base.execute("SELECT pg_terminate_backend(%s)", (holder[0],))
             time.sleep(LOOK)
 
-    def _lock(self) -> None:
+    def _lock(self, base: Answered) -> None:
         """Takes the lock. Commits are to wait for the disk, and for a synchronous replica if there is one."""
         # This comes first: if the answer is lost, it is known who has the lock.
-        self._own.add(self._base.own)
-        self._base.longest = LONGEST
-        while not self._base.execute("SELECT pg_try_advisory_lock(%s, %s)", (LOCK, key_of(self._name))).fetchone()[0]:
-            holder = self._holder()
+        assert base.own is not None, "it is connected"
+        self._own.add(base.own)
+        base.longest = LONGEST
+        while not value_of(base, "SELECT pg_try_advisory_lock(%s, %s)", LOCK, key_of(self._name)):
+            holder = self._holder(base)
             if holder in self._own:
                 self.close()
                 raise LogFault("database: the connection before this one has not ended yet, and has the lock")
             if holder is not None:
                 self.close()
                 raise LogTaken(f"{TAKEN} (an advisory lock of the database, for {self._name})")
-        self._own = {self._base.own}
+        self._own = {base.own}
         for name, value in ALIVE.items():
-            self._base.execute("SELECT set_config(%s, %s, false)", (name, str(value)))
-        if self._base.execute("SHOW synchronous_commit").fetchone()[0] in ("off", "local"):
-            self._base.execute("SET synchronous_commit = on")
+            base.execute("SELECT set_config(%s, %s, false)", (name, str(value)))
+        if value_of(base, "SHOW synchronous_commit") in ("off", "local"):
+            base.execute("SET synchronous_commit = on")
 
 
 def key_of(name: str) -> int:
@@ -345,7 +357,7 @@ class TableReader:
 
     def _rows(self, base: Answered) -> list[Flush]:
         if self._expected is None:
-            self._expected = base.execute("SELECT min(sequence) FROM mfront_journal WHERE name = %s AND next >= %s", (self._name, self._line)).fetchone()[0]
+            self._expected = value_of(base, "SELECT min(sequence) FROM mfront_journal WHERE name = %s AND next >= %s", self._name, self._line)
         if self._expected is None:
             return []
         rows = base.execute("SELECT sequence, flush FROM mfront_journal WHERE name = %s AND sequence >= %s ORDER BY sequence LIMIT %s",

@@ -14,6 +14,7 @@ from datetime import UTC, datetime
 from pathlib import Path
 
 from .audit import Audit, NoAudit
+from .connection import NoStart
 from .control import Answered, Control, Handler, Refused
 from .faults import NoJournal
 from .figures import ByAccount, of_backup, of_journal
@@ -22,7 +23,7 @@ from .metrics import Metrics
 from .places import said_beside, writer_of
 from .records import BadJournal, Held
 from .rows import packed
-from .server import Child, NoStart, Server, tell
+from .server import Child, Server, tell
 from .settings import Settings
 from .snapshots import SETTINGS, STORE, Manifest, copied
 from .standbys import LOOK, SELDOM, Behind, Standbys, figures_of
@@ -170,7 +171,7 @@ class Keeper:
     def _hold(self, store: Path, standing: Standing | None) -> None:
         """Holds what is known of the store against the journal. Raises `NoStart` if the store is not the one that has run it."""
         journal, last, place = self.journal, self.journal.next - 1, place_of(store)
-        reached = self._witness.reached if standing is not None else None
+        reached = self._witness.reached if standing is not None and self._witness is not None else None
         if reached is not None and reached.journal == journal.number and reached.sequence > journal.sequence:
             tail = Tail(journal.number, journal.sequence, journal.next, journal.answered, 0)
             raise NoStart(f"{head_of(store)}: {lost(reached, tail)}. The store may have run what is missing: put it back, or {BACK}; or move the journal away, "
@@ -233,13 +234,15 @@ class Keeper:
     async def _copied(self, store: Path, part: Path, anew: bool, rows: bool) -> tuple[Manifest, float]:
         """Copies between two lines; with `anew` all sessions are ended there, and with `rows` the journal gets all that the store holds."""
         made: list[Manifest] = []
+        assert self._server is not None, "it has begun"
+        server: Server = self._server
 
         async def between() -> None:
             if anew:
-                await self._server.renew(packed(image(store)) if rows else None)
+                await server.renew(packed(image(store)) if rows else None)
             journal = self.journal
             made.append(Manifest(journal.number, journal.next - 1, datetime.now(UTC).isoformat(timespec="seconds"), sorted(journal.open)))
-        seconds = await copied(store, part / STORE, self._server.quiet, between)
+        seconds = await copied(store, part / STORE, server.quiet, between)
         return made[0], seconds
 
 

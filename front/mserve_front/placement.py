@@ -13,7 +13,7 @@ import threading
 from collections.abc import Iterator
 from dataclasses import dataclass, replace
 from pathlib import Path
-from typing import TYPE_CHECKING, Protocol
+from typing import TYPE_CHECKING, Any, Protocol
 
 from mserve_client import settings_file
 
@@ -97,9 +97,9 @@ class Placement:
 
     def __init__(self, place: str) -> None:
         self._place = place
-        self._base: psycopg.Connection | None = None
+        self._base: psycopg.Connection[Any] | None = None
         self._turn = threading.Lock()
-        self._seen: list[tuple[object, ...]] = []
+        self._seen: list[tuple[Any, ...]] = []
         self._islands: dict[str, Island] = {}
 
     def make(self) -> None:
@@ -175,7 +175,7 @@ class Placement:
         if machine not in self.machines():
             raise BadPlacement(f"{machine}: there is no such machine: start its mgate first")
 
-    def _ask(self, statement: str, *given: object) -> list[tuple[object, ...]]:
+    def _ask(self, statement: str, *given: object) -> list[tuple[Any, ...]]:
         with self._turn:
             # Not above: it needs a package that a machine alone does without.
             from .journal_table import connected, faults

@@ -22,7 +22,8 @@ from .records import Held, LineRecord, StartRecord
 from .replies import Answer
 from .rows import apply
 from .server import CONNECTIONS, PATIENCE, Child, launched
-from .turns import WINDOW, Lost
+from .shares import WINDOW
+from .turns import Lost
 
 # Bytes of a reply that are kept: its code is wanted, and its digest is of all of them.
 ROOM = 4096
@@ -287,8 +288,10 @@ class Stage:
             await self._halt(set(self.open))
 
     async def _halt(self, terminals: set[int]) -> None:
+        player = self._player
+        assert player is not None, "its server runs"
         try:
-            await asyncio.gather(*(self._player.play(terminal, HALT.data) for terminal in terminals))
+            await asyncio.gather(*(player.play(terminal, HALT.data) for terminal in terminals))
         except Lost as error:
             raise Stopped(f"after line {self.at}: {error}") from error
         self.open -= terminals

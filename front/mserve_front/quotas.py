@@ -46,7 +46,7 @@ def rows_of(store: Path, account: str) -> int | None:
     """How many rows an account has in a store's file. None if it cannot be told now: the server writes the file meanwhile."""
     try:
         with contextlib.closing(sqlite3.connect(f"file:{quote(str(store))}?mode=ro&immutable=1", uri=True)) as base:
-            return base.execute("SELECT count(*) FROM node WHERE k >= ? AND k < ?", keys.bounds(account)).fetchone()[0]
+            return int(base.execute("SELECT count(*) FROM node WHERE k >= ? AND k < ?", keys.bounds(account)).fetchone()[0])
     except sqlite3.Error:
         return None
 

@@ -168,13 +168,13 @@ def read_flush(data: bytes, at: int, records: bool = True) -> tuple[Flush, int]:
     if len(data) < begin:
         raise Torn
     if _SUM.pack(crc32c.crc32c(head)) != data[at + _HEAD.size:begin]:
-        raise Torn if _is_empty(data, begin) else BadJournal("the head of a flush is damaged")
+        raise Torn() if _is_empty(data, begin) else BadJournal("the head of a flush is damaged")
     length, journal, sequence, following, answered, time, writer, told = _HEAD.unpack(head)
     end = begin + length
     if len(data) < end:
         raise Torn
     if crc32c.crc32c(data[begin:end]) != told:
-        raise Torn if _is_empty(data, end - 1) else BadJournal("the records of a flush are damaged")
+        raise Torn() if _is_empty(data, end - 1) else BadJournal("the records of a flush are damaged")
     return Flush(journal, sequence, following, answered, time, tuple(_records(data[begin:end - 1])) if records else (), writer), end
 
 
@@ -186,7 +186,7 @@ def _is_empty(data: bytes, at: int) -> bool:
 def body_size(head: bytes) -> int:
     """The length of the body that a head names; 0 if it is none."""
     whole = len(head) >= HEAD_SIZE and _SUM.pack(crc32c.crc32c(head[:_HEAD.size])) == head[_HEAD.size:HEAD_SIZE]
-    return _LENGTH.unpack_from(head)[0] if whole else 0
+    return int(_LENGTH.unpack_from(head)[0]) if whole else 0
 
 
 def _records(body: bytes) -> Iterator[Record]:
@@ -212,7 +212,7 @@ def _record(data: bytes) -> Record:
         number, time, sent, base, fresh = _START.unpack_from(rest)
         return StartRecord(number, time, sent, None if base == _UNKNOWN else base, bool(fresh), zlib.decompress(rest[_START.size:]))
     if kind == b"W":
-        return RowsRecord(*_PART.unpack_from(rest), rest[_PART.size:])
+        return RowsRecord(_PART.unpack_from(rest)[0], rest[_PART.size:])
     if kind == b"B":
         return _begin(rest)
     raise BadJournal(f"there is no record of the kind {kind!r}: a later version wrote this journal")

@@ -23,7 +23,7 @@ from .replies import Answer
 from .settings import Settings
 from .shares import Shares
 from .slices import OWN, take_slices
-from .turns import Lost, Turns, Unsent
+from .turns import Ask, Lost, Turns, Unsent
 
 if TYPE_CHECKING:
     from .journal import Journal
@@ -93,7 +93,7 @@ class Server:
         self._one = asyncio.Lock()
         self._fresh = False
         self._text = b""
-        self.shares = Shares({})
+        self.shares: Shares[Ask] = Shares({})
         self.know(settings.terminals)
         self._process: asyncio.subprocess.Process | None = None
         self._port = settings.join or 0
@@ -167,6 +167,7 @@ class Server:
             async with self.quiet():
                 turns = self._turns
                 known()
+                assert self._process is not None and turns is not None, "it is up"
                 self._process.terminate()
                 with contextlib.suppress(TimeoutError):
                     await asyncio.wait_for(self._process.wait(), ENDING)
@@ -335,4 +336,4 @@ def free_port() -> int:
     with socket.socket() as place:
         place.setsockopt(socket.SOL_SOCKET, socket.SO_REUSEADDR, 1)
         place.bind((HOST, 0))
-        return place.getsockname()[1]
+        return int(place.getsockname()[1])

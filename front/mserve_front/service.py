@@ -9,6 +9,7 @@ import resource
 import signal
 import ssl
 import time
+from collections.abc import Awaitable
 from typing import TYPE_CHECKING
 
 from aiohttp import web
@@ -17,10 +18,11 @@ from . import ending
 from .admin import Admin
 from .audit import Audit
 from .changes import Changes
+from .connection import NoStart
 from .doors import Doors, Made, spare_memory, strict
 from .line_port import LinePort
 from .metrics import Metrics
-from .server import NoStart, tell
+from .server import tell
 from .sessions import Sessions
 from .settings import BadSettings, Settings
 from .signing import Signing
@@ -106,7 +108,7 @@ class Service:
         if self._keeper is not None:
             await self._keeper.began()
 
-    async def _until_stopped(self, work: object) -> None:
+    async def _until_stopped(self, work: Awaitable[None]) -> None:
         """Waits for a work, or for the stop."""
         task, stop = asyncio.ensure_future(work), asyncio.ensure_future(self._stopping.wait())
         await asyncio.wait([task, stop], return_when=asyncio.FIRST_COMPLETED)
@@ -201,17 +203,19 @@ def tls_context(settings: Settings) -> ssl.SSLContext | None:
 
 def load_certificate(context: ssl.SSLContext, settings: Settings) -> None:
     """Reads the certificate and its key. Raises `BadSettings` if they cannot be read or do not fit."""
-    for name, path in (("certificate", settings.certificate), ("key", settings.key)):
+    certificate, key = settings.certificate, settings.key
+    assert certificate is not None and key is not None, "the front speaks TLS"
+    for name, path in (("certificate", certificate), ("key", key)):
         try:
             with open(path, "rb"):
                 pass
         except OSError as error:
             raise BadSettings(f"{settings.path}: listen.{name}: {path}: {error.strerror}") from error
     try:
-        context.load_cert_chain(settings.certificate, settings.key, lambda: "")
+        context.load_cert_chain(certificate, key, lambda: "")
     except (ssl.SSLError, ValueError) as error:
         why = getattr(error, "reason", None) or str(error)
-        raise BadSettings(f"{settings.path}: listen.certificate: {settings.certificate} and {settings.key} cannot be used: {why}") from error
+        raise BadSettings(f"{settings.path}: listen.certificate: {certificate} and {key} cannot be used: {why}") from error
 
 
 def audit_log(settings: Settings, metrics: Metrics) -> Audit:

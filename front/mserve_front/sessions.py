@@ -11,7 +11,7 @@ import time
 from collections.abc import Coroutine, Iterator, Mapping, Sequence
 from dataclasses import dataclass, field
 from pathlib import Path
-from typing import TYPE_CHECKING, Protocol
+from typing import Any, Protocol, TYPE_CHECKING
 
 from mserve_client.escape import shown
 
@@ -34,7 +34,8 @@ from .users import Register, User
 if TYPE_CHECKING:
     from .journal import Journal
 
-Record = dict[str, object]
+# What a user is told, as JSON has it.
+Record = dict[str, Any]
 # The ways to sign on.
 PAGE, LINES, TOKEN = "page", "lines", "token"
 NOT_SENT = "the server was started again before this line was sent, and variables and locks are gone: send it again if it still holds"
@@ -331,9 +332,10 @@ class Sessions:
 
     async def count(self) -> None:
         """Keeps counting the rows of accounts."""
-        while self._settings.join is None and not self._settings.volatile:
+        settings = self._settings
+        while settings.join is None and settings.store is not None and not settings.volatile:
             await asyncio.sleep(COUNTED_ROWS)
-            await self.quotas.count(Path(self._settings.store))
+            await self.quotas.count(Path(settings.store))
         await asyncio.Event().wait()
 
     def _over_quota(self, account: str, over: OverQuota) -> None:

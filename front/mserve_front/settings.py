@@ -6,6 +6,7 @@ import ipaddress
 import tomllib
 from dataclasses import dataclass
 from pathlib import Path
+from typing import Any, TypedDict, overload
 
 from .preamble import read_secret
 
@@ -44,7 +45,7 @@ class JournalSettings:
     database: str | None = None
     name: str = "main"
     roll: int = 16_777_216
-    control: Path | None = None
+    control: Path = Path("mfront.control")
     backup: Path | None = None
 
     @property
@@ -58,7 +59,7 @@ class Settings:
     """All settings, with paths made whole."""
 
     path: Path
-    program: Path | None
+    program: Path
     server_settings: Path
     store: str | None
     join: int | None
@@ -103,12 +104,24 @@ class Table:
         """The fault of a key."""
         return BadSettings(f"{self.path}: {self._name}.{key}: {wanted}")
 
+    @overload
+    def text(self, key: str) -> str | None: ...
+
+    @overload
+    def text(self, key: str, default: str) -> str: ...
+
     def text(self, key: str, default: str | None = None) -> str | None:
         """A text that is not empty."""
         value = self._keys.pop(key, default)
         if value is not None and (not isinstance(value, str) or not value or "\0" in value):
             raise self.fault(key, "is to be a text that is not empty")
         return value
+
+    @overload
+    def file(self, key: str) -> Path | None: ...
+
+    @overload
+    def file(self, key: str, default: Path) -> Path: ...
 
     def file(self, key: str, default: Path | None = None) -> Path | None:
         """A path; one that is not absolute counts from the folder of the file."""
@@ -131,6 +144,12 @@ class Table:
         if found is None:
             raise self.fault(key, "is missing: the path of a file")
         return found
+
+    @overload
+    def whole(self, key: str, least: int, most: int) -> int | None: ...
+
+    @overload
+    def whole(self, key: str, least: int, most: int, default: int) -> int: ...
 
     def whole(self, key: str, least: int, most: int, default: int | None = None) -> int | None:
         """A whole number."""
@@ -174,7 +193,7 @@ PROGRAM = CLONE if CLONE.is_file() else Path("/usr/lib/mserve/mserve")
 TABLES = ("server", "listen", "users", "audit", "metrics", "limits", "journal", "admin")
 
 
-def read_toml(path: Path) -> dict[str, object]:
+def read_toml(path: Path) -> dict[str, Any]:
     """The tables of a TOML file."""
     try:
         return tomllib.loads(path.read_bytes().decode())
@@ -215,7 +234,19 @@ def read_settings(path: Path, volatile: bool) -> Settings:
     return settings
 
 
-def _server(table: Table, volatile: bool) -> dict[str, object]:
+class OfServer(TypedDict):
+    """What the table of the server gives."""
+
+    program: Path
+    server_settings: Path
+    store: str | None
+    join: int | None
+    volatile: bool
+    terminals: dict[str, tuple[int, ...]]
+    in_utf_8: bool
+
+
+def _server(table: Table, volatile: bool) -> OfServer:
     """The server: a child of its own, or one that runs."""
     settings = table.needed_file("settings")
     text = characters_of(table)
@@ -244,7 +275,20 @@ def characters_of(table: Table) -> str:
     return text
 
 
-def _listen(table: Table) -> dict[str, object]:
+class OfListen(TypedDict):
+    """What the table of the places gives."""
+
+    host: str
+    port: int
+    lines_port: int | None
+    gate: str | None
+    certificate: Path | None
+    key: Path | None
+    origins: tuple[str, ...]
+    page: Path
+
+
+def _listen(table: Table) -> OfListen:
     """Where users connect. Without a certificate that is the loopback alone."""
     certificate, key = table.file("certificate"), table.file("key")
     if (certificate is None) != (key is None):

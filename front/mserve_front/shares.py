@@ -11,7 +11,7 @@ import time
 from collections import deque
 from collections.abc import Callable, Mapping
 from dataclasses import dataclass, field
-from typing import Protocol
+from typing import Generic, Protocol, TypeVar
 
 # How many lines may be on their way at once: enough to keep the server busy, and few enough that little is unknown if it ends.
 WINDOW = 64
@@ -40,12 +40,15 @@ class Waiting(Protocol):
     charged: float
 
 
+W = TypeVar("W", bound=Waiting)
+
+
 @dataclass(eq=False, slots=True)
-class Share:
+class Share(Generic[W]):
     """An account's part of the server: the lines whose turn may come, how many are on their way, and how many of these may take long; what it has used
     in the scale of all accounts (`due`); and until when it has one line on its way. `taken` and `lines` count since the start."""
 
-    ready: deque[Waiting] = field(default_factory=deque)
+    ready: deque[W] = field(default_factory=deque)
     flying: int = 0
     long: int = 0
     due: float = 0.0
@@ -56,14 +59,14 @@ class Share:
     lines: int = 0
 
 
-class Shares:
+class Shares(Generic[W]):
     """The shares of all accounts."""
 
     def __init__(self, accounts: Mapping[int, str]) -> None:
         """`accounts` has the account of each terminal; those that it does not have are of one account."""
-        self._shares: dict[str, Share] = {}
-        self._share_of: dict[int, Share] = {}
-        self._least: list[tuple[float, int, Share]] = []
+        self._shares: dict[str, Share[W]] = {}
+        self._share_of: dict[int, Share[W]] = {}
+        self._least: list[tuple[float, int, Share[W]]] = []
         self._count = 0
         self._now = 0.0
         # Called after each line that took long.
@@ -77,7 +80,7 @@ class Shares:
         self._account_of = accounts
         self._windows = (ACCOUNT_WINDOW, LONG_WINDOW) if len(set(accounts.values())) > 1 else (WINDOW, WINDOW)
 
-    def of(self, account: str) -> Share:
+    def of(self, account: str) -> Share[W]:
         """The share of an account."""
         if (found := self._shares.get(account)) is None:
             found = self._shares[account] = Share()
@@ -87,7 +90,7 @@ class Shares:
         """How many lines of each account were answered, and the seconds that the server took for them."""
         return {account: (share.lines, share.taken) for account, share in self._shares.items()}
 
-    def add(self, asked: Waiting) -> None:
+    def add(self, asked: W) -> None:
         """A terminal's first line waits for its turn."""
         share = self._of(asked)
         if not share.ready and not share.flying:
@@ -97,11 +100,11 @@ class Shares:
         if len(share.ready) == 1:
             self._list(share)
 
-    def remove(self, asked: Waiting) -> None:
+    def remove(self, asked: W) -> None:
         """A line does not wait any more."""
         self._of(asked).ready.remove(asked)
 
-    def next(self) -> Waiting | None:
+    def next(self) -> W | None:
         """The line whose turn it is, which is on its way from now on; None if none may go."""
         while self._least and not self._far_ahead():
             due, entry, share = heapq.heappop(self._least)
@@ -110,7 +113,7 @@ class Shares:
                 return self._chosen(share)
         return None
 
-    def answered(self, asked: Waiting, taken: float) -> None:
+    def answered(self, asked: W, taken: float) -> None:
         """A line on its way was answered, or is not sent after all (`taken` is 0): the server took so many seconds."""
         share = self._of(asked)
         self._flying -= 1
@@ -136,7 +139,7 @@ class Shares:
             share.ready.clear()
             share.flying = share.long = 0
 
-    def _of(self, asked: Waiting) -> Share:
+    def _of(self, asked: W) -> Share[W]:
         found = self._share_of.get(asked.terminal)
         if found is None:
             found = self._share_of[asked.terminal] = self.of(self._account_of.get(asked.terminal, ""))
@@ -145,14 +148,14 @@ class Shares:
     def _far_ahead(self) -> bool:
         return self._windows[0] < WINDOW and self._flying >= 2 and self._ahead > AHEAD
 
-    def _list(self, share: Share) -> None:
+    def _list(self, share: Share[W]) -> None:
         """Has a share found by what it has used by now."""
         if share.ready and self._may_go(share):
             self._count += 1
             share.entry = self._count
             heapq.heappush(self._least, (share.due, self._count, share))
 
-    def _may_go(self, share: Share) -> bool:
+    def _may_go(self, share: Share[W]) -> bool:
         most, most_long = self._windows
         if share.slow_until and most < WINDOW:
             if time.monotonic() < share.slow_until:
@@ -161,7 +164,7 @@ class Shares:
                 share.slow_until = 0.0
         return share.flying < most and (not share.ready[0].long or share.long < most_long)
 
-    def _chosen(self, share: Share) -> Waiting:
+    def _chosen(self, share: Share[W]) -> W:
         asked = share.ready.popleft()
         self._flying += 1
         self._ahead += share.cost

@@ -8,6 +8,7 @@ from __future__ import annotations
 
 import asyncio
 import contextlib
+import functools
 import math
 import time
 from collections import OrderedDict
@@ -146,8 +147,8 @@ class Signing:
         if count <= ADDRESS_FREE or count & (count - 1) == 0:
             with contextlib.suppress(NoAudit):
                 # A name that nobody has may be a password, typed at the wrong place.
-                known = {"user": name} if name in self._register.users else {"user": None}
-                self._audit.note("refused", **known, **{"from": address}, **({"failures": count} if count > ADDRESS_FREE else {}))
+                known = name if name in self._register.users else None
+                self._audit.note("refused", user=known, **{"from": address}, **({"failures": count} if count > ADDRESS_FREE else {}))
         raise Wrong
 
     def _note_known(self, pair: str) -> None:
@@ -179,7 +180,7 @@ class Signing:
                 continue
             self._computing += 1
             work = asyncio.get_running_loop().run_in_executor(self._pool, self._register.by_password, attempt.name, attempt.password)
-            work.add_done_callback(lambda done, attempt=attempt: self._ended(attempt, done))
+            work.add_done_callback(functools.partial(self._ended, attempt))
         if self._timer is None and len(self._lines[False]):
             # An address that is paced may have its turn by then.
             self._timer = asyncio.get_running_loop().call_later(PACED / 4, self._again)
@@ -214,8 +215,8 @@ class Signing:
         if not attempt.done.done():
             if work.cancelled():
                 attempt.done.cancel()
-            elif work.exception() is not None:
-                attempt.done.set_exception(work.exception())
+            elif (error := work.exception()) is not None:
+                attempt.done.set_exception(error)
             else:
                 attempt.done.set_result(work.result())
         self._begin()

@@ -126,7 +126,10 @@ def accounts_of(store: Path) -> dict[str, Account]:
 def _held(base: sqlite3.Connection) -> dict[str, Account]:
     """What each account holds, by its name."""
     found: dict[str, Account] = {}
-    for account, rows in groupby(base.execute("SELECT k, v FROM node ORDER BY k"), lambda row: row[0][:row[0].index(0)]):
+
+    def account_of(row: tuple[bytes, bytes]) -> bytes:
+        return row[0][:row[0].index(0)]
+    for _, rows in groupby(base.execute("SELECT k, v FROM node ORDER BY k"), account_of):
         count, digest = 0, hashlib.sha256()
         for key, text in rows:
             count += 1

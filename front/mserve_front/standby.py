@@ -12,11 +12,12 @@ import signal
 import socket
 import time
 from collections import deque
-from dataclasses import dataclass, field, replace
+from dataclasses import dataclass, field
 from pathlib import Path
 
 from . import ending
 from .admin import Page, Told, alarms_of, figures_of
+from .connection import NoStart
 from .control import Answered, Control, Refused
 from .doors import held
 from .figures import of_standby
@@ -28,7 +29,7 @@ from .metrics import Metrics
 from .places import end_of, first_of, last_line, last_of, reader_of, writer_of
 from .player import NotYet, Stage, Stopped
 from .records import BadJournal, Flush, Held, LineRecord
-from .server import Fault, NoStart, tell
+from .server import Fault, tell
 from .settings import Settings
 from .snapshots import BadSnapshot, latest, put_back
 from .standbys import SAYS, Said, name_of
@@ -159,7 +160,7 @@ class Standby:
         if standing is None and self._store is not None and self._store.exists():
             raise NoStart(f"{self._store}: nobody knows up to which line it has run the journal, since there is no {place_of(self._store).name} beside it: "
                           f"{SNAPSHOT}")
-        if standing is not None and not self._store.exists():
+        if standing is not None and self._store is not None and not self._store.exists():
             raise NoStart(f"{place_of(self._store)}: it says where a store stands that is not there: put the store back, or remove it")
         while standing is not None and not self._stopping.is_set():
             try:
@@ -173,15 +174,15 @@ class Standby:
 
     async def _begins_at(self, standing: Standing) -> None:
         """Begins over a store of which it is noted where it stands. Raises `LogFault` if the journal cannot be read now."""
-        if standing.number is None:
-            standing = replace(standing, number=await asyncio.to_thread(self._left_at, standing))
-        await asyncio.to_thread(self._hold_against, standing)
+        number = await asyncio.to_thread(self._left_at, standing) if standing.number is None else standing.number
+        await asyncio.to_thread(self._hold_against, number)
         self._fault.goes()
-        self._journal_number, self._stage.at = standing.journal, standing.number
+        self._journal_number, self._stage.at = standing.journal, number
         if standing.open:
             tell(f"{len(standing.open)} sessions were open where the store stands, and their variables and locks are in no store: if a line that "
                  "needs them comes, the standby stands still; it is to begin with an exact snapshot")
         await self._stage.begin(self._settings.server_settings.read_bytes())
+        assert self._store is not None, "it stands somewhere"
         forget_standing(self._store)
 
     def _left_at(self, standing: Standing) -> int:
@@ -197,18 +198,18 @@ class Standby:
                           "again: start it without --follow")
         return flush.answered
 
-    def _hold_against(self, standing: Standing) -> None:
+    def _hold_against(self, number: int) -> None:
         """Holds where the store stands against the journal's end."""
         last = last_line(self._settings.journal)
-        if standing.number > last:
-            raise BadJournal(f"the store has run it up to line {standing.number}, and it ends with line {last}: it has lost what comes between, or is another")
+        if number > last:
+            raise BadJournal(f"the store has run it up to line {number}, and it ends with line {last}: it has lost what comes between, or is another")
 
     async def _follow(self) -> Promoted | None:
         """Runs what comes, until it is promoted or stopped."""
         while True:
             came = await self._advanced()
             if self._wanted is not None:
-                promoted = await self._taken()
+                promoted = await self._taken(self._wanted)
                 if promoted is not None:
                     return promoted
             # This comes last: a stop may have come while it was to be promoted, and then that was given up.
@@ -411,9 +412,9 @@ class Standby:
             self._wake.set()
         return await asyncio.shield(self._wanted)
 
-    async def _taken(self) -> Promoted | None:
+    async def _taken(self, wanted: asyncio.Future[Answered]) -> Promoted | None:
         """Takes the journal, and runs what was answered. None if another front has it, something would be lost, or a stop has come."""
-        wanted, began = self._wanted, time.monotonic()
+        began = time.monotonic()
         journal = Journal(writer_of(self._settings.journal), Metrics(), tell)
         try:
             lost = await self._ready(journal)

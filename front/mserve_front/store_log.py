@@ -36,6 +36,9 @@ class BadLog(Exception):
     """A log or a file is not in form; the text says where."""
 
 
+Sums = tuple[int, int]
+
+
 @dataclass(slots=True)
 class Log:
     """The pages of a log, commit by commit."""
@@ -53,8 +56,10 @@ def read_log(store: Path) -> Log:
     magic, _, size, _, *salts_and_sum = _HEAD.unpack_from(data)
     if magic not in (_LITTLE, _BIG):
         return Log(0)
-    salts, summed = tuple(salts_and_sum[:2]), tuple(salts_and_sum[2:])
-    log, at, pending, begun, seed = Log(size), _HEAD.size, [], _HEAD.size, summed
+    salts: Sums = (salts_and_sum[0], salts_and_sum[1])
+    seed: Sums = (salts_and_sum[2], salts_and_sum[3])
+    pending: list[tuple[int, bytes]] = []
+    log, at, begun = Log(size), _HEAD.size, _HEAD.size
     while at + _FRAME.size + size <= len(data):
         number, pages, first, second, *told = _FRAME.unpack_from(data, at)
         if (first, second) != salts:
@@ -63,7 +68,7 @@ def read_log(store: Path) -> Log:
         at += _FRAME.size + size
         if pages:
             log.commits.append([(page, body) for page, body in pending if page <= pages])
-            last, pending, begun, seed, summed = (begun, at, seed), [], at, tuple(told), tuple(told)
+            last, pending, begun, seed = (begun, at, seed), [], at, (told[0], told[1])
     if log.commits and not _is_whole(data, *last, size, magic == _BIG):
         log.commits.pop()
     return log

@@ -85,6 +85,7 @@ class Terminals:
         except Unsent:
             return not self._server.whole or self._server.session != session
         except NoJournal:
+            assert self._journal is not None, "it says so"
             await self._journal.mended()
             return False
         return True

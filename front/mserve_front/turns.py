@@ -57,10 +57,10 @@ Timed = Callable[[float, float], None]
 class Turns(Connection):
     """A connection. `timed` is told of each reply how long it was waited for, and how long the server took; `ended` that the connection is over."""
 
-    def __init__(self, room: int, timed: Timed, shares: Shares | None = None) -> None:
+    def __init__(self, room: int, timed: Timed, shares: Shares[Ask] | None = None) -> None:
         """`room` is the most bytes of a reply that are kept; `shares` has what each account has used of the server before."""
         super().__init__(room)
-        self._shares = Shares({}) if shares is None else shares
+        self._shares: Shares[Ask] = Shares({}) if shares is None else shares
         self._shares.clear()
         self._timed = timed
         self._journal: Journal | None = None

@@ -19,6 +19,7 @@ from collections.abc import Iterator
 from dataclasses import asdict, dataclass, field
 from datetime import UTC, datetime
 from pathlib import Path
+from typing import Any
 
 import argon2
 
@@ -80,7 +81,7 @@ def load(path: Path) -> Users:
         raise BadUsers(f"{path}: is no users' file: {type(error).__name__}: {error}") from error
 
 
-def _user(name: str, record: dict) -> User:
+def _user(name: str, record: dict[str, Any]) -> User:
     account, hashed = record["account"], record["hash"]
     if not isinstance(account, str) or not isinstance(hashed, str) or not NAME.fullmatch(name):
         raise TypeError(f"user {name!r} has no account or no hash")
@@ -134,7 +135,7 @@ def password_hash(password: str, name: str) -> str:
     """The hash of a new password of a user. Raises `BadUsers` if it is not taken."""
     if fault := fault_of(password, name):
         raise BadUsers(fault)
-    return HASHER.hash(_normal(password))
+    return str(HASHER.hash(_normal(password)))
 
 
 def new_token(user: User, note: str) -> tuple[str, str]:

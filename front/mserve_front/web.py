@@ -55,6 +55,8 @@ class Answering(RequestHandler):
 
     __slots__ = ("door",)
 
+    door: HttpDoor
+
     async def finish_response(self, request: web.BaseRequest, response: web.StreamResponse, started: float) -> bool:
         """Sends the answer; only then the next request comes."""
         try:
@@ -91,7 +93,10 @@ class Web:
     def doors(self, runner: web.AppRunner) -> Made:
         """What makes the door of each new connection."""
         def made(doors: Doors, place: str, left: Callable[[Door], None]) -> Door:
-            inner = Answering(runner.server, loop=asyncio.get_running_loop(), **runner.server._kwargs)
+            server = runner.server
+            assert server is not None, "it is set up"
+            # aiohttp gives what its own connections are made with to nobody else.
+            inner = Answering(server, loop=asyncio.get_running_loop(), **server._kwargs)
             inner.door = HttpDoor(inner, doors.deadline(), place, left, doors, self._who)
             return inner.door
         return made

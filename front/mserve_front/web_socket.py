@@ -40,8 +40,12 @@ class PageSocket:
     async def begin(self, request: web.Request) -> None:
         """Answers the handshake. Frames come from now on as they are wanted."""
         await self.socket.prepare(request)
+        self._door.become_socket(self._has_come)
+
+    def _has_come(self) -> bool:
+        """Whether the reader has a frame, or its end."""
         reader = self.socket._reader
-        self._door.become_socket(lambda: bool(reader._buffer) or reader.at_eof() or reader.exception() is not None)
+        return reader is not None and (bool(reader._buffer) or reader.at_eof() or reader.exception() is not None)
 
     async def send(self, record: Record) -> None:
         """Sends a record. Raises `Gone`."""
@@ -67,7 +71,7 @@ class PageSocket:
                 message = await self.socket.receive()
                 self._since = None
                 if message.type is WSMsgType.TEXT:
-                    return message.data
+                    return str(message.data)
                 if message.type is WSMsgType.PING:
                     async with asyncio.timeout(self._limits.slow):
                         await self.socket.pong(message.data)

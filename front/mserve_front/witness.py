@@ -14,7 +14,7 @@ from collections import deque
 from concurrent.futures import ThreadPoolExecutor
 from datetime import UTC, datetime
 from pathlib import Path
-from typing import NamedTuple, Protocol
+from typing import Any, NamedTuple, Protocol
 
 from .folders import sync_folder
 from .records import Flush
@@ -169,8 +169,13 @@ def _shown_seen(seen: Seen) -> bytes:
 class End(Protocol):
     """Where a journal ends."""
 
-    sequence: int
-    next: int
+    @property
+    def sequence(self) -> int:
+        """The number of its last flush."""
+
+    @property
+    def next(self) -> int:
+        """The number of the line that comes next."""
 
 
 def lost(reached: Reached, tail: End) -> str:
@@ -248,7 +253,7 @@ def reached_in(folder: Path) -> Reached | None:
     return _told(read_note(folder / HEAD))[0]
 
 
-def _told(found: dict[str, object] | None) -> tuple[Reached | None, Seen | None]:
+def _told(found: dict[str, Any] | None) -> tuple[Reached | None, Seen | None]:
     """What a note says; nothing of what is not in form."""
     try:
         reached = Reached(*(int(str(found[name])) for name in ("journal", "sequence", "next", "answered", "time"))) if found else None

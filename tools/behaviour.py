@@ -15,9 +15,9 @@ it into two, is a failure.
 A case that failed is run once more at the very end, alone, if time may have been why: a process has a part in it, and it is not one of those that compute.
 If it passes then, it counts as passed, and that is told with why it failed. More than three such cases are a failure.
 
-It needs Debian's own python3 with python3-pytest and python3-hypothesis; the clients' tests need more packages, and the command that installs
-them is printed if one is missing. Of each process it says what it took by the clock and of a processor; at the end stands how many cases each file has
-and how long they took; the last line is 'N passed, M failed'."""
+It needs Debian's own python3 with python3-pytest and python3-hypothesis; the clients' tests and tools/python_rules.py need more packages, and the command
+that installs them is printed if one is missing. Of each process it says what it took by the clock and of a processor; at the end stands how many cases each
+file has and how long they took; the last line is 'N passed, M failed'."""
 import argparse
 import os
 import re
@@ -39,9 +39,9 @@ from running import TOP
 # Another python3 may come first on the path; this one sees the packages.
 PYTHON = "/usr/bin/python3"
 MODULES = {"pytest": "python3-pytest", "hypothesis": "python3-hypothesis", "prompt_toolkit": "python3-prompt-toolkit", "rich": "python3-rich",
-           "aiohttp": "python3-aiohttp", "argon2": "python3-argon2", "crc32c": "python3-crc32c"}
+           "aiohttp": "python3-aiohttp", "argon2": "python3-argon2", "crc32c": "python3-crc32c", "flake8": "flake8", "mypy": "mypy"}
 INSTALL = ("apt-get install python3-pytest python3-hypothesis python3-prompt-toolkit python3-rich fis-gtm groff-base gcc python3-aiohttp python3-argon2 "
-           "python3-crc32c python3-psycopg postgresql "
+           "python3-crc32c python3-psycopg postgresql flake8 mypy "
            "python3-selenium chromium chromium-driver python3-seccomp lintian systemd openssl curl iproute2")
 SLOWEST = 10
 # The folders of tests; each but the first has a `pytest.ini` of its own, beside it.

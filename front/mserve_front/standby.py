@@ -273,20 +273,25 @@ class Standby:
     async def _look(self) -> None:
         """Looks whether the journal reaches back to what is run. Where that has expired, lines are passed over, as by a store that differs: up to a start that
         gives all. Raises `LogFault`."""
-        kept, at = self._settings.journal, self._stage.at
-        first = await asyncio.to_thread(first_of, kept)
+        at, first = self._stage.at, await asyncio.to_thread(first_of, self._settings.journal)
         self._looked = True
+        # A store that is not as the leader's was waits for the same start already, and says why.
+        others = self._differs and self._gone is None
         if first <= at + 1:
+            self._differs, self._gone = others, None
             return
-        self._differs, self._gone = True, first
-        begins = f"the journal begins with line {first}, and"
-        if self._stage.child is not None:
-            self._waits_for(BadJournal(f"{begins} the store has run it up to line {at}. It goes on once {ALL}, or begin with a snapshot"))
-        else:
-            place = "" if kept.backup is None else f"is in {kept.backup}, or "
-            self._waits_for(BadJournal(f"{begins} there is no store here. It goes on once an exact snapshot of line {first - 1} or later {place}is put back "
-                                       f"(mbackup restore), or once {ALL}"))
+        if not others:
+            self._differs, self._gone = True, first
+            self._waits_for(BadJournal(f"the journal begins with line {first}, and {self._needs(first - 1)}"))
         await self._reads_from(None)
+
+    def _needs(self, line: int) -> str:
+        """What it needs to begin over a journal that has nothing up to a line."""
+        if self._stage.child is not None:
+            return f"the store has run it up to line {self._stage.at}. It goes on once {ALL}, or begin with a snapshot"
+        backup = self._settings.journal.backup
+        place = "" if backup is None else f"is in {backup}, or "
+        return f"there is no store here. It goes on once an exact snapshot of line {line} or later {place}is put back (mbackup restore), or once {ALL}"
 
     def _waits_for(self, error: Exception) -> None:
         """Waits, and tells for what, if that is something else than before."""

@@ -274,7 +274,8 @@ class Reader:
 
     def _step(self, step: Step) -> Callable[[int, int], int]:
         kind, *parts = step
-        return getattr(self, f"_{kind}")(*parts)
+        made: Callable[[int, int], int] = getattr(self, f"_{kind}")(*parts)
+        return made
 
     def _text(self, pattern: str, wanted: str) -> Callable[[int, int], int]:
         match = re.compile(pattern, re.ASCII).match

@@ -78,7 +78,8 @@ class Draw:
         return self.drawn.choice([
             lambda: (special, special),
             lambda: joined(["(", self.expression(depth), self.drawn.choice(["**2)", "**3)", "**-1)", "**0)"])]),
-            lambda: joined(["$FN(", self.expression(depth), self.drawn.choice([',""', ',","', ',"T"', ',"P,"', ",I"]), self.drawn.choice([")", ",0)", ",2)", ",I)"])]),
+            lambda: joined(["$FN(", self.expression(depth), self.drawn.choice([',""', ',","', ',"T"', ',"P,"', ",I"]),
+                            self.drawn.choice([")", ",0)", ",2)", ",I)"])]),
             lambda: joined(["$J(", self.expression(depth), self.drawn.choice([",1", ",5", ",I"]), self.drawn.choice([",0)", ",2)", ",I)"])]),
             lambda: joined([self.drawn.choice(["$RE(", "$REVERSE(", "$re("]), self.expression(depth), ")"]),
         ])()

@@ -24,8 +24,10 @@ steps = 900
 name = "B"
 terminals = [2]
 steps = 60
-''' + "".join(f'[[grant]]\nfrom = "B"\nto = "A"\nglobal = "{name}"\nmode = "{mode}"\n' for name, mode in (("X", "read"), ("X", "write"), ("NONE", "write"), ("Z", "read"), ("ROUTINE", "read")))
-STORED = ["1 S ^A=1,^B(1,2)=3,^ROUTINE(\"R\",1)=\"R Q\",^ROUTINE(\"a b\",1)=1,^ROUTINE(7,1)=1,^ROUTINE(\"T\",2)=\" Q\"", "2 S ^A=1,^X(1)=2,^Z=3,^ROUTINE(\"L\",1)=\"L Q\",^(\"x-\")=1"]
+''' + "".join(f'[[grant]]\nfrom = "B"\nto = "A"\nglobal = "{name}"\nmode = "{mode}"\n'
+              for name, mode in (("X", "read"), ("X", "write"), ("NONE", "write"), ("Z", "read"), ("ROUTINE", "read")))
+STORED = ["1 S ^A=1,^B(1,2)=3,^ROUTINE(\"R\",1)=\"R Q\",^ROUTINE(\"a b\",1)=1,^ROUTINE(7,1)=1,^ROUTINE(\"T\",2)=\" Q\"",
+          "2 S ^A=1,^X(1)=2,^Z=3,^ROUTINE(\"L\",1)=\"L Q\",^(\"x-\")=1"]
 LISTED = [
     ('W $O(^$GLOBAL("")),$O(^$G("^A")),$o(^$global("^B")),$O(^$G("^ROUTINE")),"|"', "^A^B^ROUTINE|"),
     ('W $O(^$G(""),-1),$O(^$G("^B"),-1),$O(^$G("^A"),-1),"|"', "^ROUTINE^A|"),
@@ -67,7 +69,8 @@ def test_names_of_globals_and_routines(line: str, answer: str) -> None:
 
 def test_each_granted_name_that_is_asked_costs_a_step() -> None:
     """From NONE on: NONE is asked, which is not there, then ROUTINE; of one's own names the first is found at once."""
-    for line, steps in (('W $O(^$|"B"|G(""))', 4 + 2), ('W $O(^$|"B"|G("^NONE"))', 4 + 1), ('W $O(^$G(""))', 3), ('W $O(^$R(""))', 3 + 1), ('W $O(^$R("R"))', 3), ('W $O(^$R("T"))', 3 + 1)):
+    for line, steps in (('W $O(^$|"B"|G(""))', 4 + 2), ('W $O(^$|"B"|G("^NONE"))', 4 + 1), ('W $O(^$G(""))', 3), ('W $O(^$R(""))', 3 + 1),
+                        ('W $O(^$R("R"))', 3), ('W $O(^$R("T"))', 3 + 1)):
         for given, is_enough in ((steps - 1, False), (steps, True)):
             world = World(TWO, COMING)
             for stored in STORED:
@@ -80,7 +83,9 @@ def test_a_name_that_no_grant_lets_through_changes_no_answer() -> None:
     """What B has besides its granted globals is not seen by A, whatever A asks for."""
     drawn = Random(69)
     for _ in range(60):
-        asked = [f'1 W ${drawn.choice("OD")}(^$|"{drawn.choice(["B", "NOBODY"])}"|{drawn.choice("GR")}("{drawn.choice(["^A", "^X", "^Y", "^", "L", "^ROUTINE", "^NONE", "^XA"])}"))' for _ in range(8)]
+        asked = [f'1 W ${drawn.choice("OD")}(^$|"{drawn.choice(["B", "NOBODY"])}"|{drawn.choice("GR")}'
+                 f'("{drawn.choice(["^A", "^X", "^Y", "^", "L", "^ROUTINE", "^NONE", "^XA"])}"))'
+                 for _ in range(8)]
         hidden = [f"2 S ^{drawn.choice(['A', 'Y', 'XA', 'XX', 'C'])}({number})=1" for number in range(3)]
         assert answered([*STORED, *hidden, *asked])[-8:] == answered([*STORED, *asked])[-8:]
 
@@ -88,8 +93,10 @@ def test_a_name_that_no_grant_lets_through_changes_no_answer() -> None:
 NOTE = Path(TOP, "wip", "names-of-globals.md")
 LONG = "S234567890123456789012345678901"
 INVOICES = {
-    "INV": ["INV ;", "BILL S N=2", " S M=3", " D TOTAL^STOCK(N)", 'TEXT X "S A=1 W B(A)"', 'BAD X "W 1)" Q', "ST S N(1)=1 W", "VALUE Q 5", "LOOP F I=1:1:3 K I", "DIRECT D NONE W 1", "DOT D  Q", " . S Y=1 D PRICE+1^STOCK"],
-    "STOCK": [' W "first"', "TOTAL(N) S X=N", ' W ""', ' S X=X+1 I X>N  S X(1)=1 W X(1,"a b")', "PRICE ;", ' W ^P("x",1) Q', "F(N) W:N>5 1/0 Q N", "G(N) Q:N=0", " Q $$G(N-1)", "SYN W )", "DEEP S D=$G(D)+1 D DEEP:D<12 W NO"],
+    "INV": ["INV ;", "BILL S N=2", " S M=3", " D TOTAL^STOCK(N)", 'TEXT X "S A=1 W B(A)"', 'BAD X "W 1)" Q', "ST S N(1)=1 W", "VALUE Q 5", "LOOP F I=1:1:3 K I",
+            "DIRECT D NONE W 1", "DOT D  Q", " . S Y=1 D PRICE+1^STOCK"],
+    "STOCK": [' W "first"', "TOTAL(N) S X=N", ' W ""', ' S X=X+1 I X>N  S X(1)=1 W X(1,"a b")', "PRICE ;", ' W ^P("x",1) Q', "F(N) W:N>5 1/0 Q N", "G(N) Q:N=0",
+              " Q $$G(N-1)", "SYN W )", "DEEP S D=$G(D)+1 D DEEP:D<12 W NO"],
     LONG: [LONG, *[" ;"] * 9, f" S D=$G(D)+1 D {LONG}+10:D<12 W @X"],
 }
 DETAILS = [
@@ -147,9 +154,10 @@ def test_a_fault_says_where(line: str, answer: str) -> None:
 
 # For each code a command that ends by it, with what is told after its place.
 CODES = [
-    ("M1", "S A=$D(^A),A=^(1)"), ("M2", 'W $FN(1,"P+")'), ("M4", "W $S(0:1)"), ("M5", "W $T(L+-1)"), ("M6 NO", "W NO"), ('M7 ^NO("x")', 'W ^NO("x")'), ("M9", "W 1/0"), ("M10", "W 1?2.1N"),
-    ("M12", "D L+-1^C"), ("M13", "D NONE^C"), ("M13", "G ^NONE"), ("M15", "F I=1:1:3 K I"), ("M17", "W $$V^C()"), ("M19", "M A=A(1)"), ("M20", "D N^C(1)"), ("M28", "W 2**.5"), ("M58", "D P^C(1,2)"),
-    ("M90", 'W $QL("(")'), ("M94", "W 0**0"), ("ZARG", "W $O(A)"), ("ZCHAR", "W $C(200)"), ("ZGRANT", 'W ^|"B"|Y'), ("ZLEVEL", "D DOT^C"), ("ZLONG", 'S A=$J("",5000)'), ("ZOVER", 'W "1E18"+0'), ("ZSUB", 'S A("")=1'),
+    ("M1", "S A=$D(^A),A=^(1)"), ("M2", 'W $FN(1,"P+")'), ("M4", "W $S(0:1)"), ("M5", "W $T(L+-1)"), ("M6 NO", "W NO"), ('M7 ^NO("x")', 'W ^NO("x")'),
+    ("M9", "W 1/0"), ("M10", "W 1?2.1N"), ("M12", "D L+-1^C"), ("M13", "D NONE^C"), ("M13", "G ^NONE"), ("M15", "F I=1:1:3 K I"), ("M17", "W $$V^C()"),
+    ("M19", "M A=A(1)"), ("M20", "D N^C(1)"), ("M28", "W 2**.5"), ("M58", "D P^C(1,2)"), ("M90", 'W $QL("(")'), ("M94", "W 0**0"), ("ZARG", "W $O(A)"),
+    ("ZCHAR", "W $C(200)"), ("ZGRANT", 'W ^|"B"|Y'), ("ZLEVEL", "D DOT^C"), ("ZLONG", 'S A=$J("",5000)'), ("ZOVER", 'W "1E18"+0'), ("ZSUB", 'S A("")=1'),
     ("ZSYNTAX", 'W @"("'), ("ZSYNTAX", 'X "("'),
 ]
 
@@ -179,7 +187,8 @@ def test_a_reply_with_details_has_800_bytes_at_most() -> None:
 @pytest.mark.skipif(not NOTE.exists(), reason="its rules are in the documents by now")
 def test_rows_of_the_note() -> None:
     """Each line of its tables, in the order of the note: of names with the answer or the code, of faults with the reply's last line."""
-    rows = [(line.replace("\\|", "|"), answer.replace("\\|", "|")) for line, answer in re.findall(r"^\| `([^`]* [^`]*)` \| `([^`]*)` \|", NOTE.read_text(encoding="ascii"), re.MULTILINE)]
+    rows = [(line.replace("\\|", "|"), answer.replace("\\|", "|")) for line, answer
+            in re.findall(r"^\| `([^`]* [^`]*)` \| `([^`]*)` \|", NOTE.read_text(encoding="ascii"), re.MULTILINE)]
     assert len(rows) >= 45
     for line, answer in rows:
         lines = [*STORED, *in_store(), f"1 {line}"] if answer.startswith("1!") else [*STORED, f"1 {line}"]

@@ -478,7 +478,8 @@ def test_queries_backward_are_those_forward_turned_round() -> None:
     drawn = Random(69)
     for name in ("A", "^A") * 20:
         nodes = [f"{name}({','.join(drawn.choice(['1', '-1', '.5', '10', quoted('x'), quoted('ab')]) for _ in range(drawn.randint(1, 3)))})" for _ in range(8)]
-        lines = ["K  K ^A", f"S {name}=1", *(f"S {node}=1" for node in nodes), f'S X=$NA({name}) F  W X,";" S X=$Q(@X) Q:X=""', f'S X=$Q({name}(""),-1) F  W X,";" S X=$Q(@X,-1) Q:X=""']
+        lines = ["K  K ^A", f"S {name}=1", *(f"S {node}=1" for node in nodes),
+                 f'S X=$NA({name}) F  W X,";" S X=$Q(@X) Q:X=""', f'S X=$Q({name}(""),-1) F  W X,";" S X=$Q(@X,-1) Q:X=""']
         forward, backward = [reply.text for reply in interpreted(lines)][-2:]
         assert forward.split(";")[:-1] == backward.split(";")[-2::-1] and forward.count(";") == len(set(nodes)) + 1
 

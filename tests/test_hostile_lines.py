@@ -33,25 +33,36 @@ NESTED = [
     'S A="@A" W @A', "F  F  F  F  X \"F  \"", 255 * "(", 255 * "@", 255 * '"',
     'S ^ROUTINE("R",9)="X D X^R" D X^R', 'W ?' + BIG, f'W "A"?{BIG}A', f'W "A"?.{BIG}A', f"W $P(A,B,{BIG})", f'W $J("",{BIG})', f"F I=1:{BIG} W I",
     f"F I={BIG}:1:2 W I", f"S $P(A,B,{BIG})=1", f"W {BIG}*{BIG}", f"S A({BIG})=1", f"W $E(A,-{BIG},{BIG})", f'L +^A({BIG}):{BIG}',
-    "W " + 41 * "$RE(" + "1" + 41 * ")", 'S X="X $RE($RE(X))" X X', 'W $RE($J("",200))?.E.E.E.E1"x"', 'S B="x" F  S B=$RE(B_B)', f"W $RE({BIG})", "W $RE(", "W $RE", "S $RE(A)=1",
-    f"W ?{BIG}", f"W !?-{BIG}", f"W ?{BIG}E{BIG}", "W ?4095,?4095,?4096", "W " + 60 * "?9," + "#", "W ?" + 41 * "(" + "1" + 41 * ")", "W ?" + 41 * "@" + "A", "W " + 60 * "?", "W #?*1",
+    "W " + 41 * "$RE(" + "1" + 41 * ")", 'S X="X $RE($RE(X))" X X', 'W $RE($J("",200))?.E.E.E.E1"x"', 'S B="x" F  S B=$RE(B_B)', f"W $RE({BIG})", "W $RE(",
+    "W $RE", "S $RE(A)=1",
+    f"W ?{BIG}", f"W !?-{BIG}", f"W ?{BIG}E{BIG}", "W ?4095,?4095,?4096", "W " + 60 * "?9," + "#", "W ?" + 41 * "(" + "1" + 41 * ")", "W ?" + 41 * "@" + "A",
+    "W " + 60 * "?", "W #?*1",
     'S A="?9,@A" W @A', "F  W ?4095,!", "F  W !?$X+$Y", "W !?$X**99", "S $X=1", "K $Y", "W $X(1)", "N $X", "W @$X", "W $XY", "W ?$X?1N",
-    "W " + 200 * "#", "W " + 99 * "!#", f"W *{BIG}", f"W *-{BIG}", "W " + 60 * "*7," + "#", "W *" + 41 * "(" + "1" + 41 * ")", "W " + 60 * "*", "W #*1", 'S A="*A,@A" W @A',
+    "W " + 200 * "#", "W " + 99 * "!#", f"W *{BIG}", f"W *-{BIG}", "W " + 60 * "*7," + "#", "W *" + 41 * "(" + "1" + 41 * ")", "W " + 60 * "*", "W #*1",
+    'S A="*A,@A" W @A',
     f"W $J({BIG},1,1)", f"W $J(1,{BIG},1)", f"W $J(1,1,{BIG})", "W $J(1,0,999999999999999999)", "W $J(1,4095,4094)", "W $J(1,5,-1)", "W $J(1,2,3,4)",
-    f"S $E(A,{BIG})=1", f"S $E(A,1,{BIG})=1", f"S $E(A,-{BIG},2)=1", "S $E(A,4096)=1", "S $E(A,999999999999999999)=1", "S $E(", "S $E(A,1,2,3)=1", "S $E(A,2,1)=1", "S " + 41 * "$E(",
-    f'S $P(A,"x",1,{BIG})=1', f'S $P(A,"x",{BIG},2)=1', 'S $P(A,"",1,2)=1', 'S $P(A,"x",500,501)=1,A=A', 'S $P(A,"xxxxxxxxxx",500,501)=1', "S ($E(A),$P(A,1,1,1))=A",
-    f'W $FN({BIG},",",1)', f'W $FN(1,"{BIG}")', f'W $FN(1,"",{BIG})', 'W $FN(1,"",999999999999999999)', 'W $FN(1,"P+T-")', 'W $FN(1,"",-1)', "W $FN(1)", "W $FN(1,2,3,4)",
+    f"S $E(A,{BIG})=1", f"S $E(A,1,{BIG})=1", f"S $E(A,-{BIG},2)=1", "S $E(A,4096)=1", "S $E(A,999999999999999999)=1", "S $E(", "S $E(A,1,2,3)=1",
+    "S $E(A,2,1)=1", "S " + 41 * "$E(",
+    f'S $P(A,"x",1,{BIG})=1', f'S $P(A,"x",{BIG},2)=1', 'S $P(A,"",1,2)=1', 'S $P(A,"x",500,501)=1,A=A', 'S $P(A,"xxxxxxxxxx",500,501)=1',
+    "S ($E(A),$P(A,1,1,1))=A",
+    f'W $FN({BIG},",",1)', f'W $FN(1,"{BIG}")', f'W $FN(1,"",{BIG})', 'W $FN(1,"",999999999999999999)', 'W $FN(1,"P+T-")', 'W $FN(1,"",-1)', "W $FN(1)",
+    "W $FN(1,2,3,4)",
     'W $FN(1,$J("",4095))', "W " + 41 * "$FN(1," + "1" + 41 * ")", 40 * "$FN(",
-    f"W {BIG}**2", f"W 2**{BIG}", f"W 2**-{BIG}", "W 1**1E17", "W .1**-999", "W 9**99", "F  S A=1**1E17", "W 0**0", "W 0**-1", "W 2**.5", "W 2***3", "W 2**", 'S A="2**" W @A',
-    "W 2" + 120 * "**2", "W " + 40 * "(2**" + "1" + 40 * ")", "W " + 41 * "$J(1,1," + "1" + 41 * ")", "W 1?" + 41 * "@" + "A", 'W $J("",200)?@".E.E.E.E1""x"""', f'W 1?@"{BIG}N"', 'S P="?@P" W 1?@P', "W 1?@", 'W 1?@""', "W $RE(1,2)", "W $RE()", 40 * "$RE(", 'W $J("",$S)_$J', "F I=1:1:$S W I", "F  W $J,$IO,$P", "W $I(1)", "W $J(1", "S $IO=1", "K $J", "W " + 40 * "-" + "$S", "W @$J", "W $STORAGEX",
-    f"H {BIG}", "H -1,.5,A", "HANG", "H  H 1", "F  H $S", "H @A", 'S A="H @A" X A', "HANG:$J 1:1", f"H {BIG}E{BIG}", "HALT 1", f'W $G(@"A($RE({BIG}))")', f'W $O(A({BIG}),{BIG})', f"W {BIG}E{BIG}", f"W .{BIG}", "S B=\"x\" F  S B=B_B", 'W $J("",200)?.E.E.E.E1"x"', 'K  K ^A,^B N  L', "H", "Q", "G", "D",
+    f"W {BIG}**2", f"W 2**{BIG}", f"W 2**-{BIG}", "W 1**1E17", "W .1**-999", "W 9**99", "F  S A=1**1E17", "W 0**0", "W 0**-1", "W 2**.5", "W 2***3", "W 2**",
+    'S A="2**" W @A',
+    "W 2" + 120 * "**2", "W " + 40 * "(2**" + "1" + 40 * ")", "W " + 41 * "$J(1,1," + "1" + 41 * ")", "W 1?" + 41 * "@" + "A", 'W $J("",200)?@".E.E.E.E1""x"""',
+    f'W 1?@"{BIG}N"', 'S P="?@P" W 1?@P', "W 1?@", 'W 1?@""', "W $RE(1,2)", "W $RE()", 40 * "$RE(", 'W $J("",$S)_$J', "F I=1:1:$S W I", "F  W $J,$IO,$P",
+    "W $I(1)", "W $J(1", "S $IO=1", "K $J", "W " + 40 * "-" + "$S", "W @$J", "W $STORAGEX",
+    f"H {BIG}", "H -1,.5,A", "HANG", "H  H 1", "F  H $S", "H @A", 'S A="H @A" X A', "HANG:$J 1:1", f"H {BIG}E{BIG}", "HALT 1", f'W $G(@"A($RE({BIG}))")',
+    f'W $O(A({BIG}),{BIG})', f"W {BIG}E{BIG}", f"W .{BIG}", "S B=\"x\" F  S B=B_B", 'W $J("",200)?.E.E.E.E1"x"', 'K  K ^A,^B N  L', "H", "Q", "G", "D",
 ]
 # One with forms of language 0, and the same with forms of language 1 in it.
 LONG = (
     'S:1=1 A(1,"x")=$P(^A(1),"y",1,2),B=-$L(@"A"),$P(C,",",2)=\'(1<2)!(A]]"q") F I=1:1:2 W:I#2=1 $S(I:$J(I,3),1:"no"),! X "W I" '
     'I $D(B) D P^R,@"R^R":I K (A,B) L +(^A,B):0 N I W $O(^A("")),$TR("ab","a","b"),$E("abc",2),$G(^|"ALICE"|A(1)),$C(65),A?1.N ; end'
 )
-LONGS = {0: LONG, 1: LONG.replace('$TR("ab","a","b")', "$RE($J(1.5,6,2))").replace('"no"', '$FN(I,",")').replace("I $D(B)", "H 1,$S I $J").replace("-$L", "2**$L").replace("$P(C,\",\",2)", "$P(C,9,2,3)").replace("A?1.N", 'A?@"1.N"').replace('$E("abc",2),', "").replace(',! X', ",!?$X X")}
+LONGS = {0: LONG, 1: LONG.replace('$TR("ab","a","b")', "$RE($J(1.5,6,2))").replace('"no"', '$FN(I,",")').replace("I $D(B)", "H 1,$S I $J").replace(
+    "-$L", "2**$L").replace("$P(C,\",\",2)", "$P(C,9,2,3)").replace("A?1.N", 'A?@"1.N"').replace('$E("abc",2),', "").replace(',! X', ",!?$X X")}
 each_language = pytest.mark.parametrize("language", OF_LANGUAGE)
 
 

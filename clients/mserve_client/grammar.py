@@ -188,12 +188,13 @@ def rules(language: int) -> dict[str, Step]:
     formats = [all_of(text("[!#]+"), perhaps(column)), column, all_of(text(r"\*"), rule("expression"))] if language >= 1 else [text("!+")]
     pattern = all_of(rule("atom"), ["many", rule("atom")])
     return {**SHARED, "command": any_of(*COMMANDS, *halts(language)), "expression": expression(OPERATOR if language < 1 else rf"\*\*|{OPERATOR}"),
-            "target": targets(language), "written": any_of(*formats, rule("expression")), "pattern": any_of(OPERAND, pattern) if language else pattern, "dollar": any_of(
-        *[text(rf"\${either(words)}(?![A-Za-z(])", "operand") for words in specials(language)],
-        *[function(words, *values(*counts)) for words, counts in of_values(language).items()],
-        *[function(words, inner("variable"), *([perhaps(all_of(text(",", "more"), inner("expression")))] if most else []))
-          for words, most in OF_VARIABLE.items()],
-        function("S SELECT", listed(all_of(inner("expression"), text(":", "colon"), inner("expression")))))}
+            "target": targets(language), "written": any_of(*formats, rule("expression")), "pattern": any_of(OPERAND, pattern) if language else pattern,
+            "dollar": any_of(
+                *[text(rf"\${either(words)}(?![A-Za-z(])", "operand") for words in specials(language)],
+                *[function(words, *values(*counts)) for words, counts in of_values(language).items()],
+                *[function(words, inner("variable"), *([perhaps(all_of(text(",", "more"), inner("expression")))] if most else []))
+                  for words, most in OF_VARIABLE.items()],
+                function("S SELECT", listed(all_of(inner("expression"), text(":", "colon"), inner("expression")))))}
 
 
 # The commands that all languages have alike.

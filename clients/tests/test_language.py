@@ -102,20 +102,24 @@ def test_form_of_a_later_language_is_told_as_such(cause: Cause) -> None:
 def test_new_line_of_a_language(number: int) -> None:
     """It takes it, and none before it does."""
     line = NEW_LINES[number]
-    assert [language.fault(line, one) is None for one in LANGUAGES] == [served([line], one) == [True] for one in LANGUAGES] == [one >= number for one in LANGUAGES]
+    assert [language.fault(line, one) is None for one in LANGUAGES] == [
+        served([line], one) == [True] for one in LANGUAGES] == [one >= number for one in LANGUAGES]
 
 
 @pytest.mark.parametrize(("line", "marked", "name"), [
-    ("W 1 2", "W 1^ 2", "two expressions need a comma, or two commands one space"), ("D F(1)", "D F^(1)", "parameters"), ("W $$F(1)", "W ^$$F(1)", "an extrinsic function"),
-    ('write "hello', 'write ^"hello', "a string without its closing quote"), ("foo", "^foo", "no command has this name"), ("W $HOROLOG", "W ^$HOROLOG", "$HOROLOG"),
-    ("MERGE A=B", "^MERGE A=B", "MERGE"), ("ZWRITE", "^ZWRITE", "a Z command"), ("S X=1 R X", "S X=1 ^R X", "READ"), ("D LAB^", "D LAB^^", "a name is missing"),
+    ("W 1 2", "W 1^ 2", "two expressions need a comma, or two commands one space"), ("D F(1)", "D F^(1)", "parameters"),
+    ("W $$F(1)", "W ^$$F(1)", "an extrinsic function"), ('write "hello', 'write ^"hello', "a string without its closing quote"),
+    ("foo", "^foo", "no command has this name"), ("W $HOROLOG", "W ^$HOROLOG", "$HOROLOG"), ("MERGE A=B", "^MERGE A=B", "MERGE"),
+    ("ZWRITE", "^ZWRITE", "a Z command"), ("S X=1 R X", "S X=1 ^R X", "READ"), ("D LAB^", "D LAB^^", "a name is missing"),
     ("K ^A(1", "K ^A(1^", "a ) is missing"), ('Q:X="" W X', 'Q:X=""^ W X', "two spaces follow a command without arguments"),
     ('F I=1:1:3 Q:I=2 W "x"', 'F I=1:1:3 Q:I=2^ W "x"', "two spaces follow a command without arguments"), ("Q X", "Q ^X", "QUIT with a value"),
     ('s yy=$zd($h,"YEAR")', 's yy=^$zd($h,"YEAR")', "a $Z function or variable"), ("S A=1,B=$F($ZV,1)", "S A=1,B=$F(^$ZV,1)", "a $Z function or variable"),
-    ('set x=$translate($zconvert(x,"U"),"L")', 'set x=$translate(^$zconvert(x,"U"),"L")', "a $Z function or variable"), ("S A=$H,$X=0", "S A=^$H,$X=0", "$HOROLOG"),
-    ("S A=1,$X=0", "S A=1,^$X=0", "SET of a special variable"), ("I A(1, 2)=3", "I A(1,^ 2)=3", "a space within an argument"), ("W 1 W", "W 1 W^", "an argument is missing"),
-    ('W "a b $$" W $$X', 'W "a b $$" W ^$$X', "an extrinsic function"), ("S X=1\tW X", "S X=1^\tW X", "a tab"), ("W Müller", "W M^üller", "a character over 127"),
-    ("B=2", "^B=2", "a SET without its word"), ("W 1  Q 5", "W 1  Q ^5", "QUIT with a value"), ("F I=1:1 Q:I>3  H 5", "F I=1:1 Q:I>3  H ^5", "HANG, which needs language 1 of the account's settings"),
+    ('set x=$translate($zconvert(x,"U"),"L")', 'set x=$translate(^$zconvert(x,"U"),"L")', "a $Z function or variable"),
+    ("S A=$H,$X=0", "S A=^$H,$X=0", "$HOROLOG"), ("S A=1,$X=0", "S A=1,^$X=0", "SET of a special variable"),
+    ("I A(1, 2)=3", "I A(1,^ 2)=3", "a space within an argument"), ("W 1 W", "W 1 W^", "an argument is missing"),
+    ('W "a b $$" W $$X', 'W "a b $$" W ^$$X', "an extrinsic function"), ("S X=1\tW X", "S X=1^\tW X", "a tab"),
+    ("W Müller", "W M^üller", "a character over 127"), ("B=2", "^B=2", "a SET without its word"), ("W 1  Q 5", "W 1  Q ^5", "QUIT with a value"),
+    ("F I=1:1 Q:I>3  H 5", "F I=1:1 Q:I>3  H ^5", "HANG, which needs language 1 of the account's settings"),
 ])
 def test_place_and_cause(line: str, marked: str, name: str) -> None:
     """The place is that of the fault, which the second text has marked by a ^ of its own."""
@@ -144,12 +148,15 @@ def test_language_of_an_account(server: Server) -> None:
 
 @pytest.mark.parametrize(("line", "names"), [
     ("W 1", [None, None]), ("W $RE(A)", ["$REVERSE, which needs language 1 of the account's settings", None]),
-    ("W $RE(A) R X", ["$REVERSE, which needs language 1 of the account's settings", "READ"]), ("W $RE(A,1)", ["$REVERSE, which needs language 1 of the account's settings",
-     "more arguments than the function takes"]), ("W $J(A,8,2)", ["$JUSTIFY with three arguments, which needs language 1 of the account's settings", None]),
+    ("W $RE(A) R X", ["$REVERSE, which needs language 1 of the account's settings", "READ"]),
+    ("W $RE(A,1)", ["$REVERSE, which needs language 1 of the account's settings", "more arguments than the function takes"]),
+    ("W $J(A,8,2)", ["$JUSTIFY with three arguments, which needs language 1 of the account's settings", None]),
     ("W $J(1,2,3,4)", ["$JUSTIFY with three arguments, which needs language 1 of the account's settings", "more arguments than the function takes"]),
-    ("H 5", ["HANG, which needs language 1 of the account's settings", None]), ("HALT 5", ["an argument where none is taken", "an argument where none is taken"]),
+    ("H 5", ["HANG, which needs language 1 of the account's settings", None]),
+    ("HALT 5", ["an argument where none is taken", "an argument where none is taken"]),
     ("W $J", ["$IO, $JOB, $PRINCIPAL or $STORAGE, which needs language 1 of the account's settings", None]),
-    ("W $Y", ["$X or $Y, which needs language 1 of the account's settings", None]), ("W A,?5", ["WRITE ?n, which needs language 1 of the account's settings", None]),
+    ("W $Y", ["$X or $Y, which needs language 1 of the account's settings", None]),
+    ("W A,?5", ["WRITE ?n, which needs language 1 of the account's settings", None]),
     ("W !?5,", ["WRITE ?n, which needs language 1 of the account's settings", "an operand is missing"]),
     ("R X", ["READ", "READ"]), ("W $re(", ["$REVERSE, which needs language 1 of the account's settings", "an operand is missing"]),
 ])
@@ -189,15 +196,16 @@ def told(server: Server, *sources: Source) -> list[tuple[str, int, int, Kind]]:
 def test_labels_and_routines_that_are_not_there(server: Server) -> None:
     with server.connection() as connection:
         connection.send('S ^ROUTINE("THERE",1)="ADD Q",^ROUTINE("THERE",2)=" Q"')
-    checked = source("A", "A D ONE,TWO,ADD^THERE,SUB^THERE,^THERE,^NOWHERE", "ONE G TWO:X", " D:X ADD^B,NO^B,^A,a^A", ' X "D THREE" D @X', " . D FOUR ;D FIVE", " D SIX W 1 2")
+    checked = source("A", "A D ONE,TWO,ADD^THERE,SUB^THERE,^THERE,^NOWHERE", "ONE G TWO:X", " D:X ADD^B,NO^B,^A,a^A", ' X "D THREE" D @X', " . D FOUR ;D FIVE",
+                     " D SIX W 1 2")
     assert told(server, checked, source("B", "B Q", "ADD Q")) == [
-        ("A", 1, 9, Kind.MISSING), ("A", 1, 23, Kind.MISSING), ("A", 1, 40, Kind.MISSING), ("A", 2, 7, Kind.MISSING), ("A", 3, 12, Kind.MISSING), ("A", 3, 20, Kind.MISSING),
-        ("A", 5, 6, Kind.MISSING), ("A", 6, 4, Kind.MISSING), ("A", 6, 11, Kind.REFUSED)]
+        ("A", 1, 9, Kind.MISSING), ("A", 1, 23, Kind.MISSING), ("A", 1, 40, Kind.MISSING), ("A", 2, 7, Kind.MISSING), ("A", 3, 12, Kind.MISSING),
+        ("A", 3, 20, Kind.MISSING), ("A", 5, 6, Kind.MISSING), ("A", 6, 4, Kind.MISSING), ("A", 6, 11, Kind.REFUSED)]
 
 
 @pytest.mark.parametrize(("line", "columns"), [
-    (" L +^A", [4]), (" L ^A,B", [4, 7]), (" L +(^A,B)", [4]), (" L +^A:5", [4]), (" L +^A:T,-^A", [4]), (" L +^A:0", []), (" L -^A", []), (" L", []), (" L @A", []), (" W 1 ;L +^A", []),
-    (' W "L +^A"', []), (" LOCK +^A(1):0  E  Q", []), (' L +^A(":")', [4]),
+    (" L +^A", [4]), (" L ^A,B", [4, 7]), (" L +(^A,B)", [4]), (" L +^A:5", [4]), (" L +^A:T,-^A", [4]), (" L +^A:0", []), (" L -^A", []), (" L", []),
+    (" L @A", []), (" W 1 ;L +^A", []), (' W "L +^A"', []), (" LOCK +^A(1):0  E  Q", []), (' L +^A(":")', [4]),
 ])
 def test_locks_that_wait_in_m(server: Server, line: str, columns: list[int]) -> None:
     with server.connection() as connection:
@@ -210,7 +218,8 @@ def test_check_tells_all_kinds_at_once(server: Server, command: Command, tmp_pat
     (tmp_path / "B.m").write_text("B L +^X\n")
     ran = command("mroutine", server.port, 1, "check", "A.m", "B.m")
     lines = ran.output.encode("latin1").decode().splitlines()
-    assert [re.match(r"\w\.m:\d+:\d+", line)[0] for line in lines if line[0] != " " and ":" in line[:4]] == ["A.m:1:5", "A.m:2:4", "A.m:2:12", "A.m:3:4", "A.m:4:4", "A.m:5:3", "B.m:1:5"]
+    assert [re.match(r"\w\.m:\d+:\d+", line)[0] for line in lines if line[0] != " " and ":" in line[:4]] == [
+        "A.m:1:5", "A.m:2:4", "A.m:2:12", "A.m:3:4", "A.m:4:4", "A.m:5:3", "B.m:1:5"]
     assert lines[-1] == "2 files, 6 lines: 3 lines not in the language; 2 of what a DO or a GOTO names is not there; 2 warnings"
     ran = command("mroutine", server.port, 1, "check", "B.m")
     assert (ran.output.splitlines()[-1], ran.status) == ("1 file, 1 line: all in the language; 1 warning", 0)

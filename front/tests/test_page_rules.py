@@ -170,7 +170,8 @@ FAULT = """const [{ faultOf }, { languageOf }] = [await import("/page/language.j
 def test_language_of_the_account(request: pytest.FixtureRequest, number: int) -> None:
     """Lines are checked by it, and the cause of one that was refused is the one of the account's language."""
     own, asked = (request.getfixturevalue(name) for name in (("browser", "connection"), ("later_browser", "later_connection"))[number])
-    taken, refused = ["W $RE(A)", "S $E(A,2)=1,$P(A,1,2,3)=B", "W !?5,$X,?$Y"], ["W ?5!", "W !?", "S $P(A,1,2,3,4)=1", "W $RE(A) R X", "W $RE(A,1)", "W $re(", "R X"]
+    taken, refused = ["W $RE(A)", "S $E(A,2)=1,$P(A,1,2,3)=B", "W !?5,$X,?$Y"], [
+        "W ?5!", "W !?", "S $P(A,1,2,3,4)=1", "W $RE(A) R X", "W $RE(A,1)", "W $re(", "R X"]
     assert own.module(CHECK, [f" {text}" for text in taken + refused]) == [checked(asked, f" {text}") for text in taken + refused]
     assert [checked(asked, f" {text}") == [] for text in taken] == [number == 1] * len(taken)
     refused += taken * (number == 0)

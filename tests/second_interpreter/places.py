@@ -79,7 +79,8 @@ class Places(Listings):
     def routine(self, name: str) -> list[str]:
         """The lines of a routine of the account."""
         tree = self.store.get((self.account.name, "ROUTINE")) or Tree()
-        found = [(value(subscripts[1]), text) for subscripts, text in tree.texts.items() if len(subscripts) == 2 and subscripts[0] == name and is_canonical(subscripts[1])]
+        found = [(value(subscripts[1]), text) for subscripts, text in tree.texts.items()
+                 if len(subscripts) == 2 and subscripts[0] == name and is_canonical(subscripts[1])]
         return [text for _, text in sorted(found)]
 
     def value_of_line(self, *parts: object) -> str:

@@ -20,8 +20,8 @@ OPERATOR = re.compile(r"\*\*|'?(?:\]\]|[=<>\[\]&!])|[-+*/\\#_]", re.ASCII)
 FORMALS = re.compile(rf"\(({NAME.pattern}(?:,{NAME.pattern})*|)\)", re.ASCII)
 COUNT = re.compile(r"([0-9]*)(\.?)([0-9]*)", re.ASCII)
 DEPTH = 40
-COMMANDS = {"S": "SET", "K": "KILL", "N": "NEW", "D": "DO", "G": "GOTO", "I": "IF", "E": "ELSE", "F": "FOR", "Q": "QUIT", "X": "XECUTE", "W": "WRITE", "L": "LOCK",
-            "H": "HALT", "HANG": "HANG", "M": "MERGE"}
+COMMANDS = {"S": "SET", "K": "KILL", "N": "NEW", "D": "DO", "G": "GOTO", "I": "IF", "E": "ELSE", "F": "FOR", "Q": "QUIT", "X": "XECUTE", "W": "WRITE",
+            "L": "LOCK", "H": "HALT", "HANG": "HANG", "M": "MERGE"}
 # Which need arguments, which may have some, and which take a condition.
 NEEDS = ("SET", "XECUTE", "WRITE", "GOTO", "HANG", "MERGE")
 NONE = ("ELSE", "HALT", "QUIT")

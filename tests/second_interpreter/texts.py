@@ -211,6 +211,6 @@ def compared(left: str, operator: str, right: str) -> bool:
 
 # The functions of values: short word, whole word, how many arguments at least and at most, since which language, and what they give.
 FUNCTIONS = [("A", "ASCII", 1, 2, 0, ascii_code), ("C", "CHAR", 1, 255, 0, characters), ("E", "EXTRACT", 1, 3, 0, extract), ("F", "FIND", 2, 3, 0, find),
-             ("J", "JUSTIFY", 2, 2, 0, justify), ("J", "JUSTIFY", 3, 3, SINCE["$JUSTIFY of three"], justify), ("L", "LENGTH", 1, 2, 0, length), ("P", "PIECE", 2, 4, 0, piece),
-             ("TR", "TRANSLATE", 2, 3, 0, translate), ("RE", "REVERSE", 1, 1, SINCE["$REVERSE"], reverse),
+             ("J", "JUSTIFY", 2, 2, 0, justify), ("J", "JUSTIFY", 3, 3, SINCE["$JUSTIFY of three"], justify), ("L", "LENGTH", 1, 2, 0, length),
+             ("P", "PIECE", 2, 4, 0, piece), ("TR", "TRANSLATE", 2, 3, 0, translate), ("RE", "REVERSE", 1, 1, SINCE["$REVERSE"], reverse),
              ("FN", "FNUMBER", 2, 3, SINCE["$FNUMBER"], form_number)]

@@ -24,7 +24,8 @@ _LINE = re.compile(rb"([1-9][0-9]{0,3}) (.*)", re.DOTALL)
 
 
 class World:
-    """A store in memory, and the sessions of terminals, by settings as the program takes them. If a language is given, all accounts have it. Faults may say where they were."""
+    """A store in memory, and the sessions of terminals, by settings as the program takes them. If a language is given, all accounts have it.
+    Faults may say where they were."""
 
     def __init__(self, settings: str, language: int | None = None, detail: bool = False) -> None:
         found = tomllib.loads(settings)

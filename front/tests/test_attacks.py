@@ -184,7 +184,9 @@ async def quick_lines(front: Front, seconds: float) -> int:
 async def attacked(front: Front, attack: Attack, seconds: float) -> asyncio.subprocess.Process:
     """Has a process of its own attack a front for so long: what it computes takes none of the neighbour's time. It has begun when this returns."""
     words = [attack.__name__, str(seconds), str(front.port), str(front.lines_port), *map(str, front.certificate)]
-    process = await asyncio.create_subprocess_exec("nice", "-n", "10", sys.executable, __file__, *words, stdout=asyncio.subprocess.PIPE)
+    # it finds the modules of the tests where this process does
+    environment = {**os.environ, "PYTHONPATH": os.pathsep.join(sys.path)}
+    process = await asyncio.create_subprocess_exec("nice", "-n", "10", sys.executable, __file__, *words, stdout=asyncio.subprocess.PIPE, env=environment)
     assert await process.stdout.readline() == BEGUN
     return process
 

@@ -146,7 +146,7 @@ _VALUES = [
     Cause("the function wants a further argument", 'docs/LANGUAGE.md, "Functions", has what each takes.', "W $F(A)", "comma"),
     Cause("$SELECT without a value", "Each of its arguments is a condition, a colon and a value: $S(A:1,1:2).", "W $S(A)", "colon"),
     _later(1, Cause("the operator **", "multiply in a loop: S P=1 F I=1:1:N S P=P*X.", "W 2**3", "operand", r"\*", r"\*")),
-    Cause("alternation in a pattern", "Test each pattern by itself: X?1N!(X?1A).", "W X?1(1N,1A)", "pattern", r"\("),
+    _later(1, Cause("a group in a pattern", "test each pattern by itself: X?1N!(X?1A).", "W X?1(1N,1A)", "pattern", r"\(")),
     _later(1, Cause("indirection of a pattern", 'put it into a text and run it: S C="I X?"_P X C.', "W X?@P", "pattern", "@")),
     Cause("no pattern", 'A pattern is a count and what it counts, as 1N, .A or 2"ab", in a row; a count has at most four digits.', "W X?A", "pattern"),
     Cause("&& or ||", "Write & and !, which evaluate both sides.", "I A&&B W 1", "operand", "&", "&"),

@@ -182,13 +182,19 @@ def targets(language: int) -> Step:
     return any_of(*[target(words, *counts) for words, counts in found.items()], rule("variable"))
 
 
+def atom(language: int) -> Step:
+    """An atom of a pattern: a count, and what it counts, which from language 1 on may be a group of patterns."""
+    plain = text('[ACELNPUacelnpu]+|"(?:[^"]|"")*"(?!")', "pattern")
+    return all_of(text(COUNT, "pattern"), any_of(plain, bracketed(inner("atoms"))) if language >= 1 else plain)
+
+
 def rules(language: int) -> dict[str, Step]:
     """The rules of a language."""
     column = all_of(text(r"\?"), rule("expression"))
     formats = [all_of(text("[!#]+"), perhaps(column)), column, all_of(text(r"\*"), rule("expression"))] if language >= 1 else [text("!+")]
-    pattern = all_of(rule("atom"), ["many", rule("atom")])
     return {**SHARED, "command": any_of(*COMMANDS, *halts(language)), "expression": expression(OPERATOR if language < 1 else rf"\*\*|{OPERATOR}"),
-            "target": targets(language), "written": any_of(*formats, rule("expression")), "pattern": any_of(OPERAND, pattern) if language else pattern,
+            "target": targets(language), "written": any_of(*formats, rule("expression")), "atom": atom(language),
+            "pattern": any_of(OPERAND, rule("atoms")) if language else rule("atoms"),
             "dollar": any_of(
                 *[text(rf"\${either(words)}(?![A-Za-z(])", "operand") for words in specials(language)],
                 *[function(words, *values(*counts)) for words, counts in of_values(language).items()],
@@ -223,7 +229,8 @@ SHARED: dict[str, Step] = {
     "lockable": all_of(text(r"(?!\^\()", "lockable"), rule("variable")),
     "expression": expression(OPERATOR),
     "operand": all_of(text(r"[+\-']*"), rule("primary")),
-    "atom": all_of(text(COUNT, "pattern"), text('[ACELNPUacelnpu]+|"(?:[^"]|"")*"(?!")', "pattern")),
+    "atom": atom(0),
+    "atoms": all_of(rule("atom"), ["many", rule("atom")]),
     "primary": any_of(
         text(r"(?:[0-9]+(?:\.[0-9]+)?|\.[0-9]+)(?:E[+-]?[0-9]+)?", "operand"),
         text('"(?:[^"]|"")*"(?!")', "operand"),

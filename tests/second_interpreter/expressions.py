@@ -84,7 +84,7 @@ class Evaluator:
     def value_of_match(self, negated: bool, left: tuple, pattern: tuple) -> str:
         text = self.value(left)
         atoms = pattern[1] if pattern[0] == "pattern" else self.pattern_of(self.value(pattern[1]))
-        return str(int(texts.matches(text, atoms) is not negated))
+        return str(int(texts.matches(text, atoms, self.charge) is not negated))
 
     def pattern_of(self, text: str) -> tuple[texts.Atom, ...]:
         self.free_level(is_indirection=True)

@@ -5,12 +5,13 @@ from __future__ import annotations
 # No account's language: the rules that language 1 is to have besides, which the program does not have yet. They are compared with GT.M alone.
 COMING = 2
 SINCE = {
-    "$FNUMBER": 1, "$JUSTIFY of three": 1, "$REVERSE": 1, "pattern indirection": 1, "pages of WRITE": 1, "$X and $Y": 1, "formats of WRITE": 1,
+    "$FNUMBER": 1, "$JUSTIFY of three": 1, "$REVERSE": 1, "pattern alternation": 1,
+    "pattern indirection": 1, "pages of WRITE": 1, "$X and $Y": 1, "formats of WRITE": 1,
     "codes of WRITE": 1, "SET $EXTRACT": 1, "SET $PIECE of several": 1, "HANG": 1, "special variables of terminals": 1, "**": 1,
     "$INCREMENT": COMING, "$NAME": COMING, "$QLENGTH": COMING, "$QSUBSCRIPT": COMING, "$QUERY": COMING, "MERGE": COMING,
     "$TEXT": COMING, "indirection of entries": COMING, "labels of digits": COMING, "offsets of entries": COMING,
     "names of globals": COMING,
-    "functions": COMING, "parameters": COMING, "pattern alternation": COMING, "special variables": COMING, "values of QUIT": COMING,
+    "functions": COMING, "parameters": COMING, "special variables": COMING, "values of QUIT": COMING,
 }
 
 

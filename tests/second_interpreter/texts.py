@@ -3,6 +3,7 @@
 from __future__ import annotations
 
 import re
+from collections.abc import Callable
 from dataclasses import dataclass
 from fractions import Fraction
 from functools import cache
@@ -38,6 +39,14 @@ class Atom:
         for atom in (atom for atoms in self.choices for atom in atoms):
             atom.check()
 
+    def turns(self, characters: int) -> int:
+        """How many turns a group takes at most of so many characters, with those of the atoms in it. Other atoms take none."""
+        if not self.choices:
+            return 0
+        own = self.least + characters
+        own = own if self.most is None else min(self.most, own)
+        return own * (1 + sum(atom.turns(characters) for atoms in self.choices for atom in atoms))
+
     def ends(self, text: str, place: int) -> set[int]:
         """Where a copy ends that begins at a place."""
         if self.choices:
@@ -71,10 +80,12 @@ def ends_of(atoms: tuple[Atom, ...], text: str, places: set[int]) -> set[int]:
     return places
 
 
-def matches(text: str, atoms: tuple[Atom, ...]) -> bool:
-    """Whether a text matches a pattern."""
+def matches(text: str, atoms: tuple[Atom, ...], charge: Callable[[], None]) -> bool:
+    """Whether a text matches a pattern. The turns that its groups take at most are charged first."""
     for atom in atoms:
         atom.check()
+    for _turn in range(sum(atom.turns(len(text)) for atom in atoms)):
+        charge()
     return len(text) in ends_of(atoms, text, {0})
 
 

@@ -11,3 +11,4 @@ pub mod LocalVariables
 pub mod Chains
 pub mod PowerRuns
 pub mod EvalLaws
+pub mod Charges

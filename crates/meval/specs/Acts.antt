@@ -6,7 +6,6 @@ use Rattle.mspec.specs.Act.{Text, Act, ◌>>=◌, give, give_some}
 use Rattle.mgrammar.specs.Grammar.{ExprTree, ExprsTree, OperandTree, PrimaryTree, ReferenceTree}
 use Rattle.mgrammar.specs.Functions.{get_function, order_function}
 use Rattle.mspec.specs.Code.{Zsyntax}
-use Rattle.mgrammar.specs.Matching.{atom_of}
 use Rattle.mgrammar.specs.IndirectTexts.{pattern_of}
 use Rattle.mmeaning.specs.Operators.{as_number, as_truth, matching}
 use Rattle.mmeaning.specs.Functions.{whole_text, call_value}
@@ -18,7 +17,7 @@ use Rattle.mmeaning.specs.Expression.{Inside, value, values, operand_value, prim
 abbrev pub matches_read : Text → Text → Act Bool
 matches_read x t = do
   atoms ← give_some Zsyntax (pattern_of t)
-  matching (map atom_of atoms) x
+  matching atoms x
 
 -- whether it matches the one that a primary's text is
 abbrev pub matches_act : Inside → PrimaryTree → Text → Act Bool

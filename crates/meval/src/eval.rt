@@ -26,7 +26,7 @@ use mgrant::{AccountId, Settings};
 use mnodes::NodeStore;
 use mnum::{Name, Num};
 use moperator::{
-    Code, arithmetic_of, binary, calculate, call, computed, matching, number_of, truth_of, unaries,
+    Code, arithmetic_of, binary, calculate, call, computed, number_of, truth_of, unaries,
 };
 use mtree::{Choice, Expr, Operand, Primary, Reference, Tail, ValueWord};
 use mvalue::{Kind, Value};
@@ -349,7 +349,7 @@ impl<'a, S: NodeStore> Eval<'a, S> {
         };
         let text = given.into_text(alloc)?;
         let atoms = read_pattern(alloc, text.as_bytes())?;
-        matching(alloc, &atoms, value)
+        self.matching(alloc, &atoms, value)
     }
 
     // What is done with the value to the left, which becomes the result. It is changed in place: a value that is moved right after it is
@@ -365,12 +365,12 @@ impl<'a, S: NodeStore> Eval<'a, S> {
                 binary(alloc, *operator, left, &right)
             }
             Tail::Matches(atoms) => {
-                let matches = matching(alloc, atoms, left)?;
+                let matches = self.matching(alloc, atoms, left)?;
                 *left = Value::of_truth(matches);
                 Ok(())
             }
             Tail::MatchesNot(atoms) => {
-                let matches = matching(alloc, atoms, left)?;
+                let matches = self.matching(alloc, atoms, left)?;
                 *left = Value::of_truth(!matches);
                 Ok(())
             }

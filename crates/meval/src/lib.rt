@@ -12,6 +12,7 @@ mod lock_names;
 mod lookups;
 mod open_levels;
 mod owner;
+mod patterns;
 mod place;
 mod powers;
 mod reading_reference;

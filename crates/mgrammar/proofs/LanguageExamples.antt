@@ -90,6 +90,10 @@ record Languages : Type 0 where
   -- a pattern that a text is; and a form within its operand
   patterns : AreOfOne has_line (
       codes "W A?@B" ∷ codes "W A'?@B" ∷ codes "W A?@\"1N\"=1" ∷ codes "W A?@@B@(1)" ∷ codes "W A?@(B_1)?@B" ∷ codes "W A?@$RE(B)" ∷ codes "W A(B?@C)" ∷ [])
+  -- groups in a pattern
+  groups : AreOfOne has_line (
+      codes "W A?1(1N)" ∷ codes "W A'?.(1\"A\",2N)" ∷ codes "W A?1N2.4(1N1A,1(1A))1A=1" ∷ codes "S A(B?1(1N,1A))=1" ∷ codes "I 1_(A?1(1N))" ∷ [])
+  no_groups : AreOfNone has_line (codes "W A?1()" ∷ codes "W A?1(1N" ∷ codes "W A?1(1N,)" ∷ codes "W A?(1N)" ∷ codes "W A?1(@B)" ∷ codes "W A?1N(1N)" ∷ [])
   -- in each kind of argument, in a condition, and in whichever command of a line
   arguments : AreOfOne has_line (
       codes "S A=$RE(A)" ∷ codes "S A($RE(A))=1" ∷ codes "S $P(A,$RE(A))=1" ∷ codes "S $P(A,1,$RE(A))=1" ∷ codes "S (A,B($RE(A)))=1" ∷ codes "K A($RE(A))" ∷

@@ -23,9 +23,9 @@ pub mod Computing
 pub mod ShortTrees
 pub mod GrammarExamples
 pub mod GrammarRefusals
-pub mod Matchings
 pub mod RoutineExamples
 pub mod IndirectionExamples
 pub mod LockExamples
 pub mod ReadingLanguages
 pub mod LanguageExamples
+pub mod AlternationExamples

@@ -1,6 +1,6 @@
 -- SPDX-License-Identifier: Apache-2.0
 -- What is read as a command is spelled so, and what is spelled so is read.
-use Rattle.mgrammar.proofs.GrammarWords.{◌≡◌, ℕ, zero, suc, ◌≤◌, Bool, true, false, not, eqb, cond, List, [], ◌∷◌, ◌++◌, length, Option, Some, None, inl, inr, refl, sym, ap, subst, ◌∙◌, append_assoc, arith, drop, ◌||◌, eqb-true, and_parts, nat_tests, is_letter, is_name_rest, AllAre, ExprTree, expr, no_tails, operand, PrimaryTree, reference, indirect, no_exprs, ArgTree, formats, coded, shown, kill_one, tested, loop, executed, locked, hang_for, indirect_args, anew, lock_one, CommandTree, KeywordTree, for_word, FormTree, set_argument, kill_argument, new_argument, if_argument, for_argument, write_argument, do_argument, goto_argument, xecute_argument, lock_argument, hang_argument, no_argument, spell_expr, spell_arg, spell_args, spell_condition, spell_list, spell_more, spell_command, keyword_of, form_of, takes_args, takes_condition, max_depth, bare_arg, WellAll, WellList, WellExpr, WellBelow, WellOptional, WellPlain, WellArg, WellCondition, WellCommand, ◌>>=◌, run_of, after_run, past, list_at, kill_argument_at, new_argument_at, if_argument_at, write_argument_at, do_argument_at, goto_argument_at, xecute_argument_at, lock_argument_at, hang_argument_at, arg_at, has_args, args_at, postcondition_by, postcondition_at, command_by, command_at, is_format}
+use Rattle.mgrammar.proofs.GrammarWords.{◌≡◌, ℕ, ◌≤◌, Bool, true, false, not, eqb, cond, List, [], ◌∷◌, ◌++◌, length, Option, Some, None, inl, inr, refl, sym, ap, subst, ◌∙◌, append_assoc, arith, drop, ◌||◌, eqb-true, and_parts, nat_tests, is_letter, is_name_rest, AllAre, ExprTree, expr, no_tails, operand, PrimaryTree, reference, indirect, no_exprs, ArgTree, formats, coded, shown, kill_one, tested, loop, executed, locked, hang_for, indirect_args, anew, lock_one, CommandTree, KeywordTree, for_word, FormTree, set_argument, kill_argument, new_argument, if_argument, for_argument, write_argument, do_argument, goto_argument, xecute_argument, lock_argument, hang_argument, no_argument, spell_expr, spell_arg, spell_args, spell_condition, spell_list, spell_more, spell_command, keyword_of, form_of, takes_args, takes_condition, max_depth, bare_arg, WellAll, WellList, WellExpr, WellBelow, WellOptional, WellPlain, WellArg, WellCondition, WellCommand, ◌>>=◌, run_of, after_run, past, list_at, kill_argument_at, new_argument_at, if_argument_at, write_argument_at, do_argument_at, goto_argument_at, xecute_argument_at, lock_argument_at, hang_argument_at, arg_at, has_args, args_at, postcondition_by, postcondition_at, command_by, command_at, is_format}
 use Rattle.mgrammar.proofs.ReadingBasics.{Takes, Again, Stops, Stops-weaker, Begins, Begins-append, Begins-weaker, goes_on, bind_some, chosen, some_is, run_parts, run_again, not_past}
 use Rattle.mgrammar.proofs.ReadingLists.{is_comma, one_again, list_takes, list_again}
 use Rattle.mgrammar.proofs.ReadingReferences.{Ends, operand_ends, name_or_open, bare_well}

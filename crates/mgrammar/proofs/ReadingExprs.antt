@@ -1,9 +1,9 @@
 -- SPDX-License-Identifier: Apache-2.0
 -- What is read as an expression is spelled so, and what is spelled so is read.
 use Rattle.mgrammar.proofs.GrammarWords.{◌≡◌, ℕ, zero, suc, ◌<◌, ◌-◌, Bool, true, false, List, [], ◌∷◌, ◌++◌, length, Option, Some, None, refl, sym, ap, subst, ◌∙◌, append_assoc, arith, ◌||◌, nat_tests, append-nil, plus, BinaryTree, AtomTree, PrimaryTree, ExprTree, expr, TailTree, apply, matches, matches_not, raise, matches_indirect, matches_not_indirect, TailsTree, no_tails, tail, tails_of, OperandTree, operand, spell_signs, spell_binary, spell_atoms, spell_expr, spell_tails, spell_tail, spell_operand, spell_primary, spell_reference, bare_primary, WellExpr, WellTails, WellTail, WellOperand, WellPrimary, WellReference, WellBelow, WellList, WellAtom, eqb, ◌>>=◌, past, is_digit_or_point, matches_by, matches_not_by, many, pattern_at, signs_of, after_signs, OperatorTree, between, matching, matching_not, raising, operator_at, Readers, primary_with, operand_with, tail_by, tail_behind, tail_with, expr_with, readers_at, inner_at}
-use Rattle.mgrammar.proofs.ReadingBasics.{IsRead, Takes, Again, Begins, Begins-stops, Begins-append, Begins-weaker, Begins-long, goes_further, bind_some, some_is, past_takes, not_past}
+use Rattle.mgrammar.proofs.ReadingBasics.{Stops, goes_on, IsRead, Takes, Again, Begins, Begins-stops, Begins-append, Begins-weaker, Begins-long, goes_further, bind_some, some_is, past_takes, not_past}
 use Rattle.mgrammar.proofs.ReadingLists.{each, ItemTakes, many_takes, many_again, count_le, joined}
-use Rattle.mgrammar.proofs.ReadingPatterns.{pattern_takes, pattern_again, pattern_begins}
+use Rattle.mgrammar.proofs.ReadingPatterns.{pattern_at_takes, pattern_at_again, pattern_begins}
 use Rattle.mgrammar.proofs.ReadingOperators.{is_sign, signs_parts, signs_again, is_doubled, spell_operator, operator_takes, operator_again, is_operator, operator_begins, no_operator}
 use Rattle.mgrammar.proofs.ReadingTrees.{tails_list, tails_back, spell_tails-each, tails_well, list_well, WellInner}
 use Rattle.mgrammar.proofs.ReadingReferences.{OperandEnds, Ends, TakesFree, AgainFree, operand_ends, greedy_ends, WellWithin, reference_takes, reference_again}
@@ -15,7 +15,7 @@ use Rattle.mgrammar.proofs.ReadingPrimaries.{begins_primary, primary_begins, pri
 behind_parts : (o cs a b : List ℕ) → cs ≡ a ++ b → o ++ cs ≡ (o ++ a) ++ b
 behind_parts o cs a b p = rw (p, append_assoc) refl
 
-module _ (d : ℕ) (r : Readers) (inner_takes : Takes spell_expr (WellInner d) (r.inner)) (within_takes : Takes spell_reference (WellWithin d) (r.within)) (below_takes : TakesFree spell_primary (WellBelow d) bare_primary (r.below)) where
+module _ (d : ℕ) (r : Readers) (inner_takes : Takes spell_expr (WellInner d) (r.inner)) (within_takes : Takes spell_reference (WellWithin d) (r.within)) (below_takes : TakesFree spell_primary (WellBelow d) bare_primary (r.below)) (pattern_takes : Takes spell_atoms (WellList (WellAtom d)) (r.pattern)) where
   operand_takes : Takes spell_operand (WellOperand d) (operand_with r)
   unfolding operand_with
   operand_takes cs x e =
@@ -27,7 +27,7 @@ module _ (d : ℕ) (r : Readers) (inner_takes : Takes spell_expr (WellInner d) (
 
   matches_takes : (cs : List ℕ) (o : Option (List ℕ)) (x : TailTree × List ℕ) → past 64 cs ≡ o → matches_by r cs o ≡ Some x → IsRead spell_tail (WellTail d) (63 ∷ cs) x
   matches_takes cs None x h e =
-      let k = bind_some (pattern_at cs) (λ p. Some (matches p.0, p.1)) x e in
+      let k = bind_some (r.pattern cs) (λ p. Some (matches p.0, p.1)) x e in
       let p = pattern_takes cs k.0 k.1 in
       subst (IsRead spell_tail (WellTail d) (63 ∷ cs)) (some_is (matches k.0.0, k.0.1) x k.2) (behind_parts (63 ∷ []) cs (spell_atoms k.0.0) k.0.1 p.0, p.1)
   matches_takes cs (Some behind) x h e =
@@ -37,7 +37,7 @@ module _ (d : ℕ) (r : Readers) (inner_takes : Takes spell_expr (WellInner d) (
 
   matches_not_takes : (cs : List ℕ) (o : Option (List ℕ)) (x : TailTree × List ℕ) → past 64 cs ≡ o → matches_not_by r cs o ≡ Some x → IsRead spell_tail (WellTail d) (39 ∷ 63 ∷ cs) x
   matches_not_takes cs None x h e =
-      let k = bind_some (pattern_at cs) (λ p. Some (matches_not p.0, p.1)) x e in
+      let k = bind_some (r.pattern cs) (λ p. Some (matches_not p.0, p.1)) x e in
       let p = pattern_takes cs k.0 k.1 in
       subst (IsRead spell_tail (WellTail d) (39 ∷ 63 ∷ cs)) (some_is (matches_not k.0.0, k.0.1) x k.2) (behind_parts (39 ∷ 63 ∷ []) cs (spell_atoms k.0.0) k.0.1 p.0, p.1)
   matches_not_takes cs (Some behind) x h e =
@@ -97,16 +97,18 @@ record Taken (d : ℕ) : Type 0 where
   inner : Takes spell_expr (WellInner d) (inner_at d)
   within : Takes spell_reference (WellWithin d) ((readers_at d).within)
   below : TakesFree spell_primary (WellBelow d) bare_primary ((readers_at d).below)
+  pattern : Takes spell_atoms (WellList (WellAtom d)) ((readers_at d).pattern)
 
 all_taken : (d : ℕ) → Taken d
 unfolding readers_at
-all_taken zero = record { inner = λ cs x e. absurd cc; within = λ cs x e. absurd cc; below = λ cs x e. absurd cc }
+all_taken zero = record { inner = λ cs x e. absurd cc; within = λ cs x e. absurd cc; below = λ cs x e. absurd cc; pattern = pattern_at_takes zero }
 all_taken (suc d) =
     let below = all_taken d in
     record {
-      inner = λ cs x e. let t = expr_takes d (readers_at d) (below.inner) (below.within) (below.below) cs x e in (t.0, deeper WellExpr d x.0 t.1);
+      inner = λ cs x e. let t = expr_takes d (readers_at d) (below.inner) (below.within) (below.below) (below.pattern) cs x e in (t.0, deeper WellExpr d x.0 t.1);
       within = λ cs x e. let t = reference_takes d (readers_at d) (below.inner) (below.below) cs x e in (t.0, deeper WellReference d x.0 t.1);
       below = λ cs x e. let t = primary_takes_free d (readers_at d) (below.inner) (below.within) (below.below) cs x e in (t.0, deeper WellPrimary d x.0 t.1, t.2);
+      pattern = pattern_at_takes (suc d);
     }
 
 pub inner_takes : (d : ℕ) → Takes spell_expr (WellInner d) (inner_at d)
@@ -117,6 +119,14 @@ within_takes d = (all_taken d).within
 
 pub below_takes : (d : ℕ) → TakesFree spell_primary (WellBelow d) bare_primary ((readers_at d).below)
 below_takes d = (all_taken d).below
+
+pub read_pattern_takes : (d : ℕ) → Takes spell_atoms (WellList (WellAtom d)) ((readers_at d).pattern)
+read_pattern_takes d = (all_taken d).pattern
+
+pub pattern_read : (d : ℕ) → (readers_at d).pattern ≡ pattern_at d
+unfolding readers_at
+pattern_read zero = refl
+pattern_read (suc d) = refl
 
 -- ---- what is spelled so is read, below some depth
 
@@ -168,11 +178,11 @@ apply_step : (r : Readers) (b : BinaryTree) (cs : List ℕ) (o : OperandTree) (r
 unfolding tail_by
 apply_step r b cs o rest h = rw h refl
 
-matches_step : (r : Readers) (cs : List ℕ) (atoms : List AtomTree) (rest : List ℕ) → past 64 cs ≡ None → pattern_at cs ≡ Some (atoms, rest) → tail_by r matching cs ≡ Some (matches atoms, rest)
+matches_step : (r : Readers) (cs : List ℕ) (atoms : List AtomTree) (rest : List ℕ) → past 64 cs ≡ None → r.pattern cs ≡ Some (atoms, rest) → tail_by r matching cs ≡ Some (matches atoms, rest)
 unfolding tail_by
 matches_step r cs atoms rest n h = rw (n, h) refl
 
-matches_not_step : (r : Readers) (cs : List ℕ) (atoms : List AtomTree) (rest : List ℕ) → past 64 cs ≡ None → pattern_at cs ≡ Some (atoms, rest) → tail_by r matching_not cs ≡ Some (matches_not atoms, rest)
+matches_not_step : (r : Readers) (cs : List ℕ) (atoms : List AtomTree) (rest : List ℕ) → past 64 cs ≡ None → r.pattern cs ≡ Some (atoms, rest) → tail_by r matching_not cs ≡ Some (matches_not atoms, rest)
 unfolding tail_by
 matches_not_step r cs atoms rest n h = rw (n, h) refl
 
@@ -185,8 +195,8 @@ count_no_at : (c : ℕ) → is_digit_or_point c ≡ true → eqb c 64 ≡ false
 count_no_at c h = grind (arith, nat_tests)
 
 -- no `@` begins a pattern as it is written
-pattern_no_at : (atoms : List AtomTree) (rest : List ℕ) → WellList WellAtom atoms → past 64 (spell_atoms atoms ++ rest) ≡ None
-pattern_no_at atoms rest w = not_past 64 (spell_atoms atoms ++ rest) (Begins-stops is_digit_or_point (λ c. eqb c 64) (spell_atoms atoms ++ rest) count_no_at (pattern_begins atoms rest w))
+pattern_no_at : (d : ℕ) (atoms : List AtomTree) (rest : List ℕ) → WellList (WellAtom d) atoms → past 64 (spell_atoms atoms ++ rest) ≡ None
+pattern_no_at d atoms rest w = not_past 64 (spell_atoms atoms ++ rest) (Begins-stops is_digit_or_point (λ c. eqb c 64) (spell_atoms atoms ++ rest) count_no_at (pattern_begins d atoms rest w))
 
 raise_step : (r : Readers) (cs : List ℕ) (o : OperandTree) (rest : List ℕ) → operand_with r cs ≡ Some (o, rest) → tail_by r raising cs ≡ Some (raise o, rest)
 unfolding tail_by
@@ -200,7 +210,7 @@ raise_operator : (cs : List ℕ) → operator_at (42 ∷ 42 ∷ cs) ≡ Some (ra
 unfolding operator_at
 raise_operator cs = refl
 
-module _ (d : ℕ) (r : Readers) (inner_again : Again spell_expr (WellInner d) Ends (r.inner)) (within_again : Again spell_reference (WellWithin d) OperandEnds (r.within)) (below_again : AgainFree spell_primary (WellBelow d) bare_primary (r.below)) where
+module _ (d : ℕ) (r : Readers) (inner_again : Again spell_expr (WellInner d) Ends (r.inner)) (within_again : Again spell_reference (WellWithin d) OperandEnds (r.within)) (below_again : AgainFree spell_primary (WellBelow d) bare_primary (r.below)) (pattern_again : Again spell_atoms (WellList (WellAtom d)) (Stops goes_on) (r.pattern)) where
   operand_again : Again spell_operand (WellOperand d) OperandEnds (operand_with r)
   unfolding operand_with
   operand_again (operand signs p) rest w s =
@@ -216,10 +226,10 @@ module _ (d : ℕ) (r : Readers) (inner_again : Again spell_expr (WellInner d) E
       (ap operator_at (append_assoc (spell_binary b) (spell_operand o) rest) ∙ operator_again (between b) (spell_operand o ++ rest) stops) (apply_step r b (spell_operand o ++ rest) o rest (operand_again o rest w s))
   tail_again (matches atoms) rest w s =
       by_operator r (63 ∷ (spell_atoms atoms ++ rest)) (spell_atoms atoms ++ rest) matching (matches atoms) rest (match_operators (spell_atoms atoms ++ rest)).0
-      (matches_step r (spell_atoms atoms ++ rest) atoms rest (pattern_no_at atoms rest w) (pattern_again atoms rest w (operand_ends rest s)))
+      (matches_step r (spell_atoms atoms ++ rest) atoms rest (pattern_no_at d atoms rest w) (pattern_again atoms rest w (operand_ends rest s)))
   tail_again (matches_not atoms) rest w s =
       by_operator r (39 ∷ 63 ∷ (spell_atoms atoms ++ rest)) (spell_atoms atoms ++ rest) matching_not (matches_not atoms) rest (match_operators (spell_atoms atoms ++ rest)).1
-      (matches_not_step r (spell_atoms atoms ++ rest) atoms rest (pattern_no_at atoms rest w) (pattern_again atoms rest w (operand_ends rest s)))
+      (matches_not_step r (spell_atoms atoms ++ rest) atoms rest (pattern_no_at d atoms rest w) (pattern_again atoms rest w (operand_ends rest s)))
   tail_again (matches_indirect p) rest w s =
       let behind = spell_primary p ++ rest in
       by_operator r (63 ∷ 64 ∷ behind) (64 ∷ behind) matching (matches_indirect p) rest (match_operators (64 ∷ behind)).0
@@ -255,6 +265,7 @@ record Spelled (d : ℕ) : Type 0 where
   inner : Again spell_expr (WellInner d) Ends (inner_at d)
   within : Again spell_reference (WellWithin d) OperandEnds ((readers_at d).within)
   below : AgainFree spell_primary (WellBelow d) bare_primary ((readers_at d).below)
+  pattern : Again spell_atoms (WellList (WellAtom d)) (Stops goes_on) ((readers_at d).pattern)
 
 all_spelled : (d : ℕ) → Spelled d
 unfolding readers_at
@@ -262,13 +273,15 @@ all_spelled zero = record {
   inner = λ e rest w f. absurd (omega (arith, w.0));
   within = λ v rest w f. absurd (omega (arith, w.0));
   below = λ p rest w f g. absurd (omega (arith, w.0));
+  pattern = pattern_at_again zero;
 }
 all_spelled (suc d) =
     let below = all_spelled d in
     record {
-      inner = λ e rest w f. expr_again d (readers_at d) (below.inner) (below.within) (below.below) e rest (inside WellExpr d e w) f;
+      inner = λ e rest w f. expr_again d (readers_at d) (below.inner) (below.within) (below.below) (below.pattern) e rest (inside WellExpr d e w) f;
       within = λ v rest w f. reference_again d (readers_at d) (below.inner) (below.below) v rest (inside WellReference d v w) f;
       below = λ p rest w f g. primary_again_free d (readers_at d) (below.inner) (below.within) (below.below) p rest (inside WellPrimary d p w) f g;
+      pattern = pattern_at_again (suc d);
     }
 
 pub inner_again : (d : ℕ) → Again spell_expr (WellInner d) Ends (inner_at d)
@@ -279,3 +292,6 @@ within_again d = (all_spelled d).within
 
 pub below_again : (d : ℕ) → AgainFree spell_primary (WellBelow d) bare_primary ((readers_at d).below)
 below_again d = (all_spelled d).below
+
+pub read_pattern_again : (d : ℕ) → Again spell_atoms (WellList (WellAtom d)) (Stops goes_on) ((readers_at d).pattern)
+read_pattern_again d = (all_spelled d).pattern

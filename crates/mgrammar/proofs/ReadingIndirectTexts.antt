@@ -3,7 +3,7 @@
 use Rattle.mgrammar.proofs.GrammarWords.{◌≡◌, ◌↔◌, ℕ, true, false, List, [], ◌∷◌, ◌++◌, length, Some, refl, sym, ap, subst, ◌∙◌, append-nil, ReferenceTree, ArgTree, AtomTree, FormTree, for_argument, may_be_indirect, spell_reference, spell_list, spell_arg, spell_atoms, max_depth, WellReference, WellList, WellArg, WellAtom, Read, ◌>>=◌, list_at, pattern_at, readers_at, reference_with, arg_at, whole_by, ref_at, args_of, pattern_of}
 use Rattle.mgrammar.proofs.ReadingBasics.{Takes, bind_some, some_is, unique, told}
 use Rattle.mgrammar.proofs.ReadingLists.{list_takes}
-use Rattle.mgrammar.proofs.ReadingPatterns.{pattern_takes, pattern_again}
+use Rattle.mgrammar.proofs.ReadingPatterns.{pattern_at_takes, pattern_at_again}
 use Rattle.mgrammar.proofs.ReadingArguments.{variable_takes, variable_again}
 use Rattle.mgrammar.proofs.ReadingCommands.{IsCounted, is_form}
 
@@ -65,16 +65,16 @@ one_argument_list f m s t v w e = some_is s t (sym (arguments_again f s m v) ∙
 
 -- ---- a pattern
 
-atoms_again : (atoms : List AtomTree) → WellList WellAtom atoms → pattern_of (spell_atoms atoms) ≡ Some atoms
+atoms_again : (atoms : List AtomTree) → WellList (WellAtom max_depth) atoms → pattern_of (spell_atoms atoms) ≡ Some atoms
 unfolding pattern_of
-atoms_again atoms w = whole_again spell_atoms (WellList WellAtom) pattern_at atoms (pattern_again atoms [] w tt)
+atoms_again atoms w = whole_again spell_atoms (WellList (WellAtom max_depth)) (pattern_at max_depth) atoms (pattern_at_again max_depth atoms [] w tt)
 
-atoms_takes : (cs : List ℕ) (atoms : List AtomTree) → pattern_of cs ≡ Some atoms → (spell_atoms atoms ≡ cs) × WellList WellAtom atoms
+atoms_takes : (cs : List ℕ) (atoms : List AtomTree) → pattern_of cs ≡ Some atoms → (spell_atoms atoms ≡ cs) × WellList (WellAtom max_depth) atoms
 unfolding pattern_of
-atoms_takes cs atoms e = whole_takes spell_atoms (WellList WellAtom) pattern_at pattern_takes cs atoms e
+atoms_takes cs atoms e = whole_takes spell_atoms (WellList (WellAtom max_depth)) (pattern_at max_depth) (pattern_at_takes max_depth) cs atoms e
 
-pub reads_its_pattern : (text : List ℕ) (atoms : List AtomTree) → (pattern_of text ≡ Some atoms) ↔ ((spell_atoms atoms ≡ text) × WellList WellAtom atoms)
-reads_its_pattern = told spell_atoms (WellList WellAtom) pattern_of atoms_again atoms_takes
+pub reads_its_pattern : (text : List ℕ) (atoms : List AtomTree) → (pattern_of text ≡ Some atoms) ↔ ((spell_atoms atoms ≡ text) × WellList (WellAtom max_depth) atoms)
+reads_its_pattern = told spell_atoms (WellList (WellAtom max_depth)) pattern_of atoms_again atoms_takes
 
-pub one_pattern : (s t : List AtomTree) → WellList WellAtom s → WellList WellAtom t → spell_atoms s ≡ spell_atoms t → s ≡ t
-one_pattern = unique spell_atoms (WellList WellAtom) pattern_of atoms_again
+pub one_pattern : (s t : List AtomTree) → WellList (WellAtom max_depth) s → WellList (WellAtom max_depth) t → spell_atoms s ≡ spell_atoms t → s ≡ t
+one_pattern = unique spell_atoms (WellList (WellAtom max_depth)) pattern_of atoms_again

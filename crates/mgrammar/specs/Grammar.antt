@@ -45,15 +45,34 @@ pub record CountTree : Type 0 where
   pub front : List ℕ
   pub behind : Option (List ℕ)
 
--- a run of `patcode`, as its letters are written, or `strlit`
-pub data RepeatedTree : Type 0 where
-  classes : List ℕ → RepeatedTree
-  copies : List ℕ → RepeatedTree
+-- a run of `patcode`, as its letters are written; `strlit`; or an `alternation`, patterns in brackets, each a run of atoms
+mutual
+  pub data RepeatedTree : Type 0 where
+    classes : List ℕ → RepeatedTree
+    copies : List ℕ → RepeatedTree
+    group : PatternsTree → RepeatedTree
+
+  pub data AtomsTree : Type 0 where
+    no_atoms : AtomsTree
+    more_atoms : CountTree → RepeatedTree → AtomsTree → AtomsTree
+
+  pub data PatternsTree : Type 0 where
+    no_patterns : PatternsTree
+    more_patterns : AtomsTree → PatternsTree → PatternsTree
 
 -- `patatom`
 pub record AtomTree : Type 0 where
   pub count : CountTree
   pub repeated : RepeatedTree
+
+-- the atoms of a list, and the patterns
+abbrev pub atoms_of : List AtomTree → AtomsTree
+atoms_of [] = no_atoms
+atoms_of (a ∷ rest) = more_atoms a.count a.repeated (atoms_of rest)
+
+abbrev pub patterns_of : List (List AtomTree) → PatternsTree
+patterns_of [] = no_patterns
+patterns_of (p ∷ rest) = more_patterns (atoms_of p) (patterns_of rest)
 
 -- `expr`; `exprtail`, of which a list of steps is a run, those of `**` apart, which take steps of a line, with a `pattern` as it is written or, in pattern indirection, the operand of
 -- an `@`; `expratom` with its unary
@@ -271,12 +290,32 @@ abbrev pub spell_behind : Option (List ℕ) → List ℕ
 spell_behind None = []
 spell_behind (Some digits) = 46 ∷ digits
 
-abbrev pub spell_repeated : RepeatedTree → List ℕ
-spell_repeated (classes letters) = letters
-spell_repeated (copies t) = spell_string t
+-- a count, and what comes after it
+abbrev pub spell_counted : CountTree → List ℕ → List ℕ
+spell_counted n t = n.front ++ (spell_behind n.behind ++ t)
+
+abbrev mutual
+  pub spell_repeated : RepeatedTree → List ℕ
+  spell_repeated (classes letters) = letters
+  spell_repeated (copies t) = spell_string t
+  spell_repeated (group ps) = 40 ∷ (spell_patterns ps ++ 41 ∷ [])
+
+  pub spell_run : AtomsTree → List ℕ
+  spell_run no_atoms = []
+  spell_run (more_atoms n p rest) = spell_counted n (spell_repeated p) ++ spell_run rest
+
+  -- with commas between
+  pub spell_patterns : PatternsTree → List ℕ
+  spell_patterns no_patterns = []
+  spell_patterns (more_patterns p rest) = spell_run p ++ spell_more_patterns rest
+
+  -- with a comma before each
+  pub spell_more_patterns : PatternsTree → List ℕ
+  spell_more_patterns no_patterns = []
+  spell_more_patterns (more_patterns p rest) = 44 ∷ (spell_run p ++ spell_more_patterns rest)
 
 abbrev pub spell_atom : AtomTree → List ℕ
-spell_atom a = a.count.front ++ (spell_behind a.count.behind ++ spell_repeated a.repeated)
+spell_atom a = spell_counted a.count (spell_repeated a.repeated)
 
 abbrev pub spell_atoms : List AtomTree → List ℕ
 spell_atoms [] = []

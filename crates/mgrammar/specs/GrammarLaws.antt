@@ -54,11 +54,11 @@ ReadsItsArguments =
 
 -- as that of a pattern indirection, no text has two lists of atoms
 abbrev pub OnePattern : Type 0
-OnePattern = (s t : List AtomTree) → WellList WellAtom s → WellList WellAtom t → spell_atoms s ≡ spell_atoms t → s ≡ t
+OnePattern = (s t : List AtomTree) → WellList (WellAtom max_depth) s → WellList (WellAtom max_depth) t → spell_atoms s ≡ spell_atoms t → s ≡ t
 
 -- and it is read as such a list exactly when that is the list of well-formed atoms that spells it
 abbrev pub ReadsItsPattern : Type 0
-ReadsItsPattern = (text : List ℕ) (atoms : List AtomTree) → (pattern_of text ≡ Some atoms) ↔ ((spell_atoms atoms ≡ text) × WellList WellAtom atoms)
+ReadsItsPattern = (text : List ℕ) (atoms : List AtomTree) → (pattern_of text ≡ Some atoms) ↔ ((spell_atoms atoms ≡ text) × WellList (WellAtom max_depth) atoms)
 
 -- in a language a text is read as a tree exactly when that is the well-formed tree that spells it, and the language has all its forms
 abbrev pub ReadsItsTreeIn : Type 0

@@ -25,4 +25,4 @@ args_of f cs = list_at (arg_at f) cs >>= λ x. whole_by x.0 x.1
 
 -- of pattern indirection: a pattern as it is written, with no further `@`
 unfoldable pub pattern_of : List ℕ → Option (List AtomTree)
-pattern_of cs = pattern_at cs >>= λ p. whole_by p.0 p.1
+pattern_of cs = pattern_at max_depth cs >>= λ p. whole_by p.0 p.1

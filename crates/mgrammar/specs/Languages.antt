@@ -5,7 +5,7 @@
 -- the rows of its words: 0 is the profile, and each later language has all that those before it have. A text whose tree needs a later
 -- language is as a text that has no tree.
 use Rattle.std.specs.Prelude.{ℕ, nat_le, max, if◌then◌else◌, List, [], ◌∷◌, length, Option, Some, None}
-use Rattle.mgrammar.specs.Grammar.{ExprTree, expr, TailsTree, no_tails, tail, TailTree, apply, matches, matches_not, raise, matches_indirect, matches_not_indirect, OperandTree, operand, PrimaryTree, number, text, special, reference, bracket, call, select, refer, ReferenceTree, local, global, naked, indirect, extended, ExprsTree, no_exprs, exprs, ChoicesTree, no_choices, choice}
+use Rattle.mgrammar.specs.Grammar.{RepeatedTree, classes, copies, group, AtomTree, ExprTree, expr, TailsTree, no_tails, tail, TailTree, apply, matches, matches_not, raise, matches_indirect, matches_not_indirect, OperandTree, operand, PrimaryTree, number, text, special, reference, bracket, call, select, refer, ReferenceTree, local, global, naked, indirect, extended, ExprsTree, no_exprs, exprs, ChoicesTree, no_choices, choice}
 use Rattle.mgrammar.specs.Grammar.{TargetTree, variable, part, DestinationTree, one, several, ParameterTree, once, onward, until, LockedTree, lock_one, lock_several, FormTree, ArgTree, assign, formats, coded, shown, kill_one, kill_others, new_one, new_others, tested, loop, do_one, go_to, executed, locked, hang_for, indirect_args, CommandTree, SpacedTree, LineTree, is_bang}
 use Rattle.mgrammar.specs.Functions.{since_function, since_values, since_part}
 use Rattle.mgrammar.specs.WellFormed.{exprs_count}
@@ -26,6 +26,14 @@ abbrev pub since_optional : {A : Type 0} → (A → ℕ) → Option A → ℕ
 since_optional since None = 0
 since_optional since (Some a) = since a
 
+abbrev pub since_repeated : RepeatedTree → ℕ
+since_repeated (classes letters) = 0
+since_repeated (copies t) = 0
+since_repeated (group ps) = 1
+
+abbrev pub since_atom : AtomTree → ℕ
+since_atom a = since_repeated a.repeated
+
 abbrev mutual
   pub since_expr : ExprTree → ℕ
   since_expr (expr first rest) = max (since_operand first) (since_tails rest)
@@ -36,8 +44,8 @@ abbrev mutual
 
   pub since_tail : TailTree → ℕ
   since_tail (apply b o) = since_operand o
-  since_tail (matches atoms) = 0
-  since_tail (matches_not atoms) = 0
+  since_tail (matches atoms) = since_all since_atom atoms
+  since_tail (matches_not atoms) = since_all since_atom atoms
   since_tail (raise o) = max 1 (since_operand o)
   since_tail (matches_indirect p) = max 1 (since_primary p)
   since_tail (matches_not_indirect p) = max 1 (since_primary p)

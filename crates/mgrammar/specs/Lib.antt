@@ -12,4 +12,3 @@ pub mod RoutineLine
 pub mod Languages
 pub mod GrammarLaws
 pub mod Matching
-pub mod PatternLaws

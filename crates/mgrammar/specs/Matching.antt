@@ -1,15 +1,11 @@
 -- SPDX-License-Identifier: Apache-2.0
--- The pattern of a tree, and whether a text matches a pattern, as tests that compute.
---
--- Restates "Pattern match pattern" of ISO/IEC 11756:1999 as Pattern does, by trying every way of cutting the text into
--- segments and every number of copies.
-use Rattle.std.specs.Prelude.{ℕ, zero, suc, ◌+◌, Bool, true, not, ◌&&◌, ◌||◌, ◌==◌, nat_le, nat_eq, List, [], ◌∷◌, map, length, take, drop, Option, Some, None, if◌then◌else◌}
-use Rattle.std.specs.List.{list_all}
-use Rattle.std.specs.Cmp.Lexicographic.{pointwise}
+-- The pattern of a tree, whether any of its counts is reversed, and how many turns its groups take at most.
+use Rattle.std.specs.Prelude.{ℕ, suc, ◌+◌, ◌*◌, Bool, false, ◌||◌, ◌==◌, List, [], ◌∷◌, map, Option, Some, None, if◌then◌else◌}
 use Rattle.mspec.specs.Literal.{digits_after}
 use Rattle.mspec.specs.Names.{upper_case}
-use Rattle.mgrammar.specs.Grammar.{CountTree, RepeatedTree, AtomTree, classes, copies as copies_tree}
-use Rattle.mspec.specs.Pattern.{PatternCode, letter, control, everything, lower, numeral, punctuation, upper, is_in_any, Count, Repeated, members, copies, copied, Atom}
+use Rattle.mgrammar.specs.Grammar.{CountTree, RepeatedTree, classes, copies as copies_tree, group, AtomsTree, no_atoms, more_atoms, PatternsTree, no_patterns, more_patterns, AtomTree}
+use Rattle.mspec.specs.Pattern.{PatternCode, letter, control, everything, lower, numeral, punctuation, upper, Count, Repeated, members, copies, passing, Atom}
+use Rattle.mspec.specs.PatternTests.{is_reversed, is_match, turns}
 
 -- ---- the pattern of a tree
 
@@ -37,41 +33,66 @@ most_of front (Some behind) = bound_of behind
 abbrev pub count_of : CountTree → Count
 count_of c = record { least = digits_after 0 c.front; most = most_of c.front c.behind }
 
-abbrev pub repeated_of : RepeatedTree → Repeated
-repeated_of (classes letters) = members (map pattern_code letters)
-repeated_of (copies_tree t) = copies t
+-- of a group, the texts that any of its patterns matches
+abbrev mutual
+  pub repeated_of : RepeatedTree → Repeated
+  repeated_of (classes letters) = members (map pattern_code letters)
+  repeated_of (copies_tree t) = copies t
+  repeated_of (group ps) = passing (λ text. is_any_match ps text)
+
+  pub atoms_in : AtomsTree → List Atom
+  atoms_in no_atoms = []
+  atoms_in (more_atoms n p rest) = record { count = count_of n; repeated = repeated_of p } ∷ atoms_in rest
+
+  pub is_any_match : PatternsTree → List ℕ → Bool
+  is_any_match no_patterns text = false
+  is_any_match (more_patterns p rest) text = is_match (atoms_in p) text || is_any_match rest text
 
 abbrev pub atom_of : AtomTree → Atom
 atom_of a = record { count = count_of a.count; repeated = repeated_of a.repeated }
 
 -- ---- counts
 
-abbrev pub is_at_most : Option ℕ → ℕ → Bool
-is_at_most None n = true
-is_at_most (Some most) n = nat_le n most
+-- any count in what is repeated has a greatest one below its least
+abbrev mutual
+  pub has_reversed : RepeatedTree → Bool
+  has_reversed (classes letters) = false
+  has_reversed (copies_tree t) = false
+  has_reversed (group ps) = patterns_reversed ps
 
-abbrev pub is_permitted : Count → ℕ → Bool
-is_permitted count n = nat_le count.least n && is_at_most count.most n
+  pub run_reversed : AtomsTree → Bool
+  run_reversed no_atoms = false
+  run_reversed (more_atoms n p rest) = (is_reversed (count_of n) || has_reversed p) || run_reversed rest
 
--- the greatest count is below the least
-abbrev pub is_reversed : Count → Bool
-is_reversed count = not (is_at_most count.most count.least)
+  pub patterns_reversed : PatternsTree → Bool
+  patterns_reversed no_patterns = false
+  patterns_reversed (more_patterns p rest) = run_reversed p || patterns_reversed rest
 
--- ---- matching
+abbrev pub atom_reversed : AtomTree → Bool
+atom_reversed a = is_reversed (count_of a.count) || has_reversed a.repeated
 
--- some number up to n passes the test
-abbrev pub any_up_to : ℕ → (ℕ → Bool) → Bool
-any_up_to zero test = test 0
-any_up_to (suc n) test = any_up_to n test || test (suc n)
+-- ---- turns
 
--- A text that is not empty holds at most as many copies of a string as it has characters; for the empty string the least
--- number of copies is as good as any.
-abbrev pub is_repetition : Count → Repeated → List ℕ → Bool
-is_repetition count (members codes) text = list_all (is_in_any codes) text && is_permitted count (length text)
-is_repetition count (copies string) text =
-    any_up_to (count.least + length text) (λ n. is_permitted count n && pointwise nat_eq text (copied n string))
+-- The turns that an atom takes at most, with so many turns of its own, of a text with so many characters: each turn of a group is one, and
+-- in each turn there are those of all atoms of its patterns.
+abbrev mutual
+  pub turns_of_repeated : ℕ → ℕ → RepeatedTree → ℕ
+  turns_of_repeated n own (classes letters) = 0
+  turns_of_repeated n own (copies_tree t) = 0
+  turns_of_repeated n own (group ps) = own * suc (turns_of_patterns n ps)
 
-abbrev pub is_match : List Atom → List ℕ → Bool
-is_match [] text = length text == 0
-is_match (atom ∷ atoms) text =
-    any_up_to (length text) (λ n. is_repetition atom.count atom.repeated (take n text) && is_match atoms (drop n text))
+  pub turns_of_run : ℕ → AtomsTree → ℕ
+  turns_of_run n no_atoms = 0
+  turns_of_run n (more_atoms c p rest) = turns_of_repeated n (turns (count_of c) n) p + turns_of_run n rest
+
+  pub turns_of_patterns : ℕ → PatternsTree → ℕ
+  turns_of_patterns n no_patterns = 0
+  turns_of_patterns n (more_patterns p rest) = turns_of_run n p + turns_of_patterns n rest
+
+abbrev pub turns_of_atom : ℕ → AtomTree → ℕ
+turns_of_atom n a = turns_of_repeated n (turns (count_of a.count) n) a.repeated
+
+-- those of a pattern
+abbrev pub turns_of : ℕ → List AtomTree → ℕ
+turns_of n [] = 0
+turns_of n (a ∷ rest) = turns_of_atom n a + turns_of n rest

@@ -2,18 +2,19 @@
 -- How expressions are read: references, calls, brackets and what operators tie.
 use Rattle.std.specs.Prelude.{ℕ, zero, suc, false, ◌==◌, nat_le, if◌then◌else◌, List, [], ◌∷◌, length, Option, Some, None}
 use Rattle.mspec.specs.Names.{is_letter}
-use Rattle.mgrammar.specs.Grammar.{ExprTree, expr, TailTree, apply, matches, matches_not, raise, matches_indirect, matches_not_indirect, tails_of, OperandTree, operand, PrimaryTree, number, text, special, reference, bracket, call, select, refer, ReferenceTree, local, global, naked, indirect, extended, ExprsTree, no_exprs, exprs_of, choices_of}
+use Rattle.mgrammar.specs.Grammar.{AtomTree, ExprTree, expr, TailTree, apply, matches, matches_not, raise, matches_indirect, matches_not_indirect, tails_of, OperandTree, operand, PrimaryTree, number, text, special, reference, bracket, call, select, refer, ReferenceTree, local, global, naked, indirect, extended, ExprsTree, no_exprs, exprs_of, choices_of}
 use Rattle.mgrammar.specs.Specials.{SpecialTree, special_of}
 use Rattle.mgrammar.specs.Functions.{FunctionTree, of_values, of_variable, of_choices, function_of, takes}
 use Rattle.mgrammar.specs.ReadingWords.{Read, ◌>>=◌, run_of, after_run, is_digit_or_point, number_at, name_at, text_from, past, many, after_comma, list_at, pattern_at, signs_of, after_signs, OperatorTree, operator_at, between, matching, matching_not, raising}
 
 -- ---- expressions
 
--- how to read an expression and a variable in brackets, and the operand of an `@`
+-- how to read an expression and a variable in brackets, the operand of an `@`, and a pattern
 pub record Readers : Type 0 where
   pub inner : List ℕ → Read ExprTree
   pub within : List ℕ → Read ReferenceTree
   pub below : List ℕ → Read PrimaryTree
+  pub pattern : List ℕ → Read (List AtomTree)
 
 -- the text after an `@`, if a bracket opens there
 abbrev pub attached_at : List ℕ → Option (List ℕ)
@@ -120,12 +121,12 @@ module _ (r : Readers) where
 
   -- after a `?`, given that this text comes after an `@`, or none does
   abbrev pub matches_by : List ℕ → Option (List ℕ) → Read TailTree
-  matches_by cs None = pattern_at cs >>= λ p. Some (matches p.0, p.1)
+  matches_by cs None = r.pattern cs >>= λ p. Some (matches p.0, p.1)
   matches_by cs (Some behind) = r.below behind >>= λ p. Some (matches_indirect p.0, p.1)
 
   -- the same after a `'?`
   abbrev pub matches_not_by : List ℕ → Option (List ℕ) → Read TailTree
-  matches_not_by cs None = pattern_at cs >>= λ p. Some (matches_not p.0, p.1)
+  matches_not_by cs None = r.pattern cs >>= λ p. Some (matches_not p.0, p.1)
   matches_not_by cs (Some behind) = r.below behind >>= λ p. Some (matches_not_indirect p.0, p.1)
 
   -- a step, with this operator in front and this text after it
@@ -147,9 +148,14 @@ module _ (r : Readers) where
 
 -- what may stand within, if this many more brackets may be open
 unfoldable pub readers_at : ℕ → Readers
-readers_at zero = record { inner = λ cs. None; within = λ cs. None; below = λ cs. None }
+readers_at zero = record { inner = λ cs. None; within = λ cs. None; below = λ cs. None; pattern = pattern_at zero }
 readers_at (suc d) =
-    record { inner = expr_with (readers_at d); within = reference_with (readers_at d); below = primary_with (readers_at d) }
+    record {
+      inner = expr_with (readers_at d);
+      within = reference_with (readers_at d);
+      below = primary_with (readers_at d);
+      pattern = pattern_at (suc d);
+    }
 
 abbrev pub inner_at : ℕ → List ℕ → Read ExprTree
 inner_at d cs = (readers_at d).inner cs

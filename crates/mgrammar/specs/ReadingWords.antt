@@ -4,7 +4,7 @@ use Rattle.std.specs.Prelude.{ℕ, zero, suc, Bool, true, false, ◌&&◌, ◌||
 use Rattle.mspec.specs.Limits.{max_name_rest}
 use Rattle.mspec.specs.Literal.{is_digit}
 use Rattle.mspec.specs.Names.{is_name_start, is_name_rest, is_character}
-use Rattle.mgrammar.specs.Grammar.{SignTree, plus, minus, negate, TruthTree, equals, less, greater, contains, follows, sorts_after, both, either, BinaryTree, add, subtract, multiply, divide, divide_whole, remainder, join, is, is_not, CountTree, RepeatedTree, classes, copies, AtomTree, is_pattern_letter}
+use Rattle.mgrammar.specs.Grammar.{SignTree, plus, minus, negate, TruthTree, equals, less, greater, contains, follows, sorts_after, both, either, BinaryTree, add, subtract, multiply, divide, divide_whole, remainder, join, is, is_not, CountTree, RepeatedTree, classes, copies, group, PatternsTree, patterns_of, AtomTree, is_pattern_letter}
 
 -- what was read, and the text after it
 abbrev pub Read : Type 0 → Type 0
@@ -154,26 +154,37 @@ abbrev pub classes_by : List ℕ → List ℕ → Read RepeatedTree
 classes_by [] cs = None
 classes_by (l ∷ ls) cs = Some (classes (l ∷ ls), cs)
 
-unfoldable pub repeated_at : List ℕ → Read RepeatedTree
-repeated_at [] = None
-repeated_at (c ∷ cs) =
-    if c == 34 then (text_from false cs >>= λ x. Some (copies x.0, x.1))
-    else classes_by (run_of is_pattern_letter (c ∷ cs)) (after_run is_pattern_letter (c ∷ cs))
-
-unfoldable pub atom_at : List ℕ → Option (Option (AtomTree × List ℕ))
-atom_at [] = Some None
-atom_at (c ∷ cs) =
-    if is_digit_or_point c
-    then (count_at (c ∷ cs) >>= λ n. repeated_at n.1 >>= λ x. Some (Some (record { count = n.0; repeated = x.0 }, x.1)))
-    else Some None
-
 -- atoms, unless there are none
 abbrev pub pattern_by : List AtomTree → List ℕ → Read (List AtomTree)
 pattern_by [] cs = None
 pattern_by (a ∷ more) cs = Some (a ∷ more, cs)
 
-unfoldable pub pattern_at : List ℕ → Read (List AtomTree)
-pattern_at cs = many atom_at (length cs) cs >>= λ x. pattern_by x.0 x.1
+-- given how to read a group after its bracket
+module _ (grouped : List ℕ → Read PatternsTree) where
+  unfoldable pub repeated_with : List ℕ → Read RepeatedTree
+  repeated_with [] = None
+  repeated_with (c ∷ cs) =
+      if c == 34 then (text_from false cs >>= λ x. Some (copies x.0, x.1))
+      else (if c == 40 then (grouped cs >>= λ x. Some (group x.0, x.1))
+      else classes_by (run_of is_pattern_letter (c ∷ cs)) (after_run is_pattern_letter (c ∷ cs)))
+
+  unfoldable pub atom_with : List ℕ → Option (Option (AtomTree × List ℕ))
+  atom_with [] = Some None
+  atom_with (c ∷ cs) =
+      if is_digit_or_point c
+      then (count_at (c ∷ cs) >>= λ n. repeated_with n.1 >>= λ x. Some (Some (record { count = n.0; repeated = x.0 }, x.1)))
+      else Some None
+
+  unfoldable pub pattern_with : List ℕ → Read (List AtomTree)
+  pattern_with cs = many atom_with (length cs) cs >>= λ x. pattern_by x.0 x.1
+
+-- if this many more brackets may be open
+unfoldable pub group_at : ℕ → List ℕ → Read PatternsTree
+group_at zero cs = None
+group_at (suc d) cs = list_at (pattern_with (group_at d)) cs >>= λ x. past 41 x.1 >>= λ rest. Some (patterns_of x.0, rest)
+
+unfoldable pub pattern_at : ℕ → List ℕ → Read (List AtomTree)
+pattern_at d = pattern_with (group_at d)
 
 -- ---- signs and operators
 

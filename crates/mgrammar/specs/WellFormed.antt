@@ -5,7 +5,7 @@ use Rattle.std.specs.Prelude.{◌≡◌, ℕ, suc, ◌-◌, ◌<◌, ◌≤◌, 
 pub use Rattle.mspec.specs.Limits.{max_depth}
 use Rattle.mspec.specs.Literal.{is_digit, Literal, IsLiteral, spell_literal}
 use Rattle.mspec.specs.Names.{is_letter, is_character, AllAre, IsName}
-use Rattle.mgrammar.specs.Grammar.{RepeatedTree, classes, copies, AtomTree, ExprTree, expr, TailsTree, no_tails, tail, TailTree, apply, matches, matches_not, raise, matches_indirect, matches_not_indirect, OperandTree, operand, PrimaryTree, number, text, special, reference, bracket, call, select, refer, ReferenceTree, local, global, naked, indirect, extended, ExprsTree, no_exprs, exprs, ChoicesTree, no_choices, choice, TargetTree, variable, part, DestinationTree, one, several, ParameterTree, once, onward, until, EntryTree, at_label, at_label_in, at_routine, ArgTree, assign, formats, coded, shown, kill_one, kill_others, new_one, new_others, tested, loop, do_one, go_to, executed, locked, hang_for, indirect_args, LockedTree, lock_one, lock_several, anew, adding, giving_back, KeywordTree, CommandTree, SpacedTree, LineTree, FormTree, set_argument, kill_argument, new_argument, if_argument, for_argument, write_argument, do_argument, goto_argument, xecute_argument, lock_argument, hang_argument, may_be_indirect, is_pattern_letter, is_format}
+use Rattle.mgrammar.specs.Grammar.{CountTree, RepeatedTree, classes, copies, group, AtomsTree, no_atoms, more_atoms, PatternsTree, no_patterns, more_patterns, AtomTree, ExprTree, expr, TailsTree, no_tails, tail, TailTree, apply, matches, matches_not, raise, matches_indirect, matches_not_indirect, OperandTree, operand, PrimaryTree, number, text, special, reference, bracket, call, select, refer, ReferenceTree, local, global, naked, indirect, extended, ExprsTree, no_exprs, exprs, ChoicesTree, no_choices, choice, TargetTree, variable, part, DestinationTree, one, several, ParameterTree, once, onward, until, EntryTree, at_label, at_label_in, at_routine, ArgTree, assign, formats, coded, shown, kill_one, kill_others, new_one, new_others, tested, loop, do_one, go_to, executed, locked, hang_for, indirect_args, LockedTree, lock_one, lock_several, anew, adding, giving_back, KeywordTree, CommandTree, SpacedTree, LineTree, FormTree, set_argument, kill_argument, new_argument, if_argument, for_argument, write_argument, do_argument, goto_argument, xecute_argument, lock_argument, hang_argument, may_be_indirect, is_pattern_letter, is_format}
 use Rattle.mgrammar.specs.Specials.{SpecialTree, special_of}
 use Rattle.mgrammar.specs.Commands.{keyword_of, form_of, takes_args, takes_condition}
 use Rattle.mgrammar.specs.Functions.{ValueFunctionTree, VariableFunctionTree, of_values, of_variable, of_choices, function_of, takes, is_part}
@@ -22,12 +22,34 @@ abbrev pub IsCount : List ℕ → Option (List ℕ) → Type 0
 IsCount front None = IsBound front × (0 < length front)
 IsCount front (Some behind) = IsBound front × IsBound behind
 
-abbrev pub WellRepeated : RepeatedTree → Type 0
-WellRepeated (classes letters) = AllAre is_pattern_letter letters × (0 < length letters)
-WellRepeated (copies t) = AllAre is_character t
+abbrev pub WellCount : CountTree → Type 0
+WellCount n = IsCount n.front n.behind
 
-abbrev pub WellAtom : AtomTree → Type 0
-WellAtom a = IsCount a.count.front a.count.behind × WellRepeated a.repeated
+abbrev pub HasAtom : AtomsTree → Type 0
+HasAtom no_atoms = ⊥
+HasAtom (more_atoms n p rest) = Unit {0}
+
+abbrev pub HasPattern : PatternsTree → Type 0
+HasPattern no_patterns = ⊥
+HasPattern (more_patterns p rest) = Unit {0}
+
+-- if this many more brackets may be open
+abbrev mutual
+  pub WellRepeated : ℕ → RepeatedTree → Type 0
+  WellRepeated d (classes letters) = AllAre is_pattern_letter letters × (0 < length letters)
+  WellRepeated d (copies t) = AllAre is_character t
+  WellRepeated d (group ps) = (0 < d) × HasPattern ps × WellPatterns (d - 1) ps
+
+  pub WellRun : ℕ → AtomsTree → Type 0
+  WellRun d no_atoms = Unit {0}
+  WellRun d (more_atoms n p rest) = (WellCount n × WellRepeated d p) × WellRun d rest
+
+  pub WellPatterns : ℕ → PatternsTree → Type 0
+  WellPatterns d no_patterns = Unit {0}
+  WellPatterns d (more_patterns p rest) = (HasAtom p × WellRun d p) × WellPatterns d rest
+
+abbrev pub WellAtom : ℕ → AtomTree → Type 0
+WellAtom d a = WellCount a.count × WellRepeated d a.repeated
 
 abbrev pub WellAll : {A : Type 0} → (A → Type 0) → List A → Type 0
 WellAll P [] = Unit {0}
@@ -120,8 +142,8 @@ abbrev mutual
 
   pub WellTail : ℕ → TailTree → Type 0
   WellTail d (apply b o) = WellOperand d o
-  WellTail d (matches atoms) = WellList WellAtom atoms
-  WellTail d (matches_not atoms) = WellList WellAtom atoms
+  WellTail d (matches atoms) = WellList (WellAtom d) atoms
+  WellTail d (matches_not atoms) = WellList (WellAtom d) atoms
   WellTail d (raise o) = WellOperand d o
   WellTail d (matches_indirect p) = (0 < d) × WellPrimary (d - 1) p
   WellTail d (matches_not_indirect p) = (0 < d) × WellPrimary (d - 1) p

@@ -6,4 +6,3 @@
 #![tactic(auto)]
 
 pub mod grammar_laws;
-pub mod pattern_laws;

@@ -10,7 +10,6 @@ pub use Rattle.mspec.specs.Limits.{max_levels, max_indirections}
 use Rattle.mspec.specs.Number.{significant_digits}
 use Rattle.mspec.specs.NumberText.{numeric_value}
 use Rattle.mspec.specs.Interpretations.{truth_text}
-use Rattle.mgrammar.specs.Matching.{atom_of}
 use Rattle.mgrammar.specs.Grammar.{ExprTree, expr, TailsTree, no_tails, tail, TailTree, apply, matches, matches_not, raise, matches_indirect, matches_not_indirect, OperandTree, operand, PrimaryTree, number, text, special, reference, bracket, call, select, refer, ReferenceTree, local, global, naked, indirect, extended, ExprsTree, no_exprs, exprs, ChoicesTree, no_choices, choice}
 use Rattle.mgrammar.specs.Specials.{special_of}
 use Rattle.mgrammar.specs.Functions.{function_of}
@@ -56,7 +55,7 @@ abbrev pub matches_text : Inside → Text → Text → Act Bool
 matches_text i x t = do
   an_indirection_free i.depth
   atoms ← give_some Zsyntax (pattern_of t)
-  matching (map atom_of atoms) x
+  matching atoms x
 
 -- A primary costs a step, before it is evaluated: a bracket and a call cost theirs before what is in them.
 abbrev mutual
@@ -77,10 +76,10 @@ abbrev mutual
     y ← operand_value i o
     binary b x y
   tail_value i x (matches atoms) = do
-    b ← matching (map atom_of atoms) x
+    b ← matching atoms x
     give (truth_text b)
   tail_value i x (matches_not atoms) = do
-    b ← matching (map atom_of atoms) x
+    b ← matching atoms x
     give (truth_text (not b))
   tail_value i x (raise o) = do
     y ← operand_value i o

@@ -3,7 +3,7 @@
 --
 -- Restates "Unary operator", "Binary operators" and "Pattern match pattern" of ISO/IEC 11756:1999. If an operator wants
 -- numbers, its operands become numbers once both are evaluated, the left one first.
-use Rattle.std.specs.Prelude.{ℕ, zero, suc, ◌^◌, ℤ, pos, neg_ℤ, unsigned_abs, Bool, not, ◌&&◌, ◌||◌, cond, nat_eq, List, [], ◌∷◌, ◌++◌, Option, option_map, Result, Ok, Err}
+use Rattle.std.specs.Prelude.{ℕ, zero, suc, ◌^◌, ℤ, pos, neg_ℤ, unsigned_abs, Bool, not, ◌&&◌, ◌||◌, cond, nat_eq, List, [], ◌∷◌, ◌++◌, map, length, Option, option_map, Result, Ok, Err}
 use Rattle.std.specs.List.{list_any}
 use Rattle.std.specs.Ordering.{int_cmp, is_lt, is_gt}
 use Rattle.std.specs.Cmp.Lexicographic.{pointwise}
@@ -12,9 +12,9 @@ use Rattle.mspec.specs.NumberText.{numeric_value, number_text}
 use Rattle.mspec.specs.Interpretations.{is_true, is_whole, whole_part, truth_text}
 use Rattle.mspec.specs.NodeOrder.{text_cmp}
 use Rattle.mspec.specs.TextFunctions as texts
-use Rattle.mspec.specs.Pattern.{Atom}
-use Rattle.mgrammar.specs.Matching.{is_reversed, is_match}
-use Rattle.mgrammar.specs.Grammar.{SignTree, plus, minus, negate, TruthTree, equals, less, greater, contains, follows, sorts_after, both, either, BinaryTree, add, subtract, multiply, divide, divide_whole, remainder, join, is, is_not}
+use Rattle.mspec.specs.PatternTests.{is_match}
+use Rattle.mgrammar.specs.Matching.{atom_of, atom_reversed, turns_of}
+use Rattle.mgrammar.specs.Grammar.{AtomTree, SignTree, plus, minus, negate, TruthTree, equals, less, greater, contains, follows, sorts_after, both, either, BinaryTree, add, subtract, multiply, divide, divide_whole, remainder, join, is, is_not}
 use Rattle.mspec.specs.Code.{Code, M9, M10, M28, M94, Zover}
 use Rattle.mspec.specs.Act.{Text, Act, ◌>>=◌, ◌>>◌, give, fail, give_some, unless, charge}
 
@@ -135,8 +135,15 @@ raising x y = do
 
 -- ---- patterns
 
--- any atom whose greatest count is below its least is an error, whether the text comes to it or not
-abbrev pub matching : List Atom → Text → Act Bool
+-- so many steps, one after another
+abbrev pub charges : ℕ → Act (Unit {0})
+charges zero = give tt
+charges (suc n) = charge >> charges n
+
+-- Any atom whose greatest count is below its least is an error, whether the text comes to it or not. What the turns of groups take at most
+-- is charged before the text is matched, and all of it is, however few turns there are.
+abbrev pub matching : List AtomTree → Text → Act Bool
 matching pattern x = do
-  unless M10 (not (list_any (λ a. is_reversed a.count) pattern))
-  give (is_match pattern x)
+  unless M10 (not (list_any atom_reversed pattern))
+  charges (turns_of (length x) pattern)
+  give (is_match (map atom_of pattern) x)

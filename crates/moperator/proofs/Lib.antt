@@ -10,3 +10,6 @@ pub mod Signs
 pub mod CharacterRefusals
 pub mod CalledWords
 pub mod Exponents
+pub mod PatternParts
+pub mod PatternPlaces
+pub mod PatternSteps

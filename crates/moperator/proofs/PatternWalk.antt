@@ -1,21 +1,32 @@
 -- SPDX-License-Identifier: Apache-2.0
 -- A walk over the atoms of a pattern, of which each ends at one place only.
-use Rattle.moperator.proofs.OperatorWords.{◌≡◌, ℕ, zero, suc, ◌-◌, ◌<◌, ◌≤◌, ◌↔◌, Bool, eqb, List, [], ◌∷◌, length, get_or, take, drop, Some, Result, Ok, Err, IfOk, refl, sym, ap, subst, ◌∙◌, arith, drop-drop, length-drop, Decides-eqb, take_rest, Atom, Matches, atom_of, atom_tree, IsLent, IsFirstOf, IsEnding, capped_atom, pattern_of}
+use Rattle.moperator.proofs.OperatorWords.{◌≡◌, ℕ, zero, suc, ◌-◌, ◌<◌, ◌≤◌, ◌↔◌, Bool, eqb, capped_count, count_of, List, [], ◌∷◌, length, get_or, take, drop, Some, Result, Ok, Err, IfOk, refl, sym, ap, subst, ◌∙◌, arith, drop-drop, length-drop, Decides-eqb, take_rest, Atom, Matches, atom_tree, IsLent, IsFirstOf, IsEnding, kept_atom, kept_repeated, pattern_of}
 use Rattle.std.proofs.Common.{◌+◌, Option, Decides}
+use Rattle.mgrammar.specs.Grammar.{AtomTree}
+use Rattle.mgrammar.specs.Matching.{count_of as plain_count}
+use Rattle.mtext.specs.Endings.{Repeats}
+use Rattle.mtree.specs.Tree.{repeated_tree}
 use Rattle.mtree.specs.declared.tree.Atom as tree
+use Rattle.moperator.proofs.PatternParts.{atom_is}
 use Rattle.mtext.specs.declared.ending.LentAtom.{LentAtom}
 use Rattle.mtext.specs.declared.ending.Ending.TheVariants as ending
 
 -- ---- the atoms from a place on
 
 pub from_atom : (atoms : List tree.Atom) (k : ℕ) (a : tree.Atom) → k < length atoms → a ≡ get_or atoms k a →
-    drop k (pattern_of atoms) ≡ capped_atom (atom_of (atom_tree a)) ∷ drop (k + 1) (pattern_of atoms)
+    drop k (pattern_of atoms) ≡ kept_atom (atom_tree a) ∷ drop (k + 1) (pattern_of atoms)
 from_atom [] k a within here = absurd (omega arith)
-from_atom (b ∷ atoms) zero a within here = ap (λ (c : tree.Atom). capped_atom (atom_of (atom_tree c)) ∷ pattern_of atoms) (sym here)
+from_atom (b ∷ atoms) zero a within here = ap (λ (c : tree.Atom). kept_atom (atom_tree c) ∷ pattern_of atoms) (sym here)
 from_atom (b ∷ atoms) (suc k) a within here =
     let more : suc (k + 1) ≡ suc k + 1 = omega arith in
     from_atom atoms k a (omega arith) here
-    ∙ ap (λ (n : ℕ). capped_atom (atom_of (atom_tree a)) ∷ drop n (pattern_of (b ∷ atoms))) more
+    ∙ ap (λ (n : ℕ). kept_atom (atom_tree a) ∷ drop n (pattern_of (b ∷ atoms))) more
+
+pub lent_first : (atoms : List tree.Atom) (k : ℕ) (a : tree.Atom) (lent : LentAtom) → k < length atoms → a ≡ get_or atoms k a → count_of lent.count ≡ capped_count (plain_count a.count)
+    → Repeats lent.repeated (kept_repeated (repeated_tree a.repeated)) → IsFirstOf (Some lent) (drop k (pattern_of atoms))
+lent_first atoms k a lent within here count repeats =
+    subst (λ (xs : List Atom). IsFirstOf (Some lent) xs) (sym (from_atom atoms k a within here))
+    (subst (λ (t : AtomTree). IsLent lent (kept_atom t)) (sym (atom_is a)) (count, repeats))
 
 pub pattern_from : (atoms : List tree.Atom) (k : ℕ) → pattern_of (drop k atoms) ≡ drop k (pattern_of atoms)
 pattern_from atoms zero = refl

@@ -15,7 +15,9 @@ mod conversions;
 mod function_calls;
 mod operators;
 mod patterns;
+mod places;
 mod relations;
+mod turns;
 
 pub use arguments::{text_at, whole_at};
 pub use arithmetic::{Arithmetic, arithmetic_of, calculate};
@@ -23,4 +25,4 @@ pub use code::Code;
 pub use conversions::{number_of, truth_of, whole_of};
 pub use function_calls::call;
 pub use operators::{base_and_exponent, binary, computed, unaries};
-pub use patterns::matching;
+pub use patterns::{matches, pattern_turns};

@@ -1,68 +1,29 @@
 // SPDX-License-Identifier: Apache-2.0
 // Patterns of the tree, and the operator `?`.
-ghost use Rattle.std.specs.Prelude.{◌≡◌, ℕ, ◌-◌, ◌^◌, ◌<◌, true, map, drop, length, Decides, IfOk};
+ghost use Rattle.std.specs.Prelude.{◌≡◌, ℕ, ◌-◌, ◌^◌, ◌<◌, true, false, map, drop, length, Decides, IfOk, MatchResult};
 ghost use Rattle.std.specs.List.{list_any};
-ghost use Rattle.mgrammar.specs.Matching.{repeated_of as plain_repeated, atom_of as plain_atom, is_reversed};
-ghost use Rattle.mmeaning.specs.Operators as meaning;
-ghost use Rattle.mtree.specs.Tree.{repeated_tree, atom_tree};
+ghost use Rattle.mgrammar.specs.Matching.{atom_of as plain_atom, atom_reversed, turns_of};
 ghost use Rattle.mspec.specs.Pattern.{Matches};
+ghost use Rattle.mspec.specs.PatternTests.{is_match};
 ghost use Rattle.mtext.specs.Endings.{Repeats, IsFirstOf};
-ghost use Rattle.mtext.specs.PatternPlaces.{repeated_of, atom_of, atoms_of};
-ghost use Rattle.moperator.specs.TreePatterns.{capped_atom, pattern_of};
-ghost use Rattle.mmeaning.specs.Yields.{Yields};
-ghost use Rattle.moperator.specs.Codes.{fault_of};
+ghost use Rattle.mtree.specs.CappedCounts.{capped};
+ghost use Rattle.mtree.specs.Tree.{repeated_tree, atom_tree};
+ghost use Rattle.moperator.specs.TreePatterns.{kept_repeated, pattern_of};
 
 use crate::code::Code;
-use mtext::{Atom, Ending, LentAtom, LentRepeated, Pattern, Repeated, matches, segment_end};
+use crate::places::ends_of_atoms;
+use crate::turns::{has_group, has_reversed, turns_of};
+use mtext::{Ending, LentAtom, LentRepeated, first_marks, segment_end};
 use mvalue::{Kind, Value};
 use std::alloc::{AllocError, Global};
 
-fn repeated(alloc: Global, repeated: &mtree::Repeated) -> Result<Repeated, AllocError>
-    ensures { IfOk result (λ read. repeated_of read ≡ plain_repeated (repeated_tree repeated.now)) }
-{
-    match repeated {
-        mtree::Repeated::Classes(letters) => Ok(Repeated::Members(letters.codes(alloc)?)),
-        mtree::Repeated::Copies(text) => Ok(Repeated::Copies(text.copy()?)),
-    }
-}
-
-fn atom(alloc: Global, atom: &mtree::Atom) -> Result<Atom, AllocError>
-    ensures { IfOk result (λ read. atom_of read ≡ capped_atom (plain_atom (atom_tree atom.now))) }
-{
-    Ok(Atom {
-        count: atom.count.number(),
-        repeated: repeated(alloc, &atom.repeated)?,
-    })
-}
-
-fn pattern(alloc: Global, atoms: &[mtree::Atom]) -> Result<Pattern, AllocError>
-    ensures { IfOk result (λ pattern. atoms_of pattern.atoms.items ≡ pattern_of atoms.now) }
-{
-    let mut read = Vec::with_capacity(alloc, atoms.len())?;
-    for one in atoms {
-        read.push(atom(alloc, one)?)?;
-    }
-    Ok(Pattern { atoms: read })
-}
-
-// Whether the count of any atom is reversed.
-fn has_reversed(atoms: &[mtree::Atom]) -> bool
-    ensures { result ≡ list_any (λ a. is_reversed a.count) (map plain_atom (map atom_tree atoms.now)) }
-{
-    for atom in atoms {
-        if atom.count.is_reversed() {
-            return true;
-        }
-    }
-    false
-}
-
 fn lent_repeated(repeated: &mtree::Repeated) -> LentRepeated<'_>
-    ensures { Repeats result (plain_repeated (repeated_tree repeated.now)) }
+    ensures { Repeats result (kept_repeated (repeated_tree repeated.now)) }
 {
     match repeated {
         mtree::Repeated::Classes(letters) => LentRepeated::Members(letters.classes()),
         mtree::Repeated::Copies(text) => LentRepeated::Copies(text.as_bytes()),
+        mtree::Repeated::Group(_) => LentRepeated::Any,
     }
 }
 
@@ -82,8 +43,9 @@ fn lent_atom(atoms: &[mtree::Atom], index: usize) -> Option<LentAtom<'_>>
 fn general_match(alloc: Global, atoms: &[mtree::Atom], text: &[u8]) -> Result<bool, AllocError>
     ensures { IfOk result (λ answer. Decides answer (Matches (pattern_of atoms.now) text.now)) }
 {
-    let pattern = pattern(alloc, atoms)?;
-    matches(alloc, &pattern, text)
+    let starts = first_marks(alloc, text)?;
+    let ends = ends_of_atoms(alloc, atoms, text, starts.as_slice())?;
+    Ok(ends[text.len()])
 }
 
 // The match of a pattern: atom after atom, as long as each can end at one place only, and from there on in general.
@@ -105,6 +67,35 @@ fn text_matches(alloc: Global, atoms: &[mtree::Atom], text: &[u8]) -> Result<boo
     Ok(at == text.len())
 }
 
+// The number of characters of a value's text.
+fn characters(value: &Value) -> usize
+    ensures { result ≡ length value.now }
+{
+    match value.kind() {
+        Kind::Number(number) => number.text().as_slice().len(),
+        Kind::Text(text) => text.as_bytes().len(),
+    }
+}
+
+/// How many turns the groups of a pattern take at most, of a value: the machine's greatest number if there are more.
+///
+/// # Errors
+///
+/// `M10` if the least count of any atom is above its greatest, in groups too.
+#[tactic(auto, using(crate::proofs::PatternMatches::capped_zero))]
+pub fn pattern_turns(atoms: &[mtree::Atom], value: &Value) -> Result<usize, Code>
+    ensures { MatchResult result (λ turns. (list_any atom_reversed (map atom_tree atoms.now) ≡ false) × (turns ≡ capped (turns_of (length value.now) (map atom_tree atoms.now))))
+        (λ code. (list_any atom_reversed (map atom_tree atoms.now) ≡ true) × (code ≡ Code.M10)) }
+{
+    if has_reversed(atoms) {
+        return Err(Code::M10);
+    }
+    if !has_group(atoms) {
+        return Ok(0);
+    }
+    Ok(turns_of(atoms, characters(value)))
+}
+
 // The match of a value's text; that of a number is printed on the stack.
 fn value_matches(alloc: Global, atoms: &[mtree::Atom], value: &Value) -> Result<bool, AllocError>
     ensures answer { IfOk result (λ answer. Decides answer (Matches (pattern_of atoms.now) value.now)) }
@@ -116,19 +107,15 @@ fn value_matches(alloc: Global, atoms: &[mtree::Atom], value: &Value) -> Result<
     }
 }
 
-/// Whether a value matches a pattern.
+/// Whether a value matches a pattern none of whose counts is reversed.
 ///
 /// # Errors
 ///
-/// `M10` if the least count of any atom is above its greatest, before the matching; `Zmem` if out of memory.
-#[tactic(auto, using(crate::proofs::PatternMatches::reversed_fails))]
-pub fn matching(alloc: Global, atoms: &[mtree::Atom], value: &Value) -> Result<bool, Code>
-    ensures value { Yields fault_of (meaning.matching (map plain_atom (map atom_tree atoms.now)) value.now) (λ matches. matches) result }
-    ensures reversed { list_any (λ a. is_reversed a.count) (map plain_atom (map atom_tree atoms.now)) ≡ true → result ≡ Err Code.M10 }
+/// `AllocError` if it runs out of memory.
+pub fn matches(alloc: Global, atoms: &[mtree::Atom], value: &Value) -> Result<bool, AllocError>
+    requires { list_any atom_reversed (map atom_tree atoms.now) ≡ false }
+    ensures { IfOk result (λ answer. answer ≡ is_match (map plain_atom (map atom_tree atoms.now)) value.now) }
 {
-    if has_reversed(atoms) {
-        return Err(Code::M10);
-    }
-    let matches = value_matches(alloc, atoms, value)?;
-    Ok(matches)
+    let answer = value_matches(alloc, atoms, value)?;
+    Ok(answer)
 }

@@ -4,7 +4,7 @@ ghost use Rattle.std.specs.Prelude.{◌≡◌, ◌<◌, length, map, option_map}
 ghost use Rattle.mgrammar.specs.Grammar.{exprs_of, choices_of};
 ghost use Rattle.mgrammar.specs.ReadingWords.{past, with_front, many, after_comma, list_at};
 ghost use Rattle.mgrammar.specs.ReadingExpressions.{subscripts_with, attached_at, attached_with, indirect_with, local_by, extended_with, owned_by, reference_with, bracket_with, choice_with, select_with, call_with, refer_with, dollar_with, primary_with, operand_with, matches_by, matches_not_by, tail_by, tail_with, expr_with, readers_at, inner_at};
-ghost use Rattle.mtree.specs.Tree.{expr_tree, operand_tree, primary_tree, reference_tree, tail_tree, choice_tree};
+ghost use Rattle.mtree.specs.Tree.{atom_tree, expr_tree, operand_tree, primary_tree, reference_tree, tail_tree, choice_tree};
 ghost use Rattle.mscan.specs.Gives.{Gives};
 ghost use Rattle.mscan.specs.Operators.{operator_tree};
 
@@ -15,8 +15,8 @@ use mscan::{
     text_after,
 };
 use mtree::{
-    Choice, Expr, FunctionWord, Literal, Operand, Primary, Reference, Referring, Tail, ValueWord,
-    VariableWord, special_of,
+    Atom, Choice, Expr, FunctionWord, Literal, Operand, Primary, Reference, Referring, Tail,
+    ValueWord, VariableWord, special_of,
 };
 use std::alloc::Global;
 
@@ -84,13 +84,21 @@ fn tail_by(
     }
 }
 
+// A pattern as it is written, within which `depth` brackets may be open.
+#[tactic(auto, using(mgrammar::proofs::ReadingExprs::pattern_read))]
+fn as_written(alloc: Global, bytes: &[u8], depth: u32) -> Result<(Vec<Atom>, &[u8]), ParseFault>
+    ensures { Gives (λ x. (map atom_tree x.0.items, x.1.now)) result ((readers_at depth).pattern bytes.now) }
+{
+    pattern(alloc, bytes, depth)
+}
+
 // The rest of a tail that matches, after its `?`: the operand of an `@` if one comes, and otherwise a pattern.
 #[cycle(expr)]
 fn matches(alloc: Global, bytes: &[u8], depth: u32) -> Result<(Tail, &[u8]), ParseFault>
     ensures { Gives (λ x. (tail_tree x.0, x.1.now)) result (matches_by (readers_at depth) bytes.now (past 64 bytes.now)) }
 {
     let Some(behind) = past(b'@', bytes) else {
-        let (atoms, rest) = pattern(alloc, bytes)?;
+        let (atoms, rest) = as_written(alloc, bytes, depth)?;
         return Ok((Tail::Matches(atoms), rest));
     };
     let (operand, rest) = below(alloc, behind, depth)?;
@@ -104,7 +112,7 @@ fn matches_not(alloc: Global, bytes: &[u8], depth: u32) -> Result<(Tail, &[u8]),
     ensures { Gives (λ x. (tail_tree x.0, x.1.now)) result (matches_not_by (readers_at depth) bytes.now (past 64 bytes.now)) }
 {
     let Some(behind) = past(b'@', bytes) else {
-        let (atoms, rest) = pattern(alloc, bytes)?;
+        let (atoms, rest) = as_written(alloc, bytes, depth)?;
         return Ok((Tail::MatchesNot(atoms), rest));
     };
     let (operand, rest) = below(alloc, behind, depth)?;

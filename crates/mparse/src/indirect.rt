@@ -41,7 +41,7 @@ fn whole_args(alloc: Global, keyword: Keyword, text: &[u8]) -> Result<Vec<Arg>, 
 fn whole_pattern(alloc: Global, text: &[u8]) -> Result<Vec<Atom>, ParseFault>
     ensures { Gives (λ atoms. map atom_tree atoms.items) result (pattern_of text.now) }
 {
-    let (atoms, rest) = pattern(alloc, text)?;
+    let (atoms, rest) = pattern(alloc, text, MAX_DEPTH)?;
     if !rest.is_empty() {
         return Err(ParseFault::Syntax);
     }
@@ -88,8 +88,8 @@ pub fn parse_args(alloc: Global, keyword: Keyword, text: &[u8]) -> Result<Vec<Ar
 #[tactic(auto, using(mgrammar::proofs::ReadingIndirectTexts::reads_its_pattern, crate::proofs::WholeTexts::is_tree, crate::proofs::WholeTexts::is_syntax))]
 pub fn parse_pattern(alloc: Global, text: &[u8]) -> Result<Vec<Atom>, ParseFault>
     ensures read { Gives (λ atoms. map atom_tree atoms.items) result (pattern_of text.now) }
-    ensures tree { IfOk result (λ atoms. WellList WellAtom (map atom_tree atoms.items) × (spell_atoms (map atom_tree atoms.items) ≡ text.now)) }
-    ensures syntax { result ≡ Err ParseFault.Syntax → (atoms : List AtomTree) → WellList WellAtom atoms → spell_atoms atoms ≡ text.now → ⊥ }
+    ensures tree { IfOk result (λ atoms. WellList (WellAtom max_depth) (map atom_tree atoms.items) × (spell_atoms (map atom_tree atoms.items) ≡ text.now)) }
+    ensures syntax { result ≡ Err ParseFault.Syntax → (atoms : List AtomTree) → WellList (WellAtom max_depth) atoms → spell_atoms atoms ≡ text.now → ⊥ }
 {
     whole_pattern(alloc, text)
 }

@@ -15,6 +15,7 @@ pub mod Maps
 pub mod HashMaps
 pub mod PieceLists
 pub mod PieceExamples
+pub mod Matchings
 pub mod PatternExamples
 pub mod FirstPlaces
 pub mod KeyExamples

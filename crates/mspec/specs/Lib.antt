@@ -14,6 +14,8 @@ pub mod PieceLaws
 pub mod TextFunctions
 pub mod NumberFormats
 pub mod Pattern
+pub mod PatternTests
+pub mod PatternLaws
 pub mod NodeOrder
 pub mod KeyBytes
 pub mod KeyLaws

@@ -4,7 +4,7 @@
 -- Restates "Pattern match pattern" of ISO/IEC 11756:1999, with its parts `patatom`, `repcount`, `patcode` and `strlit`. A
 -- text matches if it is a joining of segments, one for each atom in turn. Nothing is searched for here: how a text is cut into
 -- its segments is left open, and one way of cutting is enough.
-use Rattle.std.specs.Prelude.{◌≡◌, ℕ, zero, suc, ◌≤◌, Bool, false, not, ◌&&◌, ◌||◌, ◌==◌, nat_le, List, [], ◌∷◌, ◌++◌, length, Option, Some, None}
+use Rattle.std.specs.Prelude.{◌≡◌, ℕ, zero, suc, ◌≤◌, Bool, true, false, not, ◌&&◌, ◌||◌, ◌==◌, nat_le, List, [], ◌∷◌, ◌++◌, length, Option, Some, None}
 use Rattle.mspec.specs.Literal.{is_digit}
 use Rattle.mspec.specs.Names.{is_letter, is_character, AllAre}
 
@@ -63,10 +63,12 @@ IsPermitted count n = (count.least ≤ n) × IsAtMost count.most n
 
 -- ---- patterns
 
--- what an atom repeats: members of classes, each of any of them, or a string
+-- what an atom repeats: members of classes, each of any of them; a string; or texts that pass a test, each whichever, which of a group
+-- in brackets is that one of its patterns matches
 pub data Repeated : Type 0 where
   members : List PatternCode → Repeated
   copies : List ℕ → Repeated
+  passing : (List ℕ → Bool) → Repeated
 
 -- `patatom`
 pub record Atom : Type 0 where
@@ -78,10 +80,16 @@ abbrev pub copied : ℕ → List ℕ → List ℕ
 copied zero string = []
 copied (suc n) string = string ++ copied n string
 
+-- a joining of this many texts, each of which passes the test
+abbrev pub IsJoined : (List ℕ → Bool) → ℕ → List ℕ → Type 0
+IsJoined test zero text = text ≡ []
+IsJoined test (suc n) text = (front : List ℕ) × (last : List ℕ) × (text ≡ front ++ last) × IsJoined test n front × (test last ≡ true)
+
 -- the text may be an atom's segment
 abbrev pub IsRepetition : Count → Repeated → List ℕ → Type 0
 IsRepetition count (members codes) text = AllAre (is_in_any codes) text × IsPermitted count (length text)
 IsRepetition count (copies string) text = (n : ℕ) × IsPermitted count n × (text ≡ copied n string)
+IsRepetition count (passing test) text = (n : ℕ) × IsPermitted count n × IsJoined test n text
 
 abbrev pub IsSegment : Atom → List ℕ → Type 0
 IsSegment atom text = IsRepetition atom.count atom.repeated text

@@ -9,5 +9,6 @@ pub mod key_laws;
 pub mod limits;
 pub mod lock_laws;
 pub mod number_laws;
+pub mod pattern_laws;
 pub mod piece_laws;
 pub mod scope_laws;

@@ -186,6 +186,7 @@ first_is (x ∷ string) c is = let same : c ≡ x = cc in ap (λ (y : ℕ). y �
 pub lent_copies_apart : (p : ℕ → Bool) (string : Bor (List ℕ)) (c : ℕ) (count : Count) (what : plain.Repeated) (text : List ℕ) → Some c ≡ slice_get string.now 0 → p c ≡ false
     → Repeats (lent.Copies string) what → 0 < count.least → IsRepetition count what text → IsOtherwise p text
 lent_copies_apart p string c count (members codes) text first fails same some is = absurd same
+lent_copies_apart p string c count (plain.passing test) text first fails same some is = absurd same
 lent_copies_apart p string c count (copies t) text first fails same some is =
     let low = is.1.0 in
     copies_begin p c is.0 (drop 1 string.now) text fails (omega arith) (is.2 ∙ ap (λ (t : List ℕ). copied is.0 t) (sym same ∙ first_is string.now c first))
@@ -203,10 +204,12 @@ members_end set text count first others result is each = at_count text count fir
   go : (what : plain.Repeated) → Repeats (lent.Members set) what → IsEnding text (record { count = count; repeated = what }) others result
   go (members codes) same = each codes same
   go (copies string) same = absurd same
+  go (plain.passing test) same = absurd same
 
 pub copies_end : (string : Bor (List ℕ)) (text : List ℕ) (count : Count) (first : Atom) (others : List Atom) (result : Ending) → (count ≡ first.count) × Repeats (lent.Copies string) first.repeated
     → IsEnding text (copies_atom count string.now) others result → IsEnding text first others result
 copies_end string text count first others result is ends = at_count text count first others result is.0 (go first.repeated is.1) where
   go : (what : plain.Repeated) → Repeats (lent.Copies string) what → IsEnding text (record { count = count; repeated = what }) others result
   go (members codes) same = absurd same
+  go (plain.passing test) same = absurd same
   go (copies t) same = subst (λ (s : List ℕ). IsEnding text (copies_atom count s) others result) same ends

@@ -22,4 +22,4 @@ pub use Rattle.mtext.specs.ClassSets.{is_in_set}
 pub use Rattle.mtext.specs.Cuts.{IsBehind, closed, delimiter_text}
 pub use Rattle.mtext.specs.Endings.{IsBarred, IsEnding, IsOtherwise, NoneBegins, Repeats, copies_atom, members_atom}
 pub use Rattle.mtext.specs.Made.{Answers, translation, without}
-pub use Rattle.mtext.specs.PatternPlaces.{AreEnds, AreMatched, IsBefore, IsCopiedTo, IsEnd, IsFewest, IsNear, atom_of, atoms_of, code_of, codes_of, count_of, repeated_of}
+pub use Rattle.mtext.specs.PatternPlaces.{AreEnds, AreLed, IsBefore, IsCopiedTo, IsEnd, IsFewest, AreFirst, IsLed, IsNear, atom_of, code_of, codes_of, count_of, repeated_of}

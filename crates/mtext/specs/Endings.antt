@@ -11,12 +11,15 @@ use Rattle.mtext.specs.declared.ending.LentRepeated.TheVariants as lent
 use Rattle.mtext.specs.declared.ending.Ending.{Ending}
 use Rattle.mtext.specs.declared.ending.Ending.TheVariants as ending
 
--- what is lent says what an atom repeats
+-- what is lent says what an atom repeats, or nothing of it
 abbrev pub Repeats : LentRepeated → plain.Repeated → Type 0
 Repeats (lent.Members set) (plain.members codes) = (c : ℕ) → is_in_set set c ≡ is_in_any codes c
 Repeats (lent.Members set) (plain.copies string) = ⊥
+Repeats (lent.Members set) (plain.passing test) = ⊥
 Repeats (lent.Copies text) (plain.members codes) = ⊥
 Repeats (lent.Copies text) (plain.copies string) = text.now ≡ string
+Repeats (lent.Copies text) (plain.passing test) = ⊥
+Repeats lent.Any what = Unit {0}
 
 abbrev pub IsLent : LentAtom → plain.Atom → Type 0
 IsLent lent atom = (count_of lent.count ≡ atom.count) × Repeats lent.repeated atom.repeated

@@ -1,9 +1,9 @@
 -- SPDX-License-Identifier: Apache-2.0
 -- The patterns of the code as plain ones, and the places of a text: how many of its characters come before them. A list of
 -- marks has one for each place from 0 to the text's length.
-use Rattle.std.specs.Prelude.{◌≡◌, ℕ, ◌+◌, ◌-◌, ◌≤◌, Bool, true, false, List, map, take, length, get_or, slice_range, Decides, Option, Some, None}
+use Rattle.std.specs.Prelude.{◌≡◌, ℕ, ◌+◌, ◌-◌, ◌≤◌, ◌==◌, Bool, true, false, List, map, length, get_or, slice_range, Decides, Option, Some, None}
 use Rattle.mspec.specs.Pattern as plain
-use Rattle.mspec.specs.Pattern.{IsPermitted, IsRepetition, Matches}
+use Rattle.mspec.specs.Pattern.{IsPermitted, IsRepetition}
 use Rattle.mtext.specs.declared.pattern.PatternCode.{PatternCode}
 use Rattle.mtext.specs.declared.pattern.PatternCode.TheVariants as code
 use Rattle.mtext.specs.declared.pattern.Count.{Count}
@@ -33,23 +33,26 @@ repeated_of (repeated.Copies string) = plain.copies string
 abbrev pub atom_of : Atom → plain.Atom
 atom_of atom = record { count = count_of atom.count; repeated = repeated_of atom.repeated }
 
-abbrev pub atoms_of : List Atom → List plain.Atom
-atoms_of atoms = map atom_of atoms
+-- what is so is between one of the marked places and this one
+abbrev pub IsLed : List ℕ → (List ℕ → Type 0) → List Bool → ℕ → Type 0
+IsLed text P starts place = (start : ℕ) × (start ≤ place) × (get_or starts start false ≡ true) × P (slice_range text start place)
 
--- a repetition is between one of the marked places and this one
-abbrev pub IsEnd : List ℕ → plain.Count → plain.Repeated → List Bool → ℕ → Type 0
-IsEnd text count what starts place =
-    (start : ℕ) × (start ≤ place) × (get_or starts start false ≡ true) × IsRepetition count what (slice_range text start place)
-
--- the marks of the places where a repetition from one of the marked places ends
-pub record AreEnds (text : List ℕ) (count : plain.Count) (what : plain.Repeated) (starts : List Bool) (ends : List Bool) : Type 0 where
+-- the marks of the places to which what is so leads from one of the marked places
+pub record AreLed (text : List ℕ) (P : List ℕ → Type 0) (starts : List Bool) (ends : List Bool) : Type 0 where
   pub size : length ends ≡ length text + 1
-  pub each : (place : ℕ) → place ≤ length text → Decides (get_or ends place false) (IsEnd text count what starts place)
+  pub each : (place : ℕ) → place ≤ length text → Decides (get_or ends place false) (IsLed text P starts place)
 
--- the marks of the places up to which the text matches
-pub record AreMatched (text : List ℕ) (atoms : List plain.Atom) (marks : List Bool) : Type 0 where
+-- what is so is a repetition
+abbrev pub IsEnd : List ℕ → plain.Count → plain.Repeated → List Bool → ℕ → Type 0
+IsEnd text count what starts place = IsLed text (IsRepetition count what) starts place
+
+abbrev pub AreEnds : List ℕ → plain.Count → plain.Repeated → List Bool → List Bool → Type 0
+AreEnds text count what starts ends = AreLed text (IsRepetition count what) starts ends
+
+-- one mark, at the place 0
+pub record AreFirst (text : List ℕ) (marks : List Bool) : Type 0 where
   pub size : length marks ≡ length text + 1
-  pub each : (place : ℕ) → place ≤ length text → Decides (get_or marks place false) (Matches atoms (take place text))
+  pub each : (place : ℕ) → place ≤ length text → get_or marks place false ≡ (place == 0)
 
 -- what may be repeated extends from `first` on: whether the latest start that is far enough back is also near enough
 abbrev pub IsNear : Option ℕ → Option ℕ → ℕ → ℕ → Type 0

@@ -19,6 +19,8 @@ pub enum LentRepeated<'a> {
     Members(Classes),
     /// Copies of a string.
     Copies(&'a [u8]),
+    /// Whichever texts.
+    Any,
 }
 
 /// An atom of a pattern, lent from where it stands: it needs no memory.
@@ -101,6 +103,7 @@ fn is_apart(repeated: LentRepeated, set: Classes) -> bool
             None => false,
             Some(character) => !set.contains(*character),
         },
+        LentRepeated::Any => false,
     }
 }
 
@@ -155,12 +158,13 @@ fn ending_of_copies(text: &[u8], string: &[u8], count: Count) -> Ending
 
 /// Where the segment of an atom at the front of a text ends, if the atom and the next one say so. They do if the atom's count is
 /// a single number, or if the atom is of classes and what follows begins with none of their characters, so that it takes the
-/// longest run of them. Takes no memory.
+/// longest run of them. Of whichever texts nothing is said. Takes no memory.
 pub fn segment_end(text: &[u8], atom: LentAtom, next: Option<LentAtom>) -> Ending
     ensures { (first : plain.Atom) (others : List plain.Atom) → IsLent atom.entry first → IsFirstOf next.entry others → IsEnding text.now first others result }
 {
     match atom.repeated {
         LentRepeated::Members(set) => ending_of_members(text, set, atom.count, next),
         LentRepeated::Copies(string) => ending_of_copies(text, string, atom.count),
+        LentRepeated::Any => Ending::Open,
     }
 }

@@ -25,5 +25,7 @@ pub use fault::TextFault;
 pub use functions::{contains, extract, find, follows};
 pub use making::{justify, set_piece, set_range, translate};
 pub use numbers::{format_number, justify_number};
-pub use pattern::{Atom, Count, Pattern, PatternCode, Repeated, matches};
+pub use pattern::{
+    Atom, Count, PatternCode, Repeated, either_marks, ends_of, first_marks, has_mark,
+};
 pub use places::has_places;

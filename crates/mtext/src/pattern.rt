@@ -1,8 +1,9 @@
 // SPDX-License-Identifier: Apache-2.0
 // Pattern match.
-ghost use Rattle.std.specs.Prelude.{◌≡◌, ℕ, ◌+◌, ◌<◌, ◌≤◌, [], true, false, None, IfSome, IfOk, Decides, MatchOption, length, get_or};
-ghost use Rattle.mspec.specs.Pattern.{IsAtMost, is_in, is_in_any, Matches, copies, members};
-ghost use Rattle.mtext.specs.PatternPlaces.{code_of, codes_of, count_of, repeated_of, atoms_of, IsNear, IsBefore, IsCopiedTo, IsFewest, AreEnds, AreMatched};
+ghost use Rattle.std.specs.List.{list_any};
+ghost use Rattle.std.specs.Prelude.{◌≡◌, ◌||◌, ℕ, ◌+◌, ◌<◌, ◌≤◌, true, false, None, IfSome, IfOk, Decides, MatchOption, length, get_or};
+ghost use Rattle.mspec.specs.Pattern.{IsAtMost, is_in, is_in_any, copies, members};
+ghost use Rattle.mtext.specs.PatternPlaces.{code_of, codes_of, count_of, repeated_of, IsNear, IsBefore, IsCopiedTo, IsFewest, AreEnds, AreFirst};
 
 use mnum::Bytes7;
 use std::alloc::{AllocError, Global};
@@ -47,12 +48,6 @@ pub enum Repeated {
 pub struct Atom {
     pub count: Count,
     pub repeated: Repeated,
-}
-
-/// A pattern: its atoms in turn.
-#[derive(Drop)]
-pub struct Pattern {
-    pub atoms: Vec<Atom>,
 }
 
 impl PatternCode {
@@ -224,8 +219,17 @@ fn ends_of_nothing(alloc: Global, count: Count, starts: &[bool]) -> Result<Vec<b
     }
 }
 
-// The places to which an atom leads.
-fn ends_of(
+/// The places to which an atom leads: marks for the places 0 to the text's length, from those where it may start. Its segment
+/// is a permitted number of characters of its classes or of copies of its string. A byte over 127 is in no class. If the
+/// greatest count is below the least, it leads nowhere.
+///
+/// Time is at most the text's length times the atom's, and of copies of a string the square of the text's length. Memory is a
+/// few words for each place of the text.
+///
+/// # Errors
+///
+/// `AllocError` if it runs out of memory.
+pub fn ends_of(
     alloc: Global,
     text: &[u8],
     atom: &Atom,
@@ -254,9 +258,13 @@ fn ends_of(
     }
 }
 
-// The marks of a text before any atom: the place 0 alone.
-fn first_marks(alloc: Global, text: &[u8]) -> Result<Vec<bool>, AllocError>
-    ensures { IfOk result (λ marks. AreMatched text.now [] marks.items) }
+/// The marks of a text before any atom: the place 0 alone.
+///
+/// # Errors
+///
+/// `AllocError` if it runs out of memory.
+pub fn first_marks(alloc: Global, text: &[u8]) -> Result<Vec<bool>, AllocError>
+    ensures { IfOk result (λ marks. AreFirst text.now marks.items) }
 {
     let mut marks = Vec::with_capacity(alloc, text.len() + 1)?;
     for place in 0..text.len() + 1 {
@@ -265,22 +273,26 @@ fn first_marks(alloc: Global, text: &[u8]) -> Result<Vec<bool>, AllocError>
     Ok(marks)
 }
 
-/// Whether the text matches the pattern: whether it is a joining of segments, one for each atom, each a permitted number of
-/// characters of the atom's classes or of copies of its string. A byte over 127 is in no class. If a greatest count is below
-/// the least, nothing matches.
-///
-/// Time is at most the square of the text's length, and in addition, for each atom, the text's length times the atom's. Memory
-/// is a few words for each place of the text.
+/// Whether any place is marked.
+pub fn has_mark(marks: &[bool]) -> bool
+    ensures { result ≡ list_any (λ mark. mark) marks.now }
+{
+    marks.iter().any(|mark| *mark)
+}
+
+/// The marks of either of two.
 ///
 /// # Errors
 ///
 /// `AllocError` if it runs out of memory.
-pub fn matches(alloc: Global, pattern: &Pattern, text: &[u8]) -> Result<bool, AllocError>
-    ensures { IfOk result (λ answer. Decides answer (Matches (atoms_of pattern.now.atoms.items) text.now)) }
+pub fn either_marks(alloc: Global, one: &[bool], other: &[bool]) -> Result<Vec<bool>, AllocError>
+    requires { length one.now ≡ length other.now }
+    ensures size { IfOk result (λ marks. length marks.items ≡ length one.now) }
+    ensures each { IfOk result (λ marks. (k : ℕ) → k < length one.now → get_or marks.items k false ≡ (get_or one.now k false || get_or other.now k false)) }
 {
-    let mut places = first_marks(alloc, text)?;
-    for atom in &pattern.atoms {
-        places = ends_of(alloc, text, atom, places.as_slice())?;
+    let mut marks = Vec::with_capacity(alloc, one.len())?;
+    for place in 0..one.len() {
+        marks.push(one[place] || other[place])?;
     }
-    Ok(places[text.len()])
+    Ok(marks)
 }

@@ -4,3 +4,4 @@ pub mod ListTexts
 mod Operands
 pub mod InLanguages
 pub mod WordFunctions
+pub mod PatternTexts

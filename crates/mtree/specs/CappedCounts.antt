@@ -4,7 +4,8 @@
 use Rattle.std.specs.Prelude.{◌≡◌, ℕ, ◌-◌, ◌^◌, min, Bool, option_map}
 use Rattle.mspec.specs.Pattern as plain
 use Rattle.mgrammar.specs.Grammar.{CountTree}
-use Rattle.mgrammar.specs.Matching.{count_of as plain_count, is_reversed}
+use Rattle.mgrammar.specs.Matching.{count_of as plain_count}
+use Rattle.mspec.specs.PatternTests.{is_reversed}
 use Rattle.mtext.specs.PatternPlaces.{count_of}
 use Rattle.mtext.specs.declared.pattern.Count.{Count}
 

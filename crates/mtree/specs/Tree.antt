@@ -1,9 +1,9 @@
 -- SPDX-License-Identifier: Apache-2.0
 -- A line of the program as a plain tree of the grammar.
 pub use Rattle.mtree.specs.Functions.{value_function_tree, variable_function_tree, function_tree}
-use Rattle.std.specs.Prelude.{◌≡◌, Option, Box, map, option_map}
+use Rattle.std.specs.Prelude.{◌≡◌, List, Option, Box, map, option_map}
 use Rattle.mgrammar.specs.Grammar as grammar
-use Rattle.mgrammar.specs.Grammar.{SignTree, TruthTree, BinaryTree, KeywordTree, RepeatedTree, AtomTree, ExprTree, TailTree, tails_of, exprs_of, choices_of, OperandTree, PrimaryTree, ReferenceTree, TargetTree, DestinationTree, ParameterTree, EntryTree, LockKindTree, LockedTree, ArgTree, CommandTree, SpacedTree, LineTree}
+use Rattle.mgrammar.specs.Grammar.{SignTree, TruthTree, BinaryTree, KeywordTree, RepeatedTree, patterns_of, AtomTree, ExprTree, TailTree, tails_of, exprs_of, choices_of, OperandTree, PrimaryTree, ReferenceTree, TargetTree, DestinationTree, ParameterTree, EntryTree, LockKindTree, LockedTree, ArgTree, CommandTree, SpacedTree, LineTree}
 use Rattle.mgrammar.specs.Specials as specials
 use Rattle.mgrammar.specs.Specials.{SpecialTree}
 use Rattle.mgrammar.specs.Commands.{form_of}
@@ -20,9 +20,10 @@ use Rattle.mtree.specs.declared.tree.Keyword.{Keyword}
 use Rattle.mtree.specs.declared.tree.Keyword.TheVariants as keyword
 use Rattle.mtree.specs.declared.tree.SpecialVariable.{SpecialVariable}
 use Rattle.mtree.specs.declared.tree.SpecialVariable.TheVariants as special_variable
-use Rattle.mtree.specs.declared.tree.Repeated.{Repeated}
-use Rattle.mtree.specs.declared.tree.Repeated.TheVariants as repeated
-use Rattle.mtree.specs.declared.tree.Atom.{Atom}
+use Rattle.mtree.specs.declared.tree.Repeated.{Repeated, fold-Repeated}
+use Rattle.mtree.specs.declared.tree.Repeated.TheOpen.{Repeated-F, Alternative-F, Atom-F}
+use Rattle.mtree.specs.declared.tree.Alternative.{Alternative, fold-Alternative}
+use Rattle.mtree.specs.declared.tree.Atom.{Atom, fold-Atom}
 use Rattle.mtree.specs.declared.tree.Expr.{Expr, fold-Expr}
 use Rattle.mtree.specs.declared.tree.Tail.{Tail, fold-Tail}
 use Rattle.mtree.specs.declared.tree.Operand.{Operand, fold-Operand}
@@ -105,12 +106,26 @@ special_tree special_variable.Storage = specials.storage_special
 special_tree special_variable.Column = specials.column_special
 special_tree special_variable.Row = specials.row_special
 
+-- one level of a pattern
+abbrev pub repeated_layer : Repeated-F RepeatedTree (List AtomTree) AtomTree → RepeatedTree
+repeated_layer (Repeated-F.Classes letters) = grammar.classes letters
+repeated_layer (Repeated-F.Copies t) = grammar.copies t
+repeated_layer (Repeated-F.Group patterns) = grammar.group (patterns_of patterns.items)
+
+abbrev pub alternative_layer : Alternative-F RepeatedTree (List AtomTree) AtomTree → List AtomTree
+alternative_layer p = p.atoms.items
+
+abbrev pub atom_layer : Atom-F RepeatedTree (List AtomTree) AtomTree → AtomTree
+atom_layer a = record { count = a.count; repeated = a.repeated }
+
 abbrev pub repeated_tree : Repeated → RepeatedTree
-repeated_tree (repeated.Classes letters) = grammar.classes letters
-repeated_tree (repeated.Copies t) = grammar.copies t
+repeated_tree = fold-Repeated RepeatedTree (List AtomTree) AtomTree repeated_layer alternative_layer atom_layer
+
+abbrev pub alternative_trees : Alternative → List AtomTree
+alternative_trees = fold-Alternative RepeatedTree (List AtomTree) AtomTree repeated_layer alternative_layer atom_layer
 
 abbrev pub atom_tree : Atom → AtomTree
-atom_tree a = record { count = a.count; repeated = repeated_tree a.repeated }
+atom_tree = fold-Atom RepeatedTree (List AtomTree) AtomTree repeated_layer alternative_layer atom_layer
 
 -- a condition, and its value
 abbrev pub ChoiceTree : Type 0

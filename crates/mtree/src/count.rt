@@ -2,7 +2,8 @@
 // Counts of patterns as they are written.
 ghost use Rattle.std.specs.Prelude.{◌≡◌, ◌+◌, ◌-◌, ◌*◌, ◌<◌, ◌≤◌, nat_lt, take, length, option_map};
 ghost use Rattle.mspec.specs.Literal.{digits_after};
-ghost use Rattle.mgrammar.specs.Matching.{bound_of, most_of, count_of as plain_count, is_reversed};
+ghost use Rattle.mgrammar.specs.Matching.{bound_of, most_of, count_of as plain_count};
+ghost use Rattle.mspec.specs.PatternTests.{is_reversed};
 ghost use Rattle.mtext.specs.PatternPlaces.{count_of};
 ghost use Rattle.mtree.specs.CappedCounts.{capped, capped_count};
 

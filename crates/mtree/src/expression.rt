@@ -1,14 +1,15 @@
 // SPDX-License-Identifier: Apache-2.0
 // The text of an expression.
 ghost use Rattle.std.specs.Prelude.{◌≡◌, ◌++◌, ◌<◌, ◌∷◌, [], List, ℕ, OnOk, map};
-ghost use Rattle.mgrammar.specs.Grammar.{sign_char, spell_truth, spell_binary, spell_signs, spell_behind, spell_repeated, spell_atom, spell_atoms, spell_expr, tails_of, exprs_of, choices_of, spell_tails, spell_tail, spell_operand, spell_primary, spell_reference, spell_subscripts, spell_attached, spell_exprs, spell_more_exprs, spell_choices};
-ghost use Rattle.mtree.specs.Tree.{sign_tree, truth_tree, binary_tree, repeated_tree, atom_tree, expr_tree, tail_tree, operand_tree, primary_tree, reference_tree, referring_tree, choice_tree};
+ghost use Rattle.mgrammar.specs.Grammar.{sign_char, spell_truth, spell_binary, spell_signs, spell_atoms, spell_expr, tails_of, exprs_of, choices_of, spell_tails, spell_tail, spell_operand, spell_primary, spell_reference, spell_subscripts, spell_attached, spell_exprs, spell_more_exprs, spell_choices};
+ghost use Rattle.mtree.specs.Tree.{sign_tree, truth_tree, binary_tree, atom_tree, expr_tree, tail_tree, operand_tree, primary_tree, reference_tree, referring_tree, choice_tree};
 
 use crate::function_word::ValueWord;
+use crate::patterns::put_atoms;
 use crate::pieces::{put_string, put_text};
 use crate::put_list::{Listed, put_list};
 use crate::tree::{
-    Atom, Binary, Choice, Expr, Operand, Primary, Reference, Referring, Repeated, Sign, Tail, Truth,
+    Binary, Choice, Expr, Operand, Primary, Reference, Referring, Sign, Tail, Truth,
 };
 use mnum::Bytes7;
 use std::alloc::AllocError;
@@ -68,42 +69,6 @@ fn put_binary(out: &mut Bytes7, operator: Binary) -> Result<(), AllocError>
             put_truth(out, truth)
         }
     }
-}
-
-fn put_behind(out: &mut Bytes7, behind: &Option<Bytes7>) -> Result<(), AllocError>
-    ensures { OnOk result (out.new ≡ out.old ++ spell_behind behind.now) }
-{
-    if let Some(digits) = behind {
-        out.push(b'.')?;
-        put_text(out, digits)?;
-    }
-    Ok(())
-}
-
-fn put_repeated(out: &mut Bytes7, repeated: &Repeated) -> Result<(), AllocError>
-    ensures { OnOk result (out.new ≡ out.old ++ spell_repeated (repeated_tree repeated.now)) }
-{
-    match repeated {
-        Repeated::Classes(letters) => put_text(out, letters.as_text()),
-        Repeated::Copies(text) => put_string(out, text),
-    }
-}
-
-fn put_atom(out: &mut Bytes7, atom: &Atom) -> Result<(), AllocError>
-    ensures { OnOk result (out.new ≡ out.old ++ spell_atom (atom_tree atom.now)) }
-{
-    put_text(out, atom.count.as_front())?;
-    put_behind(out, atom.count.as_behind())?;
-    put_repeated(out, &atom.repeated)
-}
-
-fn put_atoms(out: &mut Bytes7, atoms: &[Atom]) -> Result<(), AllocError>
-    ensures { OnOk result (out.new ≡ out.old ++ spell_atoms (map atom_tree atoms.now)) }
-{
-    for atom in atoms {
-        put_atom(out, atom)?;
-    }
-    Ok(())
 }
 
 #[cycle(expr)]

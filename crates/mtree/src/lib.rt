@@ -13,6 +13,7 @@ mod expression;
 mod function_word;
 mod letters;
 mod literal;
+mod patterns;
 mod pieces;
 mod put_list;
 mod reference;
@@ -28,9 +29,9 @@ pub use letters::Letters;
 pub use literal::Literal;
 pub use since::{since_args, since_commands, since_reference, since_routine_line};
 pub use tree::{
-    Arg, Atom, Binary, Body, Choice, Command, Destination, Entry, Expr, Function, Keyword, Line,
-    LockKind, Locked, Operand, Parameter, PartTarget, Primary, Reference, Referring, Repeated,
-    RoutineLine, Sign, Spaced, SpecialVariable, Tail, Target, Truth, ValueFunction,
+    Alternative, Arg, Atom, Binary, Body, Choice, Command, Destination, Entry, Expr, Function,
+    Keyword, Line, LockKind, Locked, Operand, Parameter, PartTarget, Primary, Reference, Referring,
+    Repeated, RoutineLine, Sign, Spaced, SpecialVariable, Tail, Target, Truth, ValueFunction,
     VariableFunction,
 };
 pub use words::{function_of, is_part, keyword_of, special_of};

@@ -2,14 +2,36 @@
 // The first language that has all forms of a tree.
 ghost use Rattle.std.specs.Prelude.{◌≡◌, map};
 ghost use Rattle.mgrammar.specs.Grammar.{tails_of, exprs_of, choices_of, formats};
-ghost use Rattle.mgrammar.specs.Languages.{since_all, since_optional, since_expr, since_tails, since_tail, since_operand, since_primary, since_reference, since_exprs, since_choices, since_target, since_destination, since_parameter, since_locked, since_format, since_arg, since_args, since_command, since_spaced, since_routine_line};
-ghost use Rattle.mtree.specs.Tree.{expr_tree, tail_tree, operand_tree, primary_tree, reference_tree, referring_tree, choice_tree, part_tree, target_tree, destination_tree, parameter_tree, locked_tree, arg_tree, command_tree, spaced_tree, condition_tree, routine_line_tree, IsBodyCounted};
+ghost use Rattle.mgrammar.specs.Languages.{since_all, since_optional, since_atom, since_expr, since_tails, since_tail, since_operand, since_primary, since_reference, since_exprs, since_choices, since_target, since_destination, since_parameter, since_locked, since_format, since_arg, since_args, since_command, since_spaced, since_routine_line};
+ghost use Rattle.mtree.specs.Tree.{atom_tree, expr_tree, tail_tree, operand_tree, primary_tree, reference_tree, referring_tree, choice_tree, part_tree, target_tree, destination_tree, parameter_tree, locked_tree, arg_tree, command_tree, spaced_tree, condition_tree, routine_line_tree, IsBodyCounted};
 
 use crate::tree::{
-    Arg, Body, Choice, Command, Destination, Expr, Locked, Operand, Parameter, PartTarget, Primary,
-    Reference, Referring, RoutineLine, Spaced, Tail, Target,
+    Arg, Atom, Body, Choice, Command, Destination, Expr, Locked, Operand, Parameter, PartTarget,
+    Primary, Reference, Referring, Repeated, RoutineLine, Spaced, Tail, Target,
 };
 use crate::words::{later, since_function, since_keyword, since_part_of, since_special};
+
+// That of an atom of a pattern: no group stands in a pattern of the profile.
+fn since_atom(atom: &Atom) -> u32
+    ensures { result ≡ since_atom (atom_tree atom.now) }
+{
+    match &atom.repeated {
+        Repeated::Classes(_) => 0,
+        Repeated::Copies(_) => 0,
+        Repeated::Group(_) => 1,
+    }
+}
+
+#[tactic(auto, using(crate::proofs::InLanguages::max_more))]
+fn since_atoms(atoms: &[Atom]) -> u32
+    ensures { result ≡ since_all since_atom (map atom_tree atoms.now) }
+{
+    let mut since = 0;
+    for atom in atoms {
+        since = later(since, since_atom(atom));
+    }
+    since
+}
 
 // That of an expression.
 #[cycle(since)]
@@ -41,8 +63,8 @@ fn since_tail(tail: &Tail) -> u32
 {
     match tail {
         Tail::Apply(_, operand) => since_operand(operand),
-        Tail::Matches(_) => 0,
-        Tail::MatchesNot(_) => 0,
+        Tail::Matches(atoms) => since_atoms(atoms),
+        Tail::MatchesNot(atoms) => since_atoms(atoms),
         Tail::Raise(operand) => later(1, since_operand(operand)),
         Tail::MatchesIndirect(operand) => later(1, since_primary(operand)),
         Tail::MatchesNotIndirect(operand) => later(1, since_primary(operand)),

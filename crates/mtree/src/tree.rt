@@ -59,18 +59,27 @@ pub enum Binary {
 }
 
 /// What an atom of a pattern repeats.
-#[derive(Drop)]
+#[cycle(pattern)]
 pub enum Repeated {
     /// Characters of any of these classes.
     Classes(Letters),
     /// A string, without the quotes around it.
     Copies(Bytes7),
+    /// A group: texts that each match any of these patterns.
+    Group(Vec<Alternative>),
 }
 
 /// An atom of a pattern.
+#[cycle(pattern)]
 pub struct Atom {
     pub count: Count,
     pub repeated: Repeated,
+}
+
+/// A pattern of a group: its atoms in turn.
+#[cycle(pattern)]
+pub struct Alternative {
+    pub atoms: Vec<Atom>,
 }
 
 /// Operands with operators between them, which apply from left to right.
@@ -390,12 +399,31 @@ pub struct RoutineLine {
 
 // Drop is written out, so that the crates above do not prove again how each part of a tree is dropped. An expression ends the
 // cycle of types: what contains a tree drops it by one call.
+impl Drop for Repeated {
+    #[cycle(drop_pattern)]
+    fn drop(self) {
+        match self {
+            Repeated::Classes(_) => {}
+            Repeated::Copies(_) => {}
+            Repeated::Group(_) => {}
+        }
+    }
+}
+
 impl Drop for Atom {
+    #[cycle(drop_pattern)]
     fn drop(self) {
         let Atom {
             count: _,
             repeated: _,
         } = self;
+    }
+}
+
+impl Drop for Alternative {
+    #[cycle(drop_pattern)]
+    fn drop(self) {
+        let Alternative { atoms: _ } = self;
     }
 }
 

@@ -1,5 +1,5 @@
 -- SPDX-License-Identifier: Apache-2.0
-use Rattle.moperator.proofs.OperatorWords.{subst, sym, Some, None, Text, Yields, fault_of, slice_get}
+use Rattle.moperator.proofs.OperatorWords.{subst, sym, Text, Yields, fault_of}
 use Rattle.std.proofs.Common.{Option}
 use Rattle.std.proofs.lemmas.Option.{slice_get_past}
 use Rattle.moperator.proofs.GivenArguments.{argument_is}

@@ -1,5 +1,5 @@
 -- SPDX-License-Identifier: Apache-2.0
-use Rattle.moperator.proofs.OperatorWords.{Some, None, drop, subst, sym, arith, length-drop, true≢false, IsFirstOf, pattern_of}
+use Rattle.moperator.proofs.OperatorWords.{drop, subst, sym, arith, length-drop, true≢false, IsFirstOf, pattern_of}
 use Rattle.moperator.proofs.PatternWalk.{below_end, at_first, none_first, in_general, at_end}
 use Rattle.moperator.proofs.patterns.text_matches.Goals as goal
 

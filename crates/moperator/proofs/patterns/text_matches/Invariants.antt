@@ -1,5 +1,5 @@
 -- SPDX-License-Identifier: Apache-2.0
-use Rattle.moperator.proofs.OperatorWords.{◌≡◌, ◌≤◌, ◌-◌, ◌↔◌, drop, length, Matches, IsFirstOf, pattern_of}
+use Rattle.moperator.proofs.OperatorWords.{◌≤◌, ◌-◌, ◌↔◌, drop, length, Matches, IsFirstOf, pattern_of}
 use Rattle.moperator.proofs.patterns.text_matches.Given as goal
 
 abbrev pub invariant-loop-next : goal.invariant-loop-next

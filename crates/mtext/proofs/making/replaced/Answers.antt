@@ -1,5 +1,5 @@
 -- SPDX-License-Identifier: Apache-2.0
-use Rattle.mtext.proofs.TextWords.{◌≡◌, ◌+◌, subst, length, take, drop, made, join, pieces_of, Answers, IsBehind, delimiter_text}
+use Rattle.mtext.proofs.TextWords.{◌≡◌, ◌+◌, subst, take, drop, made, join, pieces_of, Answers, IsBehind, delimiter_text}
 use Rattle.std.proofs.lemmas.List.{take_rest}
 use Rattle.mtext.proofs.PieceSetting.{set_found}
 use Rattle.mtext.proofs.making.replaced.Goals as goal

@@ -1,5 +1,5 @@
 -- SPDX-License-Identifier: Apache-2.0
-use Rattle.mtext.proofs.TextWords.{◌≡◌, ◌-◌, ◌≤◌, ap, arith, subst, length, made, pos, unwrap_or, from_place, Answers}
+use Rattle.mtext.proofs.TextWords.{◌-◌, ◌≤◌, ap, arith, subst, length, made, pos, unwrap_or, from_place, Answers}
 use Rattle.std.proofs.lemmas.Bool.{leb-true}
 use Rattle.mspec.specs.TextFunctions.{to_place}
 use Rattle.mtext.proofs.PieceSetting.{characters_past}

@@ -1,5 +1,5 @@
 -- SPDX-License-Identifier: Apache-2.0
-use Rattle.mtext.proofs.TextWords.{Ok, ap, arith, length, sym, ◌∙◌}
+use Rattle.mtext.proofs.TextWords.{Ok, ap, arith, sym, ◌∙◌}
 use Rattle.mspec.specs.NumberFormats.{before_digits, behind_digits, whole_digits}
 use Rattle.mnum.specs.Num.{units}
 use Rattle.mtext.proofs.FormatMarks.{whole_length}

@@ -3,7 +3,6 @@ use Rattle.meval.proofs.EvalLaws.{◌≡◌, ◌∙◌, ◌++◌, length, [], �
 use Rattle.std.proofs.Common.{Ok}
 use Rattle.std.specs.Prelude.{not}
 use Rattle.mspec.specs.Interpretations.{truth_text}
-use Rattle.mgrammar.specs.Matching.{atom_of}
 use Rattle.mmeaning.specs.Operators.{matching}
 use Rattle.mmeaning.specs.Expression.{primary_value, matches_text}
 use Rattle.meval.specs.Acts.{matches_read}
@@ -434,23 +433,23 @@ tail-returns-in_ok-operand_into-in-Apply g t c =
 
 pub tail-returns-in_err-matches-in-Matches : goal.tail-returns-in_err-matches-in-Matches
 tail-returns-in_err-matches-in-Matches g t c =
-    let k = rw c.deref.ensures.value at c.in_err-matches-in-Matches.ensures.value in
-    rw (c.in-Matches.is, matches_is c.in-Matches.atoms) (evaluates_stopped _ (evaluates_yielded k) c.from_residual-in_err-matches-in-Matches.ensures)
+    let k = rw c.deref.ensures.value at c.in_err-matches-in-Matches.ensures in
+    rw (c.in-Matches.is, matches_is c.in-Matches.atoms) (evaluates_stopped _ k c.from_residual-in_err-matches-in-Matches.ensures)
 
 pub tail-returns-in_ok-matches-in-Matches : goal.tail-returns-in_ok-matches-in-Matches
 tail-returns-in_ok-matches-in-Matches g t c =
-    let k = rw c.deref.ensures.value at c.in_ok-matches-in-Matches.ensures.value in
-    rw (c.in-Matches.is, matches_is c.in-Matches.atoms) (evaluates_then _ (evaluates_yielded k) (evaluates_gives _ _ _ c.of_truth.ensures))
+    let k = rw c.deref.ensures.value at c.in_ok-matches-in-Matches.ensures in
+    rw (c.in-Matches.is, matches_is c.in-Matches.atoms) (evaluates_then _ k (evaluates_gives _ _ _ c.of_truth.ensures))
 
 pub tail-returns-in_err-matches-in-MatchesNot : goal.tail-returns-in_err-matches-in-MatchesNot
 tail-returns-in_err-matches-in-MatchesNot g t c =
-    let k = rw c.deref-in-MatchesNot.ensures.value at c.in_err-matches-in-MatchesNot.ensures.value in
-    rw (c.in-MatchesNot.is, matches_not_is c.in-MatchesNot.atoms) (evaluates_stopped _ (evaluates_yielded k) c.from_residual-in_err-matches-in-MatchesNot.ensures)
+    let k = rw c.deref-in-MatchesNot.ensures.value at c.in_err-matches-in-MatchesNot.ensures in
+    rw (c.in-MatchesNot.is, matches_not_is c.in-MatchesNot.atoms) (evaluates_stopped _ k c.from_residual-in_err-matches-in-MatchesNot.ensures)
 
 pub tail-returns-in_ok-matches-in-MatchesNot : goal.tail-returns-in_ok-matches-in-MatchesNot
 tail-returns-in_ok-matches-in-MatchesNot g t c =
-    let k = rw c.deref-in-MatchesNot.ensures.value at c.in_ok-matches-in-MatchesNot.ensures.value in
-    rw (c.in-MatchesNot.is, matches_not_is c.in-MatchesNot.atoms) (evaluates_then _ (evaluates_yielded k) (evaluates_gives _ _ _ c.of_truth-in-MatchesNot.ensures))
+    let k = rw c.deref-in-MatchesNot.ensures.value at c.in_ok-matches-in-MatchesNot.ensures in
+    rw (c.in-MatchesNot.is, matches_not_is c.in-MatchesNot.atoms) (evaluates_then _ k (evaluates_gives _ _ _ c.of_truth-in-MatchesNot.ensures))
 
 pub tail-returns-in-Raise : goal.tail-returns-in-Raise
 tail-returns-in-Raise g t c = rw (c.in-Raise.is, raise_is c.in-Raise.operand) c.raised.ensures
@@ -504,15 +503,15 @@ matches_indirect-returns-in_err-atoms g t c =
     let free = is_free _ _ c.in-Some.is c.indirected.ensures.free in
     let none = rw (c.as_bytes.ensures.bytes, c.in_ok-text.ensures) at c.in_err-atoms.ensures in
     evaluates_then (λ i t. matches_text i c.args.value.now t) c.in_ok-given.ensures.does
-    (free_then (λ i. matches_read c.args.value.now c.in_ok-given.given) free (evaluates_stopped (λ i atoms. matching (map atom_of atoms) c.args.value.now) (evaluates_yielded none) c.from_residual-in_err-atoms.ensures))
+    (free_then (λ i. matches_read c.args.value.now c.in_ok-given.given) free (evaluates_stopped (λ i atoms. matching atoms c.args.value.now) (evaluates_yielded none) c.from_residual-in_err-atoms.ensures))
 
 pub matches_indirect-returns : goal.matches_indirect-returns
 matches_indirect-returns g t c =
     let free = is_free _ _ c.in-Some.is c.indirected.ensures.free in
     let read = rw (c.as_bytes.ensures.bytes, c.in_ok-text.ensures) at c.in_ok-atoms.ensures in
-    let matched = rw c.deref.ensures.value at c.matching.ensures.value in
+    let matched = rw c.deref.ensures.value at c.matching.ensures in
     evaluates_then (λ i t. matches_text i c.args.value.now t) c.in_ok-given.ensures.does
-    (free_then (λ i. matches_read c.args.value.now c.in_ok-given.given) free (evaluates_then (λ i atoms. matching (map atom_of atoms) c.args.value.now) (evaluates_yielded read) (evaluates_yielded matched)))
+    (free_then (λ i. matches_read c.args.value.now c.in_ok-given.given) free (evaluates_then (λ i atoms. matching atoms c.args.value.now) (evaluates_yielded read) matched))
 
 -- ---- expressions
 

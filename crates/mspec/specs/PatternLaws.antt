@@ -2,7 +2,7 @@
 -- The law of pattern match. The function of src/ named after it carries it.
 use Rattle.std.specs.Prelude.{ℕ, List, Decides}
 use Rattle.mspec.specs.Pattern.{Atom, Matches}
-use Rattle.mgrammar.specs.Matching.{is_match}
+use Rattle.mspec.specs.PatternTests.{is_match}
 
 -- `is_match` is true exactly when the text is a joining of segments, one for each atom
 abbrev pub DecidesMatch : Type 0

@@ -1,15 +1,21 @@
 -- SPDX-License-Identifier: Apache-2.0
 -- The test of pattern match is the definition.
-use Rattle.mgrammar.proofs.GrammarWords.{◌≡◌, ℕ, zero, suc, ◌+◌, ◌≤◌, Bool, true, false, List, [], ◌∷◌, length, take, drop, Option, Some, None, refl, sym, ap, ◌∙◌, arith, ◌&&◌, ◌||◌, nat_le, nat_eq, Decides, list_all, and_parts, eqb-true, leb-true, leb-false, le-leb, Decides-eqb, take-append-drop, AllAre, length-append}
+use Rattle.std.proofs.Common.{◌≡◌, ℕ, zero, suc, ◌+◌, ◌≤◌, Bool, true, false, List, [], ◌∷◌, length, take, drop, Option, Some, None, refl, sym, ap, subst, ◌∙◌, arith, length-append}
+use Rattle.std.specs.Prelude.{◌&&◌, ◌||◌, max, nat_le, nat_eq, Decides}
+use Rattle.std.specs.List.{list_all}
+use Rattle.std.proofs.lemmas.Bool.{and_parts, eqb-true, leb-true, leb-false, le-leb}
+use Rattle.std.proofs.lemmas.Bool.Decides.{Decides-eqb}
+use Rattle.std.proofs.lemmas.List.{take-append-drop, append-nil}
+use Rattle.mspec.specs.Names.{AllAre}
 use Rattle.std.specs.Cmp.Lexicographic.{pointwise}
 use Rattle.std.specs.Cmp.Derive.{both_true}
 use Rattle.std.proofs.lemmas.Slice.Eq.{slice_eq-Decides}
 use Rattle.std.proofs.Math.Bool.{or-true}
 use Rattle.std.proofs.Math.Seq.{take-append_seam, drop-append_seam}
-use Rattle.mspec.specs.Pattern.{is_in_any, IsAtMost, Count, IsPermitted, Repeated, members, copies, copied, IsRepetition}
+use Rattle.mspec.specs.Pattern.{is_in_any, IsAtMost, Count, IsPermitted, Repeated, members, copies, passing, copied, IsJoined, IsRepetition}
 use Rattle.mspec.proofs.Basics.{copies_fit, nothing_copied}
-use Rattle.mgrammar.specs.Matching.{is_at_most, is_permitted, any_up_to, is_repetition, is_match}
-use Rattle.mgrammar.specs.PatternLaws.{DecidesMatch}
+use Rattle.mspec.specs.PatternTests.{is_at_most, is_permitted, any_up_to, is_joined, is_repetition, is_match}
+use Rattle.mspec.specs.PatternLaws.{DecidesMatch}
 
 one_is : (a b : Bool) (P : Type 0) → (a || b) ≡ true → (a ≡ true → P) → (b ≡ true → P) → P
 one_is true b P e f g = f refl
@@ -70,6 +76,53 @@ few_copies count (c ∷ string) text (n, permitted, is) =
     let fit = rw (sym is) at (copies_fit n c string) in
     (n, omega (arith, fit), permitted, is)
 
+-- ---- texts that pass a test
+
+-- of more texts than there are characters one is empty, and can be left out
+one_left_out : (test : List ℕ → Bool) (n : ℕ) (text : List ℕ) → length text ≤ n → IsJoined test (suc n) text → IsJoined test n text
+one_left_out test n text few (front, [], joined, first, pass) = subst (IsJoined test n) (sym (append-nil front) ∙ sym joined) first
+one_left_out test zero text few (front, c ∷ last, joined, first, pass) = absurd (omega (arith, few, ap length joined, length-append front (c ∷ last)))
+one_left_out test (suc n) text few (front, c ∷ last, joined, first, pass) =
+    (front, c ∷ last, joined, one_left_out test n front (omega (arith, few, ap length joined, length-append front (c ∷ last))) first, pass)
+
+-- so many that there are no more than characters, or than wanted
+pub record FewJoined (test : List ℕ → Bool) (least most : ℕ) (text : List ℕ) : Type 0 where
+  pub number : ℕ
+  pub enough : least ≤ number
+  pub fewer : number ≤ most
+  pub small : number ≤ max least (length text)
+  pub joined : IsJoined test number text
+
+pub few_joined : (test : List ℕ → Bool) (least : ℕ) (text : List ℕ) (n : ℕ) → least ≤ n → IsJoined test n text → FewJoined test least n text
+few_joined test least text zero le joined = record { number = 0; enough = le; fewer = omega arith; small = omega arith; joined = joined }
+few_joined test least text (suc n) le joined = go (nat_le (suc n) (max least (length text))) refl (few_joined test least text n) where
+  go : (b : Bool) → nat_le (suc n) (max least (length text)) ≡ b → (least ≤ n → IsJoined test n text → FewJoined test least n text) → FewJoined test least (suc n) text
+  go true is fewer = record { number = suc n; enough = le; fewer = omega arith; small = leb-true (suc n) (max least (length text)) is; joined = joined }
+  go false is fewer =
+      let above = leb-false (suc n) (max least (length text)) is in
+      let less = fewer (omega (arith, above)) (one_left_out test n text (omega (arith, above)) joined) in
+      record { number = less.number; enough = less.enough; fewer = omega (arith, less.fewer); small = less.small; joined = less.joined }
+
+pub joined_is : (test : List ℕ → Bool) (n : ℕ) (text : List ℕ) → Decides (is_joined test n text) (IsJoined test n text)
+joined_is test zero [] = (λ e. refl, λ h. refl)
+joined_is test zero (c ∷ text) = (λ e. let none : length (c ∷ text) ≡ 0 = eqb-true (length (c ∷ text)) 0 e in absurd (omega (arith, none)), λ h. absurd cc)
+joined_is test (suc n) text =
+    let cut : ℕ → Bool = λ k. is_joined test n (take k text) && test (drop k text) in (
+      λ e.
+          let found = passes (length text) cut e in
+          let k = found.0 in
+          let both = and_parts (is_joined test n (take k text)) (test (drop k text)) found.2 in
+          (take k text, drop k text, sym (take-append-drop k text), (joined_is test n (take k text)).0 both.0, both.1),
+      λ h.
+          let front = h.0 in
+          let last = h.1 in
+          let k = length front in
+          let is_front : take k text ≡ front = ap (take k) h.2 ∙ take-append_seam front last in
+          let is_last : drop k text ≡ last = ap (drop k) h.2 ∙ drop-append_seam front last in
+          passed (length text) cut k (rw (h.2, length-append) (omega arith))
+          (both_true ((joined_is test n (take k text)).1 (rw is_front h.3)) (rw is_last h.4)),
+    )
+
 repetition_is : (count : Count) (what : Repeated) (text : List ℕ) → Decides (is_repetition count what text) (IsRepetition count what text)
 repetition_is count (members codes) text = (
   λ e.
@@ -86,6 +139,17 @@ repetition_is count (copies string) text =
       λ h.
           let few = few_copies count string text h in
           passed (count.least + length text) test few.0 few.1 (both_true ((permitted_is count few.0).1 few.2) ((same_is text (copied few.0 string)).1 few.3)),
+    )
+repetition_is count (passing test) text =
+    let serves : ℕ → Bool = λ n. is_permitted count n && is_joined test n text in (
+      λ e.
+          let found = passes (count.least + length text) serves e in
+          let both = and_parts (is_permitted count found.0) (is_joined test found.0 text) found.2 in
+          (found.0, (permitted_is count found.0).0 both.0, (joined_is test found.0 text).0 both.1),
+      λ h.
+          let few = few_joined test count.least text h.0 h.1.0 h.2 in
+          passed (count.least + length text) serves few.number (omega (arith, few.small))
+          (both_true ((permitted_is count few.number).1 (few.enough, still_at_most count.most few.number h.0 few.fewer h.1.1)) ((joined_is test few.number text).1 few.joined)),
     )
 
 -- ---- patterns

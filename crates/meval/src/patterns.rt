@@ -1,0 +1,45 @@
+// SPDX-License-Identifier: Apache-2.0
+// The operator `?`: the turns that the groups of a pattern may take are charged before a value is matched.
+ghost use Rattle.std.specs.Prelude.{◌≡◌, ℕ, map};
+ghost use Rattle.mmeaning.specs.Operators as meaning;
+ghost use Rattle.mtree.specs.CappedCounts.{capped};
+ghost use Rattle.mtree.specs.Tree.{atom_tree};
+ghost use Rattle.meval.specs.Evaluates.{Evaluates};
+
+use crate::eval::Eval;
+use mnodes::NodeStore;
+use moperator::{Code, matches, pattern_turns};
+use mtree::Atom;
+use mvalue::Value;
+use std::alloc::Global;
+
+impl<'a, S: NodeStore> Eval<'a, S> {
+    // Spends so many steps. If fewer are left, it spends those. The machine's greatest number stands for all that are greater, since no line
+    // has so many steps.
+    fn charge_each(&mut self, count: usize) -> Result<(), Code>
+        ensures { (n : ℕ) → count ≡ capped n → Evaluates S.NodeStore (λ i. meaning.charges n) (λ u. u) self.old result self.new }
+    {
+        if count > self.steps as usize {
+            self.steps = 0;
+            return Err(Code::Zsteps);
+        }
+        self.steps -= count as u32;
+        Ok(())
+    }
+
+    // Whether a value matches a pattern.
+    #[inline(never)]
+    pub(crate) fn matching(
+        &mut self,
+        alloc: Global,
+        atoms: &[Atom],
+        value: &Value,
+    ) -> Result<bool, Code>
+        ensures { Evaluates S.NodeStore (λ i. meaning.matching (map atom_tree atoms.now) value.now) (λ matches. matches) self.old result self.new }
+    {
+        let turns = pattern_turns(atoms, value)?;
+        self.charge_each(turns)?;
+        let answer = matches(alloc, atoms, value)?;
+        Ok(answer)
+    }
+}

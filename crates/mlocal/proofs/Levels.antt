@@ -11,4 +11,4 @@ all_go (s ∷ t ∷ above) bottom = all_go (t ∷ above) bottom
 
 -- a scope without names has no text to take away
 pub none_emptied : (spared : Text → Bool) → entered ≡ emptied spared entered
-none_emptied spared = sym (ap (λ trees. record { names = []; others = None; trees = trees }) (no_trees_cut spared))
+none_emptied spared = sym (ap (λ trees. record { names = []; others = None; trees = trees; links = [] }) (no_trees_cut spared))

@@ -3,6 +3,7 @@ mod LocalWords
 pub mod Views
 pub mod Stacks
 pub mod Levels
+pub mod Bound
 pub mod Killed
 pub mod Bounds
 pub mod Walks

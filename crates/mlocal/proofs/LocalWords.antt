@@ -33,9 +33,11 @@ pub use Rattle.mspec.specs.NodeOrder.{Other, place, place_by, place_cmp, subscri
 unfoldable pub use Rattle.mspec.specs.NodeOrder.{canonical_value}
 pub use Rattle.mspec.specs.Number.{significant_digits}
 unfoldable pub use Rattle.mspec.specs.Number.{digits_before, nearest, round, round_size, rounding_unit}
-pub use Rattle.mspec.specs.Scopes.{Scope, Scopes, assigned, at_home, common, emptied, entered, has, hide, hide_others, is_among, is_bare, is_other, kill_in, killed, killed_but, killed_except, newed, newed_except, on_top, outermost, tree_in, tree_of, with_tree}
+pub use Rattle.mspec.proofs.Sparing.{known_is}
+pub use Rattle.mspec.specs.Scopes.{Scope, Scopes, assigned, at_home, bind, bound, common, emptied, entered, formals, has, hide, hide_others, is_among, is_bare, is_name, is_other, kill_in, killed, killed_but, killed_except, known_below, leads_to, linked, newed, newed_except, on_top, outermost, passed, set_in, stays, tree_in, tree_of, ways, with_tree}
 pub use Rattle.mspec.specs.Trees.{Tree, child_of, front, has_descendants, has_value, is_before, is_below, is_empty, is_within, last, order_of, text_eq, without}
-pub use Rattle.mlocal.specs.Home.{IsHome, has_name, killed_up}
+pub use Rattle.mlocal.specs.Bindings.{binding_of, bindings_of}
+pub use Rattle.mlocal.specs.Home.{IsHome, killed_up}
 pub use Rattle.mlocal.specs.Own.{AreSomeSubs, with_own}
 pub use Rattle.mlocal.specs.Table.{NamedTrees, StandsAt, kill_at, tidied_at, tree_at}
 pub use Rattle.mlocal.specs.Way.{has_child, is_behind, is_between, is_from, is_one_of, passes}

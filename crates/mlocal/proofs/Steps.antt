@@ -1,12 +1,21 @@
 -- SPDX-License-Identifier: Apache-2.0
 -- What a search in the map of a variable finds of its tree.
-use Rattle.mlocal.proofs.LocalWords.{◌≡◌, Bool, false, List, [], ◌++◌, reverse, All, Option, sym, ap, ◌∙◌, option_and_then, is_some, IsOrdered, list_any, find, map_of, Text, subscripts_cmp, significant_digits, Tree, child_of, order_of, is_before, AreSubs, behind_below, with_own, AreSomeSubs, is_behind, is_between, has_child, BTreeMap}
+use Rattle.mlocal.proofs.LocalWords.{◌≡◌, Bool, true, false, ◌||◌, List, [], ◌∷◌, ◌++◌, refl, reverse, reverse-append, list_any-append, All, Option, sym, ap, ◌∙◌, option_and_then, is_some, IsOrdered, list_any, find, map_of, Text, subscripts_cmp, significant_digits, Tree, child_of, order_of, is_before, AreSubs, behind_below, with_own, AreSomeSubs, is_behind, is_between, has_child, BTreeMap}
 use Rattle.std.specs.BTreeMap as tree
 use Rattle.std.specs.FinMap as map
 use Rattle.mspec.specs.Trees as trees
 use Rattle.mlocal.proofs.Own.{own_keys, subs_each, keys_with_own, not_child, first_of_others, last_of_others, any_of_others}
-use Rattle.mlocal.proofs.Stacks.{any-reverse}
 use Rattle.mlocal.proofs.Walks.{find_alike, any_found, all_reversed, onward, order_forward}
+
+or_swap : (a b : Bool) → (b || (a || false)) ≡ (a || b)
+or_swap true true = refl
+or_swap true false = refl
+or_swap false true = refl
+or_swap false false = refl
+
+any-reverse : {A : Type 0} (p : A → Bool) (xs : List A) → list_any p (reverse xs) ≡ list_any p xs
+any-reverse p [] = refl
+any-reverse p (x ∷ xs) = ap (list_any p) (reverse-append (x ∷ []) xs) ∙ list_any-append p (reverse xs) (x ∷ []) ∙ ap (λ b. b || (p x || false)) (any-reverse p xs) ∙ or_swap (p x) (list_any p xs)
 
 module _ (t : Tree) (o : Option Text) (m : BTreeMap (List Text) Text) (is : with_own o (map_of (λ x. x) m) ≡ t) (ordered : IsOrdered (subscripts_cmp significant_digits) m) (all : All AreSomeSubs (tree.keys m)) where
   same_keys : own_keys o ++ tree.keys m ≡ map.keys t

@@ -33,29 +33,29 @@ no_or a b c e f = f ∙ ap (λ x. x || b) (sym e)
 pub names_exact : IsAntisymmetric (slice_cmp nat_cmp)
 names_exact = slice_cmp-IsAntisymmetric nat_cmp-IsAntisymmetric
 
--- the scope of these names and trees
-abbrev pub scope_of : List Text → Option (List Text) → NamedTrees → Scope
-scope_of ns o ts = record { names = ns; others = o; trees = ts }
+-- the scope of these names, links and trees
+abbrev pub scope_of : List Text → Option (List Text) → List (Text × Text) → NamedTrees → Scope
+scope_of ns o ls ts = record { names = ns; others = o; trees = ts; links = ls }
 
-module _ (ns : List Text) (o : Option (List Text)) (ts : NamedTrees) where
+module _ (ns : List Text) (o : Option (List Text)) {ls : List (Text × Text)} (ts : NamedTrees) where
   -- the tree of a name, by what the table has
-  pub tree_seen : (n : Text) (r : Option Tree) → r ≡ get ts n → (s : Scope) → scope_of ns o ts ≡ s → unwrap_or r empty ≡ tree_in s n
+  pub tree_seen : (n : Text) (r : Option Tree) → r ≡ get ts n → (s : Scope) → scope_of ns o ls ts ≡ s → unwrap_or r empty ≡ tree_in s n
   tree_seen n r e s seen = ap (λ q. unwrap_or q empty) e ∙ ap (λ s. tree_in s n) seen
 
   -- a value that a node was given
-  pub put_seen : (us : NamedTrees) (n : Text) (k : List Text) (v : Text) → us ≡ insert ts n (insert (tree_at ts n) k v) → (s : Scope) → scope_of ns o ts ≡ s
-      → scope_of ns o us ≡ with_tree n (insert (tree_in s n) k v) s
-  put_seen us n k v e s seen = ap (scope_of ns o) e ∙ ap (λ s. with_tree n (insert (tree_in s n) k v) s) seen
+  pub put_seen : (us : NamedTrees) (n : Text) (k : List Text) (v : Text) → us ≡ insert ts n (insert (tree_at ts n) k v) → (s : Scope) → scope_of ns o ls ts ≡ s
+      → scope_of ns o ls us ≡ with_tree n (insert (tree_in s n) k v) s
+  put_seen us n k v e s seen = ap (scope_of ns o ls) e ∙ ap (λ s. with_tree n (insert (tree_in s n) k v) s) seen
 
   -- a node whose text was taken, with those below it
-  pub kill_seen : (us : NamedTrees) (n : Text) (k : List Text) → us ≡ kill_at n k (get ts n) ts → (s : Scope) → scope_of ns o ts ≡ s → scope_of ns o us ≡ kill_in n k (get s.trees n) s
-  kill_seen us n k e s seen = ap (scope_of ns o) e ∙ here (get ts n) ∙ ap (λ s. kill_in n k (get s.trees n) s) seen
+  pub kill_seen : (us : NamedTrees) (n : Text) (k : List Text) → us ≡ kill_at n k (get ts n) ts → (s : Scope) → scope_of ns o ls ts ≡ s → scope_of ns o ls us ≡ kill_in n k (get s.trees n) s
+  kill_seen us n k e s seen = ap (scope_of ns o ls) e ∙ here (get ts n) ∙ ap (λ s. kill_in n k (get s.trees n) s) seen
     where
-      either : (b : Bool) (us vs : NamedTrees) → scope_of ns o (cond b us vs) ≡ cond b (scope_of ns o us) (scope_of ns o vs)
+      either : (b : Bool) (us vs : NamedTrees) → scope_of ns o ls (cond b us vs) ≡ cond b (scope_of ns o ls us) (scope_of ns o ls vs)
       either true us vs = refl
       either false us vs = refl
 
-      here : (t : Option Tree) → scope_of ns o (kill_at n k t ts) ≡ kill_in n k t (scope_of ns o ts)
+      here : (t : Option Tree) → scope_of ns o ls (kill_at n k t ts) ≡ kill_in n k t (scope_of ns o ls ts)
       here None = refl
       here (Some t) =
           let us = insert ts n (without t k) in

@@ -1,19 +1,15 @@
 -- SPDX-License-Identifier: Apache-2.0
 -- Scopes in a list, bottom first.
-use Rattle.std.specs.Prelude.{◌≡◌, ℕ, ◌+◌, ◌<◌, Bool, true, false, ◌||◌, List, [], ◌∷◌, drop, length, slice_index_or, Option, Some, None}
-use Rattle.std.specs.List.{list_any}
+use Rattle.std.specs.Prelude.{◌≡◌, ℕ, ◌+◌, ◌<◌, true, List, [], ◌∷◌, drop, length, slice_index_or, Option, Some, None}
 use Rattle.mspec.specs.Node.{Text}
-use Rattle.mspec.specs.Scopes.{Scope, has, emptied}
+use Rattle.mspec.specs.Scopes.{Scope, has, emptied, known_below, stays}
 
-abbrev pub has_name : Text → Scope → Bool
-has_name n s = has s n
+-- the place of the scope that a name's variable belongs to, none below all of these, and the name that it has there
+abbrev pub IsHome : Text → List Scope → Option ℕ → Text → Type 0
+IsHome n xs None m = known_below xs n ≡ Some m
+IsHome n xs (Some i) m = (i < length xs) × ((d : Scope) → has (slice_index_or xs i d) m ≡ true) × (known_below (drop (i + 1) xs) n ≡ Some m)
 
--- the place of the topmost scope that has the name
-abbrev pub IsHome : Text → List Scope → Option ℕ → Type 0
-IsHome n xs None = list_any (has_name n) xs ≡ false
-IsHome n xs (Some i) = (i < length xs) × ((d : Scope) → has (slice_index_or xs i d) n ≡ true) × (list_any (has_name n) (drop (i + 1) xs) ≡ false)
-
--- KILL of all names that are not spared, where scopes above hide those that they have
-abbrev pub killed_up : (Text → Bool) → List Scope → List Scope
-killed_up spared [] = []
-killed_up spared (s ∷ above) = emptied (λ n. spared n || list_any (has_name n) above) s ∷ killed_up spared above
+-- KILL of all variables that can be seen, except those to which these names lead
+abbrev pub killed_up : List Text → List Scope → List Scope
+killed_up names [] = []
+killed_up names (s ∷ above) = emptied (stays names above) s ∷ killed_up names above

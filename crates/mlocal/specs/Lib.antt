@@ -1,5 +1,6 @@
 -- SPDX-License-Identifier: Apache-2.0
 pub mod Home
+pub mod Bindings
 pub mod ScopeCode
 pub mod Way
 pub mod Own

@@ -14,6 +14,7 @@ tree_code = code (coded_list (coded_list coded_ℕ)) (coded_list coded_ℕ)
 
 abbrev pub scope_code : Coded Scope
 scope_code =
-    code_by (List Text × (Option (List Text) × FinMap (slice_cmp nat_cmp) Tree))
-    (coded× (coded_list (coded_list coded_ℕ)) (coded× (coded_option (coded_list (coded_list coded_ℕ))) (code (coded_list coded_ℕ) tree_code)))
-    (λ s. (s.names, (s.others, s.trees))) (λ p. record { names = p.0; others = p.1.0; trees = p.1.1 }) (λ _. refl)
+    code_by (List Text × (Option (List Text) × (FinMap (slice_cmp nat_cmp) Tree × List (Text × Text))))
+    (coded× (coded_list (coded_list coded_ℕ)) (coded× (coded_option (coded_list (coded_list coded_ℕ)))
+    (coded× (code (coded_list coded_ℕ) tree_code) (coded_list (coded× (coded_list coded_ℕ) (coded_list coded_ℕ))))))
+    (λ s. (s.names, (s.others, (s.trees, s.links)))) (λ p. record { names = p.0; others = p.1.0; trees = p.1.1.0; links = p.1.1.1 }) (λ _. refl)

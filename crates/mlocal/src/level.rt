@@ -1,14 +1,18 @@
 // SPDX-License-Identifier: Apache-2.0
 // The scope of a level.
-ghost use Rattle.std.specs.Prelude.{◌≡◌, ◌≢◌, [], IfOk, OnOk, OnErr, ◌||◌};
+ghost use Rattle.std.specs.Prelude.{◌≡◌, ◌≢◌, [], IfOk, OnOk, OnErr, option_map, unwrap_or};
 ghost use Rattle.std.specs.FinMap.{get, insert};
 ghost use Rattle.std.specs.List.{list_any};
+ghost use Rattle.std.specs.Map.{lookup};
 ghost use Rattle.mkey.specs.Front.{AreSubs};
 ghost use Rattle.mkey.specs.SubsKey.{behind_below};
-ghost use Rattle.mspec.specs.Scopes.{entered, has, tree_in, with_tree, is_among, hide, hide_others, kill_in, emptied};
-ghost use Rattle.mlocal.specs.Home.{has_name};
+ghost use Rattle.mspec.specs.Scopes.{entered, has, tree_in, with_tree, hide, hide_others, kill_in, emptied, leads_to, ways, stays, formals};
+ghost use Rattle.mspec.specs.Trees.{text_eq};
+ghost use Rattle.mlocal.specs.Bindings.{bindings_of};
+ghost use Rattle.mlocal.specs.Home.{IsHome};
 
-use crate::scope::{Scope, is_among};
+use crate::binding::Binding;
+use crate::scope::Scope;
 use mkey::SubsKey;
 use mnum::Name;
 use mvalue::Value;
@@ -48,6 +52,15 @@ impl Level {
         Level { scope: None }
     }
 
+    // The scope of a level with formal parameters.
+    pub(crate) fn bound(alloc: Global, bindings: Vec<(Name, Binding)>) -> Result<Level, AllocError>
+        ensures { IfOk result (λ level. level ≡ formals (bindings_of bindings.items) entered) }
+    {
+        let mut scope = boxed(alloc)?;
+        scope.bind_all(alloc, bindings)?;
+        Ok(Level { scope: Some(scope) })
+    }
+
     // Whether it has the name by itself.
     pub(crate) fn has(&self, name: &Name) -> bool
         ensures { result ≡ has self.now name.now }
@@ -55,6 +68,26 @@ impl Level {
         match &self.scope {
             None => false,
             Some(scope) => scope.has(name),
+        }
+    }
+
+    // The name that the scopes below have in place of one, if that is another one.
+    pub(crate) fn link(&self, name: &Name) -> Option<&Name>
+        ensures { option_map (λ other. other.now) result ≡ lookup (text_eq name.now) self.now.links }
+    {
+        match &self.scope {
+            None => None,
+            Some(scope) => scope.link(name),
+        }
+    }
+
+    // Whether the name of a link leads to the variable of this name below these levels.
+    fn links_to(&self, above: &[Level], name: &Name) -> bool
+        ensures { result ≡ list_any (λ link. leads_to name.now above.now link.0) self.now.links }
+    {
+        match &self.scope {
+            None => false,
+            Some(scope) => scope.links_to(above, name),
         }
     }
 
@@ -125,10 +158,11 @@ impl Level {
         }
     }
 
-    // Takes away the texts of all names except these and those that a level above has. Takes no memory.
+    // Takes away the texts of the variables to which none of these names leads through the levels above, but some name. Takes no
+    // memory.
     #[tactic(auto, using(crate::proofs::Levels::none_emptied))]
     pub(crate) fn keep_spared(&mut self, names: &[Name], above: &[Level])
-        ensures { self.new ≡ emptied (λ n. is_among names.now n || list_any (has_name n) above.now) self.old }
+        ensures { self.new ≡ emptied (stays names.now above.now) self.old }
     {
         if let Some(scope) = &mut self.scope {
             scope.keep_spared(names, above);
@@ -175,16 +209,57 @@ fn boxed(alloc: Global) -> Result<Box<Scope>, AllocError>
     Ok(Box::new(alloc, Scope::new(alloc))?)
 }
 
-// Whether one of these levels has the name.
-fn any_has(levels: &[Level], name: &Name) -> bool
-    ensures { result ≡ list_any (has_name name.now) levels.now }
+// Where a name's variable is: the place of its level, or none below all of these, and the name that it has there, if that is another
+// one.
+pub(crate) fn home<'a>(levels: &'a [Level], name: &Name) -> (Option<usize>, Option<&'a Name>)
+    ensures { IsHome name.now levels.now result.0 (unwrap_or (option_map (λ other. other.now) result.1) name.now) }
 {
-    levels.iter().any(|l| l.has(name))
+    let mut other = None;
+    let mut place = levels.len();
+    while place > 0 {
+        place -= 1;
+        let known = known_as(name, other);
+        if levels[place].has(known) {
+            return (Some(place), other);
+        }
+        if let Some(below) = levels[place].link(known) {
+            other = Some(below);
+        }
+    }
+    (None, other)
 }
 
-// Whether a name is one of these, or a level above has it.
-pub(crate) fn is_spared(names: &[Name], above: &[Level], name: &Name) -> bool
-    ensures { result ≡ (is_among names.now name.now || list_any (has_name name.now) above.now) }
+// The other name, if there is one.
+#[inline(always)]
+pub(crate) fn known_as<'a>(name: &'a Name, other: Option<&'a Name>) -> &'a Name
+    ensures { result.now ≡ unwrap_or (option_map (λ other. other.now) other.entry) name.now }
 {
-    is_among(name, names) || any_has(above, name)
+    match other {
+        None => name,
+        Some(other) => other,
+    }
+}
+
+// Whether a name leads to the variable of another name below these levels.
+#[tactic(auto, using(crate::proofs::Stacks::leads_by))]
+pub(crate) fn leads_to(above: &[Level], target: &Name, name: &Name) -> bool
+    ensures { result ≡ leads_to target.now above.now name.now }
+{
+    let found = home(above, name);
+    found.0.is_none() && target == known_as(name, found.1)
+}
+
+// Whether some name leads to the variable of this name below these levels.
+#[tactic(auto, using(crate::proofs::Killed::ways_any))]
+fn can_be_seen(above: &[Level], name: &Name) -> bool
+    ensures { result ≡ list_any (leads_to name.now above.now) (ways above.now name.now) }
+{
+    leads_to(above, name, name) || above.iter().any(|level| level.links_to(above, name))
+}
+
+// Whether the variable of this name below these levels stays: one of the names leads to it, or no name at all.
+pub(crate) fn stays(names: &[Name], above: &[Level], name: &Name) -> bool
+    ensures { result ≡ stays names.now above.now name.now }
+{
+    names.iter().any(|spared| leads_to(above, name, spared)) || !can_be_seen(above, name)
 }

@@ -2,6 +2,7 @@
 //! The local variables of a session.
 #![tactic(auto)]
 
+mod binding;
 mod level;
 mod scope;
 mod scopes;
@@ -9,5 +10,6 @@ mod subtree;
 mod table;
 mod variable;
 
+pub use binding::Binding;
 pub use mkey::{Data, Direction};
 pub use scopes::Locals;

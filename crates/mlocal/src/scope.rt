@@ -1,17 +1,19 @@
 // SPDX-License-Identifier: Apache-2.0
 // One scope.
-ghost use Rattle.std.specs.Prelude.{◌≡◌, [], IfOk, OnOk, OnErr, option_map, not, ◌||◌};
+ghost use Rattle.std.specs.Prelude.{◌≡◌, [], IfOk, OnOk, OnErr, option_map, not};
 ghost use Rattle.std.specs.FinMap.{get, insert};
 ghost use Rattle.std.specs.List.{filter, list_any};
+ghost use Rattle.std.specs.Map.{lookup};
 ghost use Rattle.mkey.specs.Front.{AreSubs};
 ghost use Rattle.mkey.specs.SubsKey.{behind_below};
-ghost use Rattle.mspec.specs.Scopes.{entered, bottom, has, tree_in, with_tree, is_among, hide, hide_others, kill_in, emptied};
+ghost use Rattle.mspec.specs.Scopes.{entered, bottom, has, tree_in, with_tree, is_among, hide, hide_others, kill_in, emptied, leads_to, stays, bind, formals};
 ghost use Rattle.mspec.specs.KeyBytes.{AreSubscripts};
-ghost use Rattle.mspec.specs.Trees.{has_value, has_descendants, order_of, front, last, AreOrderSubscripts};
-ghost use Rattle.mlocal.specs.Home.{has_name};
+ghost use Rattle.mspec.specs.Trees.{has_value, has_descendants, order_of, front, last, text_eq, AreOrderSubscripts};
+ghost use Rattle.mlocal.specs.Bindings.{binding_of, bindings_of};
 ghost use Rattle.mkey.specs.Way.{way};
 
-use crate::level::Level;
+use crate::binding::Binding;
+use crate::level::{Level, leads_to};
 use crate::table::Table;
 use mkey::{Data, Direction, SubsKey};
 use mnum::Name;
@@ -19,12 +21,13 @@ use mvalue::Value;
 use std::alloc::{AllocError, Global};
 use std::marker::Model;
 
-// The names that NEW gave a scope, the names that it lacks if it has all but some, and its variables by their names.
-// Contracts see it as the scope of the definitions.
+// The names that NEW gave a scope, the names that it lacks if it has all but some, its variables by their names, and its links: a
+// name with the one that the scopes below have in its place. Contracts see it as the scope of the definitions.
 pub(crate) struct Scope {
     names: Vec<Name>,
     others: Option<Vec<Name>>,
     trees: Table,
+    links: Vec<(Name, Name)>,
 }
 
 // Written out, so that dropping it is one call, which is proved once.
@@ -34,6 +37,7 @@ impl Drop for Scope {
             names: _,
             others: _,
             trees: _,
+            links: _,
         } = self;
     }
 }
@@ -47,7 +51,7 @@ impl Model for Scope {
 
     ghost coded = { scope_code };
 
-    ghost view = { λ s. record { names = s.names.items; others = option_map (λ names. names.items) s.others; trees = s.trees } };
+    ghost view = { λ s. record { names = s.names.items; others = option_map (λ names. names.items) s.others; trees = s.trees; links = s.links.items } };
 }
 
 // Whether a name is one of these.
@@ -66,6 +70,7 @@ impl Scope {
             names: Vec::new(alloc),
             others: None,
             trees: Table::new(alloc),
+            links: Vec::new(alloc),
         }
     }
 
@@ -77,6 +82,7 @@ impl Scope {
             names: Vec::new(alloc),
             others: Some(Vec::new(alloc)),
             trees: Table::new(alloc),
+            links: Vec::new(alloc),
         }
     }
 
@@ -93,6 +99,26 @@ impl Scope {
             None => false,
             Some(names) => !is_among(name, names.as_slice()),
         }
+    }
+
+    // The name that the scopes below have in place of one, if that is another one. Not inlined, for the same reason.
+    #[inline(never)]
+    pub(crate) fn link(&self, name: &Name) -> Option<&Name>
+        ensures { option_map (λ other. other.now) result ≡ lookup (text_eq name.now) self.now.links }
+    {
+        for link in self.links.as_slice() {
+            if name == &link.0 {
+                return Some(&link.1);
+            }
+        }
+        None
+    }
+
+    // Whether the name of a link leads to the variable of this name below these levels.
+    pub(crate) fn links_to(&self, above: &[Level], name: &Name) -> bool
+        ensures { result ≡ list_any (λ link. leads_to name.now above.now link.0) self.now.links }
+    {
+        self.links.iter().any(|link| leads_to(above, name, &link.0))
     }
 
     // The value of a variable without subscripts.
@@ -200,11 +226,41 @@ impl Scope {
         self.trees.kill(alloc, name, key, end)
     }
 
-    // Takes away the texts of all names except these and those that a level above has. Takes no memory.
+    // Takes away the texts of the variables to which none of these names leads through the levels above, but some name. Takes no
+    // memory.
     pub(crate) fn keep_spared(&mut self, names: &[Name], above: &[Level])
-        ensures { self.new ≡ emptied (λ n. is_among names.now n || list_any (has_name n) above.now) self.old }
+        ensures { self.new ≡ emptied (stays names.now above.now) self.old }
     {
         self.trees.keep_spared(names, above);
+    }
+
+    // Gives the scope these names too, each as its binding says, the last one first. If memory runs out, it may have some of them.
+    pub(crate) fn bind_all(
+        &mut self,
+        alloc: Global,
+        mut bindings: Vec<(Name, Binding)>,
+    ) -> Result<(), AllocError>
+        ensures { OnOk result (self.new ≡ formals (bindings_of bindings.items) self.old) }
+    {
+        while let Some((name, binding)) = bindings.pop() {
+            self.bind(alloc, name, binding)?;
+        }
+        Ok(())
+    }
+
+    // Gives the scope this name too, as a variable with a value, a link, or a variable without a text.
+    fn bind(&mut self, alloc: Global, name: Name, binding: Binding) -> Result<(), AllocError>
+        ensures { OnOk result (self.new ≡ bind name (binding_of binding) self.old) }
+    {
+        match binding {
+            Binding::Valued(value) => {
+                self.names.push(name.copy()?)?;
+                self.trees.set_own(alloc, &name, value)?;
+            }
+            Binding::Linked(other) => self.links.push((name, other))?,
+            Binding::Unset => self.names.push(name)?,
+        }
+        Ok(())
     }
 
     // Those of the names that it does not have yet.

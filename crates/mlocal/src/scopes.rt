@@ -1,13 +1,16 @@
 // SPDX-License-Identifier: Apache-2.0
 //! The local variables of a session as a stack of scopes.
-ghost use Rattle.std.specs.Prelude.{◌≡◌, IfOk, OnOk, OnErr, [], ◌∷◌, ◌<◌, ◌+◌, length, drop, option_map};
+ghost use Rattle.std.specs.Prelude.{◌≡◌, IfOk, OnOk, OnErr, [], ◌∷◌, ◌<◌, ◌+◌, length, drop, option_map, unwrap_or};
 ghost use Rattle.mlocal.specs.Home.{IsHome, killed_up};
 ghost use Rattle.mkey.specs.Way.{way};
+ghost use Rattle.mkey.specs.Front.{AreSubs};
 ghost use Rattle.mspec.specs.KeyBytes.{AreSubscripts};
-ghost use Rattle.mspec.specs.Scopes.{bottom, is_among, value_at, is_value, is_above, next_subscript, tree_in, tree_of, assigned, killed, killed_except, newed, newed_except, with_level, without_level, outermost};
+ghost use Rattle.mlocal.specs.Bindings.{bindings_of};
+ghost use Rattle.mspec.specs.Scopes.{bottom, value_at, is_value, is_above, next_subscript, tree_in, tree_of, assigned, killed, killed_except, newed, newed_except, with_level, bound, without_level, outermost};
 ghost use Rattle.mspec.specs.Trees.{AreOrderSubscripts};
 
-use crate::level::Level;
+use crate::binding::Binding;
+use crate::level::{Level, home, known_as};
 use crate::scope::Scope;
 use mkey::{Data, Direction, SubsKey};
 use mnum::Name;
@@ -76,6 +79,20 @@ impl Locals {
         Ok(())
     }
 
+    /// Opens a level with formal parameters, whose names are all different: on top a scope in which each is what its binding says.
+    ///
+    /// # Errors
+    ///
+    /// `AllocError` if it runs out of memory; the locals are then as they were.
+    pub fn enter_bound(&mut self, bindings: Vec<(Name, Binding)>) -> Result<(), AllocError>
+        ensures ok { OnOk result (self.new ≡ bound (bindings_of bindings.items) self.old) }
+        ensures err { OnErr result (self.new ≡ self.old) }
+    {
+        let level = Level::bound(self.alloc, bindings)?;
+        self.levels.push(level)?;
+        Ok(())
+    }
+
     /// Closes the level opened last, with what its scope has; does nothing if none is open. Takes no memory.
     pub fn leave(&mut self)
         ensures { self.new ≡ without_level self.old }
@@ -95,7 +112,8 @@ impl Locals {
     pub fn own(&self, name: &Name) -> Option<&Value>
         ensures { option_map (λ value. value.now) result ≡ value_at self.now name.now [] }
     {
-        self.scope_of(name).own(name)
+        let found = self.scope_of(name);
+        found.0.own(known_as(name, found.1))
     }
 
     /// The value at a node, if the name's variable has one there. A number that was assigned is still a number.
@@ -111,7 +129,8 @@ impl Locals {
             return Ok(self.own(name));
         }
         let key = SubsKey::build(self.alloc, subs)?;
-        Ok(self.scope_of(name).get(name, &key))
+        let found = self.scope_of(name);
+        Ok(found.0.get(known_as(name, found.1), &key))
     }
 
     /// Whether the name's variable has a text at a node, and whether it has one below it.
@@ -124,7 +143,8 @@ impl Locals {
         ensures value { IfOk result (λ found. found.value ≡ is_value self.now name.now subs.now) }
         ensures descendants { IfOk result (λ found. found.descendants ≡ is_above self.now name.now subs.now) }
     {
-        self.scope_of(name).data(self.alloc, name, subs)
+        let found = self.scope_of(name);
+        found.0.data(self.alloc, known_as(name, found.1), subs)
     }
 
     /// The subscript next to the last of these, among those in its place below which the name's variable has a text. An empty last
@@ -142,7 +162,10 @@ impl Locals {
         requires { AreOrderSubscripts subs.now }
         ensures { IfOk result (λ next. next ≡ next_subscript self.now (way direction) name.now subs.now) }
     {
-        self.scope_of(name).order(self.alloc, name, subs, direction)
+        let found = self.scope_of(name);
+        found
+            .0
+            .order(self.alloc, known_as(name, found.1), subs, direction)
     }
 
     /// Gives a node a value, in place of the one that it has.
@@ -159,9 +182,28 @@ impl Locals {
             return self.set_own(name, value);
         }
         let key = SubsKey::build(self.alloc, subs)?;
-        match home(&self.levels, name) {
-            None => self.bottom.set(self.alloc, name, key, value),
-            Some(place) => self.levels[place].set(self.alloc, name, key, value),
+        let found = home(self.levels.as_slice(), name);
+        let Some(_) = found.1 else {
+            return match found.0 {
+                None => self.bottom.set(self.alloc, name, key, value),
+                Some(place) => self.levels[place].set(self.alloc, name, key, value),
+            };
+        };
+        self.set_by_link(name, key, value)
+    }
+
+    // The same where a link may lead to the variable. Kept out of line, since it is rare.
+    #[inline(never)]
+    fn set_by_link(&mut self, name: &Name, key: SubsKey, value: Value) -> Result<(), AllocError>
+        requires { AreSubs key }
+        ensures ok { OnOk result (self.new ≡ assigned self.old name.now key value) }
+        ensures err { OnErr result (self.new ≡ self.old) }
+    {
+        let found = home_to_change(self.levels.as_slice(), name)?;
+        let known = known_name(name, &found.1);
+        match found.0 {
+            None => self.bottom.set(self.alloc, known, key, value),
+            Some(place) => self.levels[place].set(self.alloc, known, key, value),
         }
     }
 
@@ -174,9 +216,27 @@ impl Locals {
         ensures ok { OnOk result (self.new ≡ assigned self.old name.now [] value) }
         ensures err { OnErr result (self.new ≡ self.old) }
     {
-        match home(&self.levels, name) {
-            None => self.bottom.set_own(self.alloc, name, value),
-            Some(place) => self.levels[place].set_own(self.alloc, name, value),
+        let found = home(self.levels.as_slice(), name);
+        let Some(_) = found.1 else {
+            return match found.0 {
+                None => self.bottom.set_own(self.alloc, name, value),
+                Some(place) => self.levels[place].set_own(self.alloc, name, value),
+            };
+        };
+        self.set_own_by_link(name, value)
+    }
+
+    // The same where a link may lead to the variable. Kept out of line, since it is rare.
+    #[inline(never)]
+    fn set_own_by_link(&mut self, name: &Name, value: Value) -> Result<(), AllocError>
+        ensures ok { OnOk result (self.new ≡ assigned self.old name.now [] value) }
+        ensures err { OnErr result (self.new ≡ self.old) }
+    {
+        let found = home_to_change(self.levels.as_slice(), name)?;
+        let known = known_name(name, &found.1);
+        match found.0 {
+            None => self.bottom.set_own(self.alloc, known, value),
+            Some(place) => self.levels[place].set_own(self.alloc, known, value),
         }
     }
 
@@ -192,13 +252,15 @@ impl Locals {
     {
         let key = SubsKey::build(self.alloc, subs)?;
         let end = SubsKey::behind_below(self.alloc, subs)?;
-        match home(&self.levels, name) {
-            None => self.bottom.kill(self.alloc, name, &key, &end),
-            Some(place) => self.levels[place].kill(self.alloc, name, &key, &end),
+        let found = home_to_change(self.levels.as_slice(), name)?;
+        let known = known_name(name, &found.1);
+        match found.0 {
+            None => self.bottom.kill(self.alloc, known, &key, &end),
+            Some(place) => self.levels[place].kill(self.alloc, known, &key, &end),
         }
     }
 
-    /// Takes away the texts of all variables that can be seen, except those of these names. Takes no memory.
+    /// Takes away the texts of all variables that can be seen, except those to which these names lead. Takes no memory.
     pub fn kill_except(&mut self, names: &[Name])
         ensures { self.new ≡ killed_except names.now self.old }
     {
@@ -240,20 +302,21 @@ impl Locals {
         self.levels[count - 1].hide_others(self.alloc, names)
     }
 
-    // The scope that a name's variable belongs to, to read from.
-    fn scope_of(&self, name: &Name) -> &Scope
-        ensures { tree_in result.now name.now ≡ tree_of self.now name.now }
+    // The scope that a name's variable belongs to, to read from, and the name that it has there, if that is another one.
+    fn scope_of(&self, name: &Name) -> (&Scope, Option<&Name>)
+        ensures { tree_in result.0.now (unwrap_or (option_map (λ other. other.now) result.1) name.now) ≡ tree_of self.now name.now }
     {
-        match home(&self.levels, name) {
-            None => &self.bottom,
-            Some(place) => self.levels[place].scope(),
+        let found = home(self.levels.as_slice(), name);
+        match found.0 {
+            None => (&self.bottom, found.1),
+            Some(place) => (self.levels[place].scope(), found.1),
         }
     }
 }
 
-// Takes away the texts of all variables of these levels that no level above hides, except those of these names.
+// Takes away the texts of the variables of these levels to which none of these names leads, but some name.
 fn spare(levels: &mut Vec<Level>, names: &[Name])
-    ensures { levels.new.items ≡ killed_up (is_among names.now) levels.old.items }
+    ensures { levels.new.items ≡ killed_up names.now levels.old.items }
 {
     for place in 0..levels.len() {
         let mut level = mem::replace(&mut levels[place], Level::new());
@@ -270,16 +333,27 @@ fn levels_above(levels: &Vec<Level>, place: usize) -> &[Level]
     &levels.as_slice()[place + 1..]
 }
 
-// The place of the topmost of these levels that has the name.
-fn home(levels: &Vec<Level>, name: &Name) -> Option<usize>
-    ensures { IsHome name.now levels.now.items result }
+// Where a name's variable is, to change it: as `home` says, with a copy of the other name.
+fn home_to_change(
+    levels: &[Level],
+    name: &Name,
+) -> Result<(Option<usize>, Option<Name>), AllocError>
+    ensures { IfOk result (λ found. IsHome name.now levels.now found.0 (unwrap_or found.1 name.now)) }
 {
-    let mut place = levels.len();
-    while place > 0 {
-        place -= 1;
-        if levels[place].has(name) {
-            return Some(place);
-        }
+    let found = home(levels, name);
+    match found.1 {
+        None => Ok((found.0, None)),
+        Some(other) => Ok((found.0, Some(other.copy()?))),
     }
-    None
+}
+
+// The other name, if there is one.
+#[inline(always)]
+fn known_name<'a>(name: &'a Name, other: &'a Option<Name>) -> &'a Name
+    ensures { result.now ≡ unwrap_or other.now name.now }
+{
+    match other {
+        None => name,
+        Some(other) => other,
+    }
 }

@@ -1,17 +1,15 @@
 // SPDX-License-Identifier: Apache-2.0
 // The variables of a scope by their names.
-ghost use Rattle.std.specs.Prelude.{◌≡◌, ◌<◌, ◌||◌, [], not, nat_eq, None, MatchOption, OnOk, OnErr, option_map};
+ghost use Rattle.std.specs.Prelude.{◌≡◌, ◌<◌, [], not, nat_eq, None, MatchOption, OnOk, OnErr, option_map};
 ghost use Rattle.std.specs.Cmp.Lexicographic.{pointwise};
 ghost use Rattle.std.specs.FinMap.{get, insert, retain_keys, empty};
-ghost use Rattle.std.specs.List.{list_any};
 ghost use Rattle.indexmap.specs.IndexMap.{get as find, IsUnique};
 ghost use Rattle.mkey.specs.Front.{AreSubs};
 ghost use Rattle.mkey.specs.SubsKey.{behind_below};
-ghost use Rattle.mlocal.specs.Home.{has_name};
 ghost use Rattle.mlocal.specs.Table.{tree_at, kill_at, StandsAt};
-ghost use Rattle.mspec.specs.Scopes.{is_among};
+ghost use Rattle.mspec.specs.Scopes.{is_among, stays};
 
-use crate::level::{Level, is_spared};
+use crate::level::{Level, stays};
 use crate::scope::is_among;
 use crate::variable::Variable;
 use indexmap::IndexMap;
@@ -177,14 +175,14 @@ impl Table {
         }
     }
 
-    // Takes away the variables of all names except these and those that a level above has. Takes no memory.
+    // Takes away the variables to which none of these names leads through the levels above, but some name. Takes no memory.
     pub(crate) fn keep_spared(&mut self, names: &[Name], above: &[Level])
-        ensures { self.new ≡ retain_keys self.old (λ n. is_among names.now n || list_any (has_name n) above.now) }
+        ensures { self.new ≡ retain_keys self.old (stays names.now above.now) }
     {
         self.variables.retain(
             |name: &Name, tree: &mut Variable| -> bool
-                ensures { (result ≡ (is_among names.entry.now name.now || list_any (has_name name.now) above.entry.now)) × (tree.new ≡ tree.old) }
-            { is_spared(names, above, name) },
+                ensures { (result ≡ stays names.entry.now above.entry.now name.now) × (tree.new ≡ tree.old) }
+            { stays(names, above, name) },
         );
     }
 

@@ -26,6 +26,10 @@ pub mod KeyOrders
 pub mod KeyRanges
 pub mod KeyReadings
 pub mod ScopeFacts
+pub mod Homes
+pub mod Sparing
+pub mod Formals
+pub mod ScopeExamples
 pub mod MapCuts
 pub mod ComputedMaps
 pub mod ComputedNumbers

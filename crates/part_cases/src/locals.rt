@@ -2,7 +2,7 @@
 // Calls on the scopes of local variables.
 use anyhow::Context;
 use mkey::{order_values_ok, values_ok};
-use mlocal::{Direction, Locals};
+use mlocal::{Binding, Direction, Locals};
 use mnum::{Bytes7, Name, Num};
 use mtranscript::{data_word, name_of, names_of, play, print_result, text_of, words_of};
 use mvalue::Value;
@@ -28,6 +28,7 @@ pub fn play_locals(alloc: Global, cases: &[&str], out: &mut Vec<u8>) -> anyhow::
 fn call(locals: &mut Locals, alloc: Global, words: &[&str]) -> anyhow::Result<Option<Bytes7>> {
     match words {
         ["enter"] => locals.enter()?,
+        ["enter-bound", words @ ..] => locals.enter_bound(bindings_of(alloc, words)?)?,
         ["leave"] => locals.leave(),
         ["new", names @ ..] => locals.new_vars(names_of(alloc, names)?.as_slice())?,
         ["new-all-but", names @ ..] => locals.new_except(names_of(alloc, names)?)?,
@@ -47,6 +48,28 @@ fn call(locals: &mut Locals, alloc: Global, words: &[&str]) -> anyhow::Result<Op
         _ => anyhow::bail!("no call on locals"),
     }
     Ok(None)
+}
+
+// The formal parameters that words are.
+fn bindings_of(alloc: Global, words: &[&str]) -> anyhow::Result<Vec<(Name, Binding)>> {
+    let mut bindings = Vec::new(alloc);
+    for word in words {
+        bindings.push(bound(alloc, word)?)?;
+    }
+    Ok(bindings)
+}
+
+// The formal parameter that a word is: `B=text` has a value, `B.A` is another name of the caller's A, and `B` has no value.
+fn bound(alloc: Global, word: &str) -> anyhow::Result<(Name, Binding)> {
+    if let Some((name, text)) = word.split_once('=') {
+        let value = Value::of_text(text_of(alloc, text)?);
+        return Ok((name_of(alloc, name)?, Binding::Valued(value)));
+    }
+    if let Some((name, other)) = word.split_once('.') {
+        let other = name_of(alloc, other)?;
+        return Ok((name_of(alloc, name)?, Binding::Linked(other)));
+    }
+    Ok((name_of(alloc, word)?, Binding::Unset))
 }
 
 fn kill(locals: &mut Locals, alloc: Global, name: &str, subs: &[&str]) -> anyhow::Result<()> {

@@ -1,12 +1,20 @@
 -- SPDX-License-Identifier: Apache-2.0
-use Rattle.mlocal.proofs.LocalLaws.{[], ◌∷◌, ap, sym, ◌∙◌, tree_in, tree_of, tree-at, tree-bottom}
+use Rattle.mlocal.proofs.LocalLaws.{[], ◌∷◌, ap, sym, ◌∙◌, None, Some, option_map, unwrap_or, tree_in, tree_of, found-at, tree-at, tree-bottom}
 use Rattle.mlocal.proofs.scopes.Locals.scope_of.Goals as goal
 
 pub returns-in-None : goal.returns-in-None
 returns-in-None c =
-    sym (tree-bottom c.args.name.now c.self.inside.levels.items c.self.inside.bottom c.self.invariant c.in-None.ensures) ∙ ap (λ s. tree_of s c.args.name.now) c.self.view_is
+    let n = c.args.name.now in
+    let found = c.home-found.result in
+    let m = unwrap_or (option_map (λ other. other.now) found.1) n in
+    let at = found-at n m m c.as_slice.result.now c.self.inside.levels.items found.0 None c.home-found.ensures c.as_slice.ensures.value c.in-None.is (λ i. m) in
+    sym (tree-bottom n m c.self.inside.levels.items c.self.inside.bottom c.self.invariant at) ∙ ap (λ s. tree_of s n) c.self.view_is
 
 pub returns-in-Some : goal.returns-in-Some
 returns-in-Some c =
-    ap (λ s. tree_in s c.args.name.now) (c.scope.ensures ∙ c.index.ensures)
-    ∙ sym (tree-at c.args.name.now c.self.inside.levels.items (c.self.inside.bottom ∷ []) c.in-Some.place c.index.result.now c.in-Some.ensures) ∙ ap (λ s. tree_of s c.args.name.now) c.self.view_is
+    let n = c.args.name.now in
+    let found = c.home-found.result in
+    let m = unwrap_or (option_map (λ other. other.now) found.1) n in
+    let at = found-at n m m c.as_slice.result.now c.self.inside.levels.items found.0 (Some c.in-Some.place) c.home-found.ensures c.as_slice.ensures.value c.in-Some.is (λ i. m) in
+    ap (λ s. tree_in s m) (c.scope.ensures ∙ c.index.ensures)
+    ∙ sym (tree-at n m c.self.inside.levels.items (c.self.inside.bottom ∷ []) c.in-Some.place c.index.result.now at) ∙ ap (λ s. tree_of s n) c.self.view_is

@@ -1,0 +1,26 @@
+-- SPDX-License-Identifier: Apache-2.0
+use Rattle.mlocal.proofs.LocalLaws.{[], ◌∷◌, ap, ◌∙◌, None, Some, unwrap_or, Text, Scope, set_in, assigned, OnOk-map, found-at, home-at, home-bottom}
+use Rattle.mlocal.proofs.scopes.Locals.set_own_by_link.Goals as goal
+
+pub returns-in-None-clause-ok : goal.returns-in-None-clause-ok
+returns-in-None-clause-ok c =
+    let n = c.args.name.now in
+    let l = c.self.inside in
+    let found = c.in_ok-found.found in
+    let m = c.known_name-known.result.now in
+    let at = found-at n m (unwrap_or found.1 n) c.as_slice.result.now l.levels.items found.0 None c.in_ok-found.ensures c.as_slice.ensures.value c.in-None.is c.known_name-known.ensures in
+    let f : Text → Scope → Scope = λ k. set_in k [] c.args.value in
+    OnOk-map c.set_own.result (λ e. home-bottom f n m l.levels.items l.bottom c.set_own.new.self c.self.invariant at e
+    ∙ ap (λ s. assigned s n [] c.args.value) c.self.view_is) c.set_own.ensures.ok
+
+pub returns-clause-ok : goal.returns-clause-ok
+returns-clause-ok c =
+    let n = c.args.name.now in
+    let l = c.self.inside in
+    let found = c.in_ok-found.found in
+    let m = c.known_name-known.result.now in
+    let at = found-at n m (unwrap_or found.1 n) c.as_slice.result.now l.levels.items found.0 (Some c.in-Some.place) c.in_ok-found.ensures c.as_slice.ensures.value c.in-Some.is c.known_name-known.ensures in
+    let f : Text → Scope → Scope = λ k. set_in k [] c.args.value in
+    OnOk-map c.set_own-in-Some.result (λ e. home-at f n m l.levels.items (l.bottom ∷ []) c.in-Some.place c.index_mut.result.now c.set_own-in-Some.new.self at
+    (e ∙ ap (f m) c.index_mut.ensures.value)
+    ∙ ap (λ s. assigned s n [] c.args.value) c.self.view_is) c.set_own-in-Some.ensures.ok

@@ -1,8 +1,9 @@
 -- SPDX-License-Identifier: Apache-2.0
 -- Languages on examples, as proved equations: what the lines of an account do whose language has a form, and of one whose language does
 -- not.
-use Rattle.mmeaning.proofs.MeaningWords.{ℕ, ◌++◌, List, Some, None, M6, M9, M10, M13, M28, M94, Zover, Zsteps, Zsyntax, Account, State, Done, Gives, Fails, computes, rules}
-use Rattle.mmeaning.specs.Operators.{raising}
+use Rattle.mmeaning.proofs.MeaningWords.{ℕ, Bool, true, false, ◌++◌, List, Some, None, M6, M9, M10, M13, M28, M94, Zover, Zsteps, Zsyntax, Account, State, Act, give_some, ◌>>=◌, Done, Gives, Fails, computes, reads_in, rules}
+use Rattle.mgrammar.specs.IndirectTexts.{pattern_of}
+use Rattle.mmeaning.specs.Operators.{raising, matching}
 use Rattle.std.specs.Prelude.{pos, negsuc}
 use Rattle.mmeaning.specs.LineMeaning.{coded_character}
 use Rattle.mmeaning.proofs.RoutineRuns.{lines_in}
@@ -109,3 +110,29 @@ record Powers (s : State) : Type 0 where
 powers : (s : State) → Powers s
 unfolding computes
 powers s = search rules
+
+-- whether a text matches a pattern that is written so
+abbrev matches_written : Text → Text → Act Bool
+matches_written x t = do
+  atoms ← give_some Zsyntax (pattern_of t)
+  matching atoms x
+
+-- groups, with so many steps left: whether a text matches, and the steps that are left
+record Groups (s : State) : Type 0 where
+  first_of_two : matches_written (codes "A") (codes "1(1\"A\",2N)") (record s { steps = 1 }) ≡ Done (Gives true (record s { steps = 0 }))
+  second_of_two : matches_written (codes "12") (codes "1(1\"A\",2N)") (record s { steps = 1 }) ≡ Done (Gives true (record s { steps = 0 }))
+  neither : matches_written (codes "1") (codes "1(1\"A\",2N)") (record s { steps = 1 }) ≡ Done (Gives false (record s { steps = 0 }))
+  -- the turns that it takes at most, and those of what is within in each of them
+  many : matches_written (codes "1a") (codes ".(1N,1A)") (record s { steps = 3 }) ≡ Done (Gives true (record s { steps = 1 }))
+  within : matches_written (codes "1a") (codes "2(1(1N,1A))") (record s { steps = 5 }) ≡ Done (Gives true (record s { steps = 1 }))
+  a_step_too_few : matches_written (codes "1a") (codes "2(1N,1A)") (record s { steps = 1 }) ≡ Done (Fails Zsteps (record s { steps = 0 }))
+  -- without a turn there is no step
+  no_turn : matches_written [] (codes "0(1N)") s ≡ Done (Gives true s)
+  no_group : matches_written (codes "1a") (codes "1N1A") s ≡ Done (Gives true s)
+  -- a count that is reversed is an error before any step
+  reversed : matches_written (codes "1a") (codes "2(1N,3.2A)") s ≡ Done (Fails M10 s)
+  reversed_within : matches_written [] (codes "0(1N,1(1A,2.1N))") s ≡ Done (Fails M10 s)
+
+groups : (s : State) → Groups s
+unfolding reads_in
+groups s = search rules

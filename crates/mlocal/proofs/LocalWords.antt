@@ -1,6 +1,6 @@
 -- SPDX-License-Identifier: Apache-2.0
 -- The words that most proofs of this crate have, in one place.
-pub use Rattle.std.proofs.Common.{All, BTreeMap, Bool, Bor, Equal, Err, Greater, HashMap, IfOk, IfSome, Less, List, MatchOption, None, Ok, OnErr, OnOk, Option, Ordering, Result, Some, T, [], add-one, ap, append-nil, append_assoc, arith, cond, drop, drop-cons, false, filter, get_or, is_eq, is_le, is_lt, is_none, is_some, length, map, nat_cmp, nat_eq, not, option_and_then, option_copied, option_map, position, refl, reverse, rules, set, slice_get, subst, suc, sym, take, true, unwrap_or, ℕ, ℤ, ◌&&◌, ◌++◌, ◌+◌, ◌-◌, ◌<◌, ◌||◌, ◌∙◌, ◌∷◌, ◌≡◌, ◌≤◌}
+pub use Rattle.std.proofs.Common.{All, BTreeMap, Bool, Bor, Equal, Err, Greater, HashMap, IfOk, IfSome, Less, List, MatchOption, None, Ok, OnErr, OnOk, Option, Ordering, Result, Some, T, [], add-one, ap, append-nil, append_assoc, arith, cond, drop, drop-cons, false, filter, get_or, is_eq, is_le, is_lt, is_none, is_some, length, map, nat_cmp, nat_eq, not, option_and_then, option_copied, option_map, position, refl, reverse, rules, set, slice_get, subst, suc, sym, take, true, unwrap_or, ℕ, ℤ, ◌&&◌, ◌++◌, ◌+◌, ◌-◌, ◌<◌, ◌||◌, ◌∙◌, ◌∷◌, ◌==◌, ◌≡◌, ◌≤◌}
 pub use Rattle.std.proofs.Math.Bool.{and-true, or-false, or-true}
 pub use Rattle.std.proofs.lemmas.Bool.{and_right, false_from_ne_true}
 pub use Rattle.std.proofs.lemmas.Bool.Decides.{nat_tests}
@@ -37,7 +37,9 @@ pub use Rattle.mspec.proofs.Sparing.{known_is}
 pub use Rattle.mspec.specs.Scopes.{Scope, Scopes, assigned, at_home, bind, bound, common, emptied, entered, formals, has, hide, hide_others, is_among, is_bare, is_name, is_other, kill_in, killed, killed_but, killed_except, known_below, leads_to, linked, newed, newed_except, on_top, outermost, passed, set_in, stays, tree_in, tree_of, ways, with_tree}
 pub use Rattle.mspec.specs.Trees.{Tree, child_of, front, has_descendants, has_value, is_before, is_below, is_empty, is_within, last, order_of, text_eq, without}
 pub use Rattle.mlocal.specs.Bindings.{binding_of, bindings_of}
-pub use Rattle.mlocal.specs.Home.{IsHome, killed_up}
+pub use Rattle.mlocal.specs.Home.{IsHome, IsUnlinkedHome, killed_up}
+pub use Rattle.mlocal.specs.declared.level.UnlinkedHome.{UnlinkedHome}
+pub use Rattle.mlocal.specs.declared.level.UnlinkedHome.TheVariants.{Below, At, ByLink}
 pub use Rattle.mlocal.specs.Own.{AreSomeSubs, with_own}
 pub use Rattle.mlocal.specs.Table.{NamedTrees, StandsAt, kill_at, tidied_at, tree_at}
 pub use Rattle.mlocal.specs.Way.{has_child, is_behind, is_between, is_from, is_one_of, passes}

@@ -1,6 +1,8 @@
 -- SPDX-License-Identifier: Apache-2.0
 -- The scope where a name's variable is, by its place.
-use Rattle.mlocal.proofs.LocalWords.{◌≡◌, ℕ, ◌+◌, ◌<◌, Bool, true, false, cond, List, [], ◌∷◌, ◌++◌, length, reverse, take, drop, get_or, set, Option, Some, None, refl, sym, ap, subst, ◌∙◌, ◌&&◌, ◌||◌, is_none, append_assoc, add-one, arith, drop-cons, or-true, option_and_then, unwrap_or, reverse-append, take-append-drop, set_split, drop_all, Text, text_eq, Scope, Scopes, entered, has, is_among, is_other, linked, tree_in, tree_of, at_home, on_top, common, passed, known_below, is_name, leads_to, known_is, IsHome}
+use Rattle.std.proofs.lemmas.Bool.{eqb-true}
+use Rattle.std.proofs.lemmas.List.{nil_from_length}
+use Rattle.mlocal.proofs.LocalWords.{◌≡◌, ℕ, ◌+◌, ◌<◌, Bool, true, false, cond, List, [], ◌∷◌, ◌++◌, length, reverse, take, drop, get_or, set, Option, Some, None, refl, sym, ap, subst, ◌∙◌, ◌&&◌, ◌||◌, is_none, append_assoc, add-one, arith, drop-cons, or-true, option_and_then, unwrap_or, reverse-append, take-append-drop, set_split, drop_all, Text, text_eq, Scope, Scopes, entered, has, is_among, is_other, linked, tree_in, tree_of, at_home, on_top, common, passed, known_below, is_name, leads_to, known_is, lookup, ◌==◌, IsHome, IsUnlinkedHome, UnlinkedHome}
 
 pub flip-split : (xs : List Scope) (x : Scope) (ys bs : List Scope) → reverse (xs ++ x ∷ ys) ++ bs ≡ reverse ys ++ x ∷ (reverse xs ++ bs)
 flip-split xs x ys bs =
@@ -96,3 +98,16 @@ pub one-down : (n m : Text) (xs : List Scope) (i : ℕ) (d : Scope) → i < leng
 one-down n m xs i d h known other =
     ap (λ l. known_below l n) (drop-cons xs i d h ∙ ap (λ k. get_or xs i d ∷ drop k xs) (sym (add-one i)))
     ∙ ap (option_and_then (passed (get_or xs i d))) known ∙ ap (λ b. cond b None (Some (linked (get_or xs i d) m))) other
+
+-- ---- where no level above has links
+
+no-links : (ls : List (Text × Text)) (n : Text) → (length ls == 0) ≡ true → unwrap_or (lookup (text_eq n) ls) n ≡ n
+no-links ls n e = ap (λ l. unwrap_or (lookup (text_eq n) l) n) (nil_from_length ls (eqb-true (length ls) 0 e))
+
+-- one scope further down, by the same name
+pub unlinked-down : (n : Text) (xs : List Scope) (i : ℕ) (d : Scope) → i < length xs → known_below (drop (i + 1) xs) n ≡ Some n → has (get_or xs i d) n ≡ false → (length (get_or xs i d).links == 0) ≡ true → known_below (drop i xs) n ≡ Some n
+unlinked-down n xs i d h known other none = one-down n n xs i d h known other ∙ ap Some (no-links (get_or xs i d).links n none)
+
+-- the same home by what is known of the list and of what was found
+pub unlinked-found : (n : Text) (ls xs : List Scope) (g h : UnlinkedHome) → IsUnlinkedHome n ls g → ls ≡ xs → g ≡ h → IsUnlinkedHome n xs h
+unlinked-found n ls xs g h is list found = subst (IsUnlinkedHome n xs) found (subst (λ l. IsUnlinkedHome n l g) list is)

@@ -1,6 +1,8 @@
 -- SPDX-License-Identifier: Apache-2.0
 -- Scopes in a list, bottom first.
-use Rattle.std.specs.Prelude.{◌≡◌, ℕ, ◌+◌, ◌<◌, true, List, [], ◌∷◌, drop, length, slice_index_or, Option, Some, None}
+use Rattle.std.specs.Prelude.{◌≡◌, ℕ, ◌+◌, ◌<◌, true, List, [], ◌∷◌, drop, length, slice_index_or, Option, Some, None, ⊤}
+use Rattle.mlocal.specs.declared.level.UnlinkedHome.{UnlinkedHome}
+use Rattle.mlocal.specs.declared.level.UnlinkedHome.TheVariants.{Below, At, ByLink}
 use Rattle.mspec.specs.Node.{Text}
 use Rattle.mspec.specs.Scopes.{Scope, has, emptied, known_below, stays}
 
@@ -8,6 +10,12 @@ use Rattle.mspec.specs.Scopes.{Scope, has, emptied, known_below, stays}
 abbrev pub IsHome : Text → List Scope → Option ℕ → Text → Type 0
 IsHome n xs None m = known_below xs n ≡ Some m
 IsHome n xs (Some i) m = (i < length xs) × ((d : Scope) → has (slice_index_or xs i d) m ≡ true) × (known_below (drop (i + 1) xs) n ≡ Some m)
+
+-- the same as far as it shows without links, which are nowhere above the place; nothing is said where a level on the way has some
+abbrev pub IsUnlinkedHome : Text → List Scope → UnlinkedHome → Type 0
+IsUnlinkedHome n xs Below = IsHome n xs None n
+IsUnlinkedHome n xs (At i) = IsHome n xs (Some i) n
+IsUnlinkedHome n xs ByLink = ⊤
 
 -- KILL of all variables that can be seen, except those to which these names lead
 abbrev pub killed_up : List Text → List Scope → List Scope

@@ -1,6 +1,6 @@
 // SPDX-License-Identifier: Apache-2.0
 // The scope of a level.
-ghost use Rattle.std.specs.Prelude.{◌≡◌, ◌≢◌, [], IfOk, OnOk, OnErr, option_map, unwrap_or};
+ghost use Rattle.std.specs.Prelude.{◌≡◌, ◌≢◌, [], IfOk, OnOk, OnErr, ◌==◌, length, option_map, unwrap_or};
 ghost use Rattle.std.specs.FinMap.{get, insert};
 ghost use Rattle.std.specs.List.{list_any};
 ghost use Rattle.std.specs.Map.{lookup};
@@ -9,7 +9,7 @@ ghost use Rattle.mkey.specs.SubsKey.{behind_below};
 ghost use Rattle.mspec.specs.Scopes.{entered, has, tree_in, with_tree, hide, hide_others, kill_in, emptied, leads_to, ways, stays, formals};
 ghost use Rattle.mspec.specs.Trees.{text_eq};
 ghost use Rattle.mlocal.specs.Bindings.{bindings_of};
-ghost use Rattle.mlocal.specs.Home.{IsHome};
+ghost use Rattle.mlocal.specs.Home.{IsHome, IsUnlinkedHome};
 
 use crate::binding::Binding;
 use crate::scope::Scope;
@@ -78,6 +78,17 @@ impl Level {
         match &self.scope {
             None => None,
             Some(scope) => scope.link(name),
+        }
+    }
+
+    // Whether it has no links.
+    #[inline(always)]
+    fn is_unlinked(&self) -> bool
+        ensures { result ≡ (length self.now.links == 0) }
+    {
+        match &self.scope {
+            None => true,
+            Some(scope) => scope.is_unlinked(),
         }
     }
 
@@ -207,6 +218,34 @@ fn boxed(alloc: Global) -> Result<Box<Scope>, AllocError>
     ensures { IfOk result (λ scope. scope.value ≡ entered) }
 {
     Ok(Box::new(alloc, Scope::new(alloc))?)
+}
+
+// Where a name's variable is, as far as that shows without links.
+pub(crate) enum UnlinkedHome {
+    // below all of the levels
+    Below,
+    // at the level of this place
+    At(usize),
+    // a level above it has links: only `home` knows
+    ByLink,
+}
+
+// Where a name's variable is if no level above it has links, as nearly all have none: each level then costs what it would if there were
+// no links at all.
+pub(crate) fn unlinked_home(levels: &[Level], name: &Name) -> UnlinkedHome
+    ensures { IsUnlinkedHome name.now levels.now result }
+{
+    let mut place = levels.len();
+    while place > 0 {
+        place -= 1;
+        if levels[place].has(name) {
+            return UnlinkedHome::At(place);
+        }
+        if !levels[place].is_unlinked() {
+            return UnlinkedHome::ByLink;
+        }
+    }
+    UnlinkedHome::Below
 }
 
 // Where a name's variable is: the place of its level, or none below all of these, and the name that it has there, if that is another

@@ -1,6 +1,6 @@
 // SPDX-License-Identifier: Apache-2.0
 // One scope.
-ghost use Rattle.std.specs.Prelude.{◌≡◌, [], IfOk, OnOk, OnErr, option_map, not};
+ghost use Rattle.std.specs.Prelude.{◌≡◌, [], IfOk, OnOk, OnErr, ◌==◌, length, option_map, not};
 ghost use Rattle.std.specs.FinMap.{get, insert};
 ghost use Rattle.std.specs.List.{filter, list_any};
 ghost use Rattle.std.specs.Map.{lookup};
@@ -112,6 +112,14 @@ impl Scope {
             }
         }
         None
+    }
+
+    // Whether it has no links.
+    #[inline(always)]
+    pub(crate) fn is_unlinked(&self) -> bool
+        ensures { result ≡ (length self.now.links == 0) }
+    {
+        self.links.is_empty()
     }
 
     // Whether the name of a link leads to the variable of this name below these levels.

@@ -10,7 +10,7 @@ ghost use Rattle.mspec.specs.Scopes.{bottom, value_at, is_value, is_above, next_
 ghost use Rattle.mspec.specs.Trees.{AreOrderSubscripts};
 
 use crate::binding::Binding;
-use crate::level::{Level, home, known_as};
+use crate::level::{Level, UnlinkedHome, home, known_as, unlinked_home};
 use crate::scope::Scope;
 use mkey::{Data, Direction, SubsKey};
 use mnum::Name;
@@ -113,7 +113,7 @@ impl Locals {
         ensures { option_map (λ value. value.now) result ≡ value_at self.now name.now [] }
     {
         let found = self.scope_of(name);
-        found.0.own(known_as(name, found.1))
+        found.0.own(found.1)
     }
 
     /// The value at a node, if the name's variable has one there. A number that was assigned is still a number.
@@ -130,7 +130,7 @@ impl Locals {
         }
         let key = SubsKey::build(self.alloc, subs)?;
         let found = self.scope_of(name);
-        Ok(found.0.get(known_as(name, found.1), &key))
+        Ok(found.0.get(found.1, &key))
     }
 
     /// Whether the name's variable has a text at a node, and whether it has one below it.
@@ -144,7 +144,7 @@ impl Locals {
         ensures descendants { IfOk result (λ found. found.descendants ≡ is_above self.now name.now subs.now) }
     {
         let found = self.scope_of(name);
-        found.0.data(self.alloc, known_as(name, found.1), subs)
+        found.0.data(self.alloc, found.1, subs)
     }
 
     /// The subscript next to the last of these, among those in its place below which the name's variable has a text. An empty last
@@ -163,9 +163,7 @@ impl Locals {
         ensures { IfOk result (λ next. next ≡ next_subscript self.now (way direction) name.now subs.now) }
     {
         let found = self.scope_of(name);
-        found
-            .0
-            .order(self.alloc, known_as(name, found.1), subs, direction)
+        found.0.order(self.alloc, found.1, subs, direction)
     }
 
     /// Gives a node a value, in place of the one that it has.
@@ -182,14 +180,11 @@ impl Locals {
             return self.set_own(name, value);
         }
         let key = SubsKey::build(self.alloc, subs)?;
-        let found = home(self.levels.as_slice(), name);
-        let Some(_) = found.1 else {
-            return match found.0 {
-                None => self.bottom.set(self.alloc, name, key, value),
-                Some(place) => self.levels[place].set(self.alloc, name, key, value),
-            };
-        };
-        self.set_by_link(name, key, value)
+        match unlinked_home(self.levels.as_slice(), name) {
+            UnlinkedHome::Below => self.bottom.set(self.alloc, name, key, value),
+            UnlinkedHome::At(place) => self.levels[place].set(self.alloc, name, key, value),
+            UnlinkedHome::ByLink => self.set_by_link(name, key, value),
+        }
     }
 
     // The same where a link may lead to the variable. Kept out of line, since it is rare.
@@ -216,14 +211,11 @@ impl Locals {
         ensures ok { OnOk result (self.new ≡ assigned self.old name.now [] value) }
         ensures err { OnErr result (self.new ≡ self.old) }
     {
-        let found = home(self.levels.as_slice(), name);
-        let Some(_) = found.1 else {
-            return match found.0 {
-                None => self.bottom.set_own(self.alloc, name, value),
-                Some(place) => self.levels[place].set_own(self.alloc, name, value),
-            };
-        };
-        self.set_own_by_link(name, value)
+        match unlinked_home(self.levels.as_slice(), name) {
+            UnlinkedHome::Below => self.bottom.set_own(self.alloc, name, value),
+            UnlinkedHome::At(place) => self.levels[place].set_own(self.alloc, name, value),
+            UnlinkedHome::ByLink => self.set_own_by_link(name, value),
+        }
     }
 
     // The same where a link may lead to the variable. Kept out of line, since it is rare.
@@ -302,14 +294,27 @@ impl Locals {
         self.levels[count - 1].hide_others(self.alloc, names)
     }
 
-    // The scope that a name's variable belongs to, to read from, and the name that it has there, if that is another one.
-    fn scope_of(&self, name: &Name) -> (&Scope, Option<&Name>)
-        ensures { tree_in result.0.now (unwrap_or (option_map (λ other. other.now) result.1) name.now) ≡ tree_of self.now name.now }
+    // The scope that a name's variable belongs to, to read from, and the name that it has there.
+    fn scope_of<'a: 'b, 'b>(&'a self, name: &'b Name) -> (&'a Scope, &'b Name)
+        ensures { tree_in result.0.now result.1.now ≡ tree_of self.now name.now }
+    {
+        match unlinked_home(self.levels.as_slice(), name) {
+            UnlinkedHome::Below => (&self.bottom, name),
+            UnlinkedHome::At(place) => (self.levels[place].scope(), name),
+            UnlinkedHome::ByLink => self.scope_by_link(name),
+        }
+    }
+
+    // The same where a link may lead to the variable. Kept out of line, since it is rare.
+    #[inline(never)]
+    fn scope_by_link<'a: 'b, 'b>(&'a self, name: &'b Name) -> (&'a Scope, &'b Name)
+        ensures { tree_in result.0.now result.1.now ≡ tree_of self.now name.now }
     {
         let found = home(self.levels.as_slice(), name);
+        let known = known_as(name, found.1);
         match found.0 {
-            None => (&self.bottom, found.1),
-            Some(place) => (self.levels[place].scope(), found.1),
+            None => (&self.bottom, known),
+            Some(place) => (self.levels[place].scope(), known),
         }
     }
 }

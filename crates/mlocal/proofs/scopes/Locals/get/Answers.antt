@@ -5,6 +5,5 @@ use Rattle.mlocal.proofs.scopes.Locals.get.Goals as goal
 
 pub returns : goal.returns
 returns c =
-    let s = c.scope_of-found.result.0.now in
-    c.get.ensures ∙ ap (get (tree_in s c.known_as.result.now)) c.in_ok-key.ensures.key ∙ ap (λ n. get (tree_in s n) c.args.subs.now) c.known_as.ensures
-    ∙ ap (λ t. get t c.args.subs.now) c.scope_of-found.ensures
+    let found = c.scope_of-found.result in
+    c.get.ensures ∙ ap (get (tree_in found.0.now found.1.now)) c.in_ok-key.ensures.key ∙ ap (λ t. get t c.args.subs.now) c.scope_of-found.ensures

@@ -1,7 +1,7 @@
 -- SPDX-License-Identifier: Apache-2.0
-use Rattle.mlocal.proofs.LocalWords.{[], ap, ◌∙◌, tree_in}
+use Rattle.mlocal.proofs.LocalWords.{[], ap, ◌∙◌}
 use Rattle.std.specs.FinMap.{get}
 use Rattle.mlocal.proofs.scopes.Locals.own.Goals as goal
 
 pub returns : goal.returns
-returns c = c.own.ensures ∙ ap (λ n. get (tree_in c.scope_of-found.result.0.now n) []) c.known_as.ensures ∙ ap (λ t. get t []) c.scope_of-found.ensures
+returns c = c.own.ensures ∙ ap (λ t. get t []) c.scope_of-found.ensures

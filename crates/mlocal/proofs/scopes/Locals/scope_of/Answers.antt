@@ -1,20 +1,17 @@
 -- SPDX-License-Identifier: Apache-2.0
-use Rattle.mlocal.proofs.LocalLaws.{[], ◌∷◌, ap, sym, ◌∙◌, None, Some, option_map, unwrap_or, tree_in, tree_of, found-at, tree-at, tree-bottom}
+use Rattle.mlocal.proofs.LocalLaws.{[], ◌∷◌, ap, sym, ◌∙◌, At, Below, tree_in, tree_of, tree-at, tree-bottom, unlinked-found}
 use Rattle.mlocal.proofs.scopes.Locals.scope_of.Goals as goal
 
-pub returns-in-None : goal.returns-in-None
-returns-in-None c =
+pub returns-in-Below : goal.returns-in-Below
+returns-in-Below c =
     let n = c.args.name.now in
-    let found = c.home-found.result in
-    let m = unwrap_or (option_map (λ other. other.now) found.1) n in
-    let at = found-at n m m c.as_slice.result.now c.self.inside.levels.items found.0 None c.home-found.ensures c.as_slice.ensures.value c.in-None.is (λ i. m) in
-    sym (tree-bottom n m c.self.inside.levels.items c.self.inside.bottom c.self.invariant at) ∙ ap (λ s. tree_of s n) c.self.view_is
+    let at = unlinked-found n c.as_slice.result.now c.self.inside.levels.items c.unlinked_home.result Below c.unlinked_home.ensures c.as_slice.ensures.value c.in-Below.is in
+    sym (tree-bottom n n c.self.inside.levels.items c.self.inside.bottom c.self.invariant at) ∙ ap (λ s. tree_of s n) c.self.view_is
 
-pub returns-in-Some : goal.returns-in-Some
-returns-in-Some c =
+pub returns-in-At : goal.returns-in-At
+returns-in-At c =
     let n = c.args.name.now in
-    let found = c.home-found.result in
-    let m = unwrap_or (option_map (λ other. other.now) found.1) n in
-    let at = found-at n m m c.as_slice.result.now c.self.inside.levels.items found.0 (Some c.in-Some.place) c.home-found.ensures c.as_slice.ensures.value c.in-Some.is (λ i. m) in
-    ap (λ s. tree_in s m) (c.scope.ensures ∙ c.index.ensures)
-    ∙ sym (tree-at n m c.self.inside.levels.items (c.self.inside.bottom ∷ []) c.in-Some.place c.index.result.now at) ∙ ap (λ s. tree_of s n) c.self.view_is
+    let place = c.in-At.place in
+    let at = unlinked-found n c.as_slice.result.now c.self.inside.levels.items c.unlinked_home.result (At place) c.unlinked_home.ensures c.as_slice.ensures.value c.in-At.is in
+    ap (λ s. tree_in s n) (c.scope.ensures ∙ c.index.ensures)
+    ∙ sym (tree-at n n c.self.inside.levels.items (c.self.inside.bottom ∷ []) place c.index.result.now at) ∙ ap (λ s. tree_of s n) c.self.view_is

@@ -59,8 +59,8 @@ module _ {S : Type 0} {g : Ghosts S} where
   -- ---- one target
 
   -- its parts, as those of a list of one
-  one_prepared : {old new : Parts S} (t : TargetTree) (x : Prepared) → Does g (λ i. meaning.prepared i t) prepared_view old (Ok x) new → Does g (λ i. meaning.all_prepared i [] (t ∷ [])) (λ x. prepared_view x ∷ []) old (Ok x) new
-  one_prepared t x d = does_then (λ i p. meaning.all_prepared i (p ∷ []) []) d (does_gives (prepared_view x ∷ []) (λ x. prepared_view x ∷ []) x refl)
+  one_prepared : {X : Type 0} {old new : Parts S} (t : TargetTree) (view : X → meaning.Prepared) (x : X) → Does g (λ i. meaning.prepared i t) view old (Ok x) new → Does g (λ i. meaning.all_prepared i [] (t ∷ [])) (λ x. view x ∷ []) old (Ok x) new
+  one_prepared t view x d = does_then (λ i p. meaning.all_prepared i (p ∷ []) []) d (does_gives (view x ∷ []) (λ x. view x ∷ []) x refl)
 
   -- what is done for it alone
   only_one : {a b : Parts S} {p : Act (Unit {0})} (r : Result (Unit {0}) Code) → Does g (λ i. p) (λ u. u) a r b → Does g (λ i. p >> give tt) (λ u. u) a r b
@@ -103,19 +103,20 @@ module _ {S : Type 0} {g : Ghosts S} where
         let parts_failed : Does g (λ i. meaning.all_prepared i [] (node_of name s ∷ [])) (λ (ps : List meaning.Prepared). ps) old (Err c) new = does_failed (λ i p. meaning.all_prepared i (p ∷ []) []) prepared_failed in
         does_failed (λ i ps. value i e >>= λ v. meaning.all_assigned v ps) parts_failed
 
-  pub one_assigned : {old mid last new : Parts S} (t : TargetTree) (e : ExprTree) (x : Prepared) (v : Text) (r : Result (Unit {0}) Code) → Does g (λ i. meaning.prepared i t) prepared_view old (Ok x) mid
-      → Does g (λ i. value i e) (λ (t : Text). t) mid (Ok v) last → Does g (λ i. meaning.assigned v (prepared_view x)) (λ u. u) last r new → Does g (λ i. meaning.setting i (one t) e) (λ u. u) old r new
-  one_assigned t e x v r d k h =
-      does_then (λ i ps. value i e >>= λ v. meaning.all_assigned v ps) (one_prepared t x d) (does_then (λ i v. meaning.all_assigned v (prepared_view x ∷ [])) k (only_one r h))
+  module _ {X : Type 0} (t : TargetTree) (e : ExprTree) (view : X → meaning.Prepared) where
+    pub one_assigned : {old mid last new : Parts S} (x : X) (v : Text) (r : Result (Unit {0}) Code) → Does g (λ i. meaning.prepared i t) view old (Ok x) mid
+        → Does g (λ i. value i e) (λ (t : Text). t) mid (Ok v) last → Does g (λ i. meaning.assigned v (view x)) (λ u. u) last r new → Does g (λ i. meaning.setting i (one t) e) (λ u. u) old r new
+    one_assigned x v r d k h =
+        does_then (λ i ps. value i e >>= λ v. meaning.all_assigned v ps) (one_prepared t view x d) (does_then (λ i v. meaning.all_assigned v (view x ∷ [])) k (only_one r h))
 
-  pub one_value_failed : {old mid new : Parts S} (t : TargetTree) (e : ExprTree) (x : Prepared) (c : Code) → Does g (λ i. meaning.prepared i t) prepared_view old (Ok x) mid → Does g (λ i. value i e) (λ (t : Text). t) mid (Err c) new
-      → Does g (λ i. meaning.setting i (one t) e) (λ (u : Unit {0}). u) old (Err c) new
-  one_value_failed t e x c d k = does_then (λ i ps. value i e >>= λ v. meaning.all_assigned v ps) (one_prepared t x d) (does_failed (λ i v. meaning.all_assigned v (prepared_view x ∷ [])) k)
+    pub one_value_failed : {old mid new : Parts S} (x : X) (c : Code) → Does g (λ i. meaning.prepared i t) view old (Ok x) mid → Does g (λ i. value i e) (λ (t : Text). t) mid (Err c) new
+        → Does g (λ i. meaning.setting i (one t) e) (λ (u : Unit {0}). u) old (Err c) new
+    one_value_failed x c d k = does_then (λ i ps. value i e >>= λ v. meaning.all_assigned v ps) (one_prepared t view x d) (does_failed (λ i v. meaning.all_assigned v (view x ∷ [])) k)
 
-  pub one_prepared_failed : {old new : Parts S} (t : TargetTree) (e : ExprTree) (c : Code) → Does g (λ i. meaning.prepared i t) prepared_view old (Err c) new → Does g (λ i. meaning.setting i (one t) e) (λ (u : Unit {0}). u) old (Err c) new
-  one_prepared_failed {old = old} {new = new} t e c d =
-      let parts_failed : Does g (λ i. meaning.all_prepared i [] (t ∷ [])) (λ (x : Prepared). prepared_view x ∷ []) old (Err c) new = does_failed (λ i p. meaning.all_prepared i (p ∷ []) []) d in
-      does_failed (λ i ps. value i e >>= λ v. meaning.all_assigned v ps) parts_failed
+    pub one_prepared_failed : {old new : Parts S} (c : Code) → Does g (λ i. meaning.prepared i t) view old (Err c) new → Does g (λ i. meaning.setting i (one t) e) (λ (u : Unit {0}). u) old (Err c) new
+    one_prepared_failed {old = old} {new = new} c d =
+        let parts_failed : Does g (λ i. meaning.all_prepared i [] (t ∷ [])) (λ (x : X). view x ∷ []) old (Err c) new = does_failed (λ i p. meaning.all_prepared i (p ∷ []) []) d in
+        does_failed (λ i ps. value i e >>= λ v. meaning.all_assigned v ps) parts_failed
 
   -- ---- a list of targets
 

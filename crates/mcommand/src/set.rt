@@ -1,6 +1,6 @@
 // SPDX-License-Identifier: Apache-2.0
 // SET: the parts of its targets are evaluated first, then the right side, and then each target is assigned.
-ghost use Rattle.std.specs.Prelude.{[], map, option_map};
+ghost use Rattle.std.specs.Prelude.{◌≡◌, [], length, map, option_map};
 ghost use Rattle.mgrammar.specs.Grammar.{one, variable, local, exprs, no_exprs};
 ghost use Rattle.mmeaning.specs.LineMeaning as meaning;
 ghost use Rattle.mtree.specs.Tree.{expr_tree, part_tree, target_tree, value_function_tree, destination_tree};
@@ -217,12 +217,36 @@ impl<'a, S: NodeStore> Parts<'a, S> {
         self.assign(alloc, value, prepared)
     }
 
+    // The same for a part of a variable after which two values come, as they mostly do: they take no memory besides their own.
+    #[inline(never)]
+    fn setting_by_two(&mut self, alloc: Global, part: &PartTarget, e: &Expr) -> Result<(), Code>
+        requires { length part.now.more.items ≡ 2 }
+        ensures { Does S.NodeStore (λ i. meaning.setting i (one (part_tree part.now)) (expr_tree e.now)) (λ u. u) self.old result self.new }
+    {
+        let pending = self.eval.evaluated(alloc, &part.reference)?;
+        let values = self.eval.fast_two(alloc, &part.more)?;
+        let value = self.eval.eval(alloc, e)?;
+        self.assign_part(alloc, part.word.function(), pending, &values, &value)
+    }
+
+    // The same, by how many values come after the variable.
+    fn setting_part(&mut self, alloc: Global, target: &Target, e: &Expr) -> Result<(), Code>
+        ensures { Does S.NodeStore (λ i. meaning.setting i (one (target_tree target.now)) (expr_tree e.now)) (λ u. u) self.old result self.new }
+    {
+        if let Target::Part(part) = target
+            && part.more.len() == 2
+        {
+            return self.setting_by_two(alloc, part, e);
+        }
+        self.setting_target(alloc, target, e)
+    }
+
     // The same, by the shape of a variable. One without subscripts has nothing to evaluate, and no check refuses it.
     fn setting_one(&mut self, alloc: Global, target: &Target, e: &Expr) -> Result<(), Code>
         ensures { Does S.NodeStore (λ i. meaning.setting i (one (target_tree target.now)) (expr_tree e.now)) (λ u. u) self.old result self.new }
     {
         let Target::Variable(reference) = target else {
-            return self.setting_target(alloc, target, e);
+            return self.setting_part(alloc, target, e);
         };
         match reference {
             Reference::Variable(name) => {

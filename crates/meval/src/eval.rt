@@ -136,8 +136,20 @@ impl<'a, S: NodeStore> Eval<'a, S> {
     fn called(&mut self, alloc: Global, word: &ValueWord, arguments: &[Expr]) -> Result<Value, Code>
         ensures { Evaluates S.NodeStore (λ i. acts.call_act i word.now (exprs_of (map expr_tree arguments.now))) (λ v. v) self.old result self.new }
     {
-        let values = self.values(alloc, arguments)?;
-        call(alloc, word, values.as_slice())
+        match arguments.len() {
+            2 => {
+                let values = self.fast_two(alloc, arguments)?;
+                call(alloc, word, &values)
+            }
+            3 => {
+                let values = self.fast_three(alloc, arguments)?;
+                call(alloc, word, &values)
+            }
+            _ => {
+                let values = self.values(alloc, arguments)?;
+                call(alloc, word, values.as_slice())
+            }
+        }
     }
 
     /// What a reference evaluates, before any check.

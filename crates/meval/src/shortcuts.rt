@@ -1,8 +1,8 @@
 // SPDX-License-Identifier: Apache-2.0
 // Shortcuts. Each function here does what the one that is named beside it does, but faster: delete any of them, and nothing changes but the
 // time. They are for what most lines refer to: a literal, a local variable without subscripts, and one with one subscript, whose shape the
-// tree has already. A value is lent where it stands, or put in a place of the caller's.
-ghost use Rattle.std.specs.Prelude.{◌≡◌, ◌≤◌, ◌<◌, [], ◌∷◌, map, slice_get, unwrap_or, IfOk, IfSome};
+// tree has already; and for what most functions are called with. A value is lent where it stands, or put in a place of the caller's.
+ghost use Rattle.std.specs.Prelude.{◌≡◌, ◌≤◌, ◌<◌, [], ◌∷◌, length, map, slice_get, unwrap_or, IfOk, IfSome};
 ghost use Rattle.mgrammar.specs.Grammar as grammar;
 ghost use Rattle.mgrammar.specs.Grammar.{local, no_exprs, exprs, exprs_of};
 ghost use Rattle.mmeaning.specs.Expression as meaning;
@@ -136,6 +136,33 @@ impl<'a, S: NodeStore> Eval<'a, S> {
     {
         let values = self.values(alloc, subscripts)?;
         self.own_place(alloc, VariableName::Lent(name), values)
+    }
+
+    /// `values`, for two expressions: the values take no memory besides their own.
+    ///
+    /// # Errors
+    ///
+    /// The code of the first that has one.
+    #[cycle(eval)]
+    pub fn fast_two(&mut self, alloc: Global, exprs: &[Expr]) -> Result<[Value; 2], Code>
+        requires { length exprs.now ≡ 2 }
+        ensures { Evaluates S.NodeStore (λ i. meaning.values i [] (exprs_of (map expr_tree exprs.now))) (λ values. values) self.old result self.new }
+    {
+        let first = self.eval(alloc, &exprs[0])?;
+        let second = self.eval(alloc, &exprs[1])?;
+        Ok([first, second])
+    }
+
+    // `values`, for three expressions.
+    #[cycle(eval)]
+    pub(crate) fn fast_three(&mut self, alloc: Global, exprs: &[Expr]) -> Result<[Value; 3], Code>
+        requires { length exprs.now ≡ 3 }
+        ensures { Evaluates S.NodeStore (λ i. meaning.values i [] (exprs_of (map expr_tree exprs.now))) (λ values. values) self.old result self.new }
+    {
+        let first = self.eval(alloc, &exprs[0])?;
+        let second = self.eval(alloc, &exprs[1])?;
+        let third = self.eval(alloc, &exprs[2])?;
+        Ok([first, second, third])
     }
 
     // `place_value`, for a local variable with one subscript.

@@ -116,13 +116,25 @@ place_value-returns-in_err-place g t c = evaluates_regrouped (λ i. evaluated i 
 pub place_value-returns : goal.place_value-returns
 place_value-returns g t c = evaluates_regrouped (λ i. evaluated i (reference_tree c.args.reference.now)) (λ i. resolve reading) (λ i. read_at) (evaluates_then (λ i. read_at) c.in_ok-place.ensures.does c.read.ensures)
 
-pub called-returns-in_err-values : goal.called-returns-in_err-values
-called-returns-in_err-values g t c = evaluates_stopped _ c.in_err-values.ensures c.from_residual.ensures
+pub called-returns-in_err-values-in-2 : goal.called-returns-in_err-values-in-2
+called-returns-in_err-values-in-2 g t c = evaluates_stopped _ c.in_err-values-in-2.ensures c.from_residual.ensures
 
-pub called-returns : goal.called-returns
-called-returns g t c =
-    let called = rw c.as_slice.ensures at c.call.ensures.value in
-    evaluates_then _ c.in_ok-values.ensures (evaluates_yielded called)
+pub called-returns-in_ok-values-in-2 : goal.called-returns-in_ok-values-in-2
+called-returns-in_ok-values-in-2 g t c = evaluates_then _ c.in_ok-values-in-2.ensures (evaluates_yielded c.call.ensures.value)
+
+pub called-returns-in_err-values-in-3 : goal.called-returns-in_err-values-in-3
+called-returns-in_err-values-in-3 g t c = evaluates_stopped _ c.in_err-values-in-3.ensures c.from_residual-in_err-values-in-3.ensures
+
+pub called-returns-in_ok-values-in-3 : goal.called-returns-in_ok-values-in-3
+called-returns-in_ok-values-in-3 g t c = evaluates_then _ c.in_ok-values-in-3.ensures (evaluates_yielded c.call-in-3.ensures.value)
+
+pub called-returns-in_err-values-in_default : goal.called-returns-in_err-values-in_default
+called-returns-in_err-values-in_default g t c = evaluates_stopped _ c.in_err-values-in_default.ensures c.from_residual-in_err-values-in_default.ensures
+
+pub called-returns-in_ok-values-in_default : goal.called-returns-in_ok-values-in_default
+called-returns-in_ok-values-in_default g t c =
+    let called = rw c.as_slice.ensures at c.call-in_default.ensures.value in
+    evaluates_then _ c.in_ok-values-in_default.ensures (evaluates_yielded called)
 
 -- ---- places that are read at once
 
@@ -692,6 +704,50 @@ values-loop-e-preserved g t c = record {
 
 pub values-returns : goal.values-returns
 values-returns g t c = rw c.of_vec.ensures (c.loop-e.invariant.leads _ _ (values_end (λ (v : List Text). v) c.args.exprs.now c.loop-e.e-index c.loop-e.values.items c.loop-e-test.false))
+
+-- ---- two and three values
+
+pub fast_two-returns-in_err-first : goal.fast_two-returns-in_err-first
+fast_two-returns-in_err-first g t c =
+    rw (residual_is _ _ c.from_residual.ensures)
+    (value_failed (λ (v : List Text). v) c.args.exprs.now 0 c.index-exprs-0.result [] _ (omega (arith, c.requires)) c.index-exprs-0.is c.in_err-first.ensures.does)
+
+pub fast_two-returns-in_err-second : goal.fast_two-returns-in_err-second
+fast_two-returns-in_err-second g t c =
+    rw (residual_is _ _ c.from_residual-in_err-second.ensures)
+    (next_value (λ (v : List Text). v) c.args.exprs.now 0 c.index-exprs-0.result [] _ _ (omega (arith, c.requires)) c.index-exprs-0.is c.in_ok-first.ensures.does
+    (value_failed (λ (v : List Text). v) c.args.exprs.now 1 c.index-exprs-1.result (c.in_ok-first.first ∷ []) _ (omega (arith, c.requires)) c.index-exprs-1.is c.in_err-second.ensures.does))
+
+pub fast_two-returns : goal.fast_two-returns
+fast_two-returns g t c =
+    (next_value (λ (v : List Text). v) c.args.exprs.now 0 c.index-exprs-0.result [] _ _ (omega (arith, c.requires)) c.index-exprs-0.is c.in_ok-first.ensures.does
+    (next_value (λ (v : List Text). v) c.args.exprs.now 1 c.index-exprs-1.result (c.in_ok-first.first ∷ []) _ _ (omega (arith, c.requires)) c.index-exprs-1.is c.in_ok-second.ensures.does
+    (values_end (λ (v : List Text). v) c.args.exprs.now 2 (c.in_ok-first.first ∷ c.in_ok-second.second ∷ []) (omega (arith, c.requires)))))
+
+pub fast_three-returns-in_err-first : goal.fast_three-returns-in_err-first
+fast_three-returns-in_err-first g t c =
+    rw (residual_is _ _ c.from_residual.ensures)
+    (value_failed (λ (v : List Text). v) c.args.exprs.now 0 c.index-exprs-0.result [] _ (omega (arith, c.requires)) c.index-exprs-0.is c.in_err-first.ensures.does)
+
+pub fast_three-returns-in_err-second : goal.fast_three-returns-in_err-second
+fast_three-returns-in_err-second g t c =
+    rw (residual_is _ _ c.from_residual-in_err-second.ensures)
+    (next_value (λ (v : List Text). v) c.args.exprs.now 0 c.index-exprs-0.result [] _ _ (omega (arith, c.requires)) c.index-exprs-0.is c.in_ok-first.ensures.does
+    (value_failed (λ (v : List Text). v) c.args.exprs.now 1 c.index-exprs-1.result (c.in_ok-first.first ∷ []) _ (omega (arith, c.requires)) c.index-exprs-1.is c.in_err-second.ensures.does))
+
+pub fast_three-returns-in_err-third : goal.fast_three-returns-in_err-third
+fast_three-returns-in_err-third g t c =
+    rw (residual_is _ _ c.from_residual-in_err-third.ensures)
+    (next_value (λ (v : List Text). v) c.args.exprs.now 0 c.index-exprs-0.result [] _ _ (omega (arith, c.requires)) c.index-exprs-0.is c.in_ok-first.ensures.does
+    (next_value (λ (v : List Text). v) c.args.exprs.now 1 c.index-exprs-1.result (c.in_ok-first.first ∷ []) _ _ (omega (arith, c.requires)) c.index-exprs-1.is c.in_ok-second.ensures.does
+    (value_failed (λ (v : List Text). v) c.args.exprs.now 2 c.index-exprs-2.result (c.in_ok-first.first ∷ c.in_ok-second.second ∷ []) _ (omega (arith, c.requires)) c.index-exprs-2.is c.in_err-third.ensures.does)))
+
+pub fast_three-returns : goal.fast_three-returns
+fast_three-returns g t c =
+    (next_value (λ (v : List Text). v) c.args.exprs.now 0 c.index-exprs-0.result [] _ _ (omega (arith, c.requires)) c.index-exprs-0.is c.in_ok-first.ensures.does
+    (next_value (λ (v : List Text). v) c.args.exprs.now 1 c.index-exprs-1.result (c.in_ok-first.first ∷ []) _ _ (omega (arith, c.requires)) c.index-exprs-1.is c.in_ok-second.ensures.does
+    (next_value (λ (v : List Text). v) c.args.exprs.now 2 c.index-exprs-2.result (c.in_ok-first.first ∷ c.in_ok-second.second ∷ []) _ _ (omega (arith, c.requires)) c.index-exprs-2.is c.in_ok-third.ensures.does
+    (values_end (λ (v : List Text). v) c.args.exprs.now 3 (c.in_ok-first.first ∷ c.in_ok-second.second ∷ c.in_ok-third.third ∷ []) (omega (arith, c.requires))))))
 
 -- ---- choices
 

@@ -55,6 +55,12 @@ decreases-expression_number g l = 16 * l.self.now.steps + 4
 abbrev pub decreases-values : goal.decreases-values
 decreases-values g l = 16 * l.self.now.steps + 5
 
+abbrev pub decreases-fast_two : goal.decreases-fast_two
+decreases-fast_two g l = 16 * l.self.now.steps + 5
+
+abbrev pub decreases-fast_three : goal.decreases-fast_three
+decreases-fast_three g l = 16 * l.self.now.steps + 5
+
 abbrev pub decreases-chosen : goal.decreases-chosen
 decreases-chosen g l = 16 * l.self.now.steps + 5
 

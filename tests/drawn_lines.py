@@ -88,7 +88,7 @@ class Draw:
         """An expression that nests this deep at most."""
         if self.language and depth > 0 and self.drawn.randrange(4) == 0:
             if self.drawn.randrange(3) == 0:
-                question, pattern = self.drawn.choice(["?", "'?"]), self.drawn.choice(["1N", ".E", "1.A.N", '1"x".E'])
+                question, pattern = self.drawn.choice(["?", "'?"]), self.drawn.choice(["1N", ".E", "1.A.N", '1"x".E', ".(1N,1A)", '1.2(.A1N,.2(1"x",1L)).E'])
                 return joined(["(", self.expression(depth - 1), (question + pattern, f"{question}@{self.operand(pattern)}"), ")"])
             return self.later(depth - 1)
         form = self.drawn.randrange(14) if depth > 0 else 0

@@ -3,8 +3,9 @@
 has exactly one reply, from the terminal that it names, and the replies are the same if the input comes in pieces of 1, 2 and 7 bytes.
 
 What is changed: a bracket too many, a byte over 127 or under 32, a name of 32 characters, 41 brackets or operands of `@` one within the other,
-256 levels, a count of 10^19, a character left out, doubled or in place of another, a cut, and the terminal. Of one long line every cut
-is tried. Half of the lines have forms of language 1, and all are played by language 0 and by language 1."""
+256 levels, a count of 10^19, groups of patterns as deep, with counts from 0 to 9999 and reversed ones, a character left out, doubled or in place
+of another, a cut, and the terminal. Of one long line every cut is tried. Half of the lines have forms of language 1, and all are played by
+language 0 and by language 1."""
 from __future__ import annotations
 
 import re
@@ -27,6 +28,13 @@ WIRE = re.compile(rb"([1-9][0-9]{0,3}) ")
 ENDING = re.compile(rb"(?:(\d+|\?)!(Z?[A-Z]+\d*)|(\d+)\.)")
 MARKS = "()\"@^|,:;=$'?_.!# +-*/\\<>[]&%AZaz019"
 BIG = "1" + 19 * "0"
+
+
+def groups(count: str, depth: int, last: str) -> str:
+    """A pattern with groups one within the other, each with this count."""
+    return depth * f"{count}(" + last + depth * ")"
+
+
 # What stands in place of a line, or of a part of it.
 NESTED = [
     "W " + 41 * "(" + "1" + 41 * ")", 'S A="A" W ' + 41 * "@" + "A", "W " + 41 * "-(" + "1" + 41 * ")", 'S X="X X" X X', 'S X="D X^R" X X',
@@ -52,6 +60,12 @@ NESTED = [
     'S A="2**" W @A',
     "W 2" + 120 * "**2", "W " + 40 * "(2**" + "1" + 40 * ")", "W " + 41 * "$J(1,1," + "1" + 41 * ")", "W 1?" + 41 * "@" + "A", 'W $J("",200)?@".E.E.E.E1""x"""',
     f'W 1?@"{BIG}N"', 'S P="?@P" W 1?@P', "W 1?@", 'W 1?@""', "W $RE(1,2)", "W $RE()", 40 * "$RE(", 'W $J("",$S)_$J', "F I=1:1:$S W I", "F  W $J,$IO,$P",
+    f"W 1?{groups('1', 40, '1N')}", f"W 1?{groups('1', 41, '1N')}", f"W (1?{groups('1', 40, '1N')})", "W 1?" + 99 * "1(", "W 1?" + 99 * "1(1N",
+    f"W $J(1,200)?{groups('.', 40, '.E')}", f'W ""?{groups("9999", 39, "1N")}', f'W ""?{groups("0", 40, "1N")}', f'W ""?{groups("0", 40, "2.1N")}',
+    f'W ""?{groups(".", 40, "0A")}', f"W 1?{BIG}(1N)", "W 1?9999(9999(1N))", "W 1?10000(1N)", "W 1?0(3.1N)", "W 1?9.1(9.1(9.1N))", "W 1?.(0A)1.(0A)",
+    'W $J(1,200)?.(.E,.E.E,.E1"x",2" ",1" ",200" ")', "W 1?1(" + 80 * "1N," + "1A)", "W $J(1,200)?" + 45 * ".(1P)", "W 1?1(1N)(1N)", "W 1?1(1?1N)", "W 1?1(@A)",
+    'S P="1(" F I=1:1:9 S P=P_P W:I=9 1?@P', 'S P=".(1P)" F I=1:1:9 S P=P_P W:I=9 ""?@P,1?@P', 'S P="1(1N)" F  S P=P_P W 1?@P', "F  W 1?.(.(1N,.(.A)))",
+    'S P="," F I=1:1:9 S P=P_"200"" ""," W:I=9 $J(1,200)?@(".(.E"_P_".E)")', 'S A="1(1N" W 1?@A', f"W 1?{groups('1', 40, '1N')}?{groups('1', 40, '1N')}",
     "W $I(1)", "W $J(1", "S $IO=1", "K $J", "W " + 40 * "-" + "$S", "W @$J", "W $STORAGEX",
     f"H {BIG}", "H -1,.5,A", "HANG", "H  H 1", "F  H $S", "H @A", 'S A="H @A" X A', "HANG:$J 1:1", f"H {BIG}E{BIG}", "HALT 1", f'W $G(@"A($RE({BIG}))")',
     f'W $O(A({BIG}),{BIG})', f"W {BIG}E{BIG}", f"W .{BIG}", "S B=\"x\" F  S B=B_B", 'W $J("",200)?.E.E.E.E1"x"', 'K  K ^A,^B N  L', "H", "Q", "G", "D",
@@ -122,6 +136,17 @@ def nested(drawn: Random, text: str) -> str:
     return drawn.choice(NESTED)
 
 
+def with_groups(drawn: Random, text: str) -> str:
+    """A match of a pattern with groups, as deep and with such counts as nobody writes; of a text if it is written so."""
+    pattern = drawn.choice(["1N", "0A", ".E", '2"x"', '.1""', "2.1N", "1A.N"])
+    counts = drawn.choice([["1", "."], ["1", ".", "0", "2.", ".3", "9999"], [".", "1.", "9999", "99999", "3.1"]])
+    others = drawn.choice([[""], ["", ",1A", ",.E", ",.(1N)"]])
+    for _ in range(drawn.choice([1, 2, 3, 4, 38, 40, 41])):
+        pattern = f"{drawn.choice(counts)}({pattern}{drawn.choice(others)})" + drawn.choice(["", "", "", "1E"])
+    value = drawn.choice(['""', "1", "12", "A", '"x"', "$J(1,200)", '$J("",4095)'])
+    return drawn.choice([f"W {value}?{pattern}", f"W {value}'?{pattern} {text}", f"S P={quoted(pattern)} W {value}?@P", f"F  W {value}?{pattern}"])
+
+
 def with_rest(drawn: Random, text: str) -> str:
     """One that is too long, or that just is not."""
     return text + " ;" + drawn.randint(0, LONGEST) * "x"
@@ -132,7 +157,8 @@ def right(drawn: Random, text: str) -> str:
     return text
 
 
-CHANGES = [right, with_bracket, with_byte, with_long_name, with_one_left_out, with_one_doubled, with_another, with_count, cut, nested, with_rest]
+CHANGES = [right, with_bracket, with_byte, with_long_name, with_one_left_out, with_one_doubled, with_another, with_count, cut, nested, with_groups,
+           with_rest]
 TERMINALS = ["1"] * 30 + ["2", "9999", "10000", "0", "01", "", "x", "-1", "1\t"]
 
 

@@ -2,7 +2,7 @@
 # SPDX-License-Identifier: Apache-2.0
 """The front under load: many users at once, each of whom sends lines at a rate and knows what each reply has to be.
 
-It starts a front of its own, over TLS, with the built program as its child. A reply is waited for from the moment that its line was due, so that a
+It starts a front of its own, over TLS, with the built program as its child. The wait for a reply begins when its line was due, so that a
 front that falls back shows it. Then the same lines are sent to a server alone, one after the other, which says how much of the time is the server's.
 Status 1 if a reply was lost, or was not that user's."""
 from __future__ import annotations

@@ -61,7 +61,7 @@ class User:
         return time.perf_counter() - began
 
     async def works(self, until: float, began: float, pause: float) -> list[float]:
-        """Sends until a time, as fast as replies come or with so many seconds between two lines, and gives how long each took."""
+        """Sends until a time, as fast as replies come or with this many seconds between two lines, and gives how long each took."""
         waits = []
         while (due := began + len(waits) * pause) < until and time.monotonic() < until:
             await asyncio.sleep(max(0.0, due - time.monotonic()))
@@ -83,7 +83,7 @@ class Trial:
     """The machines, their database, and their users."""
 
     def __init__(self, folder: Path, count: int, accounts: int, ends: contextlib.ExitStack) -> None:
-        """So many islands of so many accounts. What it has is ended and removed at the end."""
+        """This many islands of this many accounts. What it has is ended and removed at the end."""
         self.accounts = accounts
         os.chmod(folder, 0o755)
         self.databases: list[Cluster] = []

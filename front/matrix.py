@@ -45,7 +45,7 @@ class Part:
 
 
 def parts(wanted: int, size: int) -> Iterator[Part]:
-    """All parts, of each kind by turns; they are the same ones at each run."""
+    """All parts, of the kinds in turn; they are the same ones at each run."""
     each = {kind: drawn(kind, -(-wanted // len(COMBINATIONS)), random.Random(kind)) for kind in COMBINATIONS}
     for start in range(0, max(map(len, each.values())), size):
         for kind, chosen in each.items():

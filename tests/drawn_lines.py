@@ -49,7 +49,7 @@ class Draw:
         return self.held(text)
 
     def reference(self, depth: int, least: int = 0) -> Pair:
-        """A variable with so many subscripts at least."""
+        """A variable with this many subscripts at least."""
         name = self.drawn.choice(["A", "B", "C", "^A", "^B"] * 3 + ['^|"ALICE"|A'] * 2 + ["^"])
         count = max(self.drawn.choice([0, 0, 1, 1, 1, 2]), least, name == "^")
         subscripts = [self.expression(depth - 1) for _ in range(count)]
@@ -62,7 +62,7 @@ class Draw:
         kept = self.drawn.randint(name == "^", count)
         if form <= 3 and kept < count:
             front = self.operand(self.subscripted(name, subscripts[:kept])[1])
-            # behind two `@` the subscripts would be those of the inner one
+            # after two `@` the subscripts would be those of the inner one
             front = f"({front})" if front.startswith("@") else front
             return plain, self.subscripted(f"@{front}@", subscripts[kept:])[1]
         return plain, "@" + self.operand(other)
@@ -197,7 +197,7 @@ class Draw:
         if form == 0:
             return joined([" G ", self.arguments(self.some(self.entry))])
         if form == 1:
-            # behind it the texts are gone, so no turn of a FOR may follow
+            # after it the texts are gone, so no turn of a FOR may follow
             word = self.drawn.choice([" K ", " N "])
             return word + "(A,N,I) Q", word + "@" + self.operand("(A,N,I)") + " Q"
         return "", ""

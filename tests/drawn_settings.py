@@ -20,7 +20,7 @@ from support import Grant
 
 NAMES = ["ALICE", "BOB", "CAROL", "DAVE", "EVE"]
 GLOBALS = ["X", "Y", "ROUTINE"]
-# So many lines are drawn, of which every twentieth is left out.
+# This many lines are drawn, of which every twentieth is left out.
 LINES = 46
 REPLY = re.compile(rb"(\d+)[:\-.!]")
 # A line with its terminal, and with none if it is not a line of the wire.
@@ -136,7 +136,7 @@ def cases(draw: st.DrawFn) -> Case:
 
 
 def for_cases(times: int) -> Callable[[Callable[[Case], None]], Callable[[], None]]:
-    """Has a function called with so many of them."""
+    """Has a function called with this many of them."""
     return lambda check: settings(max_examples=times)(given(cases())(check))
 
 

@@ -1,5 +1,5 @@
 // SPDX-License-Identifier: Apache-2.0
-// What the libraries share that are loaded in front of a program: variables of the environment, and a count that is told as the program ends.
+// What the libraries share that are loaded in front of a program: variables of the environment, and a count that is written as the program ends.
 #ifndef IN_FRONT_H
 #define IN_FRONT_H
 

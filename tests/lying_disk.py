@@ -21,7 +21,7 @@ from running import run, run_words
 SETTINGS = '[[account]]\nname = "ALICE"\nterminals = [1]\nsteps = 1000000\n'
 # What is read in place of the truth, in the order in which the library counts.
 KINDS = ("other bytes", "one bit", "older bytes", "zeros")
-# The program takes the log back to its start at a change after so many frames, of which a change makes two or more.
+# The program takes the log back to its start at a change after this many frames, of which a change makes two or more.
 FRAMES = 1000
 ZSTORE = b"1!ZSTORE\n"
 REPLY = re.compile(rb"(?:1[-:].*\n)*1[.!].*\n")
@@ -106,7 +106,7 @@ def played(scene: Scene, steps: list[Step]) -> None:
 
 
 def killed_after(scene: Scene, steps: list[Step], shown: int) -> None:
-    """A run of SETs whose process is killed then, so that the log stays; after so many of them the log is copied, as an older form."""
+    """A run of SETs whose process is killed then, so that the log stays; after this many of them the log is copied, as an older form."""
     with subprocess.Popen(run_words(scene.settings, scene.path("store")), stdin=subprocess.PIPE, stdout=subprocess.PIPE) as process:
         for number, step in enumerate(steps):
             if number == shown:
@@ -164,13 +164,13 @@ def database_of(path: str, numbers: Iterable[int], version: str, page: int) -> N
         database.commit()
 
 
-# The program keeps 2,000 pages, each in the place that its number has there. So many nodes, two on a page of 512 bytes, need 2,679 of them, and
+# The program keeps 2,000 pages, each in the place that its number has there. This many nodes, two on a page of 512 bytes, need 2,679 of them, and
 # pages at the end take the places of those in front.
 MANY = 4600
 
 
 def large_scene(folder: Path, changes: int, session: list[Step]) -> Scene:
-    """A store of more pages than the program keeps. A node on each page was changed in an earlier run, and so many changes stand in the log, but for
+    """A store of more pages than the program keeps. A node on each page was changed in an earlier run, and this many changes stand in the log, but for
     those before it was taken back to its start."""
     settings = str(folder / "settings.toml")
     Path(settings).write_text(SETTINGS, encoding="ascii")

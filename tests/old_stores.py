@@ -1,9 +1,9 @@
 # SPDX-License-Identifier: Apache-2.0
 """Stores of version 1, made by Python's sqlite3 by rules of this page alone, and what the program is to make of them.
 
-A text is a number by so many digits if it is `-` or nothing, digits without a zero in front, and a point with digits of which the last is no
-zero; not `-0` and not empty; below 10^18 in size, with at most 18 places and at most so many significant digits. The key of a node is that of its
-account, of its global's name and of each subscript: of a text each code raised by one, with a 0 behind. A subscript that is a number has a 1 in
+A text is a number by this many digits if it is `-` or nothing, digits without a zero in front, and a point with digits of which the last is no
+zero; not `-0` and not empty; below 10^18 in size, with at most 18 places and at most this many significant digits. The key of a node is that of its
+account, of its global's name and of each subscript: of a text each code raised by one, with a 0 after it. A subscript that is a number has a 1 in
 front, and then 16 bytes of the number in units of 10^-18, raised by 2^127; another one has a 2 in front."""
 from __future__ import annotations
 
@@ -28,7 +28,7 @@ Held = tuple[list[Row], dict[object, object]]
 
 
 def units(text: str, kept: int) -> int | None:
-    """The number that a text is by so many digits, in units of 10^-18; None if it is none."""
+    """The number that a text is by this many digits, in units of 10^-18; None if it is none."""
     if not CANONICAL.fullmatch(text):
         return None
     whole, _, fraction = text.removeprefix("-").partition(".")
@@ -44,13 +44,13 @@ def raised(text: str) -> bytes:
 
 
 def subscript(text: str, kept: int) -> bytes:
-    """The bytes of a subscript within a key whose numbers keep so many digits."""
+    """The bytes of a subscript within a key whose numbers keep this many digits."""
     number = units(text, kept)
     return b"\2" + raised(text) if number is None else b"\1" + (number + 2**127).to_bytes(16, "big")
 
 
 def key(node: Node, kept: int) -> bytes:
-    """The key of a node whose numbers keep so many digits."""
+    """The key of a node whose numbers keep this many digits."""
     account, name, subscripts = node
     return raised(account) + raised(name) + b"".join(subscript(text, kept) for text in subscripts)
 
@@ -84,7 +84,7 @@ def drawn_subscript(draw: Random) -> str:
 
 
 def drawn_nodes(draw: Random, count: int) -> dict[Node, str]:
-    """So many nodes with their texts."""
+    """This many nodes with their texts."""
     nodes: dict[Node, str] = {}
     while len(nodes) < count:
         subscripts = tuple(drawn_subscript(draw) for _ in range(draw.randint(0, 3)))

@@ -23,7 +23,7 @@ extern void *__libc_realloc(void *old, size_t size);
 static long requests, refused, copied_after = -1, copied_every = 1;
 static int is_copy;
 
-// Has a descriptor read a file anew, from the place where it is, and move apart from the process's own.
+// Has a descriptor read a file again, from the place where it is, and move apart from the process's own.
 static void reopen(int descriptor) {
     char path[32];
     snprintf(path, sizeof path, "/proc/self/fd/%d", descriptor);

@@ -126,7 +126,7 @@ def replies_of_lines(lines: list[str], store: str = "memory", settings: str | No
 
 
 def read_in_time(pipe: IO[bytes], size: int) -> bytes:
-    """So many bytes of a pipe, or what came before a minute of silence or the end."""
+    """This many bytes of a pipe, or what came before a minute of silence or the end."""
     got = b""
     while len(got) < size and select.select([pipe], [], [], 60)[0]:
         piece = os.read(pipe.fileno(), size - len(got))

@@ -152,7 +152,7 @@ def test_a_fault_says_where(line: str, answer: str) -> None:
     assert answered(given)[-1] == re.sub(r"(![A-Z][A-Z0-9]*) .*", r"\1", answer)
 
 
-# For each code a command that ends by it, with what is told after its place.
+# For each code a command that ends by it, with what is said after its place.
 CODES = [
     ("M1", "S A=$D(^A),A=^(1)"), ("M2", 'W $FN(1,"P+")'), ("M4", "W $S(0:1)"), ("M5", "W $T(L+-1)"), ("M6 NO", "W NO"), ('M7 ^NO("x")', 'W ^NO("x")'),
     ("M9", "W 1/0"), ("M10", "W 1?2.1N"), ("M12", "D L+-1^C"), ("M13", "D NONE^C"), ("M13", "G ^NONE"), ("M15", "F I=1:1:3 K I"), ("M17", "W $$V^C()"),
@@ -176,7 +176,7 @@ def test_each_code_has_its_place(told: str, command: str) -> None:
 
 
 def test_a_reply_with_details_has_800_bytes_at_most() -> None:
-    """Places that do not fit are left out whole; what is held locked is told all the same."""
+    """Places that do not fit are left out whole; what is held locked is named all the same."""
     names = ",".join(f"L{number}" for number in range(12))
     lines = [*in_store(), f"1 L +({names})", '1 S X="NO("""_$TR($J("",70)," ",$C(1))_""")"', f"1 D {LONG}+10^{LONG}"]
     last = deep(lambda: World(TWO, COMING, detail=True).replies("".join(f"{line}\n" for line in lines).encode("ascii"))).decode("ascii").splitlines()[-1]

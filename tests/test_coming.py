@@ -20,7 +20,7 @@ from second_interpreter.world import World, deep
 from support import content
 
 needs_gtm = pytest.mark.skipif(gtm_folder() is None and not os.environ.get("CI"), reason="GT.M is not there: apt-get install fis-gtm")
-# A session of so many lines each; some 2,000 lines.
+# A session of this many lines each; some 2,000 lines.
 SESSIONS = 120
 # Routines, and lines over them: what GT.M answers to each, this interpreter has to. What is answered otherwise is a row of tools/gtm_differences.toml.
 CALLED = {"F": '''F(X,Y) S X=X+1,Z=$G(Y,"none") Q
@@ -394,7 +394,7 @@ def stream(lines: list[str]) -> bytes:
 
 
 def world(steps: int = 100_000) -> World:
-    """The second interpreter, with all that is coming, over the routines; a line has so many steps."""
+    """The second interpreter, with all that is coming, over the routines; a line has this many steps."""
     found = World('[[account]]\nname = "A"\nterminals = [1]\nsteps = 100000\n', COMING)
     for name, texts in CALLED.items():
         for number, text in enumerate(texts, 1):
@@ -462,7 +462,7 @@ def test_levels() -> None:
     ("S A=$$DV^F()", "M16", 7),         # the value too, before M16
 ])
 def test_steps(line: str, answer: str, steps: int) -> None:
-    """A line needs just so many steps."""
+    """A line needs just this many steps."""
     assert (ended(line, steps), ended(line, steps - 1)[-6:]) == (answer, "ZSTEPS")
 
 

@@ -19,7 +19,7 @@ from hypothesis import strategies as st
 from running import OF_LANGUAGE, run
 from support import run_in_pieces
 
-# So many streams are drawn, of so many lines each, of which some are left out.
+# This many streams are drawn, of this many lines each, of which some are left out.
 STREAMS, LINES = 400, 75
 SEEDS = 2**24
 LONGEST = 260
@@ -227,7 +227,7 @@ def test_a_line_that_nests_or_counts(text: str, language: int) -> None:
 @pytest.mark.long
 @each_language
 def test_drawn_lines(count: int, language: int) -> None:
-    """They end in many ways, none of them for want of memory or room."""
+    """They end in many ways, none of them out of memory or room."""
     codes: Counter[bytes] = Counter()
     streams = count * STREAMS // 2
 

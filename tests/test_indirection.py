@@ -16,7 +16,7 @@ from hypothesis import strategies as st
 from running import OF_LANGUAGE
 from support import replies_of_lines
 
-# So many streams are drawn, of so many lines each.
+# This many streams are drawn, of this many lines each.
 STREAMS, LINES = 500, 5
 LONGEST = 250
 TRIES = 20

@@ -24,12 +24,12 @@ from running import run
 from second_interpreter.world import World, deep
 from support import Grant, accounts_of, reaching, shown_to
 
-# So many settings are drawn, of each kind of store.
+# This many settings are drawn, of each kind of store.
 SETTINGS = {"memory": 100, "file": 200, "file, two runs": 50}
 # An account of language 0 and one of language 1, who may write each other's routines and X; and one of language 1 who has no tie to them.
 TIED: list[Grant] = [(giver, taker, name, "write") for giver, taker in (("ALICE", "BOB"), ("BOB", "ALICE")) for name in ("ROUTINE", "X")]
 SHARED = Setting({"ALICE": Account([1], 2000, 0), "BOB": Account([2], 2000, 1), "CAROL": Account([3], 2000, 1)}, TIED)
-# Lines with their replies, by the rules: a text is read in the language of the account whose line runs it, whoever wrote it.
+# Lines with their replies, by the rules: a text is read in the language of the account whose line runs it, and who wrote it plays no part.
 SHARED_LINES = [
     ('2 S ^|"ALICE"|ROUTINE("R",1)="R W $X,2**3 Q",^|"ALICE"|ROUTINE("R",2)="S W 1 Q"', '2.'),
     ('1 D S^R', '1-1\n1.'),

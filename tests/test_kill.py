@@ -15,7 +15,7 @@ import pytest
 from counted_sets import SETTINGS, held, set_line
 from running import run_words
 
-# Each of so many stores is used for so many kills: a log that was left is read again by the next run.
+# Each of this many stores is used for this many kills: a log that was left is read again by the next run.
 STORES, KILLS = 8, 5
 SETS = 400
 

@@ -2,7 +2,7 @@
 """A routine of 100,000 lines: its lines are assigned one by one, and then it is done from its first line, from labels far down, and after lines
 were changed, put between others and killed. The replies are worked out by the rules of steps and of routines.
 
-The store is a file: a table in memory looks at each of its rows for each that goes, so that there a KILL of so many lines takes many minutes."""
+The store is a file: a table in memory looks at each of its rows for each that goes, so that there a KILL of this many lines takes many minutes."""
 from __future__ import annotations
 
 import os
@@ -44,7 +44,7 @@ def counted() -> int:
 
 
 def cases() -> Iterator[tuple[str, list[str]]]:
-    """Lines behind those that assign the routine, with their replies."""
+    """Lines after those that assign the routine, with their replies."""
     n = str(counted())
     yield "D ^L", ["1!ZSTEPS"]
     yield "W N", ["1-" + n, "1."]

@@ -33,13 +33,13 @@ SCENES: dict[str, Callable[[Path], Scene]] = {
     "pages": lambda folder: large_scene(folder, 100, PAGES),
     "copying": lambda folder: large_scene(folder, 985, COPYING),
 }
-# Which of the reads that a scene's lines make, and of those that its end makes: one of so many. In a short case, and in a long one.
+# Which of the reads that a scene's lines make, and of those that its end makes: one of this many. In a short case, and in a long one.
 SOME = {"small": (1, 1), "small with sums": (1, 1), "pages": (17, 100), "copying": (71, 3)}
 EVERY = {"small": (1, 1), "small with sums": (1, 1), "pages": (1, 10), "copying": (8, 1)}
 OPENED = ["small", "small with sums"]
 # How a lie ends that the open has written into the log before it refused it.
 SPOILT = ("refused by the open", "refused")
-# So many bits are turned at each read of the open, one after another.
+# This many bits are turned at each read of the open, one after another.
 BITS = 3
 # Of the lies of the open, over which store, of which file, and whether they last: how many of each kind at most have
 #   the last changes taken for what never was,
@@ -79,11 +79,11 @@ class Trials:
         return ((lie, found) for lie, found in ((lie, self.played(lie)) for lie in lies) if found.told)
 
     def after_open(self, every: tuple[int, int]) -> list[int]:
-        """Of the reads that lines make, and of those that the end makes, one of so many."""
+        """Of the reads that lines make, and of those that the end makes, one of this many."""
         return [*range(self.honest.of_open + 1, self.honest.of_lines + 1, every[0]), *range(self.honest.of_lines + 1, self.honest.of_all + 1, every[1])]
 
     def of_open(self, every: int = 1) -> list[int]:
-        """Of the reads that the open makes, one of so many."""
+        """Of the reads that the open makes, one of this many."""
         return list(range(1, self.honest.of_open + 1, every))
 
 
@@ -100,7 +100,7 @@ def each_kind_in_turn(places: Iterable[int]) -> Iterator[Lie]:
 
 
 def deceives_nobody(found: Iterable[tuple[Lie, Seen]]) -> Counter[str]:
-    """Of lies after the open: counts them by file and verdict. One that is told once refuses one line at most, and the others are right."""
+    """Of lies after the open: counts them by file and verdict. One that is noticed once refuses one line at most, and the others are right."""
     counts: Counter[str] = Counter()
     for lie, run in found:
         assert run.verdict in ("right", "refused by a line") and run.after == "whole", f"{lie}: {run}"

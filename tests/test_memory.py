@@ -38,7 +38,7 @@ STARTS = [(b"mserve: Memory\n", 2), (b"mserve: settings: Memory\n", 3), (b"mserv
 # How one is reported that a reply's bytes wanted.
 OF_REPLY = (b"mserve: wire: Memory\n", 5)
 BLOCKS = [block for block in blocks() if block.kind in (*SERVED, "only")]
-# Of the requests of a block of several accounts so many are refused, and of another block all; of one by `--only` so many, of one that counts
+# Of the requests of a block of several accounts this many are refused, and of another block all; of one by `--only` this many, of one that counts
 # steps, and of a run over a file.
 MOST, MOST_SHOWN, MOST_STEPS, MOST_OVER_A_FILE = 5000, 250, 1000, 100
 # Those of several accounts, and one of them in which BOB locks.
@@ -49,7 +49,7 @@ APART = [(block, name) for block in SEVERAL for name, terminals in accounts_of(S
          if terminals and reaching(name, grants_of(SERVED[block.kind])) == {name}]
 # Those that are played otherwise than as one stream over memory.
 STEPS, REOPENED, CONNECTIONS = ([block for block in blocks() if block.kind == kind] for kind in ("steps", "reopened", "connections"))
-# Blocks with so many requests that it takes long to refuse each.
+# Blocks with more requests than can be refused in a short time.
 LONG = {"six hundred subscripts and three hundred names of locals, read and walked both ways", "texts of 4,095 characters", "levels and indirections together",
         "the code of a level comes before those of its text, and behind that of the operand", "256 levels and no more", "a routine of many lines",
         "locals and the naked indicator go with the world, and globals stay"}
@@ -164,7 +164,7 @@ def each_refused(library: str, row: Row, folder: Path, most: int) -> list[Ran]:
 
 
 def apart(count: int, most: int) -> int:
-    """How far from one another requests are refused, of so many."""
+    """How far from one another requests are refused, of this many."""
     return -(-count // most) or 1
 
 
@@ -320,7 +320,7 @@ def test_over_a_file(block: Block, memory_library: str, folder_in_memory: Path, 
 
 
 def judge_connections(wanted: Sequence[bytes], answers: Sequence[bytes], ended: tuple[int, bytes]) -> str:
-    """How a refused request of a server was reported. Up to the first answer with ZMEM, or to a connection that ended for want of memory, all
+    """How a refused request of a server was reported. Up to the first answer with ZMEM, or to a connection that ended out of memory, all
     replies are those that are wanted."""
     told = re.fullmatch(rb"(?:mserve: connection (\d+): Memory\n)?", ended[1])
     assert ended[0] == 0 and told, ended

@@ -17,7 +17,7 @@ from old_stores import NEW, OLD, Node, Row, after, before, drawn_nodes, held, ke
 from running import ONE_ACCOUNT, run, run_words
 from support import LINE, REPLY, content, full_after, refused
 
-# Each of so many stores has so many nodes.
+# Each of this many stores has this many nodes.
 STORES, NODES = 6, 1000
 MANY = 100_000
 # A store of a few nodes, of which each open that is refused or stopped begins with a copy.
@@ -193,7 +193,7 @@ def is_new(store: str, nodes: dict[Node, str]) -> bool:
 
 @pytest.mark.long
 def test_each_request_for_memory_refused(memory_library: str, folder_in_memory: Path) -> None:
-    """An open that is refused for want of memory leaves the old store, and the next one makes the new one of it. Refused in turn are the requests from
+    """An open that is refused out of memory leaves the old store, and the next one makes the new one of it. Refused in turn are the requests from
     the first one after the settings are read to the first one that is reported once the store is the new one; some requests only save time."""
     made = make(str(folder_in_memory / "made"), FEW)
     count = calls_of(copied(made, folder_in_memory, "ample"), memory_library, "REFUSE_TOLD")

@@ -17,7 +17,7 @@ import pytest
 from counted_sets import SETTINGS, found, set_line
 from running import run_words
 
-# So many SETs of each stream, and at so many moments of the long one the power goes.
+# This many SETs of each stream, and at this many moments of the long one the power goes.
 SHORT, LONG, SOME = 20, 400, 160
 PARTS = 8
 # How many calls that were not synced stay, and how much of the last write.
@@ -25,12 +25,12 @@ KEPT, SIZES = (0, 0, 1, 2), (0, 1, 7, 512, 4000, 100000)
 
 
 def lines(count: int) -> bytes:
-    """So many SETs."""
+    """This many SETs."""
     return b"".join(set_line(number) for number in range(1, count + 1))
 
 
 def ran(library: str, settings: str, store: str, count: int, **variables: object) -> tuple[int, int, int]:
-    """A run of so many SETs in which the power may go: its status, how many were answered, and how many calls on files it made if it did not."""
+    """A run of this many SETs in which the power may go: its status, how many were answered, and how many calls on files it made if it did not."""
     read, write = os.pipe()
     environment = {**os.environ, "LD_PRELOAD": library, "LOSE_TOLD": str(write), **{name: str(value) for name, value in variables.items()}}
     try:
@@ -45,7 +45,7 @@ def ran(library: str, settings: str, store: str, count: int, **variables: object
 
 
 def moments(library: str, settings: str, folder: Path, more: int) -> list[tuple[int, int]]:
-    """The moments at which the power goes: of a stream of so many SETs, at this call."""
+    """The moments at which the power goes: of a stream of this many SETs, at this call."""
     calls = {count: ran(library, settings, str(folder / str(count)), count)[2] for count in (SHORT, LONG)}
     chance = random.Random("power")
     short = [(SHORT, call) for call in range(1, calls[SHORT] + 1)]

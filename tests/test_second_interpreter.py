@@ -12,7 +12,7 @@ from drawn_forms import ROUTINES, quoted, session
 from second_interpreter.world import World, deep
 from support import ACCOUNT, content, replies as program_replies
 
-# A session of so many lines each; some 2,000 lines.
+# A session of this many lines each; some 2,000 lines.
 SESSIONS = 120
 PLAYED = [block for block in blocks() if block.kind in SERVED]
 

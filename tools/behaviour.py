@@ -13,7 +13,7 @@ have the rest.
 it into two, is a failure.
 
 A case that failed is run once more at the very end, alone, if time may have been why: a process has a part in it, and it is not one of those that compute.
-If it passes then, it counts as passed, and that is told with why it failed. More than three such cases are a failure.
+If it passes then, it counts as passed, and is printed with why it failed. More than three such cases are a failure.
 
 It needs Debian's own python3 with python3-pytest and python3-hypothesis; the clients' tests and tools/python_rules.py need more packages, and the command
 that installs them is printed if one is missing. Of each process it says what it took by the clock and of a processor; at the end stands how many cases each
@@ -50,7 +50,7 @@ TESTS, CLIENTS, FRONT, PACKAGING = SUITES = ("tests", "clients/tests", "front/te
 COUNTED = (TESTS, CLIENTS, FRONT)
 # Files that take long begin first, so that none of them is left alone at the end. Nothing rests on that but the time.
 FIRST = {CLIENTS: ("shell", "globals", "routines", "gtm"), FRONT: ("matrix", "table", "standby", "replay", "sign_on", "hostile", "page", "machines")}
-# So many parts the cases of tests/ that compute have for each processor, so that no part is much longer than another.
+# This many parts the cases of tests/ that compute have for each processor, so that no part is much longer than another.
 PARTS = 2
 # Halves of processors that a part takes: one if it waits most of its time.
 WAITS, COMPUTES = 1, 2
@@ -58,7 +58,7 @@ WAITS, COMPUTES = 1, 2
 NO_CASE = 5
 # What tools/started.py says of a case: by which word it is run, and that a process has a part in it.
 NODE, PROCESS = "node", "process"
-# So many cases may need a second try, and so many that failed are given one: where more did, it is no matter of time.
+# This many cases may need a second try, and this many that failed are given one: where more did, it is no matter of time.
 MOST_AGAIN, MOST_TRIED = 3, 10
 
 
@@ -71,7 +71,7 @@ def pytest_words(suite: str) -> list[str]:
 @dataclass
 class Part:
     """A pytest process: its name, the folder of its tests, what it is given, where it writes, how many halves of processors it takes, and whether its cases
-    compute alone, whatever the time; once it has ended, its status, and the seconds that it took by the clock and, with all that it started and waited for,
+    compute alone, whatever the time; once it has ended, its status, and the seconds that it took by the clock and, with all that it started,
     of a processor."""
     name: str
     suite: str
@@ -107,7 +107,7 @@ def environment(folder: str) -> dict[str, str]:
 
 @dataclass
 class Stage:
-    """Parts that are yet to run, side by side as far as so many halves of processors go."""
+    """Parts that are yet to run, side by side as far as this many halves of processors go."""
     parts: list[Part]
     halves: int
 
@@ -243,7 +243,7 @@ def run_stage(stage: Stage, totals: Totals) -> None:
 
 
 def try_again(folder: str, more: list[str], totals: Totals) -> None:
-    """Runs each case that failed, and may pass when the machine is less busy, once more by itself. What passes then counts as passed, and each is told with
+    """Runs each case that failed, and may pass when the machine is less busy, once more by itself. What passes then counts as passed, and each is printed with
     why it failed; where these are too many, that is a failure."""
     passed = 0
     for number, case in enumerate(totals.failed[:MOST_TRIED], 1):

@@ -1,6 +1,6 @@
 #!/usr/bin/env python3
 # SPDX-License-Identifier: Apache-2.0
-"""Times the workloads of benchmarks/workloads.txt over the built program, with a store in memory and
+"""Times the workloads of tools/benchmarks/workloads.txt over the built program, with a store in memory and
 one in a file, and prints a table of ratios: the time of an operation beside that of a turn of a loop
 of Python's own, which runs in the same pass. GT.M (Debian's `fis-gtm`) and SQLite's shell (`sqlite3`)
 do the same work beside it if they are installed.
@@ -10,14 +10,14 @@ do the same work beside it if they are installed.
         --growth                    times ten times the lines too, and tells by what each time grew
         --write                     puts the table into docs/PERFORMANCE.md
         --workloads FILE            reads others
-        --twins                     times the workloads that have a twin, and the twins (benchmarks/twins.txt), over a
+        --twins                     times the workloads that have a twin, and the twins (tools/benchmarks/twins.txt), over a
                                     store in memory and GT.M alone, and prints GT.M's time beside the program's of both;
                                     and what ten times as much takes
                                     (a pass goes over all of them, so that a slow minute of the machine meets all)
 
 The loop is the reference since it is there wherever the script runs, asks for no memory, and is bound
 as the program is: by the clock of the processor and the branches of an interpreter. Python's version
-is told, since the loop's speed depends on it.
+is printed, since the loop's speed depends on it.
 
 What is timed begins with the reply to the last line of the set-up, and ends with that to the last
 line; all timed lines are written to a pipe at once. Status 1 says that the replies of two of them
@@ -42,8 +42,8 @@ from typing import IO
 
 from running import TOP, require_program, run_words
 
-WORKLOADS = os.path.join(TOP, "benchmarks", "workloads.txt")
-TWINS = os.path.join(TOP, "benchmarks", "twins.txt")
+WORKLOADS = os.path.join(TOP, "tools", "benchmarks", "workloads.txt")
+TWINS = os.path.join(TOP, "tools", "benchmarks", "twins.txt")
 PAGE = os.path.join(TOP, "docs", "PERFORMANCE.md")
 BEGIN, TWINS_BEGIN, END = "<!-- bench.py -->\n", "<!-- bench.py --twins -->\n", "<!-- end -->\n"
 ACCOUNTS = 1000
@@ -62,7 +62,7 @@ FLOORS = {
 FLOORS_OF = "2026-11-27, 16:22"
 ONE_ACCOUNT, MANY_ACCOUNTS = "equal lines", "lines of 1000 accounts"
 READY, DONE = "READY", "DONE"
-# So many bytes at most are read at once, and a pipe holds.
+# This many bytes at most are read at once, and a pipe holds.
 CHUNK = 1 << 20
 PARTS = ("m", "m timed", "sql", "sql timed")
 STORES = ("memory", "file")
@@ -83,7 +83,7 @@ class Workload:
     lines: dict[str, list[str]] = field(default_factory=lambda: {part: [] for part in PARTS})
 
     def text(self, part: str, scale: int) -> bytes:
-        """The lines of a part, those that stand more than once so many times more often."""
+        """The lines of a part, those that stand more than once that many times more often."""
         return "".join(f"{line}\n" for form in self.lines[part] for line in copies(form, scale)).encode("ascii")
 
 
@@ -154,7 +154,7 @@ def read_until(stream: IO[bytes], word: str) -> bytes:
 
 def timed(words: list[str], setup: bytes, work: bytes, **more) -> Measured:
     """The seconds from the answer to a set-up to the end of what follows, what was written in between, and the memory.
-    Both end by a line whose answer has the word that is waited for."""
+    Both end by a line whose answer has the word that the reader wants."""
     with subprocess.Popen(words, stdin=subprocess.PIPE, stdout=subprocess.PIPE, bufsize=0, pipesize=CHUNK, **more) as ran:
         feeder = threading.Thread(target=feed, args=(ran.stdin, setup))
         feeder.start()
@@ -257,7 +257,7 @@ def gtm_folder() -> str | None:
 
 
 def measured(subjects: Subjects, work: Workload, passes: int, scale: int) -> dict[str, Measured]:
-    """What each subject took, pass by pass, by turns."""
+    """What each subject took, pass by pass, the subjects in turn."""
     found: dict[str, Measured] = {}
     for _, subject in itertools.product(range(passes), subjects.names):
         if subject == SQLITE and not work.lines["sql timed"]:
@@ -271,7 +271,7 @@ def measured(subjects: Subjects, work: Workload, passes: int, scale: int) -> dic
 
 @dataclass(frozen=True)
 class Job:
-    """So many passes of a workload, so many times as large, by the subjects of these names."""
+    """Passes of a workload, some times as large, by the subjects of these names."""
     work: Workload
     names: tuple[str, ...]
     scale: int

@@ -15,7 +15,7 @@ SERVED = {
     "accounts": os.path.join(SETTINGS, "four_accounts.toml"),
     "languages": os.path.join(SETTINGS, "two_languages.toml"),
 }
-# The settings of the blocks of which one account alone is told, and that account.
+# The settings of the blocks of which one account alone is shown its part, and that account.
 ONLY = SERVED["terminals"], "ALICE"
 ESCAPE = re.compile(r"\{(?:(\d+)\*([^}]*)|([0-9a-f]{2}))?\}")
 INDENT = "    "
@@ -48,7 +48,7 @@ def blocks():
 
 
 def block_of(file, text):
-    """The block of a file with this text. A line behind `# ` is a comment, and one that is indented is given by the case above it, or by an empty case where
+    """The block of a file with this text. A line after `# ` is a comment, and one that is indented is given by the case above it, or by an empty case where
     there is none."""
     header, *lines = text.split("\n")
     kind, _, name = header.removeprefix("== ").partition(": ")
@@ -70,7 +70,7 @@ def text_bytes(case):
 
 
 def line_bytes(case):
-    """The bytes of a line of the wire: a line feed ends it, but where `{end}` stands behind it."""
+    """The bytes of a line of the wire: a line feed ends it, but where `{end}` stands at its end."""
     unfinished = case.endswith("{end}")
     return text_bytes(case.removesuffix("{end}")) + (b"" if unfinished else b"\n")
 

@@ -28,7 +28,7 @@ from processes import memory_below
 from sources import TOP, copy_crates, crates_with_below, edits_of
 
 MOST_JOBS = 4
-# What a job more takes: this share of the memory of a check by one, and at most so many bytes, as the kit's texts have it.
+# What a job more takes: this share of the memory of a check by one, and at most this many bytes, as the kit's texts have it.
 SHARE_OF_A_JOB, MOST_OF_A_JOB = 0.6, 1_500_000_000
 # The share of the free memory that is given out.
 SHARE = 0.9
@@ -63,7 +63,7 @@ class Running:
 
 
 def memory_of(check: float, jobs: int) -> float:
-    """The bytes that a check may come to take with so many jobs, of what it takes with one."""
+    """The bytes that a check may come to take with this many jobs, of what it takes with one."""
     return check + (jobs - 1) * min(SHARE_OF_A_JOB * check, MOST_OF_A_JOB)
 
 
@@ -122,7 +122,7 @@ class Lanes:
                 return
 
     def niceness(self, key: Key, left: list[Key], running: dict[Future, Running]) -> int:
-        """How far a task stands back: edits behind all proofs, and a proof behind those that began before it."""
+        """How far a task stands back: edits after all proofs, and a proof after those that began before it."""
         proofs = [other for other in [*left, *(ran.key for ran in running.values())] if other[1] == "proof"]
         return 5 * bool(proofs) if is_filling(key) else 2 * bool(running)
 

@@ -4,7 +4,7 @@
 operands of `@` one within the other. It is found by halving, under ever smaller bounds of the stack.
 
 Levels are frames in memory; the evaluation of an expression, and of what a text of name indirection names, takes the machine's stack. So of each way to nest
-there is a line whose 32 texts nest it as deep as a text may, each within the one before; that with brackets stands behind 224 levels. What takes two steps
+there is a line whose 32 texts nest it as deep as a text may, each within the one before; that with brackets stands below 224 levels. What takes two steps
 each time is nested in turn with brackets, so that the steps of a line suffice.
 
 tests/test_deepest_lines.py runs these lines with 4 MB of stack, half of what systems give. Status 1 if a reply is another than the values
@@ -28,7 +28,7 @@ WAYS = {
     "environments": ("^|", "|E", "%s", "^E"),
     "operands": ("@", "", "%s", "X"),
 }
-# So many kilobytes of stack have to do; so many systems give.
+# This many kilobytes of stack have to do; that many systems give.
 STACK = 4096
 MOST_STACK = 8192
 NESTED = 40
@@ -69,7 +69,7 @@ def lines_of(way: str) -> tuple[list[str], str]:
 
 
 def written(lines: list[str], stack: int) -> list[str] | None:
-    """What the program writes to lines, with so many kilobytes of stack at most; None where it does not end well."""
+    """What the program writes to lines, with this many kilobytes of stack at most; None where it does not end well."""
     def bound() -> None:
         resource.setrlimit(resource.RLIMIT_STACK, (stack * 1024, stack * 1024))
     stream = "".join(f"1 {line}\n" for line in lines).encode("ascii")

@@ -14,10 +14,11 @@ from sources import TOP, program_crates
 CODE = (".rt", ".antt", ".edit", ".py", ".c", ".h", ".toml")
 LONGEST_LINE = 100
 LONGEST_CELL = 200
+LONGEST_SUBJECT = 72
 PHRASES = [
     "want of memory", "so many", "behind", "hangs? on", "drawn in", "drawn into", "(?:is|are) told", "waited for", "stands whole", "farewell",
     "whose the terminals are", "where there is none", "meant on", "are no lines of", "beside read", "by turns", "turns? the code's meaning",
-    "equal ones tie", "do to a world",
+    "equal ones tie", "do to a world", "anew", "whoever", "lets go of", "letting go of",
 ]
 PHRASE = re.compile(r"\b(?:" + "|".join(PHRASES) + r")\b", re.IGNORECASE)
 SPAN = re.compile(r"`([^`\n]+)`")

@@ -2,10 +2,10 @@
 # SPDX-License-Identifier: Apache-2.0
 """Times SETs over a file, one after another, beside what a user would pick in the place of this program: GT.M with and without a transaction for each
 SET, SQLite's shell, and PostgreSQL with one client and with 64. A table says how many each does in a second, of new nodes and of nodes that are there,
-and what each has after a loss of power. What is not installed is left out, and that is told.
+and what each has after a loss of power. What is not installed is left out, and named.
 
     tools/durable.py                run as root or as a user who may start PostgreSQL
-        --passes 9                  how often each is timed, all by turns; the median counts, the best stands beside it
+        --passes 9                  how often each is timed, all in turn; the median counts, the best stands beside it
         --count 5000                SETs a pass; what waits for no disk gets twenty times as many
         --folder /var/tmp           where the files are: a disk that has nothing else to do
         --write                     puts the table into docs/PERFORMANCE.md
@@ -33,7 +33,7 @@ from running import require_program, run_words
 BEGIN = "<!-- durable.py -->\n"
 # Of a new node, and of the same node again: a system may see that nothing changes.
 TEXTS = ("hello world", "hello there")
-# So many SETs stand in one line of M, and an account has steps for them.
+# This many SETs stand in one line of M, and an account has steps for them.
 A_LINE, STEPS = 1000, 1_000_000
 # By what a pass is longer where nothing waits for the disk.
 FAST = 20
@@ -77,7 +77,7 @@ class System:
 
 
 def lines_of(count: int, each: str) -> bytes:
-    """Lines of M that make so many SETs, the same number in each, and say that they are done."""
+    """Lines of M that make this many SETs, the same number in each, and say that they are done."""
     lines = [f"1 F I={first}:1:{min(first + A_LINE - 1, count)} {each}\n" for first in range(1, count + 1, A_LINE)]
     return "".join([*lines, f'1 W "{DONE}"\n']).encode()
 
@@ -157,7 +157,7 @@ def cluster(folder: str, commits: str) -> Iterator[list[str]]:
 
 
 def postgresql(clients: int, commits: str) -> Run:
-    """PostgreSQL with so many clients, each of which sends prepared statements one after another."""
+    """PostgreSQL with this many clients, each of which sends prepared statements one after another."""
     def run(folder: str, count: int) -> tuple[float, float]:
         with cluster(folder, commits) as place:
             subprocess.run([f"{postgresql_programs()}/psql", *place, "-qc", POSTGRESQL_TABLE, "postgres"], check=True)
@@ -213,7 +213,7 @@ def asked_for() -> argparse.Namespace:
 
 
 def main() -> int:
-    """Times all by turns, and prints the table."""
+    """Times all in turn, and prints the table."""
     asked = asked_for()
     require_program()
     found, sync = systems(), sync_of(asked.folder)

@@ -1,6 +1,6 @@
 // SPDX-License-Identifier: Apache-2.0
 // What the replies to lines cost by themselves: reads lines by blocks of 4,096 bytes, and gives each a reply
-// by one write, before it takes the next one. The reply is the bytes behind `W `, a line end, and the end mark:
+// by one write, before it takes the next one. The reply is the bytes after `W `, a line end, and the end mark:
 // those of a line `1 W 1`. Built by `cc -O2`; `tools/bench.py` times it beside the program.
 #include <stdio.h>
 #include <string.h>
@@ -10,7 +10,7 @@
 static char line[4096];
 static size_t length;
 
-// Replies to the line: its terminal, a minus and what stands behind the command; then the terminal and a point.
+// Replies to the line: its terminal, a minus and what stands after the command; then the terminal and a point.
 static int reply(void) {
     char text[sizeof line * 2 + 8];
     char *space = memchr(line, ' ', length);

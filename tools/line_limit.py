@@ -5,7 +5,7 @@ each a reply by one write, before it takes the next one: what a line costs that 
 
     tools/line_limit.py [--passes 5] [--lines 1000000]
 
-Both read the lines from a file and write to /dev/null, by turns. What is told is the processor time of a
+Both read the lines from a file and write to /dev/null, in turn. What is printed is the processor time of a
 line, the program's and the system's part together, of the best pass, and the ratio; that of a program
 that reads one line is taken off. It needs a C compiler (`cc`)."""
 import argparse
@@ -34,7 +34,7 @@ def seconds(words: list[str], path: str) -> float:
 
 
 def best(words: dict[str, list[str]], path: str, passes: int) -> dict[str, float]:
-    """The least time of each program, the programs by turns."""
+    """The least time of each program, the programs in turn."""
     found: dict[str, float] = {}
     for _ in range(passes):
         for name, command in words.items():

@@ -46,7 +46,7 @@ def run_words(settings=ONE_ACCOUNT, store="memory", only=None):
 
 
 def serve_words(port, connections, store="memory", settings=ONE_ACCOUNT):
-    """The words of a server for so many connections."""
+    """The words of a server for this many connections."""
     return [PROGRAM, "serve", "--settings", settings, "--store", store, "--port", str(port), "--connections", str(connections)]
 
 

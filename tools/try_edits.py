@@ -160,7 +160,7 @@ def notes_of(page: str) -> dict[str, Note]:
 
 
 def cost(note: Note | None, edits: int) -> float:
-    """The processor seconds that so many of a crate's edits take; the most of a turn if they were not measured."""
+    """The processor seconds that this many of a crate's edits take; the most of a turn if they were not measured."""
     if note is None or note.seconds is None or not note.edits:
         return MOST_SECONDS
     base = note.base or 0

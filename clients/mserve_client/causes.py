@@ -14,7 +14,7 @@ END = r"(?![\s\S])"
 class Cause:
     """A cause: its name, what to write instead, a line that has it; and how it is known: `wanted` begins something that was wanted at the place,
     `here` is found there, `before` ends there, `command` begins the command. `reads` says where a command can be read: `here`, or at the
-    `argument` of the command. The fault is told `back` characters before the place. `since` is the language that has what it names, if one
+    `argument` of the command. The fault is shown `back` characters before the place. `since` is the language that has what it names, if one
     does: to its accounts it is no cause."""
 
     name: str

@@ -173,7 +173,7 @@ def _locks(line: SourceLine, number: int) -> Iterator[Finding]:
 
 
 def entries(lines: list[SourceLine], number: int) -> Iterator[Entry]:
-    """What the DOs and GOTOs of a routine name. What stands in strings, or behind an @, is not looked at."""
+    """What the DOs and GOTOs of a routine name. What stands in strings, or after an @, is not looked at."""
     for place, line in enumerate(lines, 1):
         for name, start, end in language.reader(number).read(line.rest).marks if _may_call(line) else ():
             if name == "entry":

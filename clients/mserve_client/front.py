@@ -338,7 +338,7 @@ class FrontConnection:
         return kind, data
 
     def _bytes(self, count: int) -> bytes:
-        """So many bytes of what comes."""
+        """This many bytes of what comes."""
         while len(self._left) < count:
             data = self._some_read()
             if data is None:

@@ -4,7 +4,7 @@
 docs/LANGUAGE.md has the grammar in words. The table is read here and, written out by tools/page_words.py, by the page; both read it in
 the same few kinds of steps:
 
-    ["text", PATTERN, WANTED]  what the pattern finds at this place; WANTED is what a fault there is told to want, or empty
+    ["text", PATTERN, WANTED]  what the pattern finds at this place; WANTED is what a fault there says was wanted, or empty
     ["all", STEP, ..]          each step after the one before
     ["any", STEP, ..]          the first step that goes on
     ["many", STEP]             the step as often as it goes on, or never
@@ -115,7 +115,7 @@ def function(words: str, *inside: Step) -> Step:
 
 
 def values(least: int, most: int) -> list[Step]:
-    """So many expressions."""
+    """This many expressions."""
     needed = [inner("expression"), *[all_of(text(",", "comma"), inner("expression"))] * (least - 1)]
     further: Step | None = None
     if most > 10:
@@ -166,7 +166,7 @@ def halts(language: int) -> list[Step]:
 
 
 def target(words: str, least: int, most: int) -> Step:
-    """A function of a variable that SET assigns to, with so many values after the variable."""
+    """A function of a variable that SET assigns to, with this many values after the variable."""
     further: list[Step] = []
     for _ in range(most - least):
         further = [perhaps(all_of(text(","), inner("expression"), *further))]

@@ -25,7 +25,7 @@ class Progress(AbstractContextManager["Progress"]):
         self._is_shown = sys.stderr.isatty()
 
     def step(self, count: int = 1) -> None:
-        """So many nodes more are done."""
+        """Counts nodes that are done."""
         self.count += count
         if not self._is_shown or self.count < self._next:
             return

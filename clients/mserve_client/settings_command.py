@@ -17,7 +17,7 @@ mserve itself says one word: `mserve: settings: Toml`, `mserve: store: Store`. N
   msettings settings.toml
   msettings settings.toml --store clinic.db"""
 STATUSES = "Status: 0 mserve takes both; 1 it refuses one of them; 2 the words are wrong; 130 an interrupt."
-# So many faults are shown.
+# This many faults are shown.
 SHOWN = 50
 
 

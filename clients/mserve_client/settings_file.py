@@ -86,7 +86,7 @@ def read(path: str | Path) -> Settings:
 
 
 def parsed(source: str, data: bytes) -> Settings:
-    """The settings that bytes are. BadSettings if mserve refuses them, by the name of their fault behind where they come from."""
+    """The settings that bytes are. BadSettings if mserve refuses them, by where they come from and the name of their fault."""
     if len(data) > MAX_BYTES:
         raise BadSettings(f"{source}: Read: it has more than {MAX_BYTES:,} bytes")
     try:

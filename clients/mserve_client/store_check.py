@@ -43,7 +43,7 @@ def _user() -> str:
 
 
 def _held(path: str) -> Fault | None:
-    """Whether another process has the store: who, if that is told."""
+    """Whether another process has the store: who, if that is known."""
     with open(path, "rb+") as file:
         asked = struct.pack(LOCK, fcntl.F_WRLCK, os.SEEK_SET, 0, 0, 0)
         kind = struct.unpack(LOCK, fcntl.fcntl(file, fcntl.F_GETLK, asked))[0]

@@ -33,7 +33,7 @@ PUT = "INSERT INTO node (k, v) VALUES (?, ?) ON CONFLICT (k) DO UPDATE SET v = e
 CACHE_KB = 16_384
 # Rows that are read at once.
 BATCH = 2000
-# The key of the row that comes so many after the first of a range; and how many rows a range has, with their bytes put together in the order
+# The key of the row that comes this many after the first of a range; and how many rows a range has, with their bytes put together in the order
 # of the index. A key ends where no subscript begins, and a text has no byte over 127, so FF ends both. SQLite puts them together, since to
 # hand Python a row costs several times as much as to find it.
 FURTHER = "SELECT k FROM node WHERE k >= ? AND k < ? ORDER BY k LIMIT 1 OFFSET ?"

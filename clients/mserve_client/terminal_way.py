@@ -88,7 +88,7 @@ class TerminalWay:
             raise ImportStopped(stopped_text(tally))
 
     def _put(self, source: Iterator[Entry], most: int, tally: Tally, step: Callable[[], None], to_end: bool = False) -> tuple[str | None, list[Sent]]:
-        """Sets nodes, at most so many by one line, up to the first code or `to_end`. The first code of a line of several, and what is to be set
+        """Sets nodes, at most this many by one line, up to the first code or `to_end`. The first code of a line of several, and what is to be set
         again then: nobody knows which of its nodes stand."""
         due: deque[tuple[list[Entry], bool]] = deque()
         again: list[Sent] = []
@@ -128,7 +128,7 @@ def passed(again: list[Sent], stood: set[int]) -> Iterator[Entry]:
 
 
 def grouped(source: Iterator[Entry], most: int, local: str) -> Iterator[tuple[list[str], list[Entry]]]:
-    """Lines that set nodes, with these nodes: one line for several of them, at most so many, or several lines for one."""
+    """Lines that set nodes, with these nodes: one line for several of them, at most this many, or several lines for one."""
     held: list[Entry] = []
     line = ""
     for entry in source:

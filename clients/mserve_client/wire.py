@@ -156,7 +156,7 @@ class Connection:
     in_utf_8 = False
 
     def __init__(self, port: int, terminal: int, *, host: str = HOST, timeout: float | None = PATIENCE) -> None:
-        """Connects. With a `timeout` of None, replies are waited for without end."""
+        """Connects. With a `timeout` of None, it waits for replies without end."""
         self.port, self.terminal, self.timeout = port, terminal, timeout
         self._host = host
         self._listener = listener(port) if host in LOCAL else None

@@ -29,7 +29,7 @@ LATER = ["W $RE(A)", 'S A=$RE("ab")_1,B=$reverse(A) Q:B=""  W $L($RE(B_$RE(A)))'
 
 
 def drawn_texts(draw: Random, lines: list[str], count: int) -> list[str]:
-    """So many texts that fit into a line of the wire after `Q  `."""
+    """This many texts that fit into a line of the wire after `Q  `."""
     found = []
     while len(found) < count:
         text = row(draw) if draw.random() < .5 or not lines else changed(draw, draw.choice(lines))

@@ -319,7 +319,7 @@ def test_null_subscripts(server: Server, command: Command, tmp_path: Path) -> No
 
 @pytest.mark.parametrize("way", ["straight", "terminal"])
 def test_export_of_what_is_not_there(server: Server, command: Command, tmp_path: Path, way: str) -> None:
-    """What is there is written; a name that has no node may be a slip, so it is told, and the status says so."""
+    """What is there is written; a name that has no node may be a slip, so it is named, and the status says so."""
     (tmp_path / "in.zwr").write_text(ZWR)
     place = (server.port, ALICE) if way == "terminal" else ("store.db", "LAB")
     assert command("mglobal", *place, "import", "in.zwr", *(["--new-account"] if way == "straight" else [])).status == 0

@@ -102,7 +102,7 @@ def test_islands_of_the_most_accounts(count: int, tied: bool) -> None:
 
 
 def test_program_that_cannot_be_had(source: islands.Pair, command: Command, tmp_path: Path) -> None:
-    """It is told which one was wanted, and nothing is made."""
+    """The message says which one was wanted, and nothing is made."""
     for name, text, told in (("absent", None, "cannot be run: No such file or directory. The variable MISLANDS names another one"),
                              ("fails", "#!/bin/sh\nexit 3\n", "ended with status 3"),
                              ("others", "#!/bin/sh\necho A B C\n", "printed other accounts than those of")):
@@ -175,7 +175,7 @@ def rows(path: Path) -> Rows:
 
 
 def made_store(path: Path, accounts: dict[str, int]) -> None:
-    """A store in which accounts have so many nodes."""
+    """A store in which accounts have this many nodes."""
     drawn = Random(len(accounts))
     with Store(str(path), make=True) as store, store.change():
         for account, count in accounts.items():

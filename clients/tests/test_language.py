@@ -21,9 +21,9 @@ from mserve_client.routine_files import Source, source_line
 GTM = sorted(glob.glob("/usr/lib/*/fis-gtm/V*"))
 # The lines of the examples, and of the clinic's routines. Those of the registry have functions, which are coming.
 OWN = [path.read_text() for path in sorted((CLIENTS.parent / "examples").rglob("*")) if path.suffix in (".m", ".txt") and "registry" not in path.parts]
-# So many characters of a text fit into a line of the wire with what is put before it.
+# This many characters of a text fit into a line of the wire with what is put before it.
 ROOM = 255 - len(GUARD)
-# So many lines go to one run of the program.
+# This many lines go to one run of the program.
 AT_ONCE = 2000
 # A terminal of an account with each language.
 TERMINALS = {0: ALICE, 1: CAROL}
@@ -77,7 +77,7 @@ def test_lines_of_gtms_routines_have_the_servers_verdicts(times: int, number: in
 
 @pytest.mark.parametrize("cause", CAUSES, ids=[f"{cause.name}-{number}" for number, cause in enumerate(CAUSES)])
 def test_each_cause_is_told_of_its_example(cause: Cause) -> None:
-    """The server refuses the example, and it is told by its own name."""
+    """The server refuses the example, and the cause has its own name."""
     found = language.fault(cause.example)
     assert found is not None and (found.name, found.advice) == (cause.name, cause.advice)
 

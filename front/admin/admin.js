@@ -48,7 +48,8 @@ function alarm({ what, do: remedy }) {
 
 function show(found) {
   byId("state").textContent = `${found.state}; ${new Date(found.time * 1000).toLocaleTimeString()}`;
-  for (const [id, some] of [["islands", found.islands], ["standbys", found.standbys], ["accounts", found.accounts], ["users", found.users], ["pictures", found.points]]) {
+  const sections = { islands: found.islands, standbys: found.standbys, accounts: found.accounts, users: found.users, pictures: found.points };
+  for (const [id, some] of Object.entries(sections)) {
     byId(id).closest("section").hidden = !some;
   }
   byId("alarms").replaceChildren(...found.alarms.map(alarm));
@@ -59,12 +60,14 @@ function show(found) {
   byId("pictures").replaceChildren(...PICTURES.map(([place, title]) => picture(points, place, title)));
   rows("islands", islands.map((one) => [one.island, one.machine, one.target ? `${one.state}, to ${one.target}` : one.state, one.accounts.join(" "), one.front,
     one.signed_on, one.lines, `${one.seconds.toFixed(1)} s`]));
-  rows("standbys", standbys.map((one) => [one.standby, one.line, one.lines, `${one.seconds.toFixed(0)} s`, `${one.silent.toFixed(0)} s ago`, one.waits ? "yes" : ""]));
+  rows("standbys", standbys.map((one) => [
+    one.standby, one.line, one.lines, `${one.seconds.toFixed(0)} s`, `${one.silent.toFixed(0)} s ago`, one.waits ? "yes" : ""]));
   const all = accounts.reduce((sum, one) => sum + one.seconds, 0) || 1;
   const earlier = new Map((before?.accounts ?? []).map((one) => [one.account, one.lines]));
   const span = before ? Math.max(found.time - before.time, 1) : 1;
   rows("accounts", accounts.map((one) => [one.account, one.signed_on, one.lines,
-    before ? ((one.lines - (earlier.get(one.account) ?? 0)) / span).toFixed(1) : "", `${one.seconds.toFixed(1)} s`, `${Math.round(100 * one.seconds / all)} %`]));
+    before ? ((one.lines - (earlier.get(one.account) ?? 0)) / span).toFixed(1) : "",
+    `${one.seconds.toFixed(1)} s`, `${Math.round(100 * one.seconds / all)} %`]));
   rows("users", users.map((one) => [one.user, one.account, one.terminal, one.way, one.from, `${Math.round(one.seconds / 60)} min`, one.waits ? "yes" : ""]));
   rows("figures", Object.entries(found.figures).map(([name, value]) => [name, value]));
   before = found;

@@ -62,7 +62,7 @@ ALARMS = (
 )
 
 
-# What is told, as JSON has it.
+# What the page is given, as JSON has it.
 Told = dict[str, Any]
 
 
@@ -82,7 +82,7 @@ def figures_of(text: str) -> dict[str, float]:
 
 
 class Page:
-    """Serves the page at a socket, if one is named, with what is told at each request."""
+    """Serves the page at a socket, if one is named, with what is known at each request."""
 
     def __init__(self, path: Path | None, tell: Callable[[], Awaitable[Told]]) -> None:
         self._path = path

@@ -89,7 +89,7 @@ def _bound(host: str, port: int, how: int) -> socket.socket:
 
 
 class Door(asyncio.Protocol):
-    """A connection. What comes is handed to the protocol behind it piece by piece, once that wants more (`more`), until the deadline; None stands for no
+    """A connection. What comes is handed to its protocol piece by piece, once that wants more (`more`), until the deadline; None stands for no
     limit. `ready` says that the protocol has what it waits for. `gate` takes the first line, where a gate hands users on, and says whether it is one of
     this machine's gate; `address` is the user's."""
 
@@ -188,7 +188,7 @@ class Door(asyncio.Protocol):
         self._hand()
 
     def _give(self, size: int) -> int:
-        """Gives the protocol so many bytes at most, and says how many these are."""
+        """Gives the protocol this many bytes at most, and says how many these are."""
         if len(self._held) <= size:
             piece = bytes(self._held)
             self._held.clear()
@@ -265,7 +265,7 @@ class HttpDoor(Door):
         key, self._known = self._who(head, self.place)
         if self._known:
             self._doors.is_known(self)
-        # From here on it is not the peer who is waited for.
+        # From here on the wait is not for the peer.
         self.deadline = None
         pace = self._doors.signed if self._known else self._doors.unsigned
         pace.enter(key, lambda: self._admit(end + len(END), head.length), REQUEST_COST)

@@ -49,7 +49,7 @@ def enclose() -> None:
 
 
 def begin(parent: int, there: _socket.socket, count: int) -> None:
-    """Has this process, a child that becomes a program, in a network of its own, and has it end with the parent. So many sockets that are in this network
+    """Has this process, a child that becomes a program, in a network of its own, and has it end with the parent. This many sockets that are in this network
     are sent over another one: who has them connects by them."""
     enclose()
     own = [_socket.socket(_socket.AF_INET, _socket.SOCK_STREAM) for _ in range(count)]

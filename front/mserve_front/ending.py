@@ -43,7 +43,7 @@ def run(work: Coroutine[object, object, Result]) -> Result:
 
 
 def ended(command: str, options: argparse.Namespace, statuses: Mapping[type[Exception], int]) -> int:
-    """Does what the words ask for; the status: of a fault that is told, the one that it has."""
+    """Does what the words ask for; the status: of a fault that was reported, the one that it has."""
     act: Callable[[argparse.Namespace], int | None] = options.act
     try:
         return act(options) or 0

@@ -59,7 +59,7 @@ class Fair(Generic[Item]):
 
 
 class Pace:
-    """So many units of work a second for all keys together, who take turns, and one act in each turn of the loop, so that other work comes in between.
+    """This many units of work a second for all keys together, who take turns, and one act in each turn of the loop, so that other work comes in between.
     Up to a second's units that were not used may be used later."""
 
     def __init__(self, rate: float) -> None:
@@ -71,7 +71,7 @@ class Pace:
         self._acted = False
 
     def enter(self, key: str, act: Callable[[], None], units: float = 1.0) -> None:
-        """Does an act that takes so many units: at once, or when it is this key's turn."""
+        """Does an act that takes this many units: at once, or when it is this key's turn."""
         self._fill()
         if not len(self._waiting) and self._left >= 0 and not self._acted:
             self._do(units, act)

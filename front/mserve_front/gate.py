@@ -76,7 +76,7 @@ class Outer:
         return await self._reader.readuntil(end)
 
     async def exactly(self, size: int) -> bytes:
-        """So many bytes, and no more than are read at once."""
+        """This many bytes, and no more than are read at once."""
         self._door.more()
         return await self._reader.readexactly(size)
 

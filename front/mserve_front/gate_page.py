@@ -57,7 +57,7 @@ class GatePage(Page):
 
 
 async def asked(place: str) -> Told:
-    """What is told at the socket of a front. Raises OSError, ValueError or `aiohttp.ClientError`."""
+    """What a front says at its socket. Raises OSError, ValueError or `aiohttp.ClientError`."""
     async with aiohttp.ClientSession(connector=aiohttp.UnixConnector(path=place)) as http, http.get("http://localhost/admin.json") as answer:
         return dict(await answer.json())
 

@@ -22,7 +22,7 @@ class Answered:
 @dataclass(frozen=True, slots=True)
 class Began:
     """All sessions began again, after the line `answered` had its reply, or 0 if no reply was read yet. `unknown` are later lines that may have been run or
-    not, `unsent` those that were not. `rows` are the parts of the store that come with the start, if what these lines did is told."""
+    not, `unsent` those that were not. `rows` are the parts of the store that come with the start, if it is known what these lines did."""
 
     start: BeginRecord | StartRecord
     answered: int

@@ -130,7 +130,7 @@ class Islands:
             await asyncio.sleep(LOOK)
 
     async def reopen(self) -> None:
-        """Has all fronts open their audit logs anew. One that has just begun is left alone for a while: it does not hear of it yet, and would end."""
+        """Has all fronts open their audit logs again. One that has just begun is left alone for a while: it does not hear of it yet, and would end."""
         await asyncio.gather(*map(self._reopens, list(self._houses.values())))
 
     @staticmethod

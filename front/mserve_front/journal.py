@@ -25,7 +25,7 @@ from .records import BeginRecord, Flush, Held, LineRecord, Record, ReplyRecord, 
 RETRY, HELD = 1.0, 30.0
 # Seconds that the end waits for a flush.
 CLOSING = 5.0
-# A step back of the clock that is told, in microseconds.
+# A step back of the clock that is reported, in microseconds.
 STEP = 1_000_000
 
 
@@ -280,7 +280,7 @@ class Journal:
         try:
             while (self._waiting or self.fault is not None) and not self.taken.done():
                 batch, self._waiting = self._waiting, []
-                # Before the first flush that fails: it may have been waited for.
+                # Before the first flush that fails: somebody may have waited for it.
                 began = began or time.monotonic()
                 if await self._flushed(batch):
                     began = 0.0

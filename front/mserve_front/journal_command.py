@@ -56,11 +56,11 @@ def words() -> argparse.ArgumentParser:
     one.add_argument("-n", "--lines", type=int, default=10, metavar="COUNT", help="how many (default 10)")
     one.add_argument("-f", "--follow", action="store_true", help="go on with what comes")
     _grep_words(add("grep", "print the lines that fit all that is given", "As tail prints them."))
-    add("verify", "read all of the journal, and count what is in it", "Damage, and what is missing, is told by its place.")
+    add("verify", "read all of the journal, and count what is in it", "It says where the journal is damaged, and what is missing.")
     one = add("expire", "remove what comes before a snapshot", "The snapshot is checked first, and has to be exact, so that a replay can begin with it.")
     one.add_argument("snapshot", type=Path, metavar="SNAPSHOT")
     _replay_words(add("replay", "run the journal over a snapshot, and compare each reply", "It stops at the first line that is answered otherwise, and says "
-                      "which. Lines that had no memory or no disk, and those without a reply, are told."))
+                      "which. Lines that had no memory or no disk, and those without a reply, are named."))
     return parser
 
 

@@ -29,7 +29,7 @@ INSERT = """INSERT INTO mfront_journal (name, sequence, next, answered, at, flus
     VALUES (%s, %s, %s, %s, to_timestamp(%s / 1000000.0), %s)"""
 # The first half of the lock's key; the second is made of the journal's name.
 LOCK = 0x6D66726F
-# A database that is away is noticed within so many seconds, and milliseconds; and by the database, a front that is away. The lock of a machine without
+# A database that is away is noticed within this many seconds, and milliseconds; and by the database, a front that is away. The lock of a machine without
 # power would be kept for hours otherwise.
 CONNECTING, SILENT = 2, 5_000
 # Seconds after which a database that has not answered is asked, over another connection, whether it is at the statement: what stands between may keep a
@@ -292,7 +292,7 @@ def begin_of(name: str) -> str:
 
 
 def said_in(place: str, name: str) -> list[str]:
-    """What standbys say of themselves: by the names of their connections, which end with these. It is asked over a connection of its own, so that whoever
+    """What standbys say of themselves: by the names of their connections, which end with these. It is asked over a connection of its own, so that who
     writes finds a fault of the database as if nobody had asked. Raises `LogFault`."""
     begin = begin_of(name)
     with faults(), opened(place) as base:

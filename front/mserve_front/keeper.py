@@ -213,8 +213,8 @@ class Keeper:
         return {"state": "leader", "line": journal.next - 1, "answered": journal.answered, "fault": journal.fault or "", "open": len(journal.open)}
 
     async def _snapshot(self, request: dict[str, object]) -> Answered:
-        """Copies the store between two lines into a new folder, whose name is told."""
-        folder, anew, rows = Path(str(request.get("folder", ""))), request.get("anew") is True, request.get("all") is True
+        """Copies the store between two lines into a new folder, and says its name."""
+        folder, ended, rows = Path(str(request.get("folder", ""))), request.get("anew") is True, request.get("all") is True
         if self._store is None:
             raise Refused("there is no file to copy: the store is in memory, or the front has joined a server (server.join)")
         if not folder.is_dir():
@@ -222,23 +222,23 @@ class Keeper:
         part = folder
         try:
             part = Path(tempfile.mkdtemp(prefix=".part-", dir=folder))
-            made, seconds = await self._copied(self._store, part, anew, rows)
+            made, seconds = await self._copied(self._store, part, ended, rows)
             shutil.copyfile(self._settings.server_settings, part / SETTINGS)
         except (OSError, Unsent, Lost, NoJournal, BadLog) as error:
             if part != folder:
                 shutil.rmtree(part, ignore_errors=True)
             raise Refused(_why(part, error)) from error
-        self._note("snapshot", line=made.number, folder=str(folder), ended=anew)
+        self._note("snapshot", line=made.number, folder=str(folder), ended=ended)
         return {"part": str(part), "journal": made.journal, "number": made.number, "time": made.time, "open": made.open, "seconds": round(seconds, 3)}
 
-    async def _copied(self, store: Path, part: Path, anew: bool, rows: bool) -> tuple[Manifest, float]:
-        """Copies between two lines; with `anew` all sessions are ended there, and with `rows` the journal gets all that the store holds."""
+    async def _copied(self, store: Path, part: Path, ended: bool, rows: bool) -> tuple[Manifest, float]:
+        """Copies between two lines; with `ended` all sessions are ended there, and with `rows` the journal gets all that the store holds."""
         made: list[Manifest] = []
         assert self._server is not None, "it has begun"
         server: Server = self._server
 
         async def between() -> None:
-            if anew:
+            if ended:
                 await server.renew(packed(image(store)) if rows else None)
             journal = self.journal
             made.append(Manifest(journal.number, journal.next - 1, datetime.now(UTC).isoformat(timespec="seconds"), sorted(journal.open)))

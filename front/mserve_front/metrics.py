@@ -7,7 +7,7 @@ from collections import Counter
 from collections.abc import Callable, Mapping
 
 BUCKETS = (0.001, 0.0025, 0.005, 0.01, 0.025, 0.05, 0.1, 0.25, 0.5, 1.0, 2.5, 5.0, 10.0)
-# The longest wait is that of the last one to two spans of so many seconds.
+# The longest wait is that of the last one to two spans of this many seconds.
 SPAN = 60.0
 
 
@@ -32,7 +32,7 @@ class Metrics:
         self._span = time.monotonic()
 
     def timed(self, waited: float, taken: float) -> None:
-        """Notes a reply: how long it was waited for, and how long the server took."""
+        """Notes a reply: how long the wait for it was, and how long the server took."""
         place = next((n for n, most in enumerate(BUCKETS) if waited <= most), len(BUCKETS))
         self._below[place] += 1
         self._waited += waited

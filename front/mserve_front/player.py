@@ -253,10 +253,10 @@ class Stage:
         elif event.unknown:
             lines = f"line {event.unknown[0].number}" if len(event.unknown) == 1 else f"lines {event.unknown[0].number} to {event.unknown[-1].number}"
             self._tell(f"{lines} had no reply when the leader's server ended: what the leader's store held then is in the journal, and stands here too")
-        anew = held is Held.ALL and self._store == "memory" and not event.rows
-        if held in (Held.CHANGED, Held.ALL) and not anew and (event.rows or self.at or self.child is not None):
+        emptied = held is Held.ALL and self._store == "memory" and not event.rows
+        if held in (Held.CHANGED, Held.ALL) and not emptied and (event.rows or self.at or self.child is not None):
             await self._given(event)
-        await self._renewed(start.settings, anew)
+        await self._renewed(start.settings, emptied)
         self.at = start.number - 1
 
     def _by_version_1(self, start: StartRecord, answered: int) -> None:
@@ -277,11 +277,11 @@ class Stage:
         except (sqlite3.Error, ClientError) as error:
             raise Stopped(f"the rows before line {event.start.number} cannot be stored: {error}") from error
 
-    async def _renewed(self, text: bytes, anew: bool) -> None:
+    async def _renewed(self, text: bytes, emptied: bool) -> None:
         """Ends all sessions; the server is started again if its settings are others, or its store is a new one."""
         if self._settings is not None and self._settings.read_bytes() != text:
             raise NotYet(f"from line {self.at + 1} on the leader has other settings than {self._settings}: copy them there")
-        if self.child is None or anew or text != self._text:
+        if self.child is None or emptied or text != self._text:
             await self.end()
             await self.begin(text)
         else:

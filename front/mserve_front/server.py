@@ -43,11 +43,11 @@ def tell(text: str) -> None:
 
 
 class Fault:
-    """A fault that may last: it is told when it comes and when it is gone, and not each time that it is met. `text` says what it is; empty if there is
+    """A fault that may last: it is reported when it comes and when it is gone, and not each time that it is met. `text` says what it is; empty if there is
     none."""
 
     def __init__(self, came: str, gone: str) -> None:
-        """What is told of it then; `{}` stands for what it is."""
+        """What is said of it then; `{}` stands for what it is."""
         self._came, self._gone, self.text = came, gone, ""
 
     def comes(self, error: Exception) -> None:

@@ -19,7 +19,7 @@ WINDOW = 64
 ACCOUNT_WINDOW, LONG_WINDOW = 16, 4
 # Seconds that all lines on their way are taken to cost at most, where they are more than two: what is sent is not in turns any more.
 AHEAD = 0.05
-# A line that took so many seconds was a slow one; then an account has one line on its way, for so many times as long.
+# A line that took this many seconds was a slow one; then an account has one line on its way, for this many times as long.
 SLOW, MEMORY = 0.05, 20
 # What a line is taken to cost, in seconds, before any was answered; and the weight of the last line in what the next one is taken to cost.
 FIRST_COST, LAST_WEIGHT = 0.0002, 0.1
@@ -114,7 +114,7 @@ class Shares(Generic[W]):
         return None
 
     def answered(self, asked: W, taken: float) -> None:
-        """A line on its way was answered, or is not sent after all (`taken` is 0): the server took so many seconds."""
+        """A line on its way was answered, or is not sent after all (`taken` is 0): the server took this many seconds."""
         share = self._of(asked)
         self._flying -= 1
         self._ahead -= asked.charged

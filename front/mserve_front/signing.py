@@ -1,7 +1,7 @@
 # SPDX-License-Identifier: Apache-2.0
 """Sign-on by a name and a password, or a name and a token: one answer for all that is wrong, and pauses after failures.
 
-Passwords cost time, so they are computed by turns: addresses take turns, and within an address the names. A pause is for a name at an address, so
+Passwords cost time, so they are computed in turn: addresses take turns, and within an address the names. A pause is for a name at an address, so
 that wrong tries keep nobody out who signs on from elsewhere. A name that has signed on from an address before is known there: it waits in a line of
 its own, and no failures of others count for it. Tokens cost nothing, and wait for nothing."""
 from __future__ import annotations
@@ -28,7 +28,7 @@ COMPUTING, OF_NAME, OF_ADDRESS, QUEUED = 2, 4, 60, 400
 PAIR_FREE, NAME_FREE, LONGEST = 3, 50, 60.0
 # Failures of an address within a quarter of an hour after which it has one attempt a second, of names that are not known there.
 ADDRESS_FREE, PACED = 20, 1.0
-# Attempts of names that are known go first, but for one in so many.
+# Attempts of names that are known go first, but for one in this many.
 KNOWN_FIRST = 3
 
 

@@ -9,7 +9,7 @@ from dataclasses import dataclass
 
 # How many keys are remembered; the one that failed longest ago goes first.
 MOST_KEYS = 10_000
-# Failures are forgotten after so many seconds without one.
+# Failures are forgotten after this many seconds without one.
 FORGOTTEN = 900.0
 
 

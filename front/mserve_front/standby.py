@@ -444,11 +444,11 @@ class Standby:
         be promoted, something would be lost, or a stop has come."""
         self._go_on()
         if self._gone is not None and self._stage.child is None and await self._caught_up() and self._gone is not None:
-            # This comes first: it has nothing to serve with, so that whoever has the journal keeps it.
+            # This comes first: it has nothing to serve with, so that the one that has the journal keeps it.
             raise Refused(self._waits.text)
         await journal.take(self._force)
         wrong = await self._caught_up()
-        # From here to the promotion nothing is waited for, unless something is lost: a stop that comes later is for the service.
+        # From here to the promotion it waits for nothing, unless something is lost: a stop that comes later is for the service.
         self._go_on()
         lost = [*wrong, *self._told_lost()]
         if self._history.last != journal.next - 1:

@@ -11,7 +11,7 @@ from .records import Held
 class Known:
     """What the one who starts knows. `fresh`: the store was made with its server; `readable`: it is in a file of this front's own; `first`: the journal has
     nothing yet; `line`: the store has run all lines up to this one and nothing else, or None; `sent` and `answered`: the last line that was sent, and the
-    last one with a reply; `cut`: a line was cut short for want of memory or disk; `covers`: the store's log was begun before the first line without a
+    last one with a reply; `cut`: a line was cut short, out of memory or disk; `covers`: the store's log was begun before the first line without a
     reply was sent."""
 
     fresh: bool

@@ -2,7 +2,7 @@
 """The one connection to the server: lines of many terminals go out in fair turns, and replies come back in the order of the lines.
 
 Turns go by account, weighted by the server's time that each has used (`shares.py`). A terminal has at most one line on its way, and after its reply it
-comes last again among those of its account. Many terminals have a line on its way at once; while one takes long, no further ones are sent behind it."""
+comes last again among those of its account. Many terminals have a line on its way at once; while one takes long, no further ones are sent after it."""
 from __future__ import annotations
 
 import asyncio
@@ -55,7 +55,7 @@ Timed = Callable[[float, float], None]
 
 
 class Turns(Connection):
-    """A connection. `timed` is told of each reply how long it was waited for, and how long the server took; `ended` that the connection is over."""
+    """A connection. `timed` gets of each reply how long the wait was, and how long the server took; `ended` that the connection is over."""
 
     def __init__(self, room: int, timed: Timed, shares: Shares[Ask] | None = None) -> None:
         """`room` is the most bytes of a reply that are kept; `shares` has what each account has used of the server before."""
@@ -172,7 +172,7 @@ class Turns(Connection):
             self.go_on(chosen)
 
     def _held_up(self) -> bool:
-        """Whether the server is at a line that takes long: what is sent behind it could not be overtaken any more."""
+        """Whether the server is at a line that takes long: what is sent after it could not be overtaken any more."""
         return bool(self._flying) and self._flying[0].sent > 0 and time.monotonic() - max(self._flying[0].sent, self._replied) > SLOW
 
     def go_on(self, chosen: list[Ask]) -> bool:

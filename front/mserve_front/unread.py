@@ -32,7 +32,7 @@ class Unread:
 
     @contextlib.contextmanager
     def sent(self, account: str, size: int, cut: Callable[[], None]) -> Iterator[None]:
-        """While the block runs, a reply of so many bytes is being sent."""
+        """While the block runs, a reply of this many bytes is being sent."""
         reply = Reply(account, size, cut)
         self._replies[reply] = None
         self._of_account[account] += size

@@ -139,7 +139,7 @@ def password_hash(password: str, name: str) -> str:
 
 
 def new_token(user: User, note: str) -> tuple[str, str]:
-    """Gives a user a token: what it is listed as, and its secret, which is told once and not kept."""
+    """Gives a user a token: what it is listed as, and its secret, which is shown once and not kept."""
     label, secret = secrets.token_hex(4), TOKEN + secrets.token_urlsafe(32)
     user.tokens[label] = Token(token_hash(secret), note, datetime.now(UTC).isoformat(timespec="seconds"))
     return label, secret

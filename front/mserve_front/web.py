@@ -150,7 +150,7 @@ class Web:
         return names_loopback(request.host) or request.host.lower() in named
 
     async def _received(self, request: web.Request) -> None:
-        """Waits for the body. From there on it is not the peer who is waited for, so the connection's time does not run."""
+        """Waits for the body. From there on the wait is not for the peer, so the connection's time does not run."""
         try:
             async with asyncio.timeout(self._settings.limits.sign_on):
                 await request.read()

@@ -33,7 +33,7 @@ class PageSocket:
         self._transport = request.transport
         self._door = door
         self._spared = spared
-        # Since when it is waited for the peer's next frame; None while it is not.
+        # Since when it has waited for the peer's next frame; None while it does not.
         self._since: float | None = None
         self.socket = web.WebSocketResponse(compress=False, max_msg_size=limits.body, timeout=2.0, autoping=False)
 

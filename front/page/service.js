@@ -126,7 +126,7 @@ export class Terminal {
     this.#open(() => {});
   }
 
-  /** Ends the connection; lines that are under way are told as unanswered. */
+  /** Ends the connection; lines that are under way count as unanswered. */
   close() {
     this.#isClosed = true;
     clearTimeout(this.#timer);

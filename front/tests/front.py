@@ -37,7 +37,7 @@ Record = dict[str, Any]
 
 
 class Patience:
-    """Seconds after which something that is waited for is missed. Long runs on a machine that has other work have more."""
+    """Seconds after which a wait has failed. Long runs on a machine that has other work have more."""
 
     seconds = 60.0
 
@@ -116,7 +116,7 @@ class Front:
     def __init__(self, folder: Path, certificate: tuple[Path, Path] | None, users: dict[str, str] | None = None, settings: Path = SETTINGS,
                  store: str = "memory", before: Sequence[str] = (), words: Sequence[str] = (), awaited: str = "serving at",
                  command: Sequence[str] = COMMAND, **more: dict[str, object]) -> None:
-        """Starts it, with further keys for the tables that are named, words before and behind the command; returns once it tells what is awaited."""
+        """Starts it, with further keys for the tables that are named, words before and after the command; returns once it tells what is awaited."""
         self.folder, self.certificate, self.store = folder, certificate, store
         self._before, self._command, self._words, self._awaited = list(before), command, list(words), awaited
         self.port, self.lines_port = running.free_port(), running.free_port()
@@ -158,7 +158,7 @@ class Front:
             time.sleep(0.02)
 
     def words(self, words: Sequence[str], awaited: str = "serving at") -> None:
-        """Gives it other words behind the command, for its next start, and what it tells then."""
+        """Gives it other words after the command, for its next start, and what it tells then."""
         self._words, self._awaited = list(words), awaited
 
     def again(self) -> None:
@@ -313,7 +313,7 @@ async def busy(front: Front, seconds: float = 0) -> AsyncIterator[None]:
 
 
 async def lines_wait(person: Person, count: int) -> None:
-    """Waits until the front has so many lines without a reply."""
+    """Waits until the front has this many lines without a reply."""
     async def wait() -> bool:
         async with person.http.get("/metrics") as response:
             return f"\nmfront_lines_waiting {count}\n" in await response.text()

@@ -145,7 +145,7 @@ class Program:
         return data if data.endswith(b"\n") else b""
 
     async def line(self, line: str) -> Record:
-        """The record of a line. Raises OSError if the session ends before, with the reason if one is told."""
+        """The record of a line. Raises OSError if the session ends before, with the reason if there is one."""
         self._writer.write(line.encode() + b"\n")
         while data := await self._whole_line():
             record = json.loads(data)

@@ -15,7 +15,7 @@ SLICE_OF = {"x86_64": 315, "aarch64": 275}
 
 
 def _fields(pid: int) -> list[str]:
-    """What the system says of a process, behind its name."""
+    """What the system says of a process, after its name."""
     return Path(f"/proc/{pid}/stat").read_text().rpartition(")")[2].split()
 
 

@@ -23,7 +23,7 @@ from mserve_front.gate_page import together
 from mserve_front.places import last_line
 from mserve_front.settings import JournalSettings
 from mserve_front.standbys import SAYS, Behind, Said
-from test_standby import caught_up, leading, promoted, standby
+from standing_by import caught_up, leading, promoted, standby
 
 MONITORING = FRONT.parent / "packaging" / "monitoring"
 PAGE = (FRONT.parent / "docs" / "OPERATING.md").read_text(encoding="utf-8")

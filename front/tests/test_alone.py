@@ -88,16 +88,20 @@ def init(front: Path, folder: Path) -> Ran:
                          folder / "machine.toml")
 
 
-@pytest.mark.long
-@in_loop()
-async def test_a_heavy_account_holds_nobody_up(alone: Path, certificate: tuple[Path, Path], tmp_path: Path) -> None:
-    """Four accounts are three islands with what each had. A line of a million steps, again and again, is not noticed by another island."""
+def test_an_init_that_is_refused(alone: Path, tmp_path: Path) -> None:
+    """It names the file that is missing."""
     status, _, told = tool("mgate")("init", alone.parent / "settings.toml", alone.parent / "store.db", "--config", tmp_path / "none.toml")
     assert status == 2 and "none.toml" in told
     (tmp_path / "one.toml").write_text(toml({"machine": {"name": "one", "folder": "islands", "users": "users.json"},
                                              "listen": {"port": 1, "lines_port": 2, "certificate": "c", "key": "k"}}))
     status, _, told = tool("mgate")("init", alone.parent / "settings.toml", alone.parent / "none.db", "--config", tmp_path / "one.toml")
     assert status == 2 and "none.db: unable to open database file: no server may have it" in told
+
+
+@pytest.mark.long
+@in_loop()
+async def test_a_heavy_account_holds_nobody_up(alone: Path, certificate: tuple[Path, Path], tmp_path: Path) -> None:
+    """Four accounts are three islands with what each had. A line of a million steps, again and again, is not noticed by another island."""
     before = held(alone.parent / "store.db")
     status, output, told = init(alone, tmp_path)
     assert status == 0, told
@@ -117,7 +121,7 @@ async def test_a_heavy_account_holds_nobody_up(alone: Path, certificate: tuple[P
         count = await heavy
         print(f"{count} lines of a million steps beside {len(waits)} lines: median {statistics.median(waits) * 1000:.1f} ms, 99th percentile "
               f"{percentile(waits, 0.99) * 1000:.1f} ms, longest {max(waits) * 1000:.1f} ms")
-        # Behind lines that each take a good part of a second, twenty lines a second would fall back by many seconds. The machine may be busy.
+        # After lines that each take a good part of a second, twenty lines a second would fall back by many seconds. The machine may be busy.
         assert statistics.median(waits) < 1.5
         await changes(gate, lisa, tmp_path)
         for program in (hugo, lisa, cleo):

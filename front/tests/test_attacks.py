@@ -82,7 +82,7 @@ Attack = Callable[[Front, float], Awaitable[int]]
 
 async def connections(front: Front, count: int, work: Callable[[asyncio.StreamReader, asyncio.StreamWriter], Awaitable[None]], seconds: float,
                       port: int | None = None) -> None:
-    """Has so many connections of other addresses do a work for so long; one that ends begins again."""
+    """Has this many connections of other addresses do a work for so long; one that ends begins again."""
     end = time.monotonic() + seconds
 
     async def one(number: int) -> None:

@@ -12,6 +12,7 @@ import signal
 import ssl
 from collections.abc import Callable, Iterable, Iterator
 from pathlib import Path
+from typing import Any
 
 import aiohttp
 import pytest
@@ -295,8 +296,32 @@ async def test_what_a_gate_carries(host: Callable[..., Gate], tmp_path: Path) ->
     assert first.does("place", "island0", made["island0"], "one")[0] == 0
     user = Program(second, "user0.0")
     await user.signed_on()
-    base = f"https://{second.host}:{second.ports['http']}"
-    async with aiohttp.ClientSession(base, connector=aiohttp.TCPConnector(ssl=second.context), cookie_jar=aiohttp.CookieJar(unsafe=True)) as http:
+    await uses_the_page(second)
+    assert "wrong" in (await Program(second, "nobody").sign_on())["error"]
+    # The front knows where users come from: 127.0.0.1 is this test, and no gate.
+    log = [json.loads(line) for line in (first.folder / "islands" / "island0" / "audit.log").read_text().splitlines()]
+    assert {record["from"] for record in log if "from" in record} == {"127.0.0.1"}
+    status, token, _ = tool("mfront")("token", "add", "user0.0", "--config", token_config(tmp_path))
+    assert status == 0
+    await sends_by_token(second, token.strip())
+    user.close()
+    await refuses(second)
+    with pytest.raises((ssl.SSLError, ConnectionError)):
+        reader, writer = await asyncio.open_connection(first.host, first.ports["peers"], ssl=first.context, server_hostname="one")
+        writer.write(b'{"island": "island0", "kind": "lines"}\n')
+        if not await reader.readline():
+            raise ConnectionError
+
+
+def client(gate: Gate, **more: Any) -> aiohttp.ClientSession:
+    """One who speaks HTTP to a gate."""
+    base = f"https://{gate.host}:{gate.ports['http']}"
+    return aiohttp.ClientSession(base, connector=aiohttp.TCPConnector(ssl=gate.context), **more)
+
+
+async def uses_the_page(gate: Gate) -> None:
+    """Signs on as the page does, by a wrong password and a right one, sends lines, and signs off."""
+    async with client(gate, cookie_jar=aiohttp.CookieJar(unsafe=True)) as http:
         async with http.get("/") as response:
             assert response.status == 200 and "<!doctype html>" in (await response.text()).lower()
         async with http.get("/session") as response:
@@ -307,7 +332,7 @@ async def test_what_a_gate_carries(host: Callable[..., Gate], tmp_path: Path) ->
             assert response.status == 200 and (await response.json())["account"] == "C0A1"
         [cookie] = http.cookie_jar
         assert cookie.key == "__Host-mfront" and cookie.value.startswith("island0.") and cookie["secure"] and cookie["httponly"]
-        async with http.ws_connect("/ws", origin=base) as socket:
+        async with http.ws_connect("/ws", origin=f"https://{gate.host}:{gate.ports['http']}") as socket:
             for number in range(5):
                 await socket.send_str(json.dumps({"id": number, "line": f"S ^Y({number})=1 W {number}"}))
                 assert (await socket.receive_json())["rest"] == str(number)
@@ -317,34 +342,30 @@ async def test_what_a_gate_carries(host: Callable[..., Gate], tmp_path: Path) ->
             assert response.status == 204
         async with http.get("/session") as response:
             assert response.status == 401
-    assert "wrong" in (await Program(second, "nobody").sign_on())["error"]
-    # The front knows where users come from: 127.0.0.1 is this test, and no gate.
-    log = [json.loads(line) for line in (first.folder / "islands" / "island0" / "audit.log").read_text().splitlines()]
-    assert {record["from"] for record in log if "from" in record} == {"127.0.0.1"}
-    status, token, _ = tool("mfront")("token", "add", "user0.0", "--config", token_config(tmp_path))
-    assert status == 0
-    async with aiohttp.ClientSession(base, connector=aiohttp.TCPConnector(ssl=second.context), headers={"Authorization": f"Bearer {token.strip()}"}) as http:
+
+
+async def sends_by_token(gate: Gate, token: str) -> None:
+    """Sends a line by a token until the front knows it."""
+    async with client(gate, headers={"Authorization": f"Bearer {token}"}) as http:
         while True:
             async with http.post("/line", json={"line": "W 1+2"}) as response:
                 if response.status == 200:
                     assert (await response.json())["rest"] == "3"
-                    break
+                    return
             await asyncio.sleep(0.2)
-    user.close()
+
+
+async def refuses(gate: Gate) -> None:
+    """What is no request that a gate carries is answered by a status."""
     for data, answer in ((b"GET / HTTP/1.0\r\n\r\n", b"400"), (b"PUT / HTTP/1.1\r\nHost: x\r\n\r\n", b"405"), (b"GET /" + b"x" * 20_000, b"431"),
                          (b"GET /metrics HTTP/1.1\r\nHost: x\r\n\r\n", b"404"), (b"GET /control HTTP/1.1\r\nHost: x\r\n\r\n", b"404"),
                          (b"POST /line HTTP/1.1\r\nHost: x\r\nContent-Length: 99999999\r\n\r\n", b"413"),
                          (b"POST /line HTTP/1.1\r\nHost: x\r\nTransfer-Encoding: chunked\r\n\r\n", b"400"),
                          (b"GET / HTTP/1.1\r\nHost: x\r\nA: b\r\n c: d\r\n\r\n", b"400")):
-        reader, writer = await asyncio.open_connection(second.host, second.ports["http"], ssl=second.context)
+        reader, writer = await asyncio.open_connection(gate.host, gate.ports["http"], ssl=gate.context)
         writer.write(data)
         assert answer in (await reader.readline()), data
         writer.close()
-    with pytest.raises((ssl.SSLError, ConnectionError)):
-        reader, writer = await asyncio.open_connection(first.host, first.ports["peers"], ssl=first.context, server_hostname="one")
-        writer.write(b'{"island": "island0", "kind": "lines"}\n')
-        if not await reader.readline():
-            raise ConnectionError
 
 
 def token_config(folder: Path) -> Path:
@@ -422,7 +443,7 @@ def test_words_of_mgate(host: Callable[..., Gate], cluster: Pair, tmp_path: Path
                       (lambda: placement.move("island0", "one", False), "it is at one$"), (lambda: placement.move("island9", "one", False), "no such island")):
         with pytest.raises(BadPlacement, match=told):
             act()
-    # One that does not arrive is called back, until its machine has let go of it.
+    # One that does not arrive is called back, until its machine has given it up.
     for state in ("moving", "taking"):
         cluster.does(f"UPDATE mfront_island SET state = '{state}', target = 'one'")
         placement.move("island0", "one", False)

@@ -1,5 +1,5 @@
 # SPDX-License-Identifier: Apache-2.0
-"""Replay and snapshots: a store at any moment, made again from a journal, is the store that was there; and what keeps it from being so is told."""
+"""Replay and snapshots: a store at any moment, made again from a journal, is the store that was there; and what keeps it from being so is reported."""
 from __future__ import annotations
 
 import asyncio
@@ -174,7 +174,7 @@ def line(number: int, text: bytes, terminal: int = 1) -> LineRecord:
 
 
 def test_lines_that_were_cut_short_or_have_no_reply(tmp_path: Path) -> None:
-    """They are told, and what comes after them is compared."""
+    """They are reported, and what comes after them is compared."""
     folder = made(tmp_path / "journal", (begin(), line(1, b"S ^X=1,^Y=1,A=1"), reply(1, 1, b"whatever", "ZSTORE")),
                   (line(2, b"W $D(A)"), reply(2, 1, b"1-0\n1.\n")),
                   (line(3, b"W 3"), line(4, b"W 4")), (begin(5, 3, fresh=False), line(5, b"W 5"), reply(5, 1, b"1-5\n1.\n")), (line(6, b"W 6"),))
@@ -226,7 +226,7 @@ def has_open_line(front: Front) -> bool:
 
 @in_loop()
 async def test_a_server_that_is_killed_and_a_front_that_is(start, tmp_path: Path) -> None:
-    """Both go on with the journal; the line that the server was at is told by a replay, which has what it did, and what was answered is there."""
+    """Both go on with the journal; the line that the server was at is named by a replay, which has what it did, and what was answered is there."""
     front = start(store="store.db", journal={"folder": "journal"})
     async with front.person("ada") as ada, front.person("ben") as ben:
         await ada.line("S ^N=0")
@@ -480,7 +480,7 @@ time.time_ns = lambda: own() + int(place.read_text()) * 10**9
 
 @in_loop()
 async def test_clocks_that_step_back(start, tmp_path: Path) -> None:
-    """While a front runs, at its restart, and on the machine that takes over: no time in the journal is before another, it is told, and nothing is lost."""
+    """While a front runs, at its restart, and on the machine that takes over: no time in the journal is before another, it is reported, and nothing is lost."""
     (tmp_path / "sitecustomize.py").write_text(CLOCK)
     (tmp_path / "seconds").write_text("0")
     journal, turned = {"folder": str(tmp_path / "journal")}, ["env", f"PYTHONPATH={tmp_path}"]

@@ -15,8 +15,8 @@ import aiohttp
 import pytest
 from front import Front, Patience, Person, Record, in_loop, mjournal, stopped, until
 from running import PROGRAM
+from standing_by import leading, standby, takes_over
 from test_replay import held
-from test_standby import leading, standby, takes_over
 
 # Seconds for which users work between two troubles.
 WORK = 0.4

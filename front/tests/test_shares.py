@@ -1,5 +1,5 @@
 # SPDX-License-Identifier: Apache-2.0
-"""Turns go by account, weighted by the server's time; and no clock ends a session, a sign-on or a terminal while the server is waited for."""
+"""Turns go by account, weighted by the server's time; and no clock ends a session, a sign-on or a terminal during a wait for the server."""
 from __future__ import annotations
 
 import asyncio
@@ -29,7 +29,7 @@ class Asked:
 
 
 def accounts(terminals: list[int]) -> dict[int, str]:
-    """The account of each terminal, for so many terminals of each."""
+    """The account of each terminal, for this many terminals of each."""
     owners = [f"A{place}" for place, count in enumerate(terminals) for _ in range(count)]
     return {place + 1: owner for place, owner in enumerate(owners)}
 

@@ -13,15 +13,15 @@ from pathlib import Path
 import pytest
 from database import Cluster, Wire
 from front import in_loop, stopped, tool
+from journals import flushes
 from mserve_front import journal_table
 from mserve_front.journal import LogFault
 from mserve_front.journal_table import ANSWER, TableLog
 from mserve_front.places import writer_of
 from mserve_front.settings import JournalSettings
 from running import PROGRAM
-from test_journal import flushes
+from standing_by import caught_up
 from test_replay import held
-from test_standby import caught_up
 from test_table import BACK, cluster, journal, own_cluster, two_fronts  # noqa: F401
 
 # Seconds within which users are told, however busy the machine is: half a minute for a reply that is held back, and what the machine takes.

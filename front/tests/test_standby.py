@@ -17,76 +17,19 @@ from pathlib import Path
 
 import aiohttp
 import pytest
-from front import SETTINGS, Front, Patience, Person, Ran, in_loop, mjournal, stopped, tool, until
-from mserve_front.control import Refused, asked
+from front import SETTINGS, Front, in_loop, mjournal, stopped, tool, until
+from mserve_front.control import asked
 from mserve_front.places import end_of, first_of, last_line
 from mserve_front.service import Service
 from mserve_front.settings import JournalSettings, read_settings
 from mserve_front.standby import Standby
 from mserve_front.standing import read_standing
 from running import PROGRAM
+from standing_by import SLOW, Load, asks_promotion, caught_up, leading, promoted, standby, stands_by, takes_over
 from test_replay import backup, held, works
 
 # Leaders that are killed, unless more are asked for (--count).
 KILLED = 10
-# Nodes that are asked for at once: the front cuts a reply of some 13,000 of them (limits.reply).
-AT_ONCE = 5000
-# What behind a line makes it take some milliseconds.
-SLOW = " F I=1:1:20000 S K=I"
-
-
-def leading(start, journal: Path, **more: object) -> Front:
-    """A front over a store of its own that keeps a journal there."""
-    return start(store="store.db", journal={"folder": str(journal)} | more)
-
-
-def standby(start, journal: Path, **more: object) -> Front:
-    """A standby over a store of its own."""
-    kept = {"folder": str(journal)} | ({"backup": more.pop("backup")} if "backup" in more else {})
-    return start(words=["--follow"], awaited="standing by", journal=kept, **{"store": "store.db"} | more)
-
-
-def promoted(front: Front) -> Ran:
-    """Has a standby promoted by the command; it serves then."""
-    done = tool("mfront")("promote", "--config", front.folder / "front.toml")
-    if done[0] == 0:
-        front.hears("serving at")
-    return done
-
-
-def asks_promotion(control: Path) -> dict[str, object]:
-    """Asks a standby for its promotion, again while it has not begun: its socket is there before that."""
-    until = time.monotonic() + Patience.seconds
-    while True:
-        try:
-            return asked(control, {"ask": "promote"}, 4 * Patience.seconds)
-        except Refused as error:
-            if "it has not begun" not in str(error) or time.monotonic() > until:
-                raise
-            time.sleep(0.05)
-
-
-def takes_over(front: Front) -> str:
-    """Has a standby promoted, and gives why it is not; empty if it is, and serves."""
-    try:
-        asks_promotion(front.folder / "mfront.control")
-    except Refused as error:
-        return str(error)
-    front.hears("serving at")
-    return ""
-
-
-async def caught_up(front: Front, journal: Path | JournalSettings) -> int:
-    """Waits until a standby has run all lines of a journal, in a folder or anywhere, and says so, and gives the last of them. Lines that come meanwhile are
-    waited for too; those that come after it are not: `at_rest` says that none does."""
-    settings = JournalSettings(journal) if isinstance(journal, Path) else journal
-    while True:
-        # Apart: what leads to the journal may be this test's own.
-        last = await asyncio.to_thread(last_line, settings)
-        status = await asyncio.to_thread(asked, front.folder / "mfront.control", {"ask": "status"}, 2 * Patience.seconds)
-        if status["line"] >= last and status["caught up"]:
-            return last
-        await asyncio.sleep(0.02)
 
 
 @in_loop()
@@ -146,7 +89,7 @@ async def test_a_standby_follows_and_is_promoted(start, tmp_path: Path) -> None:
 
 @in_loop()
 async def test_a_standby_has_its_ports(start, tmp_path: Path) -> None:
-    """Nobody can take them meanwhile. One that is taken when it starts is told, and taken at the promotion if that can be."""
+    """Nobody can take them meanwhile. One that is taken when it starts is reported, and taken at the promotion if that can be."""
     leader = leading(start, tmp_path / "journal")
     second = standby(start, tmp_path / "journal")
     for port in (second.port, second.lines_port):
@@ -165,7 +108,7 @@ async def test_a_standby_has_its_ports(start, tmp_path: Path) -> None:
 
 @in_loop()
 async def test_a_standby_whose_store_differs_stands_still(start, tmp_path: Path) -> None:
-    """A node was changed in its store: it is told at the next line that reads it, and nothing that was answered is lost without a word. It goes on once the
+    """A node was changed in its store: it is reported at the next line that reads it, and nothing that was answered is lost without a word. It goes on once the
     leader has written all that its store holds."""
     leader = leading(start, tmp_path / "journal")
     second = standby(start, tmp_path / "journal")
@@ -330,6 +273,20 @@ async def test_a_standby_that_is_killed_begins_with_a_snapshot(start, tmp_path: 
         assert await ada.told("W ^X") == "2"
 
 
+def finds_a_snapshot(front: Front, first: Path, snapshot: Path, begins: int) -> None:
+    """Gives a standby without a store snapshots: what is not one, not exact, or from before is passed over; and one that is damaged is reported."""
+    folder = front.folder / "backup"
+    for made in (first, snapshot):
+        shutil.copytree(made, folder / made.name)
+    damaged = folder / f"{int(snapshot.name) + 1:012d}"
+    damaged.mkdir()
+    (damaged / "manifest.json").write_text((snapshot / "manifest.json").read_text().replace(f'"number": {int(snapshot.name)}', f'"number": {begins}'))
+    front.hears(f"it stands still, and waits: {damaged / 'store'}: there is no such file")
+    shutil.rmtree(damaged)
+    front.hears(f"it begins with the snapshot {folder / snapshot.name}")
+    front.hears("it goes on")
+
+
 @pytest.mark.long
 @in_loop()
 async def test_a_standby_over_a_journal_that_was_expired(start, tmp_path: Path) -> None:
@@ -359,16 +316,7 @@ async def test_a_standby_over_a_journal_that_was_expired(start, tmp_path: Path) 
             status, _, told = tool("mfront")("promote", *words, "--config", third.folder / "front.toml")
             assert status == 3 and f"not promoted: the journal begins with line {begins}" in told
         assert await ada.told("S ^Z=1 W ^Y") == "39"
-        # What is not one, not exact, or from before is passed over; and one that is damaged is told.
-        for made in (first, snapshot):
-            shutil.copytree(made, third.folder / "backup" / made.name)
-        damaged = third.folder / "backup" / f"{int(snapshot.name) + 1:012d}"
-        damaged.mkdir()
-        (damaged / "manifest.json").write_text((snapshot / "manifest.json").read_text().replace(f'"number": {int(snapshot.name)}', f'"number": {begins}'))
-        third.hears(f"it stands still, and waits: {damaged / 'store'}: there is no such file")
-        shutil.rmtree(damaged)
-        third.hears(f"it begins with the snapshot {third.folder / 'backup' / snapshot.name}")
-        third.hears("it goes on")
+        finds_a_snapshot(third, first, snapshot, begins)
         await caught_up(third, journal)
         await asyncio.to_thread(backup, leader, "--end-sessions", "--all")
         second.hears("it goes on")
@@ -382,7 +330,7 @@ async def test_a_standby_over_a_journal_that_was_expired(start, tmp_path: Path) 
 @pytest.mark.long
 @in_loop()
 async def test_a_standby_that_cannot_go_on(start, tmp_path: Path) -> None:
-    """Other settings are waited for."""
+    """It waits for other settings."""
     leading(start, tmp_path / "journal")
     other = tmp_path / "other.toml"
     other.write_text('[[account]]\nname = "CLINIC"\nterminals = [1]\nsteps = 5\n')
@@ -429,13 +377,6 @@ async def test_a_journal_that_has_lost_its_end_is_refused(start, tmp_path: Path)
     with pytest.raises(RuntimeError, match="store.db.at: does not say where the store stands"):
         second.again()
     assert (second.folder / "store.db.at").read_text() == "{}"
-
-
-def stands_by(front: Front) -> int:
-    """Starts a front that has ended as a standby, over the store that it has, and gives the line after which that stands."""
-    front.words(["--follow"], "standing by")
-    front.again()
-    return int(re.search(r"standing by, after line (\d+) of the journal", front.told())[1])
 
 
 @in_loop()
@@ -489,7 +430,7 @@ async def test_a_leader_that_was_killed_stands_by(start, tmp_path: Path, alone: 
 
 @in_loop()
 async def test_a_leader_that_was_killed_at_work_does_not_stand_by(start, tmp_path: Path) -> None:
-    """Lines were on their way, and may have been run: it is told which, and what can be done. The note beside the store stays."""
+    """Lines were on their way, and may have been run: the message says which, and what can be done. The note beside the store stays."""
     load, journal = Load(SLOW), tmp_path / "journal"
     leader = leading(start, journal)
     second = standby(start, journal)
@@ -505,76 +446,6 @@ async def test_a_leader_that_was_killed_at_work_does_not_stand_by(start, tmp_pat
         leader.again()
     assert (leader.folder / "store.db.at").read_bytes() == note
     await load.holds(second, 1)
-
-
-class Load:
-    """Users who each count at nodes of their own until the leader is gone: which nodes they sent, and which were answered."""
-
-    def __init__(self, more: str = "") -> None:
-        """`more` stands behind each line."""
-        self.more = more
-        self.sent: set[int] = set()
-        self.answered: set[int] = set()
-
-    async def user(self, person: Person) -> None:
-        """One user, with five lines on their way."""
-        places: dict[int, int] = {}
-        try:
-            while True:
-                while len(places) < 5:
-                    node = len(self.sent)
-                    self.sent.add(node)
-                    places[await person.send(f"S ^N({node})=$G(^N({node}))+1{self.more}")] = node
-                record = await person.next()
-                node = places.pop(record["id"])
-                if "output" in record:
-                    assert record["code"] is None, record
-                    self.answered.add(node)
-        except (ConnectionError, aiohttp.ClientError):
-            pass
-
-    async def until_killed(self, front: Front, seconds: float, journal: Path | None = None) -> float:
-        """Has three users work until the front is killed, and gives when that was. With its journal, lines have no reply there then."""
-        people = [front.person(name) for name in ("ada", "ben", "ada")]
-        for person in people:
-            await person.__aenter__()
-        answered, work = len(self.answered), asyncio.gather(*map(self.user, people))
-        # However busy the machine is, they have had some answers by then.
-        await until(lambda: len(self.answered) > answered + 3, "users who work")
-        await asyncio.sleep(seconds)
-        if journal is not None:
-            # All that was sent may be answered just now. A server that is held up answers no more of what the users send.
-            os.kill(front.child, signal.SIGSTOP)
-            await until(lambda: end_of(JournalSettings(journal)).answered < last_line(JournalSettings(journal)), "a line without a reply")
-        os.kill(front.process.pid, signal.SIGKILL)
-        killed = time.monotonic()
-        await work
-        # Its lock of the journal is free then at the latest.
-        await asyncio.to_thread(front.process.wait)
-        for person in people:
-            await person.http.close()
-        return killed
-
-    async def counted(self, front: Front) -> dict[int, str]:
-        """What stands at the nodes."""
-        found: dict[int, str] = {}
-        async with front.person("ada") as ada:
-            await ada.line('S K=""')
-            while True:
-                record = await ada.line(f'F I=1:1:{AT_ONCE} S K=$O(^N(K)) Q:K=""  W K,":",^N(K),!')
-                # A part that is cut off, or not written, would look like nodes that are lost.
-                assert record["code"] is None and "cut" not in record, (record["code"], record.get("cut"))
-                found |= {int(line.split(":")[0]): line.split(":")[1] for line in record["output"]}
-                if len(record["output"]) < AT_ONCE:
-                    return found
-
-    async def holds(self, front: Front, number: int) -> None:
-        """Holds what stands at the nodes against what was promised; `number` says after which kill. Each fault shows by its nodes."""
-        found = await self.counted(front)
-        lost, strange, again = self.answered - found.keys(), found.keys() - self.sent, {node: value for node, value in found.items() if value != "1"}
-        assert not lost, f"kill {number}: answered, and not there: {sorted(lost)}"
-        assert not strange, f"kill {number}: there, and never sent: {sorted(strange)}"
-        assert not again, f"kill {number}: not run once: {again}"
 
 
 @pytest.mark.long

@@ -19,6 +19,7 @@ from pathlib import Path
 import pytest
 from database import Cluster, Wire
 from front import Front, Patience, Ran, in_loop, stopped, tool, until
+from journals import flushes
 from mserve_front.control import asked
 from mserve_front.history import History
 from mserve_front.journal import LogFault, LogTaken, Tail
@@ -28,9 +29,8 @@ from mserve_front.records import BadJournal, Flush, LineRecord
 from mserve_front.settings import JournalSettings
 from mserve_front.standbys import said_in
 from running import PROGRAM
-from test_journal import flushes
+from standing_by import Load, caught_up, stands_by, takes_over
 from test_replay import backup, held, works
-from test_standby import Load, caught_up, stands_by, takes_over
 
 
 # Seconds for which a database is away: longer than a reply is kept for it.
@@ -338,7 +338,7 @@ async def test_connections_that_are_cut(start, tmp_path: Path) -> None:
 
 
 def test_a_writer_meets_a_replica_or_is_forced_out(cluster: Cluster, journal: JournalSettings, tmp_path: Path) -> None:
-    """A replica is waited for, since it may be behind. A journal that is taken by force is lost to the one who had it, at once."""
+    """It waits for a replica, since it may be behind. A journal that is taken by force is lost to the one who had it, at once."""
     log, parts = writer_of(journal), flushes(5)
     log.take()
     for flush in parts[:3]:

@@ -13,8 +13,8 @@ from database import Cluster
 from front import Front, Patience, Person, tool
 from mserve_front.control import Refused, asked
 from mserve_front.islands import NEAR, put_aside
+from standing_by import takes_over
 from test_replay import backup
-from test_standby import takes_over
 from troubles import Troubled, catching_up
 
 
@@ -138,7 +138,7 @@ class Pair(Troubled):
         await asyncio.to_thread(self.leader.again)
 
     async def caught_up(self, behind: int = 0) -> None:
-        """Waits until the standby has run all but so many lines, and has its store as the leader's."""
+        """Waits until the standby has run all but this many lines, and has its store as the leader's."""
         control = self.second.folder / "mfront.control"
 
         def near() -> bool:

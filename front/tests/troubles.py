@@ -112,7 +112,7 @@ class Troubled(ABC):
 
 
 def drawn(kind: str, wanted: int, rng: random.Random) -> list[tuple[str, str, str]]:
-    """So many combinations, without one coming again before all were there."""
+    """This many combinations, without one coming again before all were there."""
     combinations = COMBINATIONS[kind]
     found = [combination for _ in range(1 + wanted // len(combinations)) for combination in rng.sample(combinations, len(combinations))]
     return found[:wanted]

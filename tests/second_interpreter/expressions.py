@@ -169,7 +169,7 @@ class Evaluator:
         return "" if found is None else name_text(self.account.name, *place[:2], found)
 
     def value_of_name(self, tree: tuple, count: tuple | None) -> str:
-        """The name of a node, with so many subscripts at most. Nothing is looked at, and nothing remembered."""
+        """The name of a node, with this many subscripts at most. Nothing is looked at, and nothing remembered."""
         self.charge()
         evaluated = self.evaluated(tree)
         most = None if count is None else decimals.whole(self.value(count))

@@ -40,7 +40,7 @@ class Atom:
             atom.check()
 
     def turns(self, characters: int) -> int:
-        """How many turns a group takes at most of so many characters, with those of the atoms in it. Other atoms take none."""
+        """How many turns a group takes at most of this many characters, with those of the atoms in it. Other atoms take none."""
         if not self.choices:
             return 0
         own = self.least + characters
@@ -131,7 +131,7 @@ def justify(text: str, *sizes: str) -> str:
 
 
 def fixed(text: str, places: int) -> str:
-    """A number with so many digits after its point, and one before it."""
+    """A number with this many digits after its point, and one before it."""
     number = value(text)
     if not 0 <= places <= LONGEST:
         raise Stop("ZARG" if places < 0 else "ZLONG")

@@ -82,46 +82,66 @@ def happens(what: str) -> None:
         Fault.back = BACK
 
 
-def install(place: str) -> None:
-    """Has the steps looked at."""
-    from mserve_front import journal, journal_file, server, turns
-    path, turn = Path(place), threading.Lock()
+class Steps:
+    """The steps that are looked at: what a file says happens at the step that it names."""
 
-    def step(name: str) -> None:
-        with turn:
+    def __init__(self, place: str):
+        self.path, self.turn = Path(place), threading.Lock()
+
+    def wanted(self, name: str) -> str:
+        """What is to happen at this step, if anything is; it is counted here, and the file is gone with the last one."""
+        with self.turn:
             try:
-                wanted = json.loads(path.read_text())
+                wanted = json.loads(self.path.read_text())
             except (OSError, ValueError):
-                return
+                return ""
             if wanted["step"] != name:
-                return
+                return ""
             wanted["count"] -= 1
             if wanted["count"] > 0:
-                path.write_text(json.dumps(wanted))
-                return
+                self.path.write_text(json.dumps(wanted))
+                return ""
             # This comes first: with its gate's end this process may end too, before it has come further.
-            path.unlink()
+            self.path.unlink()
             if wanted["what"] == "machine":
                 kill_machine()
-        happens(wanted["what"])
+        return wanted["what"]
 
-    def around(owner: type, name: str, before: Callable[..., str], after: Callable[..., str]) -> None:
+    def step(self, name: str) -> None:
+        """Comes to a step."""
+        if what := self.wanted(name):
+            happens(what)
+
+    def around(self, owner: type, name: str, before: Callable[..., str], after: Callable[..., str]) -> None:
+        """Has a method come to a step before it does its work, and to one after it."""
         own = getattr(owner, name)
 
         @functools.wraps(own)
-        def made(self, *given):
-            step(before(*given))
-            found = own(self, *given)
-            step(after(*given))
+        def made(this, *given):
+            self.step(before(*given))
+            found = own(this, *given)
+            self.step(after(*given))
             return found
         setattr(owner, name, made)
 
+
+def install(place: str) -> None:
+    """Has the steps looked at."""
+    from mserve_front import journal, server, turns
+    around = Steps(place).around
     durable = {"_Lines": "lines are durable", "_Reply": "a reply is durable", "_Rows": "rows are durable", "_Start": "a start is durable"}
     done = {"_Lines": "lines are sent", "_Reply": "a reply is handed out"}
     around(journal.Journal, "_done", lambda entry: durable[type(entry).__name__], lambda entry: done.get(type(entry).__name__, ""))
     around(journal.Journal, "lines", lambda *_: "lines wait", lambda *_: "")
     around(turns.Turns, "_answered", lambda *_: "a reply has come", lambda *_: "")
     around(server.Server, "_connect", lambda *_: "the server is started", lambda *_: "")
+    note_turns()
+    trouble_disk_and_clock()
+
+
+def note_turns() -> None:
+    """Keeps the last `Turns` that were made, whose connection can be broken."""
+    from mserve_front import turns
     turns.Turns.made = []
     begun = turns.Turns.__init__
 
@@ -129,12 +149,16 @@ def install(place: str) -> None:
         begun(self, *given)
         turns.Turns.made[:] = [self]
     turns.Turns.__init__ = first
-    write = journal_file.FileLog._write
+
+
+def trouble_disk_and_clock() -> None:
+    """Has the disk be full, and the clock be back, while `Fault` says so."""
+    from mserve_front import journal_file
+    write, now = journal_file.FileLog._write, time.time_ns
 
     def written(self, data):
         if time.monotonic() < Fault.full_until:
             raise OSError(28, "No space left on device")
         write(self, data)
     journal_file.FileLog._write = written
-    now = time.time_ns
     time.time_ns = lambda: now() - Fault.back * 10**9

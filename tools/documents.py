@@ -30,7 +30,7 @@ LINK = re.compile(r"\[[^\]]*\]\(([^)\s]+)\)")
 # Pages whose names of edits and wrong bodies another script checks, some of which only a test refuses: tools/edits.py.
 TABLES_OF_EDITS = {"docs/TESTING.md"}
 # Names that are not this tree's.
-FOREIGN = {"journal_mode"}
+FOREIGN = {"journal_mode", "OperationInterrupted"}
 # Files that are made, or that are examples of names.
 NOT_IN_THE_TREE = re.compile(r"^(?:crates/[\w*]+/out\b.*|release/?.*|/.*|\.git/.*|.*(?:NAME|MODULE|FILE)\b.*|.*\.toml|lines\.txt|lab\.db)$")
 
@@ -66,6 +66,11 @@ def read(path: str) -> str:
         return file.read()
 
 
+def is_shown(page: Page, number: int) -> bool:
+    """Whether an indented line is text that is shown as it is, and does not go on with an entry of a list."""
+    return number == 1 or not page.lines[number - 2].strip() or number - 1 in page.fenced
+
+
 def page_of(path: str) -> Page:
     """The page at a path."""
     page, inside, made = Page(path, read(path).split("\n")), False, False
@@ -77,7 +82,7 @@ def page_of(path: str) -> Page:
         if line.lstrip().startswith("```"):
             inside = not inside
             page.fenced.add(number)
-        elif inside or (line.startswith("    ") and not line.lstrip().startswith(("-", "*", "|"))):
+        elif inside or is_shown(page, number) and line.startswith("    ") and not line.lstrip().startswith(("-", "*", "|")):
             page.fenced.add(number)
     return page
 

@@ -189,7 +189,8 @@ def cites(found: list[File]) -> Iterator[Breach]:
 
 
 RULES: dict[str, Callable[[list[File]], Iterable[Breach]]] = {
-    "files": long_files, "functions": long_functions, "nesting": nesting, "loops": loops, "width": width, "repeats": repeats, "phrases": phrases, "cites": cites,
+    "files": long_files, "functions": long_functions, "nesting": nesting, "loops": loops,
+    "width": width, "repeats": repeats, "phrases": phrases, "cites": cites,
 }
 
 

@@ -12,11 +12,22 @@ import textwrap
 TOP = os.path.realpath(os.path.join(os.path.dirname(os.path.abspath(__file__)), ".."))
 sys.path.insert(0, os.path.join(TOP, "clients"))
 
-from mserve_client import causes, codes, grammar, keys, language, reference, routine_files, walk, wire  # noqa: E402
+from mserve_client import causes, checking, codes, grammar, keys, language, mtext, reference, routine_files, walk, wire  # noqa: E402
 
 MADE = os.path.join(TOP, "front", "page", "codes.js")
 HEAD = ("// SPDX-License-Identifier: Apache-2.0\n"
         "// Made by tools/page_words.py from clients/mserve_client: change it there, and run `python3 tools/page_words.py --write`.\n")
+
+
+PATTERNS = {"name": keys.NAME, "number": keys.NUMBER, "reference": mtext.REFERENCE, "line": routine_files.HEAD, "tab": routine_files.TAB,
+            "string": language.STRING, "over": language.OVER_PLACE, "command": language.HEAD}
+FAULTS = {"over": checking.OVER_127, "label": checking.LONG_LABEL, "parameters": checking.PARAMETERS, "begin": checking.NO_BEGIN,
+          "line": checking.LONG_LINE, "cut": checking.CUT}
+
+
+def pattern_of(pattern: re.Pattern[str]) -> str:
+    """A regular expression as JavaScript has it, where a point is never a line end."""
+    return pattern.pattern.replace(".*", "[^]*") if pattern.flags & re.DOTALL else pattern.pattern
 
 
 def exported() -> dict[str, tuple[str, object]]:
@@ -41,6 +52,14 @@ def exported() -> dict[str, tuple[str, object]]:
         "MOST_SUBSCRIPTS": ("How many subscripts a node has at most.", keys.MAX_SUBSCRIPTS),
         "DIGITS": ("How many significant digits a number has at most, and how many places after its point.", keys.MAX_DIGITS),
         "BATCH": ("How many children of a node one line asks for.", walk.BATCH),
+        "LONGEST_NAME": ("How many characters a name of a variable, a label or a routine has at most.", keys.MAX_NAME),
+        "GUARD": ("What a line is sent after to be read and not run.", checking.GUARD),
+        "ROUTINE": ("The global that has the account's routines.", walk.ROUTINE),
+        "LOCAL": ("How a local begins that holds what is too long for a line.", walk.LOCAL),
+        "ROOM": ("The room that a reference may take in a line.", walk.ROOM),
+        "LONGEST_START": ("The longest subscript, as a line has it, that a walk goes on after.", walk.LONGEST_START),
+        "PATTERNS": ("Parts of texts, as regular expressions.", {name: pattern_of(pattern) for name, pattern in PATTERNS.items()}),
+        "FAULTS": ("What is wrong before the first command of a line, with its parts in the braces.", FAULTS),
         "FILE_ENDING": ("What the name of a routine's file ends in.", routine_files.SUFFIX),
     }
 

@@ -24,6 +24,13 @@ from .wire import LONGEST_LINE, ClientError, Connected
 GUARD = "Q  "
 LONGEST_REST = keys.MAX_TEXT - len(GUARD)
 _TIMEOUT = re.compile(r".*:(.*)", re.DOTALL)
+# What is wrong before the first command of a line, with its parts in the braces.
+OVER_127 = "the character {} is over 127: values and lines are ASCII, comments too"
+LONG_LABEL = "the label {} has {} characters"
+PARAMETERS = "the label {} has parameters"
+NO_BEGIN = "the line begins with {}"
+LONG_LINE = "the line has {} characters, too many to check"
+CUT = "Cut it in two: {} after label and dots can be checked."
 WAITS = "In M this waits until the lock is free; here the line ends with ZLOCKED at once: write L +A:0 E  .., and send the line again."
 NO_WAIT = "In M this waits so many seconds; here the timeout plays no part, and $TEST says at once whether the lock was taken."
 
@@ -124,19 +131,18 @@ def _long_answer(connection: Connected, rest: str) -> str | None:
 def _of_form(line: SourceLine) -> Finding | None:
     """What is wrong with a line before its first command, or with its characters."""
     if (over := language.OVER_PLACE.search(line.text)) is not None:
-        return Finding(0, over.start() + 1, f"the character {over[0]!r} is over 127: values and lines are ASCII, comments too", language.OVER.advice,
+        return Finding(0, over.start() + 1, OVER_127.format(repr(over[0])), language.OVER.advice,
                        cause=language.OVER.name)
-    if len(line.label) > 31:
-        return Finding(0, 1, f"the label {line.label} has {len(line.label)} characters", language.NO_LABEL, cause="a label of more than 31 characters")
+    if len(line.label) > keys.MAX_NAME:
+        return Finding(0, 1, LONG_LABEL.format(line.label, len(line.label)), language.NO_LABEL, cause=f"a label of more than {keys.MAX_NAME} characters")
     if line.label and not line.level and line.rest.startswith("("):
-        return Finding(0, len(line.label) + 1, f"the label {line.label} has parameters", language.LABEL_PARAMETERS,
+        return Finding(0, len(line.label) + 1, PARAMETERS.format(line.label), language.LABEL_PARAMETERS,
                        cause="a label with parameters")
     if not line.level and line.rest and not line.rest.startswith(";"):
-        return Finding(0, len(line.label) + 1, f"the line begins with {(line.label + line.rest)[:20]!r}", language.NO_LABEL,
+        return Finding(0, len(line.label) + 1, NO_BEGIN.format(repr((line.label + line.rest)[:20])), language.NO_LABEL,
                        cause="what begins the line is no label")
     if len(line.rest) > LONGEST_REST:
-        return Finding(0, 1, f"the line has {len(line.text):,} characters, too many to check",
-                       f"Cut it in two: {LONGEST_REST:,} after label and dots can be checked.", cause="a line that is too long")
+        return Finding(0, 1, LONG_LINE.format(f"{len(line.text):,}"), CUT.format(f"{LONGEST_REST:,}"), cause="a line that is too long")
     return None
 
 

@@ -13,9 +13,10 @@ MAX_SUBSCRIPTS = 15
 MAX_SUBSCRIPT = 255
 MAX_TEXT = 4095
 MAX_DIGITS = 18
+MAX_NAME = 31
 SCALE = 18
-_NUMBER = re.compile(r"(-?)(0|[1-9]\d*)?(?:\.(\d*[1-9]))?", re.ASCII)
-_NAME = re.compile(r"[A-Za-z%][A-Za-z0-9]{0,30}", re.ASCII)
+NUMBER = re.compile(r"(-?)(0|[1-9]\d*)?(?:\.(\d*[1-9]))?", re.ASCII)
+NAME = re.compile(r"[A-Za-z%%][A-Za-z0-9]{0,%d}" % (MAX_NAME - 1), re.ASCII)
 _ACCOUNT = re.compile(r"[A-Za-z0-9]{1,16}", re.ASCII)
 _RAISED = bytes((code + 1) % 256 for code in range(256))
 _LOWERED = bytes((code - 1) % 256 for code in range(256))
@@ -25,7 +26,7 @@ Subscripts = tuple[str, ...]
 
 def is_name(text: str) -> bool:
     """Whether the text is the name of a variable, a label or a routine."""
-    return _NAME.fullmatch(text) is not None
+    return NAME.fullmatch(text) is not None
 
 
 def is_account(text: str) -> bool:
@@ -36,7 +37,7 @@ def is_account(text: str) -> bool:
 @lru_cache(1 << 13)
 def units(text: str) -> int | None:
     """The number, in units of 10^-18, of which the text is the canonical text; None if it is no such text."""
-    found = _NUMBER.fullmatch(text)
+    found = NUMBER.fullmatch(text)
     if found is None or text in ("", "-", "-0"):
         return None
     sign, whole, fraction = found[1], found[2] or "", found[3] or ""

@@ -17,10 +17,10 @@ PROFILE, NEWEST = 0, max(LANGUAGES)
 NO_LABEL = "a label begins with a letter or %, and has at most 31 letters and digits; a line without one begins with a space"
 LABEL_PARAMETERS = "a label takes no parameters: the caller SETs the variables, and the line begins with LABEL and a space"
 OVER = Cause("a character over 127", "Values and lines are ASCII, comments too: write another character.", "")
-_STRING = re.compile(r'"(?:[^"]|"")*"?')
+STRING = re.compile(r'"(?:[^"]|"")*"?')
 OVER_PLACE = re.compile(r"[^\x00-\x7f]")
 # The word of a command with its condition, and the space after it.
-_HEAD = re.compile(r"[A-Za-z]+(?::\S+)? ")
+HEAD = re.compile(r"[A-Za-z]+(?::\S+)? ")
 
 
 @dataclass(frozen=True, slots=True)
@@ -78,7 +78,7 @@ def _reads(where: str, blank: str, outcome: Outcome, language: int) -> bool:
 
 def argument_place(blank: str, outcome: Outcome) -> int:
     """Where the first argument of the command stands that a fault is in; the command's own place if it has none."""
-    head = _HEAD.match(blank, outcome.command)
+    head = HEAD.match(blank, outcome.command)
     return head.end() if head else outcome.command
 
 
@@ -89,7 +89,7 @@ def _pattern(pattern: str) -> re.Pattern[str]:
 
 def blanked(text: str) -> str:
     """The text with what stands in its strings blanked out, and without its comment; places stay the same."""
-    text = _STRING.sub(lambda found: '"' + "." * (len(found[0]) - 2) + '"' if len(found[0]) > 1 else '"', text)
+    text = STRING.sub(lambda found: '"' + "." * (len(found[0]) - 2) + '"' if len(found[0]) > 1 else '"', text)
     return text.partition(";")[0]
 
 

@@ -11,7 +11,7 @@ from .wire import LONGEST_LINE
 
 _BARRED = re.compile(r"[\x00\n\r]")
 _CONTROLS = re.compile(r"[\x00-\x1f\x7f]+")
-_REFERENCE = re.compile(r"(?:\^(?:\|[^|]+\|)?)?[A-Za-z%][A-Za-z0-9]{0,30}(?:\((.*)\))?", re.ASCII | re.DOTALL)
+REFERENCE = re.compile(r"(?:\^(?:\|[^|]+\|)?)?[A-Za-z%][A-Za-z0-9]{0,30}(?:\((.*)\))?", re.ASCII | re.DOTALL)
 
 
 def quoted(text: str) -> str:
@@ -76,7 +76,7 @@ def reference(name: str, subscripts: keys.Subscripts = ()) -> str:
 
 def is_reference(text: str) -> bool:
     """Whether the text looks like a variable with a name, alone or with subscripts: a naked reference and `@` do not."""
-    return _REFERENCE.fullmatch(text) is not None
+    return REFERENCE.fullmatch(text) is not None
 
 
 def set_lines(target: str, text: str, longest: int = LONGEST_LINE) -> Iterator[str]:

@@ -11,9 +11,9 @@ from . import escape, keys
 from .wire import ClientError
 
 SUFFIX = ".m"
-_HEAD = re.compile(r"([A-Za-z%][A-Za-z0-9]*)?([ \t][ \t.]*)?(.*)", re.ASCII | re.DOTALL)
+HEAD = re.compile(r"([A-Za-z%][A-Za-z0-9]*)?([ \t][ \t.]*)?(.*)", re.ASCII | re.DOTALL)
 # A string or a comment, whose tabs are its own; or a tab, which M reads as a space.
-_TAB = re.compile(r'("(?:[^"]|"")*"?|;.*)|\t', re.DOTALL)
+TAB = re.compile(r'("(?:[^"]|"")*"?|;.*)|\t', re.DOTALL)
 
 
 class BadFile(ClientError):
@@ -49,10 +49,10 @@ class Source:
 
 def source_line(text: str) -> SourceLine:
     """A line of a file cut into its parts. Tabs become spaces, but for those of strings and comments."""
-    found = _HEAD.fullmatch(text)
+    found = HEAD.fullmatch(text)
     assert found is not None, "each part may be empty"
     label, level, rest = found.groups(default="")
-    return SourceLine(label, level.replace("\t", " "), _TAB.sub(lambda found: found[1] or " ", rest))
+    return SourceLine(label, level.replace("\t", " "), TAB.sub(lambda found: found[1] or " ", rest))
 
 
 def routine_name(path: str) -> str:

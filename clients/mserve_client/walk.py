@@ -28,6 +28,9 @@ GROUP = 50
 # How many children one line counts, a dozen steps each.
 COUNTED = 150
 ROUTINE = "^ROUTINE"
+# The room that a reference may take in a line, and the longest subscript, as a line has it, that a walk goes on after.
+ROOM = 100
+LONGEST_START = LONGEST_LINE - 200
 # What a line does with each child: writes its status, its subscript and its text; or a 1, and the subscript of the last one.
 READING = 'W $D({again})," ",{index},! W:$D({again})#10 {again},!'
 COUNTING = "W 1 W:{turn}={most} !,{index}"
@@ -96,7 +99,7 @@ class Walker:
     def nodes(self, start: keys.Subscripts = ()) -> Iterator[Node]:
         """The nodes at and below a place that have a text, in the order of the store: their subscripts, and the text."""
         with self._local_killed():
-            before, place = self._reference(start, 100)
+            before, place = self._reference(start, ROOM)
             for line in before:
                 asked(self._connection, line)
             reply = asked(self._connection, f"W $D({place}),! W:$D({place})#10 {place},!")
@@ -197,14 +200,14 @@ class Walker:
     def _lines(self, place: keys.Subscripts, after: str, what: str, most: int) -> list[str]:
         """The lines that go over children of a place, `most` of them; the last one does with each what is given."""
         is_global, index = self._name.startswith("^"), self._index
-        before, parent = self._reference(place, 100 if is_global else 25)
+        before, parent = self._reference(place, ROOM if is_global else 25)
         child = f"{parent[:-1]},{index})" if place else f"{parent}({index})"
         if before and not is_global:
             before.append(f"S {self._local}={quoted(parent)}")
             child = f"@{self._local}@({index})"
         again = f"^({index})" if is_global else child
         start = quoted(after)
-        if len(start) > LONGEST_LINE - 200:
+        if len(start) > LONGEST_START:
             before += set_lines(f"{self._free()}(0)", after)
             start = f"{self._local}(0)"
         return [*before, f"N {index},{self._turn} S {index}={start} F {self._turn}=1:1:{most} S {index}=$O({child}) Q:{index}=\"\"  "

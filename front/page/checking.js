@@ -4,17 +4,20 @@
  * A line's label and dots are taken off, and the rest is sent after `Q  `: the server reads it whole, and stops at the Q. A
  * rest that is too long for that is put together in a local variable that the session does not have, and run by XECUTE,
  * after `Q  ` too; then that local is killed. Each call wants a terminal that its caller has alone (`Terminal.alone`). */
-import { LABEL_PARAMETERS, LONGEST_LINE, LONGEST_TEXT, NEW_LINES, NO_LABEL, OVER } from "./codes.js";
+import { FAULTS, GUARD, LABEL_PARAMETERS, LONGEST_LINE, LONGEST_NAME, LONGEST_TEXT, NEW_LINES, NO_LABEL, OVER, PATTERNS } from "./codes.js";
 import { fault, inWords } from "./language.js";
 import { setLines } from "./mtext.js";
 import { textOf } from "./routines.js";
 import { Refused } from "./service.js";
 import { askedAll, withLocal } from "./walk.js";
 
-const GUARD = "Q  ";
 const LONGEST_REST = LONGEST_TEXT - GUARD.length;
-const LONGEST_LABEL = 31;
-const OVER_PLACE = /[^\x00-\x7f]/;
+const OVER_PLACE = new RegExp(PATTERNS.over);
+
+/** What is wrong, with its parts in place of the braces. */
+function filled(text, ...parts) {
+  return text.replaceAll("{}", () => parts.shift());
+}
 
 /** What is not in the language, line by line: `{line, column, message, advice}`, line and column from 1. */
 export async function check(terminal, lines) {
@@ -84,23 +87,20 @@ function faultOfForm(line) {
   const over = OVER_PLACE.exec(textOf(line));
   if (over) {
     const character = String.fromCodePoint(textOf(line).codePointAt(over.index));
-    return { column: over.index + 1, message: `the character '${character}' is over 127: values and lines are ASCII, comments too`, advice: OVER.advice };
+    return { column: over.index + 1, message: filled(FAULTS.over, `'${character}'`), advice: OVER.advice };
   }
-  if (label.length > LONGEST_LABEL) {
-    return { column: 1, message: `the label ${label} has ${label.length} characters`, advice: NO_LABEL };
+  if (label.length > LONGEST_NAME) {
+    return { column: 1, message: filled(FAULTS.label, label, label.length), advice: NO_LABEL };
   }
   if (label && !level && rest.startsWith("(")) {
-    return { column: label.length + 1, message: `the label ${label} has parameters`, advice: LABEL_PARAMETERS };
+    return { column: label.length + 1, message: filled(FAULTS.parameters, label), advice: LABEL_PARAMETERS };
   }
   if (!level && rest && !rest.startsWith(";")) {
-    return { column: label.length + 1, message: `the line begins with '${(label + rest).slice(0, 20)}'`, advice: NO_LABEL };
+    return { column: label.length + 1, message: filled(FAULTS.begin, `'${(label + rest).slice(0, 20)}'`), advice: NO_LABEL };
   }
   if (rest.length > LONGEST_REST) {
     const count = textOf(line).length.toLocaleString("en");
-    return {
-      column: 1, message: `the line has ${count} characters, too many to check`,
-      advice: `Cut it in two: ${LONGEST_REST.toLocaleString("en")} after label and dots can be checked.`,
-    };
+    return { column: 1, message: filled(FAULTS.line, count), advice: filled(FAULTS.cut, LONGEST_REST.toLocaleString("en")) };
   }
   return null;
 }

@@ -358,5 +358,45 @@ export const DIGITS = 18;
 /** How many children of a node one line asks for. */
 export const BATCH = 50;
 
+/** How many characters a name of a variable, a label or a routine has at most. */
+export const LONGEST_NAME = 31;
+
+/** What a line is sent after to be read and not run. */
+export const GUARD = "Q  ";
+
+/** The global that has the account's routines. */
+export const ROUTINE = "^ROUTINE";
+
+/** How a local begins that holds what is too long for a line. */
+export const LOCAL = "%m";
+
+/** The room that a reference may take in a line. */
+export const ROOM = 100;
+
+/** The longest subscript, as a line has it, that a walk goes on after. */
+export const LONGEST_START = 55;
+
+/** Parts of texts, as regular expressions. */
+export const PATTERNS = {
+  name: "[A-Za-z%][A-Za-z0-9]{0,30}",
+  number: "(-?)(0|[1-9]\\d*)?(?:\\.(\\d*[1-9]))?",
+  reference: "(?:\\^(?:\\|[^|]+\\|)?)?[A-Za-z%][A-Za-z0-9]{0,30}(?:\\(([^]*)\\))?",
+  line: "([A-Za-z%][A-Za-z0-9]*)?([ \\t][ \\t.]*)?([^]*)",
+  tab: "(\"(?:[^\"]|\"\")*\"?|;[^]*)|\\t",
+  string: "\"(?:[^\"]|\"\")*\"?",
+  over: "[^\\x00-\\x7f]",
+  command: "[A-Za-z]+(?::\\S+)? "
+};
+
+/** What is wrong before the first command of a line, with its parts in the braces. */
+export const FAULTS = {
+  over: "the character {} is over 127: values and lines are ASCII, comments too",
+  label: "the label {} has {} characters",
+  parameters: "the label {} has parameters",
+  begin: "the line begins with {}",
+  line: "the line has {} characters, too many to check",
+  cut: "Cut it in two: {} after label and dots can be checked."
+};
+
 /** What the name of a routine's file ends in. */
 export const FILE_ENDING = ".m";

@@ -6,8 +6,8 @@ import { confirmed } from "./dialog.js";
 import { byId, counted, make, setAttribute, tell } from "./dom.js";
 import { faultOfCharacters, faultOfSubscript, isName, isReference, namesIn, quoted, reference, setLines, unquoted, written } from "./mtext.js";
 import { Tree } from "./tree.js";
-import { ROUTINE, allChildren, asked, askedAll, children, nodeAt, placeOf, withLocal, withReference } from "./walk.js";
-import { LONGEST_TEXT, MOST_SUBSCRIPTS } from "./codes.js";
+import { allChildren, asked, askedAll, children, nodeAt, placeOf, withLocal, withReference } from "./walk.js";
+import { LONGEST_TEXT, MOST_SUBSCRIPTS, ROUTINE } from "./codes.js";
 
 // How many lines of routines are read for names before a user is asked.
 const MOST_LINES = 2000;

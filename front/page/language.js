@@ -3,12 +3,12 @@
  *
  * The server alone decides whether a line is in the language, which is that of the account: 0, the profile, or a later one. The grammars and the
  * causes are those of clients/mserve_client, which say how they are read (grammar.py, causes.py): here are the same few kinds of steps. */
-import { CAUSES, CODES, DEPTH, LATER_RULES, OVER, RULES } from "./codes.js";
+import { CAUSES, CODES, DEPTH, LATER_RULES, OVER, PATTERNS, RULES } from "./codes.js";
 
-const STRING = /"(?:[^"]|"")*"?/g;
-const OVER_PLACE = /[^\x00-\x7f]/;
+const STRING = new RegExp(PATTERNS.string, "g");
+const OVER_PLACE = new RegExp(PATTERNS.over);
 const END = "(?![\\s\\S])";
-const HEAD = /[A-Za-z]+(?::\S+)? /y;
+const HEAD = new RegExp(PATTERNS.command, "y");
 
 /** A code with what it means: `M6: undefined local variable`. */
 export function inWords(code) {

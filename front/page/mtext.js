@@ -3,11 +3,9 @@
  *
  * The rules are those of clients/mserve_client/mtext.py and keys.py, but that each control character is written by $C:
  * the front end refuses lines that have some of them. */
-import { DIGITS, LONGEST_LINE, LONGEST_SUBSCRIPT } from "./codes.js";
+import { DIGITS, LONGEST_LINE, LONGEST_SUBSCRIPT, PATTERNS } from "./codes.js";
 
-const NAME = /^[A-Za-z%][A-Za-z0-9]{0,30}$/;
-const NUMBER = /^(-?)(0|[1-9]\d*)?(?:\.(\d*[1-9]))?$/;
-const REFERENCE = /^(?:\^(?:\|[^|]+\|)?)?[A-Za-z%][A-Za-z0-9]{0,30}(?:\(([^]*)\))?$/;
+const [NAME, NUMBER, REFERENCE] = [PATTERNS.name, PATTERNS.number, PATTERNS.reference].map((pattern) => new RegExp(`^(?:${pattern})$`));
 const GLOBAL = /\^(?:\|[^|]*\|)?(%?[A-Za-z][A-Za-z0-9]*|%)/g;
 // The shortest room that has place for any one character, quoted.
 const LEAST_ROOM = 12;

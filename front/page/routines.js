@@ -2,15 +2,15 @@
 /** Routines in the account's global ^ROUTINE: read, replaced whole, and deleted, as clients/mserve_client/routines.py does.
  *
  * Each call wants a terminal that its caller has alone (`Terminal.alone`). */
-import { LONGEST_TEXT } from "./codes.js";
+import { LONGEST_TEXT, PATTERNS, ROUTINE } from "./codes.js";
 import { inWords } from "./language.js";
 import { isNumber, reference, setLines } from "./mtext.js";
 import { Trouble } from "./service.js";
-import { ROUTINE, asked, nodes } from "./walk.js";
+import { asked, nodes } from "./walk.js";
 
-const HEAD = /^([A-Za-z%][A-Za-z0-9]*)?([ \t][ \t.]*)?([^]*)$/;
+const HEAD = new RegExp(`^${PATTERNS.line}$`);
 /** A string or a comment, whose tabs are its own; or a tab, which M reads as a space. */
-const TAB = /("(?:[^"]|"")*"?|;[^]*)|\t/g;
+const TAB = new RegExp(PATTERNS.tab, "g");
 
 /** A routine that was not replaced; the text says at which line, and whether the old one is back. */
 export class LoadFailed extends Trouble {}

@@ -5,19 +5,12 @@
  * %t, which NEW hides. Subscripts that are too long for a line stand in a local that the session does not have, which is
  * killed afterwards. The session's naked indicator moves. Each call wants a terminal that its caller has alone
  * (`Terminal.alone`). */
-import { BATCH, LONGEST_LINE } from "./codes.js";
+import { BATCH, LOCAL, LONGEST_START, ROOM, ROUTINE } from "./codes.js";
 import { inWords } from "./language.js";
 import { argumentsOf, isName, quoted, reference, setLines } from "./mtext.js";
 import { Refused } from "./service.js";
 
-/** The global that has the account's routines. */
-export const ROUTINE = "^ROUTINE";
 const [INDEX, TURN] = ["%i", "%t"];
-// How a local begins that holds what is too long for a line.
-const LOCAL = "%m";
-// The room that a reference may take in a line, and the subscript that a walk goes on after.
-const ROOM = 100;
-const LONGEST_START = LONGEST_LINE - 200;
 
 /** The reply of a line that must not be answered by a code. */
 export async function asked(terminal, line) {

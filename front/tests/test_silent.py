@@ -22,7 +22,7 @@ from mserve_front.settings import JournalSettings
 from running import PROGRAM
 from standing_by import caught_up
 from test_replay import held
-from test_table import BACK, cluster, journal, own_cluster, two_fronts  # noqa: F401
+from test_table import BACK, cluster, goes_away_meanwhile, journal, own_cluster, two_fronts  # noqa: F401
 
 # Seconds within which users are told, however busy the machine is: half a minute for a reply that is held back, and what the machine takes.
 PATIENCE = 120.0
@@ -40,11 +40,7 @@ async def test_a_way_that_stays_open_while_its_database_is_gone(start, tmp_path:
         front, second = await asyncio.to_thread(two_fronts, start, {"database": await wire.begin()})
         async with front.person("ada") as ada, front.person("ben") as ben:
             assert await ada.told("S ^X=1 W ^X") == "1"
-            os.kill(front.child, signal.SIGSTOP)
-            await ben.send("S ^Y=1 W 7")
-            while cluster.does("SELECT max(next - answered) FROM mfront_journal WHERE sequence = (SELECT max(sequence) FROM mfront_journal)") != [(2,)]:
-                await asyncio.sleep(0.05)
-            await asyncio.to_thread(cluster.stop)
+            await goes_away_meanwhile(cluster, front, ben, "S ^Y=1 W 7")
             os.kill(front.child, signal.SIGCONT)
             async with asyncio.timeout(PATIENCE):
                 assert (await ada.line("S ^X=2"))["refused"] == "journal"

@@ -18,7 +18,7 @@ from pathlib import Path
 
 import pytest
 from database import Cluster, Wire
-from front import Front, Patience, Ran, in_loop, stopped, tool, until
+from front import Front, Patience, Person, Ran, in_loop, stopped, tool, until
 from journals import flushes
 from mserve_front.control import asked
 from mserve_front.history import History
@@ -245,6 +245,15 @@ async def waits_for_its_journal(second: Front, cluster: Cluster) -> None:
     assert await asyncio.to_thread(takes_over, second) == ""
 
 
+async def goes_away_meanwhile(cluster: Cluster, front: Front, person: Person, line: str) -> None:
+    """The server takes the line and is held up, and its reply comes when the database is away."""
+    os.kill(front.child, signal.SIGSTOP)
+    await person.send(line)
+    while cluster.does("SELECT max(next - answered) FROM mfront_journal WHERE sequence = (SELECT max(sequence) FROM mfront_journal)") != [(2,)]:
+        await asyncio.sleep(0.05)
+    await asyncio.to_thread(cluster.stop)
+
+
 @pytest.mark.long
 @in_loop()
 async def test_a_database_that_is_away_for_a_minute(start, tmp_path: Path) -> None:
@@ -253,12 +262,7 @@ async def test_a_database_that_is_away_for_a_minute(start, tmp_path: Path) -> No
         front, second = two_fronts(start, {"database": cluster.place})
         async with front.person("ada") as ada, front.person("ben") as ben:
             assert await ada.told("S ^X=1 W ^X") == "1"
-            # The server takes the line, and its reply comes when the database is away.
-            os.kill(front.child, signal.SIGSTOP)
-            await ben.send("S ^Y=$G(^Y)+1 W 7")
-            while cluster.does("SELECT max(next - answered) FROM mfront_journal WHERE sequence = (SELECT max(sequence) FROM mfront_journal)") != [(2,)]:
-                await asyncio.sleep(0.05)
-            await asyncio.to_thread(cluster.stop)
+            await goes_away_meanwhile(cluster, front, ben, "S ^Y=$G(^Y)+1 W 7")
             began = time.monotonic()
             os.kill(front.child, signal.SIGCONT)
             held_back = asyncio.create_task(ben.next())

@@ -35,6 +35,9 @@ export class Tabs {
       setAttribute(byId(`tab-${name}`), "tabindex", isChosen ? "0" : "-1");
     }
     byId("tab-terminal").hidden = BESIDE.matches;
+    // Beside the others it is no part that a tab shows.
+    setAttribute(byId("terminal"), "role", BESIDE.matches ? "region" : "tabpanel");
+    setAttribute(byId("terminal"), "aria-labelledby", BESIDE.matches ? "terminal-title" : "tab-terminal");
     this.#openings.get(visible)?.();
   }
 

@@ -88,6 +88,8 @@ export class Tree {
       above.hasMore = false;
       this.#collapse(parent);
       this.refresh(above);
+    } else if (parent) {
+      this.#count(parent.querySelector("[role=group]"));
     }
     if (next && this.#items.has(next)) {
       this.#focus(next);
@@ -112,6 +114,7 @@ export class Tree {
     element.append(group);
     try {
       await this.#more(element, group, item, "");
+      this.#count(group);
     } catch (error) {
       this.#collapse(element);
       throw error;
@@ -151,7 +154,18 @@ export class Tree {
     await this.#more(group.closest("[role=treeitem]"), group, item, after);
     this.#elements.delete(this.#items.get(element));
     element.remove();
+    this.#count(group);
     this.#focus(before.nextElementSibling);
+  }
+
+  /** Says of each item of a group which one it is, and of how many; -1 while there are more to load. */
+  #count(group) {
+    const elements = [...group.children];
+    const size = this.#items.get(elements.at(-1))?.isRest ? -1 : elements.length;
+    for (const [at, element] of elements.entries()) {
+      setAttribute(element, "aria-posinset", at + 1);
+      setAttribute(element, "aria-setsize", size);
+    }
   }
 
   #all() {

@@ -20,6 +20,7 @@ pub use Rattle.mspec.specs.TextFunctions.{find_of, follows, from_place, made, ma
 unfoldable pub use Rattle.mspec.specs.TextFunctions.{first_place, with_piece}
 pub use Rattle.mtext.specs.ClassSets.{is_in_set}
 pub use Rattle.mtext.specs.Cuts.{IsBehind, closed, delimiter_text}
+pub use Rattle.mtext.specs.declared.pattern.CopiesBefore.{CopiesBefore}
 pub use Rattle.mtext.specs.Endings.{IsBarred, IsEnding, IsOtherwise, NoneBegins, Repeats, copies_atom, members_atom}
 pub use Rattle.mtext.specs.Made.{Answers, translation, without}
-pub use Rattle.mtext.specs.PatternPlaces.{AreEnds, AreLed, IsBefore, IsCopiedTo, IsEnd, IsFewest, AreFirst, IsLed, IsNear, atom_of, code_of, codes_of, count_of, repeated_of}
+pub use Rattle.mtext.specs.PatternPlaces.{AreCopiesBefore, AreEnds, AreLed, IsBefore, IsCopied, IsCopiedTo, IsEnd, IsFewest, IsNumber, AreFirst, IsLed, IsNear, atom_of, code_of, codes_of, count_of, no_copies, repeated_of}

@@ -6,6 +6,7 @@ use Rattle.mspec.specs.Pattern as plain
 use Rattle.mspec.specs.Pattern.{IsPermitted, IsRepetition}
 use Rattle.mtext.specs.declared.pattern.PatternCode.{PatternCode}
 use Rattle.mtext.specs.declared.pattern.PatternCode.TheVariants as code
+use Rattle.mtext.specs.declared.pattern.CopiesBefore.{CopiesBefore}
 use Rattle.mtext.specs.declared.pattern.Count.{Count}
 use Rattle.mtext.specs.declared.pattern.Repeated.{Repeated}
 use Rattle.mtext.specs.declared.pattern.Repeated.TheVariants as repeated
@@ -68,8 +69,24 @@ abbrev pub IsCopiedTo : List ℕ → List ℕ → List Bool → ℕ → ℕ → 
 IsCopiedTo text string starts place number =
     (start : ℕ) × (start ≤ place) × (get_or starts start false ≡ true) × (slice_range text start place ≡ plain.copied number string)
 
--- the fewest such copies, of those that are at least `least`
-abbrev pub IsFewest : List ℕ → List ℕ → ℕ → List Bool → ℕ → Option ℕ → Type 0
-IsFewest text string least starts place None = (n : ℕ) → least ≤ n → IsCopiedTo text string starts place n → ⊥
-IsFewest text string least starts place (Some number) =
-    (least ≤ number) × IsCopiedTo text string starts place number × ((n : ℕ) → least ≤ n → IsCopiedTo text string starts place n → number ≤ n)
+-- `number` copies are right before the place
+abbrev pub IsCopied : List ℕ → List ℕ → ℕ → ℕ → Type 0
+IsCopied text string place number = (start : ℕ) × (start ≤ place) × (slice_range text start place ≡ plain.copied number string)
+
+-- that many copies, and no more, are right before the place
+pub record IsNumber (text string : List ℕ) (starts : List Bool) (place number : ℕ) : Type 0 where
+  pub stand : (n : ℕ) → n ≤ number → IsCopied text string place n
+  pub most : (n : ℕ) → IsCopiedTo text string starts place n → n ≤ number
+
+-- the fewest that are between one of the marked places and this one, of those that are at least `least`; it is above `number` if none are
+pub record IsFewest (text string : List ℕ) (least : ℕ) (starts : List Bool) (place number fewest : ℕ) : Type 0 where
+  pub near : fewest ≤ number + 1
+  pub serve : fewest ≤ number → (least ≤ fewest) × IsCopiedTo text string starts place fewest
+  pub each : (n : ℕ) → least ≤ n → IsCopiedTo text string starts place n → fewest ≤ n
+
+abbrev pub AreCopiesBefore : List ℕ → List ℕ → ℕ → List Bool → ℕ → CopiesBefore → Type 0
+AreCopiesBefore text string least starts place found =
+    IsNumber text string starts place found.number × IsFewest text string least starts place found.number found.fewest
+
+abbrev pub no_copies : CopiesBefore
+no_copies = record { number = 0; fewest = 0 }

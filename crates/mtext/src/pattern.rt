@@ -1,9 +1,9 @@
 // SPDX-License-Identifier: Apache-2.0
 // Pattern match.
 ghost use Rattle.std.specs.List.{list_any};
-ghost use Rattle.std.specs.Prelude.{◌≡◌, ◌||◌, ℕ, ◌+◌, ◌<◌, ◌≤◌, true, false, None, IfSome, IfOk, Decides, MatchOption, length, get_or};
+ghost use Rattle.std.specs.Prelude.{◌≡◌, ◌||◌, ℕ, ◌+◌, ◌<◌, ◌≤◌, true, false, None, IfSome, IfOk, Decides, length, get_or};
 ghost use Rattle.mspec.specs.Pattern.{IsAtMost, is_in, is_in_any, copies, members};
-ghost use Rattle.mtext.specs.PatternPlaces.{code_of, codes_of, count_of, repeated_of, IsNear, IsBefore, IsCopiedTo, IsFewest, AreEnds, AreFirst};
+ghost use Rattle.mtext.specs.PatternPlaces.{code_of, codes_of, count_of, repeated_of, IsNear, IsBefore, AreCopiesBefore, no_copies, AreEnds, AreFirst};
 
 use mnum::Bytes7;
 use std::alloc::{AllocError, Global};
@@ -50,6 +50,15 @@ pub struct Atom {
     pub repeated: Repeated,
 }
 
+// The copies of a string right before a place.
+#[derive(Clone, Copy, Drop)]
+struct CopiesBefore {
+    // how many there are
+    number: usize,
+    // the fewest of them that serve, and more than there are if none do
+    fewest: usize,
+}
+
 impl PatternCode {
     // Whether the byte is a character of the class.
     fn contains(self, byte: u8) -> bool
@@ -77,15 +86,14 @@ impl Count {
             Some(most) => number <= most,
         }
     }
+}
 
-    // Whether there is a number, and it is not above the greatest count.
-    fn has_at_most(self, number: Option<usize>) -> bool
-        ensures { MatchOption number (result ≡ false) (λ n. Decides result (IsAtMost self.most n)) }
+impl CopiesBefore {
+    // Whether any serve, and the fewest are not above the greatest count.
+    fn serve(self, count: Count) -> bool
+        ensures { Decides result ((self.fewest ≤ self.number) × IsAtMost count.most self.fewest) }
     {
-        match number {
-            None => false,
-            Some(number) => self.is_at_most(number),
-        }
+        self.fewest <= self.number && count.is_at_most(self.fewest)
     }
 }
 
@@ -142,47 +150,41 @@ fn stands_before(text: &[u8], string: &[u8], place: usize) -> bool
     place >= string.len() && &text[place - string.len()..place] == string
 }
 
-// Whether `number` copies of a string are between one of the starts and the place.
-fn has_copies(text: &[u8], string: &[u8], number: usize, starts: &[bool], place: usize) -> bool
-    requires size { length starts.now ≡ length text.now + 1 }
-    requires within { place ≤ length text.now }
-    ensures { Decides result (IsCopiedTo text.now string.now starts.now place number) }
-{
-    let mut start = place;
-    for _taken in 0..number {
-        if !stands_before(text, string, start) {
-            return false;
-        }
-        start -= string.len();
-    }
-    starts[start]
-}
-
-// The fewest copies, but at least `least`, between one of the starts and the place, found from those at the places before.
-fn fewest_copies(
+// How many copies of a string stand right before a place, and the fewest of those that serve: at least `least`, from one of the
+// starts. If none serve, that is more than there are. Both are found from those at the places before.
+fn copies_before(
     text: &[u8],
     string: &[u8],
     least: usize,
     starts: &[bool],
-    fewest: &[Option<usize>],
-) -> Option<usize>
+    known: &[CopiesBefore],
+) -> CopiesBefore
     requires some { 0 < length string.now }
     requires size { length starts.now ≡ length text.now + 1 }
-    requires within { length fewest.now ≤ length text.now }
-    requires before { (k : ℕ) → k < length fewest.now → IsFewest text.now string.now least starts.now k (get_or fewest.now k None) }
-    ensures { IsFewest text.now string.now least starts.now (length fewest.now) result }
+    requires within { length known.now ≤ length text.now }
+    requires before { (k : ℕ) → k < length known.now → AreCopiesBefore text.now string.now least starts.now k (get_or known.now k no_copies) }
+    ensures { AreCopiesBefore text.now string.now least starts.now (length known.now) result }
 {
-    let place = fewest.len();
-    if has_copies(text, string, least, starts, place) {
-        return Some(least);
+    let place = known.len();
+    let found = if stands_before(text, string, place) {
+        let last = known[place - string.len()];
+        CopiesBefore {
+            number: last.number + 1,
+            fewest: last.fewest + 1,
+        }
+    } else {
+        CopiesBefore {
+            number: 0,
+            fewest: 1,
+        }
+    };
+    if least <= found.number && starts[place - least * string.len()] {
+        return CopiesBefore {
+            number: found.number,
+            fewest: least,
+        };
     }
-    if !stands_before(text, string, place) {
-        return None;
-    }
-    match fewest[place - string.len()] {
-        None => None,
-        Some(number) => Some(number + 1),
-    }
+    found
 }
 
 // The places to which an atom of copies of a string leads, each found from the fewest copies that serve.
@@ -198,11 +200,11 @@ fn ends_of_copies(
     ensures { IfOk result (λ ends. AreEnds text.now (count_of count) (copies string.now) starts.now ends.items) }
 {
     let mut ends = Vec::with_capacity(alloc, starts.len())?;
-    let mut fewest = Vec::with_capacity(alloc, starts.len())?;
+    let mut known = Vec::with_capacity(alloc, starts.len())?;
     for _place in 0..starts.len() {
-        let number = fewest_copies(text, string, count.least, starts, fewest.as_slice());
-        ends.push(count.has_at_most(number))?;
-        fewest.push(number)?;
+        let found = copies_before(text, string, count.least, starts, known.as_slice());
+        ends.push(found.serve(count))?;
+        known.push(found)?;
     }
     Ok(ends)
 }
@@ -223,8 +225,7 @@ fn ends_of_nothing(alloc: Global, count: Count, starts: &[bool]) -> Result<Vec<b
 /// is a permitted number of characters of its classes or of copies of its string. A byte over 127 is in no class. If the
 /// greatest count is below the least, it leads nowhere.
 ///
-/// Time is at most the text's length times the atom's, and of copies of a string the square of the text's length. Memory is a
-/// few words for each place of the text.
+/// Time is at most the text's length times the atom's. Memory is a few words for each place of the text.
 ///
 /// # Errors
 ///
@@ -238,7 +239,7 @@ pub fn ends_of(
     requires { length starts.now ≡ length text.now + 1 }
     ensures { IfOk result (λ ends. AreEnds text.now (count_of atom.now.count) (repeated_of atom.now.repeated) starts.now ends.items) }
 {
-    // so no atom looks for copies that, together with those of the atoms before it, are longer than the text
+    // from nowhere it leads nowhere, which takes no look at the text
     if starts.iter().all(|mark| !*mark) {
         return Vec::from_slice(alloc, starts);
     }

@@ -30,14 +30,14 @@ record Refused : Type 0 where
   -- subscripts, functions of a variable and special variables
   no_variables : HaveNone (
       codes "W L()" ∷ codes "W L(1" ∷ codes "W L(1)(2)" ∷ codes "W $D(1)" ∷ codes "W $D(L,1)" ∷ codes "W $G(L,1,2)" ∷ codes "W $O()" ∷ codes "W $T(1)" ∷
-      codes "W $TE" ∷ codes "W $D" ∷ codes "W $Q" ∷ [])
+      codes "W $TE" ∷ codes "W $D" ∷ codes "W $QU" ∷ [])
   -- a `^` stands before a name, or before a bracket with some subscript; FOR, NEW and the brackets of KILL have plain names
   no_globals : HaveNone (
       codes "W ^" ∷ codes "W ^()" ∷ codes "W ^1" ∷ codes "W ^^X" ∷ codes "W ^ X" ∷ codes "W ^X()" ∷ codes "W ^(1" ∷ codes "W ^(1)(2)" ∷ codes "W 1^X" ∷
       codes "S ^=1" ∷ codes "K (^X)" ∷ codes "N ^X" ∷ codes "F ^X=1" ∷ codes "W $D(^)" ∷ [])
   -- one space after a command without arguments, and a postconditional where none may stand
   no_flow : HaveNone (
-      codes "Q W 1" ∷ codes "E W 1" ∷ codes "K  A" ∷ codes "I:1 1" ∷ codes "E:1" ∷ codes "F:1 I=1" ∷ codes "S: A=1" ∷ codes "Q 1" ∷ codes "E 1" ∷ [])
+      codes "Q W 1" ∷ codes "E W 1" ∷ codes "K  A" ∷ codes "I:1 1" ∷ codes "E:1" ∷ codes "F:1 I=1" ∷ codes "S: A=1" ∷ codes "E 1" ∷ [])
   -- arguments of KILL, NEW, IF and FOR
   no_arguments : HaveNone (
       codes "K ()" ∷ codes "K (A(1))" ∷ codes "K 1" ∷ codes "N A(1)" ∷ codes "N (A,)" ∷ codes "I 1," ∷ codes "F I=" ∷ codes "F I" ∷ codes "F I(1)=1" ∷

@@ -1,11 +1,11 @@
 -- SPDX-License-Identifier: Apache-2.0
 -- Languages on examples, as proved equations: which of them has a text, wherever in it the form stands that is not of all.
-use Rattle.mgrammar.proofs.GrammarWords.{◌≡◌, ℕ, List, [], ◌∷◌, Some, None, Bool, true, false, map, rules, codes, text, call, expr, exprs, no_exprs, tail, no_tails, reference, matches_indirect, matches_not_indirect, number, coded, formats, shown, set_argument, write_word}
+use Rattle.mgrammar.proofs.GrammarWords.{◌≡◌, ℕ, List, [], ◌∷◌, Some, None, Bool, true, false, map, rules, codes, text, call, expr, exprs, no_exprs, tail, no_tails, reference, matches_indirect, matches_not_indirect, extrinsic, at_label_in, actuals, name_actual, value_actual, no_actuals, number, coded, formats, shown, set_argument, write_word}
 use Rattle.std.specs.Prelude.{is_some}
 use Rattle.mgrammar.specs.Languages.{line_in, routine_line_in, ref_in, args_in}
 use Rattle.mgrammar.specs.IndirectTexts.{pattern_of}
 use Rattle.mgrammar.proofs.Computing.{reads_in}
-use Rattle.mgrammar.proofs.ShortTrees.{only, plain, named, of_one}
+use Rattle.mgrammar.proofs.ShortTrees.{only, plain, the_one, named, of_one}
 
 -- the tree of a text, by its first language and by later ones
 record IsRead : Type 0 where
@@ -26,9 +26,13 @@ AreOfOne has ts = (map (has 0) ts ≡ map (λ t. false) ts) × (map (has 1) ts �
 abbrev AreOfBoth : (ℕ → List ℕ → Bool) → List (List ℕ) → Type 0
 AreOfBoth has ts = (map (has 0) ts ≡ map (λ t. true) ts) × (map (has 1) ts ≡ map (λ t. true) ts)
 
--- those that neither has
+-- those that language 2 has, and language 1 has not
+abbrev AreOfTwo : (ℕ → List ℕ → Bool) → List (List ℕ) → Type 0
+AreOfTwo has ts = (map (has 1) ts ≡ map (λ t. false) ts) × (map (has 2) ts ≡ map (λ t. true) ts)
+
+-- those that none has
 abbrev AreOfNone : (ℕ → List ℕ → Bool) → List (List ℕ) → Type 0
-AreOfNone has ts = (map (has 0) ts ≡ map (λ t. false) ts) × (map (has 1) ts ≡ map (λ t. false) ts)
+AreOfNone has ts = (map (has 0) ts ≡ map (λ t. false) ts) × (map (has 2) ts ≡ map (λ t. false) ts)
 
 abbrev has_line : ℕ → List ℕ → Bool
 has_line n t = is_some (line_in n t)
@@ -46,6 +50,14 @@ has_args n t = is_some (args_in set_argument n t)
 record IsMatched : Type 0 where
   matched : line_in 1 (codes "W A?@B") ≡ Some (of_one write_word (codes "W") (shown (expr (plain (reference (named (codes "A")))) (tail (matches_indirect (reference (named (codes "B")))) no_tails)) ∷ []))
   not_matched : line_in 1 (codes "W A'?@B") ≡ Some (of_one write_word (codes "W") (shown (expr (plain (reference (named (codes "A")))) (tail (matches_not_indirect (reference (named (codes "B")))) no_tails)) ∷ []))
+
+-- and of a call
+record IsCalled : Type 0 where
+  called : line_in 2 (codes "W $$F^R(.A,1)") ≡ Some (of_one write_word (codes "W") (shown (only (extrinsic (at_label_in (codes "F") (codes "R")) (actuals (name_actual (codes "A")) (actuals (value_actual the_one) no_actuals)))) ∷ []))
+
+is_called : IsCalled
+unfolding reads_in
+is_called = search rules
 
 is_matched : IsMatched
 unfolding reads_in
@@ -73,6 +85,20 @@ record Languages : Type 0 where
   -- the seconds of HANG, by each of its words
   seconds : AreOfOne has_line (
       codes "H 5" ∷ codes "h A,.5" ∷ codes "HANG 5" ∷ codes "hang:A 1" ∷ codes "H:A 1 W 2" ∷ codes "H @A" ∷ codes "HANG @A,1" ∷ [])
+  -- the value of QUIT, one alone, which no text gives
+  values_of_quit : AreOfOne has_line (
+      codes "Q 1" ∷ codes "quit A_B W 1" ∷ codes "Q:A -1" ∷ codes "Q @A" ∷ codes "Q ^A(1)" ∷ codes "W $Q" ∷ codes "Q $quit" ∷ codes "Q (1)" ∷ [])
+  no_values_of_quit : AreOfNone has_line (codes "Q 1,2" ∷ codes "Q 1:A" ∷ codes "Q W 1" ∷ codes "Q ." ∷ codes "S $Q=1" ∷ codes "W $Q(1)" ∷ [])
+  -- actuals of DO, with a form in them or none
+  actuals_of_do : AreOfOne has_line (
+      codes "D A(1)" ∷ codes "D A()" ∷ codes "D A^R(.B,,C)" ∷ codes "D ^R(.@B):C" ∷ codes "D A($RE(1))" ∷ codes "D A,B(1)" ∷ codes "d A(1) W 1" ∷ [])
+  -- calls of functions, wherever a value stands, with actuals or without a list
+  calls : AreOfTwo has_line (
+      codes "W $$A" ∷ codes "W $$A()" ∷ codes "W $$A^R(1)" ∷ codes "W $$^R(.B,,C)" ∷ codes "S A=-$$A(1)+$$B" ∷ codes "W A($$B(1))" ∷ codes "D A($$B,.C)" ∷ codes "Q $$A($$A(1))" ∷
+      codes "I $$A" ∷ codes "W @$$A(1)" ∷ codes "W 1?@$$A" ∷ codes "S @A@($$B)=1" ∷ codes "D A:$$B(1)" ∷ codes "W $S($$A:$$B)" ∷ codes "W $L($$A)" ∷ [])
+  no_calls : AreOfNone has_line (
+      codes "W $$" ∷ codes "W $$1" ∷ codes "W $$$A" ∷ codes "W $$A^" ∷ codes "W $$A^R^S" ∷ codes "S $$A=1" ∷ codes "W $$A(1" ∷ codes "W $$A(1)(2)" ∷ codes "W $$A(.B(1))" ∷ codes "W $ $A" ∷
+      codes "W $$@A" ∷ codes "K $$A" ∷ codes "D $$A" ∷ [])
   -- a third value of $JUSTIFY
   values : AreOfOne has_line (codes "W $J(A,1,2)" ∷ codes "W $justify(A,1,2)" ∷ codes "W 1,$J(A,1,$J(B,1))" ∷ codes "I $L($J(A,1,2))" ∷ [])
   -- `**`
@@ -100,13 +126,13 @@ record Languages : Type 0 where
       codes "I $RE(A)" ∷ codes "F I=$RE(A)" ∷ codes "F I=1:$RE(A)" ∷ codes "F I=1:1:$RE(A)" ∷ codes "D A:$RE(A)" ∷ codes "G A:$RE(A)" ∷ codes "X $RE(A)" ∷
       codes "X A:$RE(A)" ∷ codes "L A($RE(A))" ∷ codes "L (A,B($RE(A)))" ∷ codes "L A:$RE(A)" ∷ codes "Q:$RE(A)" ∷ codes "S @$RE(A)" ∷
       codes "W 1 W 2,$RE(A) Q" ∷ [])
-  routine_lines : AreOfOne has_routine_line (codes "T W $RE(A)" ∷ codes " . . W $RE(A)" ∷ [])
+  routine_lines : AreOfOne has_routine_line (codes "T W $RE(A)" ∷ codes " . . W $RE(A)" ∷ codes "L(A) W 1" ∷ codes "L()" ∷ [])
   references : AreOfOne has_ref (codes "A($RE(A))" ∷ codes "@$RE(A)" ∷ [])
   argument_texts : AreOfOne has_args (codes "A=$RE(A)" ∷ codes "A=1,B=$RE(A)" ∷ [])
   -- in a string and in a comment it is no form
   all_the_same : AreOfBoth has_line (
       codes "W \"$RE(A)\"" ∷ codes "W 1 ;$RE(A)" ∷ codes "S RE=1,REVERSE=2" ∷ codes "W $J(A,1),$J($P(A,B,1,2),3)" ∷ codes "W !!,1#2,1*2,!" ∷
-      codes "S $P(A,1)=1,$P(A,1,2)=$E(A,1,2)" ∷ codes "W $T,$TEST" ∷ codes "H" ∷ codes "h:A  W 1" ∷ codes "HALT" ∷ codes "HALT:A" ∷ [])
+      codes "S $P(A,1)=1,$P(A,1,2)=$E(A,1,2)" ∷ codes "W $T,$TEST" ∷ codes "Q  W 1" ∷ codes "Q:A  W 1" ∷ codes "Q ;1" ∷ codes "H" ∷ codes "h:A  W 1" ∷ codes "HALT" ∷ codes "HALT:A" ∷ [])
   -- an operand is a primary, and one alone
   no_patterns : AreOfNone has_line (codes "W A?@" ∷ codes "W A?@+B" ∷ codes "W A?@B@(1)" ∷ codes "W A?@@B@" ∷ codes "W A?1N@B" ∷ codes "W A?@1N" ∷ [])
   -- of one value, by either of its words; a word before a bracket is a function's

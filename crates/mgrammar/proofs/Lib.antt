@@ -7,6 +7,7 @@ pub mod ReadingPatterns
 pub mod ReadingOperators
 pub mod ReadingTrees
 pub mod ReadingReferences
+pub mod ReadingActuals
 pub mod ReadingPrimaries
 pub mod ReadingExprs
 pub mod ReadingTargets
@@ -29,3 +30,4 @@ pub mod LockExamples
 pub mod ReadingLanguages
 pub mod LanguageExamples
 pub mod AlternationExamples
+pub mod ProfileCalls

@@ -1,21 +1,22 @@
 -- SPDX-License-Identifier: Apache-2.0
 -- What is read of an argument of each form is spelled so, and what is spelled so is read. Those of SET stand in ReadingTargets.
-use Rattle.mgrammar.proofs.GrammarWords.{FormTree, Read, cond, ◌≡◌, ℕ, zero, suc, ◌<◌, Bool, true, false, eqb, List, [], ◌∷◌, ◌++◌, length, Option, Some, None, refl, ap, subst, ◌∙◌, append_assoc, arith, replicate, eqb-true, nat_tests, is_name_rest, AllAre, IsName, ExprTree, ReferenceTree, ParameterTree, once, onward, until, ArgTree, formats, coded, shown, kill_one, kill_others, new_one, new_others, tested, hang_for, loop, kill_argument, new_argument, if_argument, hang_argument, for_argument, write_argument, spell_expr, spell_reference, spell_list, spell_names, spell_parameter, spell_arg, max_depth, WellExpr, WellReference, WellList, WellParameter, WellPlain, ◌>>=◌, run_of, after_run, name_at, past, list_at, expr_at, readers_at, reference_with, write_argument_by, write_argument_at, names_at, kill_argument_at, new_argument_at, if_argument_at, hang_argument_at, limit_by, increment_by, parameter_at, for_argument_at, is_format, value_by, sym, append-nil}
+use Rattle.mgrammar.proofs.GrammarWords.{FormTree, Read, cond, ◌≡◌, ℕ, zero, suc, ◌<◌, Bool, true, false, eqb, List, [], ◌∷◌, ◌++◌, length, Option, Some, None, refl, ap, subst, ◌∙◌, append_assoc, arith, replicate, eqb-true, nat_tests, is_name_rest, AllAre, IsName, ExprTree, ReferenceTree, ParameterTree, once, onward, until, ArgTree, formats, coded, shown, kill_one, kill_others, new_one, new_others, tested, hang_for, returned, loop, kill_argument, new_argument, if_argument, hang_argument, quit_argument, for_argument, write_argument, spell_expr, spell_reference, spell_list, spell_names, spell_parameter, spell_arg, max_depth, WellExpr, WellReference, WellList, WellParameter, WellPlain, ◌>>=◌, run_of, after_run, name_at, past, list_at, expr_at, readers_at, reference_with, write_argument_by, write_argument_at, names_at, kill_argument_at, new_argument_at, if_argument_at, hang_argument_at, quit_argument_at, limit_by, increment_by, parameter_at, for_argument_at, is_format, value_by, sym, append-nil}
 use Rattle.mgrammar.proofs.ReadingBasics.{IsRead, Takes, Again, Stops, Begins, Begins-stops, Begins-append, Begins-weaker, bind_some, some_is, run_parts, run_again, past_takes, not_past, name_takes, name_again, Stops-weaker}
+use Rattle.mgrammar.proofs.ReadingActuals.{is_caret}
 use Rattle.mgrammar.proofs.ReadingLists.{joined_by, listed_or_one, bracketed_again, is_comma, list_takes, list_again}
 use Rattle.mgrammar.proofs.ReadingReferences.{OperandEnds, Ends, begins_reference, name_begins_reference, reference_takes, reference_again, reference_begins}
 use Rattle.mgrammar.proofs.ReadingPrimaries.{reference_tests}
-use Rattle.mgrammar.proofs.ReadingExprs.{begins_operand, expr_begins, inner_takes, within_takes, below_takes, inner_again, within_again, below_again, expr_takes, expr_again, read_pattern_takes, read_pattern_again}
+use Rattle.mgrammar.proofs.ReadingExprs.{begins_operand, expr_begins, inner_takes, within_takes, below_takes, handed_takes, handed_again, inner_again, within_again, below_again, expr_takes, expr_again, read_pattern_takes, read_pattern_again}
 use Rattle.mgrammar.proofs.ReadingOperators.{is_operator, no_format, no_match}
 use Rattle.mgrammar.proofs.ReadingTargets.{variable_begins, is_equals}
 
 -- ---- short forms
 
 pub whole_takes : Takes spell_expr (WellExpr max_depth) (expr_at max_depth)
-whole_takes = expr_takes max_depth (readers_at max_depth) (inner_takes max_depth) (within_takes max_depth) (below_takes max_depth) (read_pattern_takes max_depth)
+whole_takes = expr_takes max_depth (readers_at max_depth) (inner_takes max_depth) (within_takes max_depth) (handed_takes max_depth) (below_takes max_depth) (read_pattern_takes max_depth)
 
 pub whole_again : Again spell_expr (WellExpr max_depth) Ends (expr_at max_depth)
-whole_again = expr_again max_depth (readers_at max_depth) (inner_again max_depth) (within_again max_depth) (below_again max_depth) (read_pattern_again max_depth)
+whole_again = expr_again max_depth (readers_at max_depth) (inner_again max_depth) (within_again max_depth) (handed_again max_depth) (below_again max_depth) (read_pattern_again max_depth)
 
 pub variable_takes : Takes spell_reference (WellReference max_depth) (reference_with (readers_at max_depth))
 variable_takes = reference_takes max_depth (readers_at max_depth) (inner_takes max_depth) (below_takes max_depth)
@@ -25,9 +26,6 @@ variable_again = reference_again max_depth (readers_at max_depth) (inner_again m
 
 abbrev pub is_colon : ℕ → Bool
 is_colon c = eqb c 58
-
-abbrev pub is_caret : ℕ → Bool
-is_caret c = eqb c 94
 
 -- ---- outputs
 
@@ -194,6 +192,17 @@ hang_argument_takes cs x e =
     let b = bind_some (expr_at max_depth cs) (λ y. Some (hang_for y.0, y.1)) x e in
     subst (IsRead spell_arg (WellPlain hang_argument) cs) (some_is (hang_for b.0.0, b.0.1) x b.2) (whole_takes cs b.0 b.1)
 
+pub quit_argument_takes : Takes spell_arg (WellPlain quit_argument) quit_argument_at
+unfolding quit_argument_at
+quit_argument_takes cs x e =
+    let b = bind_some (expr_at max_depth cs) (λ y. Some (returned y.0, y.1)) x e in
+    subst (IsRead spell_arg (WellPlain quit_argument) cs) (some_is (returned b.0.0, b.0.1) x b.2) (whole_takes cs b.0 b.1)
+
+pub quit_argument_again : Again spell_arg (WellPlain quit_argument) Ends quit_argument_at
+unfolding quit_argument_at
+quit_argument_again (returned e) rest w s = rw (whole_again e rest w s) refl
+quit_argument_again a rest w s = absurd w
+
 pub hang_argument_again : Again spell_arg (WellPlain hang_argument) Ends hang_argument_at
 unfolding hang_argument_at
 hang_argument_again (hang_for e) rest w s = rw (whole_again e rest w s) refl
@@ -302,6 +311,10 @@ new_argument_begins a w = absurd w
 pub if_argument_begins : (a : ArgTree) → WellPlain if_argument a → Begins begins_operand (spell_arg a)
 if_argument_begins (tested e) w = expr_begins max_depth e w
 if_argument_begins a w = absurd w
+
+pub quit_argument_begins : (a : ArgTree) → WellPlain quit_argument a → Begins begins_operand (spell_arg a)
+quit_argument_begins (returned e) w = expr_begins max_depth e w
+quit_argument_begins a w = absurd w
 
 pub hang_argument_begins : (a : ArgTree) → WellPlain hang_argument a → Begins begins_operand (spell_arg a)
 hang_argument_begins (hang_for e) w = expr_begins max_depth e w

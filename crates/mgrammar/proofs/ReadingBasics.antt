@@ -45,9 +45,9 @@ pub Begins-long : (p : ℕ → Bool) (cs : List ℕ) → Begins p cs → 0 < len
 Begins-long p [] b = absurd b
 Begins-long p (c ∷ cs) b = omega arith
 
--- a character that would go on with a number, a name, a variable, a string or a pattern
+-- a character that would go on with a number, a name, an entry, a variable, a string or a pattern
 abbrev pub goes_on : ℕ → Bool
-goes_on c = is_name_rest c || eqb c 34 || eqb c 46 || eqb c 40
+goes_on c = is_name_rest c || eqb c 34 || eqb c 46 || eqb c 40 || eqb c 94
 
 -- or with subscripts after an `@`
 abbrev pub goes_further : ℕ → Bool

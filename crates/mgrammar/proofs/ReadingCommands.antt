@@ -1,13 +1,13 @@
 -- SPDX-License-Identifier: Apache-2.0
 -- What is read as a command is spelled so, and what is spelled so is read.
-use Rattle.mgrammar.proofs.GrammarWords.{◌≡◌, ℕ, ◌≤◌, Bool, true, false, not, eqb, cond, List, [], ◌∷◌, ◌++◌, length, Option, Some, None, inl, inr, refl, sym, ap, subst, ◌∙◌, append_assoc, arith, drop, ◌||◌, eqb-true, and_parts, nat_tests, is_letter, is_name_rest, AllAre, ExprTree, expr, no_tails, operand, PrimaryTree, reference, indirect, no_exprs, ArgTree, formats, coded, shown, kill_one, tested, loop, executed, locked, hang_for, indirect_args, anew, lock_one, CommandTree, KeywordTree, for_word, FormTree, set_argument, kill_argument, new_argument, if_argument, for_argument, write_argument, do_argument, goto_argument, xecute_argument, lock_argument, hang_argument, no_argument, spell_expr, spell_arg, spell_args, spell_condition, spell_list, spell_more, spell_command, keyword_of, form_of, takes_args, takes_condition, max_depth, bare_arg, WellAll, WellList, WellExpr, WellBelow, WellOptional, WellPlain, WellArg, WellCondition, WellCommand, ◌>>=◌, run_of, after_run, past, list_at, kill_argument_at, new_argument_at, if_argument_at, write_argument_at, do_argument_at, goto_argument_at, xecute_argument_at, lock_argument_at, hang_argument_at, arg_at, has_args, args_at, postcondition_by, postcondition_at, command_by, command_at, is_format}
+use Rattle.mgrammar.proofs.GrammarWords.{◌≡◌, ℕ, ◌≤◌, Bool, true, false, not, eqb, cond, List, [], ◌∷◌, ◌++◌, length, Option, Some, None, inl, inr, refl, sym, ap, subst, ◌∙◌, append_assoc, arith, drop, ◌||◌, eqb-true, and_parts, nat_tests, is_letter, is_name_rest, AllAre, ExprTree, expr, no_tails, operand, PrimaryTree, reference, indirect, no_exprs, ArgTree, formats, coded, shown, kill_one, tested, loop, executed, locked, hang_for, returned, indirect_args, anew, lock_one, CommandTree, KeywordTree, for_word, FormTree, set_argument, kill_argument, new_argument, if_argument, for_argument, write_argument, do_argument, goto_argument, xecute_argument, lock_argument, hang_argument, quit_argument, no_argument, spell_expr, spell_arg, spell_args, spell_condition, spell_list, spell_more, spell_command, keyword_of, form_of, takes_args, takes_condition, max_depth, bare_arg, WellAll, WellList, WellExpr, WellBelow, WellOptional, WellPlain, WellArg, WellCondition, WellCommand, ◌>>=◌, run_of, after_run, past, list_at, kill_argument_at, new_argument_at, if_argument_at, write_argument_at, do_argument_at, goto_argument_at, xecute_argument_at, lock_argument_at, hang_argument_at, arg_at, has_args, args_at, postcondition_by, postcondition_at, command_by, command_at, is_format}
 use Rattle.mgrammar.proofs.ReadingBasics.{Takes, Again, Stops, Stops-weaker, Begins, Begins-append, Begins-weaker, goes_on, bind_some, chosen, some_is, run_parts, run_again, not_past}
 use Rattle.mgrammar.proofs.ReadingLists.{is_comma, one_again, list_takes, list_again}
 use Rattle.mgrammar.proofs.ReadingReferences.{Ends, operand_ends, name_or_open, bare_well}
 use Rattle.mgrammar.proofs.ReadingPrimaries.{not_on}
 use Rattle.mgrammar.proofs.ReadingExprs.{begins_operand, expr_begins}
 use Rattle.mgrammar.proofs.ReadingTargets.{set_argument_takes, set_argument_again, set_argument_begins}
-use Rattle.mgrammar.proofs.ReadingArguments.{is_colon, Follows, write_argument_takes, write_argument_again, kill_argument_takes, kill_argument_again, kill_argument_begins, new_argument_takes, new_argument_again, new_argument_begins, if_argument_takes, if_argument_again, if_argument_begins, hang_argument_takes, hang_argument_again, hang_argument_begins, for_argument_takes, for_argument_again, for_argument_begins}
+use Rattle.mgrammar.proofs.ReadingArguments.{is_colon, Follows, write_argument_takes, write_argument_again, kill_argument_takes, kill_argument_again, kill_argument_begins, new_argument_takes, new_argument_again, new_argument_begins, if_argument_takes, if_argument_again, if_argument_begins, hang_argument_takes, hang_argument_again, hang_argument_begins, quit_argument_takes, quit_argument_again, quit_argument_begins, for_argument_takes, for_argument_again, for_argument_begins}
 use Rattle.mgrammar.proofs.ReadingLocks.{lock_argument_takes, lock_argument_again, lock_argument_begins}
 use Rattle.mgrammar.proofs.ReadingIndirection.{plain_well, which, settled_takes, settled_again, operand_takes, operand_again, hiding_apart, entrance_apart, leap_apart}
 use Rattle.mgrammar.proofs.ReadingEntries.{condition_read, condition_spelled, do_argument_takes, do_argument_again, do_argument_begins, goto_argument_takes, goto_argument_again, goto_argument_begins, xecute_argument_takes, xecute_argument_again, xecute_argument_begins}
@@ -63,6 +63,16 @@ written_loop : (a : ArgTree) → WellArg for_argument a → WellPlain for_argume
 written_loop (loop index parameters) w = w.0
 written_loop (indirect_args f p) w = absurd (let no_text : false ≡ true = w.1 in cc)
 written_loop a w = absurd w.0
+
+-- nor does QUIT
+quit_argument_plain : (a : ArgTree) → WellPlain quit_argument a → bare_arg a ≡ None
+quit_argument_plain (returned e) w = refl
+quit_argument_plain a w = absurd w
+
+written_value : (a : ArgTree) → WellArg quit_argument a → WellPlain quit_argument a
+written_value (returned e) w = w.0
+written_value (indirect_args f p) w = absurd (let no_text : false ≡ true = w.1 in cc)
+written_value a w = absurd w.0
 
 no_nothing : (a : ArgTree) → WellArg no_argument a → ⊥
 no_nothing (indirect_args f p) w = let no_text : false ≡ true = w.1 in absurd cc
@@ -147,6 +157,11 @@ is_form hang_argument = record {
   takes = settled_takes hang_argument hang_argument_at refl hang_argument_takes;
   again = several_again hang_argument (settled_again hang_argument hang_argument_at (λ p. hang_for (bare p)) (λ p. refl) bare_expr_well (λ a rest w s. hang_argument_again a rest w s.0));
   begins = form_begins hang_argument (λ a w. as_arg a (hang_argument_begins a w));
+}
+is_form quit_argument = record {
+  takes = λ cs x e. let t = quit_argument_takes cs x e in (t.0, plain_well quit_argument x.0 t.1 (quit_argument_plain x.0 t.1));
+  again = several_again quit_argument (λ a rest w s. quit_argument_again a rest (written_value a w) s.0);
+  begins = form_begins quit_argument (λ a w. as_arg a (quit_argument_begins a w));
 }
 is_form no_argument = record {
   takes = λ cs x e. absurd cc;

@@ -1,12 +1,12 @@
 -- SPDX-License-Identifier: Apache-2.0
 -- What is read of an argument of DO, GOTO or XECUTE is spelled so, and what is spelled so is read.
-use Rattle.mgrammar.proofs.GrammarWords.{◌≡◌, ℕ, List, ◌∷◌, ◌++◌, Option, Some, None, refl, ap, subst, ◌∙◌, append_assoc, is_name_start, is_name_rest, IsName, ExprTree, EntryTree, at_label, at_label_in, at_routine, ArgTree, do_one, go_to, executed, do_argument, goto_argument, xecute_argument, spell_expr, spell_condition, spell_entry, spell_arg, max_depth, WellExpr, WellOptional, WellEntry, WellPlain, Read, ◌>>=◌, name_at, past, expr_at, postcondition_by, entry_by, entry_at, conditioned, do_argument_at, goto_argument_at, xecute_argument_at}
-use Rattle.mgrammar.specs.Reading.{label_by}
-use Rattle.mgrammar.proofs.ReadingBasics.{IsRead, Takes, Again, Stops, Stops-weaker, Begins, Begins-append, goes_on, bind_some, some_is, past_takes, not_past, name_takes, name_again}
-use Rattle.mgrammar.proofs.ReadingLists.{joined, joined_by}
-use Rattle.mgrammar.proofs.ReadingReferences.{Ends, operand_ends, name_or_open, named, name_in_front}
-use Rattle.mgrammar.proofs.ReadingExprs.{begins_operand, expr_begins}
-use Rattle.mgrammar.proofs.ReadingArguments.{whole_takes, whole_again, is_colon, is_caret, Follows, names_begin}
+use Rattle.mgrammar.proofs.GrammarWords.{◌≡◌, ℕ, List, ◌∷◌, ◌++◌, Option, Some, None, refl, ap, subst, ◌∙◌, append_assoc, ExprTree, EntryTree, at_label, at_label_in, at_routine, ArgTree, do_one, go_to, executed, do_argument, goto_argument, xecute_argument, spell_expr, spell_condition, spell_entry, spell_actuals, spell_called, spell_arg, max_depth, WellExpr, WellOptional, WellEntry, WellCalled, WellPlain, Read, ◌>>=◌, past, expr_at, postcondition_by, entry_at, doing_called, called_with, readers_at, conditioned, do_argument_at, goto_argument_at, xecute_argument_at}
+use Rattle.mgrammar.proofs.ReadingBasics.{IsRead, Takes, Again, Stops, Begins, Begins-append, goes_on, bind_some, some_is, past_takes, not_past}
+use Rattle.mgrammar.proofs.ReadingLists.{joined}
+use Rattle.mgrammar.proofs.ReadingReferences.{Ends, operand_ends}
+use Rattle.mgrammar.proofs.ReadingActuals.{EntryEnds, entry_ends, entry_takes, entry_again, called_takes, called_again}
+use Rattle.mgrammar.proofs.ReadingExprs.{begins_operand, expr_begins, handed_takes, handed_again}
+use Rattle.mgrammar.proofs.ReadingArguments.{whole_takes, whole_again, is_colon, Follows, names_begin}
 
 -- ---- postconditionals
 
@@ -40,51 +40,14 @@ module _ {A : Type 0} (spell : A → List ℕ) (P : A → Type 0) (read : List �
       → (read ((spell a ++ spell_condition c) ++ rest) >>= conditioned made) ≡ Some (made a c, rest)
   conditioned_again a c rest w s h = rw (append_assoc (spell a) (spell_condition c) rest, h, condition_spelled c rest w s.0 s.1) refl
 
--- ---- entries
+-- ---- what a postconditional goes on with
 
--- what may follow an entry
-abbrev EntryEnds : List ℕ → Type 0
-EntryEnds rest = Stops is_name_rest rest × Stops is_caret rest
+called_stops : (c : Option ExprTree) (rest : List ℕ) → Follows rest → Stops goes_on (spell_condition c ++ rest)
+called_stops None rest s = operand_ends rest s.0.0
+called_stops (Some e) rest s = refl
 
-label_takes : (cs label t : List ℕ) (o : Option (List ℕ)) (x : EntryTree × List ℕ) → cs ≡ label ++ t → IsName label → past 94 t ≡ o → label_by label t o ≡ Some x → IsRead spell_entry WellEntry cs x
-label_takes cs label t None x p w h e = subst (IsRead spell_entry WellEntry cs) {x = (at_label label, t)} (some_is (at_label label, t) x e) (p, w)
-label_takes cs label t (Some rest) x p w h e =
-    let n = bind_some (name_at rest) (λ n. Some (at_label_in label n.0, n.1)) x e in
-    let name = name_takes rest n.0 n.1 in
-    subst (IsRead spell_entry WellEntry cs) {x = (at_label_in label n.0.0, n.0.1)} (some_is (at_label_in label n.0.0, n.0.1) x n.2) (joined_by 94 cs label t rest n.0.0 n.0.1 p (past_takes 94 t rest h) name.0, (w, name.1))
-
-entry_takes_by : (cs : List ℕ) (o : Option (List ℕ)) (x : EntryTree × List ℕ) → past 94 cs ≡ o → entry_by cs o ≡ Some x → IsRead spell_entry WellEntry cs x
-entry_takes_by cs None x h e =
-    let n = bind_some (name_at cs) (λ n. label_by n.0 n.1 (past 94 n.1)) x e in
-    let name = name_takes cs n.0 n.1 in
-    label_takes cs n.0.0 n.0.1 (past 94 n.0.1) x name.0 name.1 refl n.2
-entry_takes_by cs (Some rest) x h e =
-    let n = bind_some (name_at rest) (λ n. Some (at_routine n.0, n.1)) x e in
-    let name = name_takes rest n.0 n.1 in
-    subst (IsRead spell_entry WellEntry cs) {x = (at_routine n.0.0, n.0.1)} (some_is (at_routine n.0.0, n.0.1) x n.2) (past_takes 94 cs rest h ∙ ap (λ (y : List ℕ). 94 ∷ y) name.0, name.1)
-
-entry_takes : Takes spell_entry WellEntry entry_at
-unfolding entry_at
-entry_takes cs x e = entry_takes_by cs (past 94 cs) x refl e
-
--- no `^` stands where a name begins
-before_name : (name rest : List ℕ) → IsName name → past 94 (name ++ rest) ≡ None
-before_name name rest w = (name_in_front (name ++ rest) (Begins-append is_name_start name rest (named name w))).0
-
-entry_again : Again spell_entry WellEntry EntryEnds entry_at
-unfolding entry_at
-entry_again (at_label label) rest w s = rw (before_name label rest w, name_again label rest w s.0, not_past 94 rest s.1) refl
-entry_again (at_label_in label routine) rest w s =
-    let t : List ℕ = routine ++ rest in
-    let one : entry_by (label ++ 94 ∷ t) (past 94 (label ++ 94 ∷ t)) ≡ Some (at_label_in label routine, rest) =
-    rw (before_name label (94 ∷ t) w.0, name_again label (94 ∷ t) w.0 refl, name_again routine rest w.1 s.0) refl in
-    ap (λ (y : List ℕ). entry_by y (past 94 y)) (append_assoc label (94 ∷ routine) rest) ∙ one
-entry_again (at_routine routine) rest w s = rw (name_again routine rest w s.0) refl
-
--- a postconditional goes on with no entry
 entry_stops : (c : Option ExprTree) (rest : List ℕ) → Follows rest → EntryEnds (spell_condition c ++ rest)
-entry_stops None rest s = (Stops-weaker goes_on is_name_rest rest (λ c h. (name_or_open c h).0) (operand_ends rest s.0.0), s.2)
-entry_stops (Some e) rest s = (refl, refl)
+entry_stops c rest s = entry_ends (spell_condition c ++ rest) (called_stops c rest s)
 
 expr_stops : (c : Option ExprTree) (rest : List ℕ) → Follows rest → Ends (spell_condition c ++ rest)
 expr_stops None rest s = s.0
@@ -95,11 +58,14 @@ expr_stops (Some e) rest s = (refl, refl)
 pub do_argument_takes : Takes spell_arg (WellPlain do_argument) do_argument_at
 unfolding do_argument_at
 do_argument_takes cs x e =
-    conditioned_takes spell_entry WellEntry entry_at do_one (IsRead spell_arg (WellPlain do_argument) cs) cs x entry_takes e (λ a c rest p w v. (p, (w, v)))
+    conditioned_takes spell_called (WellCalled max_depth) (called_with (readers_at max_depth)) doing_called (IsRead spell_arg (WellPlain do_argument) cs) cs x
+    (called_takes max_depth (readers_at max_depth) (handed_takes max_depth)) e (λ a c rest p w v. (p, (w, v)))
 
 pub do_argument_again : Again spell_arg (WellPlain do_argument) Follows do_argument_at
 unfolding do_argument_at
-do_argument_again (do_one a c) rest w s = conditioned_again spell_entry WellEntry entry_at do_one a c rest w.1 s (entry_again a (spell_condition c ++ rest) w.0 (entry_stops c rest s))
+do_argument_again (do_one a xs c) rest w s =
+    conditioned_again spell_called (WellCalled max_depth) (called_with (readers_at max_depth)) doing_called (a, xs) c rest w.1 s
+    (called_again max_depth (readers_at max_depth) (handed_again max_depth) (a, xs) (spell_condition c ++ rest) w.0 (called_stops c rest s))
 do_argument_again a rest w s = absurd w
 
 pub goto_argument_takes : Takes spell_arg (WellPlain goto_argument) goto_argument_at
@@ -131,7 +97,8 @@ entry_begins (at_label_in label routine) w = Begins-append begins_operand label 
 entry_begins (at_routine routine) w = refl
 
 pub do_argument_begins : (a : ArgTree) → WellPlain do_argument a → Begins begins_operand (spell_arg a)
-do_argument_begins (do_one a c) w = Begins-append begins_operand (spell_entry a) (spell_condition c) (entry_begins a w.0)
+do_argument_begins (do_one a xs c) w =
+    Begins-append begins_operand (spell_called (a, xs)) (spell_condition c) (Begins-append begins_operand (spell_entry a) (spell_actuals xs) (entry_begins a w.0.0))
 do_argument_begins a w = absurd w
 
 pub goto_argument_begins : (a : ArgTree) → WellPlain goto_argument a → Begins begins_operand (spell_arg a)

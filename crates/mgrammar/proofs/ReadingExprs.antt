@@ -1,13 +1,16 @@
 -- SPDX-License-Identifier: Apache-2.0
 -- What is read as an expression is spelled so, and what is spelled so is read.
-use Rattle.mgrammar.proofs.GrammarWords.{◌≡◌, ℕ, zero, suc, ◌<◌, ◌-◌, Bool, true, false, List, [], ◌∷◌, ◌++◌, length, Option, Some, None, refl, sym, ap, subst, ◌∙◌, append_assoc, arith, ◌||◌, nat_tests, append-nil, plus, BinaryTree, AtomTree, PrimaryTree, ExprTree, expr, TailTree, apply, matches, matches_not, raise, matches_indirect, matches_not_indirect, TailsTree, no_tails, tail, tails_of, OperandTree, operand, spell_signs, spell_binary, spell_atoms, spell_expr, spell_tails, spell_tail, spell_operand, spell_primary, spell_reference, bare_primary, WellExpr, WellTails, WellTail, WellOperand, WellPrimary, WellReference, WellBelow, WellList, WellAtom, eqb, ◌>>=◌, past, is_digit_or_point, matches_by, matches_not_by, many, pattern_at, signs_of, after_signs, OperatorTree, between, matching, matching_not, raising, operator_at, Readers, primary_with, operand_with, tail_by, tail_behind, tail_with, expr_with, readers_at, inner_at}
-use Rattle.mgrammar.proofs.ReadingBasics.{Stops, goes_on, IsRead, Takes, Again, Begins, Begins-stops, Begins-append, Begins-weaker, Begins-long, goes_further, bind_some, some_is, past_takes, not_past}
+use Rattle.std.specs.Prelude.{is_none}
+use Rattle.mgrammar.proofs.GrammarWords.{inl, inr, and_parts, eqb-true, ◌&&◌, is_digit, is_name_start, minus, negate, number, text, special, reference, bracket, call, select, refer, extrinsic, ActualTree, missing_actual, value_actual, name_actual, indirect_actual, spell_actual, WellActual, run_of, name_at, number_at, point_at, is_actual_end, is_reference_point, name_actual_by, actual_with, ◌≡◌, ℕ, zero, suc, ◌<◌, ◌-◌, Bool, true, false, List, [], ◌∷◌, ◌++◌, length, Option, Some, None, refl, sym, ap, subst, ◌∙◌, append_assoc, arith, ◌||◌, nat_tests, append-nil, plus, BinaryTree, AtomTree, PrimaryTree, ExprTree, expr, TailTree, apply, matches, matches_not, raise, matches_indirect, matches_not_indirect, TailsTree, no_tails, tail, tails_of, OperandTree, operand, spell_signs, spell_binary, spell_atoms, spell_expr, spell_tails, spell_tail, spell_operand, spell_primary, spell_reference, bare_primary, WellExpr, WellTails, WellTail, WellOperand, WellPrimary, WellReference, WellBelow, WellList, WellAtom, eqb, ◌>>=◌, past, is_digit_or_point, matches_by, matches_not_by, many, pattern_at, signs_of, after_signs, OperatorTree, between, matching, matching_not, raising, operator_at, Readers, primary_with, operand_with, tail_by, tail_behind, tail_with, expr_with, readers_at, inner_at}
+use Rattle.mgrammar.proofs.ReadingBasics.{IsRead, Takes, Again, Begins, Begins-stops, Begins-append, Begins-weaker, Begins-long, Stops, Stops-weaker, goes_on, goes_further, bind_some, chosen, some_is, past_takes, not_past, name_takes, name_again}
+use Rattle.mgrammar.proofs.ReadingNumbers.{number_again, goes_on_number}
+use Rattle.mgrammar.proofs.ReadingActuals.{ActualEnds, actual_ends, entry_ends}
 use Rattle.mgrammar.proofs.ReadingLists.{each, ItemTakes, many_takes, many_again, count_le, joined}
 use Rattle.mgrammar.proofs.ReadingPatterns.{pattern_at_takes, pattern_at_again, pattern_begins}
 use Rattle.mgrammar.proofs.ReadingOperators.{is_sign, signs_parts, signs_again, is_doubled, spell_operator, operator_takes, operator_again, is_operator, operator_begins, no_operator}
-use Rattle.mgrammar.proofs.ReadingTrees.{tails_list, tails_back, spell_tails-each, tails_well, list_well, WellInner}
-use Rattle.mgrammar.proofs.ReadingReferences.{OperandEnds, Ends, TakesFree, AgainFree, operand_ends, greedy_ends, WellWithin, reference_takes, reference_again}
-use Rattle.mgrammar.proofs.ReadingPrimaries.{begins_primary, primary_begins, primary_takes_free, primary_takes, primary_again_free, primary_again}
+use Rattle.mgrammar.proofs.ReadingTrees.{tails_list, tails_back, spell_tails-each, tails_well, list_well, WellInner, WellHanded}
+use Rattle.mgrammar.proofs.ReadingReferences.{OperandEnds, Ends, TakesFree, AgainFree, operand_ends, greedy_ends, WellWithin, named, name_in_front, begins_reference, reference_begins, reference_takes, reference_again}
+use Rattle.mgrammar.proofs.ReadingPrimaries.{not_on, begins_primary, primary_begins, primary_takes_free, primary_takes, primary_again_free, primary_again}
 
 -- ---- what is read is spelled so, below some depth
 
@@ -15,12 +18,12 @@ use Rattle.mgrammar.proofs.ReadingPrimaries.{begins_primary, primary_begins, pri
 behind_parts : (o cs a b : List ℕ) → cs ≡ a ++ b → o ++ cs ≡ (o ++ a) ++ b
 behind_parts o cs a b p = rw (p, append_assoc) refl
 
-module _ (d : ℕ) (r : Readers) (inner_takes : Takes spell_expr (WellInner d) (r.inner)) (within_takes : Takes spell_reference (WellWithin d) (r.within)) (below_takes : TakesFree spell_primary (WellBelow d) bare_primary (r.below)) (pattern_takes : Takes spell_atoms (WellList (WellAtom d)) (r.pattern)) where
+module _ (d : ℕ) (r : Readers) (inner_takes : Takes spell_expr (WellInner d) (r.inner)) (within_takes : Takes spell_reference (WellWithin d) (r.within)) (handed_takes : Takes spell_actual (WellHanded d) (r.handed)) (below_takes : TakesFree spell_primary (WellBelow d) bare_primary (r.below)) (pattern_takes : Takes spell_atoms (WellList (WellAtom d)) (r.pattern)) where
   operand_takes : Takes spell_operand (WellOperand d) (operand_with r)
   unfolding operand_with
   operand_takes cs x e =
       let b = bind_some (primary_with r (after_signs cs)) (λ p. Some (operand (signs_of cs) p.0, p.1)) x e in
-      let p = primary_takes d r inner_takes within_takes below_takes (after_signs cs) b.0 b.1 in
+      let p = primary_takes d r inner_takes within_takes handed_takes below_takes (after_signs cs) b.0 b.1 in
       let s = signs_parts cs in
       subst (λ (y : OperandTree × List ℕ). (cs ≡ spell_operand y.0 ++ y.1) × WellOperand d y.0) (some_is (operand (signs_of cs) b.0.0, b.0.1) x b.2)
       (s ∙ ap (λ (y : List ℕ). spell_signs (signs_of cs) ++ y) p.0 ∙ sym (append_assoc (spell_signs (signs_of cs)) (spell_primary b.0.0) b.0.1), p.1)
@@ -82,6 +85,34 @@ module _ (d : ℕ) (r : Readers) (inner_takes : Takes spell_expr (WellInner d) (
       let parts : cs ≡ (spell_operand b.0.0 ++ spell_tails (tails_of k.0.0)) ++ k.0.1 = joined cs (spell_operand b.0.0) b.0.1 (each spell_tail k.0.0) k.0.1 (spell_tails (tails_of k.0.0)) o.0 s.0 (spell_tails-each k.0.0) in
       subst (λ (y : ExprTree × List ℕ). (cs ≡ spell_expr y.0 ++ y.1) × WellExpr d y.0) (some_is (expr b.0.0 (tails_of k.0.0), k.0.1) x k.2) (parts, (o.1, tails_well d k.0.0 s.1))
 
+  named_actual : (cs : List ℕ) (o : Option (List ℕ)) (x : ActualTree × List ℕ) → past 64 cs ≡ o → name_actual_by r cs o ≡ Some x → IsRead spell_actual (WellActual d) (46 ∷ cs) x
+  named_actual cs None x h e =
+      let n = bind_some (name_at cs) (λ n. Some (name_actual n.0, n.1)) x e in
+      let name = name_takes cs n.0 n.1 in
+      subst (IsRead spell_actual (WellActual d) (46 ∷ cs)) {x = (name_actual n.0.0, n.0.1)} (some_is (name_actual n.0.0, n.0.1) x n.2) (ap (λ (y : List ℕ). 46 ∷ y) name.0, name.1)
+  named_actual cs (Some behind) x h e =
+      let p = bind_some (r.below behind) (λ p. Some (indirect_actual p.0, p.1)) x e in
+      let operand = below_takes behind p.0 p.1 in
+      subst (IsRead spell_actual (WellActual d) (46 ∷ cs)) {x = (indirect_actual p.0.0, p.0.1)} (some_is (indirect_actual p.0.0, p.0.1) x p.2)
+      (ap (λ (y : List ℕ). 46 ∷ y) (past_takes 64 cs behind h ∙ ap (λ (y : List ℕ). 64 ∷ y) operand.0), operand.1)
+
+  pub actual_takes : Takes spell_actual (WellActual d) (actual_with r)
+  unfolding actual_with
+  actual_takes [] x e = absurd cc
+  actual_takes (c ∷ cs) x e =
+      elim (chosen (is_actual_end c) (Some (missing_actual, c ∷ cs)) _ (Some x) e) [
+        | inl p ↦ subst (IsRead spell_actual (WellActual d) (c ∷ cs)) {x = (missing_actual, c ∷ cs)} (some_is (missing_actual, c ∷ cs) x p.1) (refl, tt)
+        | inr p ↦ elim (chosen (is_reference_point c cs) (name_actual_by r cs (past 64 cs)) _ (Some x) p.1) [
+          | inl q ↦
+              let at : c ≡ 46 = eqb-true c 46 (and_parts (eqb c 46) (is_none (number_at (c ∷ cs))) q.0).0 in
+              let is : IsRead spell_actual (WellActual d) (46 ∷ cs) x = named_actual cs (past 64 cs) x refl q.1 in
+              (ap (λ (y : ℕ). y ∷ cs) at ∙ is.0, is.1)
+          | inr q ↦
+              let b = bind_some (expr_with r (c ∷ cs)) (λ y. Some (value_actual y.0, y.1)) x q.1 in
+              subst (IsRead spell_actual (WellActual d) (c ∷ cs)) {x = (value_actual b.0.0, b.0.1)} (some_is (value_actual b.0.0, b.0.1) x b.2) (expr_takes (c ∷ cs) b.0 b.1)
+        ]
+      ]
+
 -- what was read within brackets stands one place deeper
 deeper : {A : Type 0} (P : ℕ → A → Type 0) (d : ℕ) (a : A) → P d a → (0 < suc d) × P (suc d - 1) a
 deeper P d a w =
@@ -96,18 +127,20 @@ inside P d a w = let same : suc d - 1 ≡ d = omega arith in subst (λ (n : ℕ)
 record Taken (d : ℕ) : Type 0 where
   inner : Takes spell_expr (WellInner d) (inner_at d)
   within : Takes spell_reference (WellWithin d) ((readers_at d).within)
+  handed : Takes spell_actual (WellHanded d) ((readers_at d).handed)
   below : TakesFree spell_primary (WellBelow d) bare_primary ((readers_at d).below)
   pattern : Takes spell_atoms (WellList (WellAtom d)) ((readers_at d).pattern)
 
 all_taken : (d : ℕ) → Taken d
 unfolding readers_at
-all_taken zero = record { inner = λ cs x e. absurd cc; within = λ cs x e. absurd cc; below = λ cs x e. absurd cc; pattern = pattern_at_takes zero }
+all_taken zero = record { inner = λ cs x e. absurd cc; within = λ cs x e. absurd cc; handed = λ cs x e. absurd cc; below = λ cs x e. absurd cc; pattern = pattern_at_takes zero }
 all_taken (suc d) =
     let below = all_taken d in
     record {
-      inner = λ cs x e. let t = expr_takes d (readers_at d) (below.inner) (below.within) (below.below) (below.pattern) cs x e in (t.0, deeper WellExpr d x.0 t.1);
+      inner = λ cs x e. let t = expr_takes d (readers_at d) (below.inner) (below.within) (below.handed) (below.below) (below.pattern) cs x e in (t.0, deeper WellExpr d x.0 t.1);
       within = λ cs x e. let t = reference_takes d (readers_at d) (below.inner) (below.below) cs x e in (t.0, deeper WellReference d x.0 t.1);
-      below = λ cs x e. let t = primary_takes_free d (readers_at d) (below.inner) (below.within) (below.below) cs x e in (t.0, deeper WellPrimary d x.0 t.1, t.2);
+      handed = λ cs x e. let t = actual_takes d (readers_at d) (below.inner) (below.within) (below.handed) (below.below) (below.pattern) cs x e in (t.0, deeper WellActual d x.0 t.1);
+      below = λ cs x e. let t = primary_takes_free d (readers_at d) (below.inner) (below.within) (below.handed) (below.below) cs x e in (t.0, deeper WellPrimary d x.0 t.1, t.2);
       pattern = pattern_at_takes (suc d);
     }
 
@@ -116,6 +149,9 @@ inner_takes d = (all_taken d).inner
 
 pub within_takes : (d : ℕ) → Takes spell_reference (WellWithin d) ((readers_at d).within)
 within_takes d = (all_taken d).within
+
+pub handed_takes : (d : ℕ) → Takes spell_actual (WellHanded d) ((readers_at d).handed)
+handed_takes d = (all_taken d).handed
 
 pub below_takes : (d : ℕ) → TakesFree spell_primary (WellBelow d) bare_primary ((readers_at d).below)
 below_takes d = (all_taken d).below
@@ -210,14 +246,68 @@ raise_operator : (cs : List ℕ) → operator_at (42 ∷ 42 ∷ cs) ≡ Some (ra
 unfolding operator_at
 raise_operator cs = refl
 
-module _ (d : ℕ) (r : Readers) (inner_again : Again spell_expr (WellInner d) Ends (r.inner)) (within_again : Again spell_reference (WellWithin d) OperandEnds (r.within)) (below_again : AgainFree spell_primary (WellBelow d) bare_primary (r.below)) (pattern_again : Again spell_atoms (WellList (WellAtom d)) (Stops goes_on) (r.pattern)) where
+-- ---- where an actual begins
+
+-- no point stands here that begins no number
+abbrev NoPoint : List ℕ → Type 0
+NoPoint [] = Unit {0}
+NoPoint (c ∷ cs) = is_reference_point c cs ≡ false
+
+other_begins : (p : ℕ → Bool) (cs : List ℕ) → ((c : ℕ) → p c ≡ true → eqb c 46 ≡ false) → Begins p cs → NoPoint cs
+other_begins p [] f b = tt
+other_begins p (c ∷ cs) f b = rw (f c b) refl
+
+never : (b : Bool) → b && false ≡ false
+never true = refl
+never false = refl
+
+number_ahead : (cs : List ℕ) (x : List ℕ × List ℕ) → number_at cs ≡ Some x → NoPoint cs
+number_ahead [] x e = tt
+number_ahead (c ∷ cs) x e = rw e (never (eqb c 46))
+
+reference_no_point : (c : ℕ) → begins_reference c ≡ true → eqb c 46 ≡ false
+reference_no_point c h = grind (arith, nat_tests)
+
+operand_no_end : (c : ℕ) → begins_operand c ≡ true → is_actual_end c ≡ false
+operand_no_end c h = grind (arith, nat_tests)
+
+start_no_digit : (c : ℕ) → is_name_start c ≡ true → is_digit c ≡ false
+start_no_digit c h = grind (arith, nat_tests)
+
+no_run : (cs : List ℕ) → Stops is_digit cs → run_of is_digit cs ≡ []
+no_run [] s = refl
+no_run (c ∷ cs) s = rw s refl
+
+no_number : (cs : List ℕ) → Stops is_digit cs → number_at (46 ∷ cs) ≡ None
+unfolding number_at point_at
+no_number cs s = rw (no_run cs s) refl
+
+missing_step : (r : Readers) (rest : List ℕ) → Begins is_actual_end rest → actual_with r rest ≡ Some (missing_actual, rest)
+unfolding actual_with
+missing_step r [] b = absurd b
+missing_step r (c ∷ cs) b = rw b refl
+
+value_step : (r : Readers) (cs : List ℕ) (e : ExprTree) (rest : List ℕ) → Begins begins_operand cs → NoPoint cs → expr_with r cs ≡ Some (e, rest) → actual_with r cs ≡ Some (value_actual e, rest)
+unfolding actual_with
+value_step r [] e rest b n h = absurd b
+value_step r (c ∷ cs) e rest b n h = rw (operand_no_end c b, n, h) refl
+
+name_step : (r : Readers) (cs name rest : List ℕ) → Stops is_digit cs → past 64 cs ≡ None → name_at cs ≡ Some (name, rest) → actual_with r (46 ∷ cs) ≡ Some (name_actual name, rest)
+unfolding actual_with
+name_step r cs name rest s p h = rw (no_number cs s, p, h) refl
+
+operand_step : (r : Readers) (cs : List ℕ) (p : PrimaryTree) (rest : List ℕ) → r.below cs ≡ Some (p, rest) → actual_with r (46 ∷ 64 ∷ cs) ≡ Some (indirect_actual p, rest)
+unfolding actual_with
+operand_step r cs p rest h = rw (no_number (64 ∷ cs) refl, h) refl
+
+module _ (d : ℕ) (r : Readers) (inner_again : Again spell_expr (WellInner d) Ends (r.inner)) (within_again : Again spell_reference (WellWithin d) OperandEnds (r.within)) (handed_again : Again spell_actual (WellHanded d) ActualEnds (r.handed)) (below_again : AgainFree spell_primary (WellBelow d) bare_primary (r.below)) (pattern_again : Again spell_atoms (WellList (WellAtom d)) (Stops goes_on) (r.pattern)) where
   operand_again : Again spell_operand (WellOperand d) OperandEnds (operand_with r)
   unfolding operand_with
   operand_again (operand signs p) rest w s =
       let no_sign = Begins-stops begins_primary is_sign (spell_primary p ++ rest) (λ c h. (primary_tests c h).0) (Begins-append begins_primary (spell_primary p) rest (primary_begins d p w)) in
       let i = signs_again signs (spell_primary p ++ rest) no_sign in
       let parts : (spell_signs signs ++ spell_primary p) ++ rest ≡ spell_signs signs ++ (spell_primary p ++ rest) = append_assoc (spell_signs signs) (spell_primary p) rest in
-      ap (operand_with r) parts ∙ rw (i.0, i.1, primary_again d r inner_again within_again below_again p rest w s) refl
+      ap (operand_with r) parts ∙ rw (i.0, i.1, primary_again d r inner_again within_again handed_again below_again p rest w s) refl
 
   tail_again : (x : TailTree) (rest : List ℕ) → WellTail d x → OperandEnds rest → tail_with r (spell_tail x ++ rest) ≡ Some (Some (x, rest))
   tail_again (apply b o) rest w s =
@@ -261,9 +351,46 @@ module _ (d : ℕ) (r : Readers) (inner_again : Again spell_expr (WellInner d) E
       let parts : (spell_operand first ++ spell_tails tails) ++ rest ≡ spell_operand first ++ (spell_tails tails ++ rest) = append_assoc (spell_operand first) (spell_tails tails) rest in
       ap (expr_with r) parts ∙ rw (operand_again first (spell_tails tails ++ rest) w.0 (tails_stop tails rest f.0), tails_again tails rest w.1 f, tails_back tails) refl
 
+  -- no point that begins no number is where an expression begins
+  primary_no_point : (p : PrimaryTree) (more : List ℕ) → WellPrimary d p → OperandEnds more → NoPoint (spell_primary p ++ more)
+  primary_no_point (number t) more w s = number_ahead (t ++ more) (t, more) (number_again t more w (Stops-weaker goes_on goes_on_number more (λ c h. (not_on c h).0) (operand_ends more s)))
+  primary_no_point (text t) more w s = refl
+  primary_no_point (special word) more w s = refl
+  primary_no_point (reference v) more w s =
+      other_begins begins_reference (spell_reference v ++ more) reference_no_point (Begins-append begins_reference (spell_reference v) more (reference_begins d v w))
+  primary_no_point (bracket e) more w s = refl
+  primary_no_point (call word args) more w s = refl
+  primary_no_point (select word choices) more w s = refl
+  primary_no_point (refer word v xs) more w s = refl
+  primary_no_point (extrinsic e xs) more w s = refl
+
+  operand_no_point : (o : OperandTree) (more : List ℕ) → WellOperand d o → OperandEnds more → NoPoint (spell_operand o ++ more)
+  operand_no_point (operand [] p) more w s = primary_no_point p more w s
+  operand_no_point (operand (plus ∷ ss) p) more w s = refl
+  operand_no_point (operand (minus ∷ ss) p) more w s = refl
+  operand_no_point (operand (negate ∷ ss) p) more w s = refl
+
+  expr_no_point : (e : ExprTree) (rest : List ℕ) → WellExpr d e → Ends rest → NoPoint (spell_expr e ++ rest)
+  expr_no_point (expr first tails) rest w f =
+      subst NoPoint (sym (append_assoc (spell_operand first) (spell_tails tails) rest)) (operand_no_point first (spell_tails tails ++ rest) w.0 (tails_stop tails rest f.0))
+
+  pub actual_again : Again spell_actual (WellActual d) ActualEnds (actual_with r)
+  actual_again missing_actual rest w b = missing_step r rest b
+  actual_again (value_actual e) rest w b =
+      let ends = actual_ends rest b in
+      value_step r (spell_expr e ++ rest) e rest (Begins-append begins_operand (spell_expr e) rest (expr_begins d e w)) (expr_no_point e rest w ends) (expr_again e rest w ends)
+  actual_again (name_actual name) rest w b =
+      let front = Begins-append is_name_start name rest (named name w) in
+      let ends = entry_ends rest (operand_ends rest (actual_ends rest b).0) in
+      name_step r (name ++ rest) name rest (Begins-stops is_name_start is_digit (name ++ rest) start_no_digit front) ((name_in_front (name ++ rest) front).2) (name_again name rest w ends.0)
+  actual_again (indirect_actual p) rest w b =
+      let ends = (actual_ends rest b).0 in
+      operand_step r (spell_primary p ++ rest) p rest (below_again p rest w (operand_ends rest ends) (greedy_ends (bare_primary p) rest ends))
+
 record Spelled (d : ℕ) : Type 0 where
   inner : Again spell_expr (WellInner d) Ends (inner_at d)
   within : Again spell_reference (WellWithin d) OperandEnds ((readers_at d).within)
+  handed : Again spell_actual (WellHanded d) ActualEnds ((readers_at d).handed)
   below : AgainFree spell_primary (WellBelow d) bare_primary ((readers_at d).below)
   pattern : Again spell_atoms (WellList (WellAtom d)) (Stops goes_on) ((readers_at d).pattern)
 
@@ -272,15 +399,17 @@ unfolding readers_at
 all_spelled zero = record {
   inner = λ e rest w f. absurd (omega (arith, w.0));
   within = λ v rest w f. absurd (omega (arith, w.0));
+  handed = λ a rest w f. absurd (omega (arith, w.0));
   below = λ p rest w f g. absurd (omega (arith, w.0));
   pattern = pattern_at_again zero;
 }
 all_spelled (suc d) =
     let below = all_spelled d in
     record {
-      inner = λ e rest w f. expr_again d (readers_at d) (below.inner) (below.within) (below.below) (below.pattern) e rest (inside WellExpr d e w) f;
+      inner = λ e rest w f. expr_again d (readers_at d) (below.inner) (below.within) (below.handed) (below.below) (below.pattern) e rest (inside WellExpr d e w) f;
       within = λ v rest w f. reference_again d (readers_at d) (below.inner) (below.below) v rest (inside WellReference d v w) f;
-      below = λ p rest w f g. primary_again_free d (readers_at d) (below.inner) (below.within) (below.below) p rest (inside WellPrimary d p w) f g;
+      handed = λ a rest w f. actual_again d (readers_at d) (below.inner) (below.within) (below.handed) (below.below) (below.pattern) a rest (inside WellActual d a w) f;
+      below = λ p rest w f g. primary_again_free d (readers_at d) (below.inner) (below.within) (below.handed) (below.below) p rest (inside WellPrimary d p w) f g;
       pattern = pattern_at_again (suc d);
     }
 
@@ -289,6 +418,9 @@ inner_again d = (all_spelled d).inner
 
 pub within_again : (d : ℕ) → Again spell_reference (WellWithin d) OperandEnds ((readers_at d).within)
 within_again d = (all_spelled d).within
+
+pub handed_again : (d : ℕ) → Again spell_actual (WellHanded d) ActualEnds ((readers_at d).handed)
+handed_again d = (all_spelled d).handed
 
 pub below_again : (d : ℕ) → AgainFree spell_primary (WellBelow d) bare_primary ((readers_at d).below)
 below_again d = (all_spelled d).below

@@ -1,7 +1,7 @@
 -- SPDX-License-Identifier: Apache-2.0
 -- What is read of a whole text of indirection is spelled so, and what is spelled so is read.
-use Rattle.mgrammar.proofs.GrammarWords.{◌≡◌, ◌↔◌, ℕ, true, false, List, [], ◌∷◌, ◌++◌, length, Some, refl, sym, ap, subst, ◌∙◌, append-nil, ReferenceTree, ArgTree, AtomTree, FormTree, for_argument, may_be_indirect, spell_reference, spell_list, spell_arg, spell_atoms, max_depth, WellReference, WellList, WellArg, WellAtom, Read, ◌>>=◌, list_at, pattern_at, readers_at, reference_with, arg_at, whole_by, ref_at, args_of, pattern_of}
-use Rattle.mgrammar.proofs.ReadingBasics.{Takes, bind_some, some_is, unique, told}
+use Rattle.mgrammar.proofs.GrammarWords.{◌≡◌, ◌↔◌, ℕ, true, false, List, [], ◌∷◌, ◌++◌, length, Some, refl, sym, ap, subst, ◌∙◌, append-nil, ReferenceTree, ArgTree, AtomTree, FormTree, for_argument, may_be_indirect, spell_reference, spell_list, spell_arg, spell_atoms, max_depth, WellReference, WellList, WellArg, WellAtom, Read, ◌>>=◌, IsName, name_at, name_of, list_at, pattern_at, readers_at, reference_with, arg_at, whole_by, ref_at, args_of, pattern_of}
+use Rattle.mgrammar.proofs.ReadingBasics.{Takes, bind_some, some_is, unique, told, name_takes, name_again}
 use Rattle.mgrammar.proofs.ReadingLists.{list_takes}
 use Rattle.mgrammar.proofs.ReadingPatterns.{pattern_at_takes, pattern_at_again}
 use Rattle.mgrammar.proofs.ReadingArguments.{variable_takes, variable_again}
@@ -78,3 +78,16 @@ reads_its_pattern = told spell_atoms (WellList (WellAtom max_depth)) pattern_of 
 
 pub one_pattern : (s t : List AtomTree) → WellList (WellAtom max_depth) s → WellList (WellAtom max_depth) t → spell_atoms s ≡ spell_atoms t → s ≡ t
 one_pattern = unique spell_atoms (WellList (WellAtom max_depth)) pattern_of atoms_again
+
+-- ---- a name
+
+name_again_whole : (name : List ℕ) → IsName name → name_of name ≡ Some name
+unfolding name_of
+name_again_whole name w = whole_again (λ n. n) IsName name_at name (name_again name [] w tt)
+
+name_takes_whole : (cs name : List ℕ) → name_of cs ≡ Some name → (name ≡ cs) × IsName name
+unfolding name_of
+name_takes_whole cs name e = whole_takes (λ n. n) IsName name_at name_takes cs name e
+
+pub reads_its_name : (text name : List ℕ) → (name_of text ≡ Some name) ↔ ((name ≡ text) × IsName name)
+reads_its_name = told (λ n. n) IsName name_of name_again_whole name_takes_whole

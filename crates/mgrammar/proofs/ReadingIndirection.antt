@@ -1,6 +1,6 @@
 -- SPDX-License-Identifier: Apache-2.0
 -- What is read of argument indirection is spelled so, and what is spelled so is read.
-use Rattle.mgrammar.proofs.GrammarWords.{◌≡◌, ℕ, true, false, eqb, List, [], ◌∷◌, ◌++◌, Option, Some, None, ◌⊎◌, inl, inr, refl, sym, ap, subst, ◌∙◌, arith, nat_tests, append-nil, is_name_start, IsName, ExprTree, expr, no_tails, tail, operand, PrimaryTree, reference, EntryTree, at_label, at_label_in, at_routine, FormTree, set_argument, kill_argument, new_argument, if_argument, for_argument, write_argument, do_argument, goto_argument, xecute_argument, lock_argument, hang_argument, ArgTree, assign, formats, coded, shown, kill_one, kill_others, new_one, new_others, tested, loop, do_one, go_to, executed, locked, hang_for, indirect_args, anew, adding, giving_back, lock_one, lock_several, may_be_indirect, spell_expr, spell_reference, spell_primary, spell_entry, spell_condition, spell_arg, bare_primary, bare_expr, bare_arg, settled, max_depth, WellExpr, WellBelow, WellEntry, WellPlain, WellArg, Read, past, readers_at, settled_with, operand_by, operand_or}
+use Rattle.mgrammar.proofs.GrammarWords.{◌≡◌, ℕ, true, false, eqb, List, [], ◌∷◌, ◌++◌, Option, Some, None, ◌⊎◌, inl, inr, refl, sym, ap, subst, ◌∙◌, arith, nat_tests, append-nil, append_assoc, spell_actuals, is_name_start, IsName, ExprTree, expr, no_tails, tail, operand, PrimaryTree, reference, EntryTree, at_label, at_label_in, at_routine, FormTree, set_argument, kill_argument, new_argument, if_argument, for_argument, write_argument, do_argument, goto_argument, xecute_argument, lock_argument, hang_argument, quit_argument, ArgTree, assign, formats, coded, shown, kill_one, kill_others, new_one, new_others, tested, loop, do_one, go_to, executed, locked, hang_for, returned, indirect_args, anew, adding, giving_back, lock_one, lock_several, may_be_indirect, spell_expr, spell_reference, spell_primary, spell_entry, spell_condition, spell_arg, bare_primary, bare_expr, bare_arg, settled, max_depth, WellExpr, WellBelow, WellEntry, WellPlain, WellArg, Read, past, readers_at, settled_with, operand_by, operand_or}
 use Rattle.mgrammar.proofs.ReadingBasics.{Takes, Again, Stops, Begins-stops, Begins-append, bind_some, some_is, past_takes, not_past}
 use Rattle.mgrammar.proofs.ReadingReferences.{operand_ends, greedy_ends, named, bare_reference_is}
 use Rattle.mgrammar.proofs.ReadingExprs.{below_takes, below_again}
@@ -28,7 +28,7 @@ bare_arg_is for_argument (loop index parameters) p h w = absurd cc
 bare_arg_is write_argument (formats run tab) p h w = absurd cc
 bare_arg_is write_argument (coded e) p h w = absurd cc
 bare_arg_is write_argument (shown e) p h w = bare_expr_is max_depth e p h w
-bare_arg_is do_argument (do_one e c) p h w = absurd cc
+bare_arg_is do_argument (do_one e xs c) p h w = absurd cc
 bare_arg_is goto_argument (go_to e c) p h w = absurd cc
 bare_arg_is xecute_argument (executed e None) p h w =
     let is = bare_expr_is max_depth e p h w.0 in
@@ -42,6 +42,7 @@ bare_arg_is lock_argument (locked anew (lock_several vs) t) p h w = absurd cc
 bare_arg_is lock_argument (locked adding names t) p h w = absurd cc
 bare_arg_is lock_argument (locked giving_back names t) p h w = absurd cc
 bare_arg_is hang_argument (hang_for e) p h w = bare_expr_is max_depth e p h w
+bare_arg_is quit_argument (returned e) p h w = absurd cc
 bare_arg_is f a p h w = absurd w
 
 -- ---- arguments that are written, and those that a text gives
@@ -142,7 +143,12 @@ hiding_apart (new_others names) w = record { bare = refl; stops = λ rest. refl 
 hiding_apart a w = absurd w
 
 pub entrance_apart : (a : ArgTree) → WellPlain do_argument a → IsApart a
-entrance_apart (do_one e c) w = record { bare = refl; stops = λ rest. entry_stops e (spell_condition c) rest w.0 }
+entrance_apart (do_one e xs c) w = record {
+  bare = refl;
+  stops = λ rest.
+      subst (λ (y : List ℕ). Stops (λ c. eqb c 64) (y ++ rest)) (sym (append_assoc (spell_entry e) (spell_actuals xs) (spell_condition c)))
+      (entry_stops e (spell_actuals xs ++ spell_condition c) rest w.0.0);
+}
 entrance_apart a w = absurd w
 
 pub leap_apart : (a : ArgTree) → WellPlain goto_argument a → IsApart a

@@ -1,11 +1,12 @@
 -- SPDX-License-Identifier: Apache-2.0
 -- What is read of a primary is spelled so, and what is spelled so is read.
-use Rattle.mgrammar.proofs.GrammarWords.{◌≡◌, ℕ, ◌<◌, Bool, true, false, cond, eqb, List, [], ◌∷◌, ◌++◌, length, Option, Some, None, inl, inr, refl, sym, ap, subst, ◌∙◌, append_assoc, arith, ◌||◌, eqb-true, nat_tests, is_letter, is_character, AllAre, ExprTree, PrimaryTree, number, text, special, reference, bracket, call, select, refer, ReferenceTree, ExprsTree, exprs_of, ChoicesTree, choices_of, quoted, spell_expr, spell_primary, spell_reference, spell_exprs, spell_more_exprs, spell_more, spell_choices, spell_list, SpecialTree, special_of, ValueFunctionTree, VariableFunctionTree, FunctionTree, of_values, of_variable, of_choices, function_of, takes, IsReferring, exprs_count, IsCall, bare_primary, WellPrimary, WellBelow, WellAll, WellList, ◌>>=◌, run_of, after_run, number_at, is_digit_or_point, text_from, past, many, after_comma, list_at, Readers, reference_with, bracket_with, choice_with, select_with, call_with, refer_with, function_by, special_by, dollar_by, dollar_with, primary_with, nat_le}
-use Rattle.mgrammar.proofs.ReadingBasics.{Takes, Again, Stops, Stops-weaker, Begins, Begins-weaker, Begins-append, goes_on, bind_some, chosen, some_is, run_parts, run_again, past_takes, text_takes, text_again}
+use Rattle.mgrammar.proofs.GrammarWords.{◌≡◌, ℕ, ◌<◌, Bool, true, false, cond, eqb, List, [], ◌∷◌, ◌++◌, length, Option, Some, None, inl, inr, refl, sym, ap, subst, ◌∙◌, append_assoc, arith, ◌||◌, eqb-true, nat_tests, is_letter, is_character, AllAre, ExprTree, PrimaryTree, number, text, special, reference, bracket, call, select, refer, extrinsic, EntryTree, ActualsTree, spell_actual, spell_called, called_with, dollars_by, ReferenceTree, ExprsTree, exprs_of, ChoicesTree, choices_of, quoted, spell_expr, spell_primary, spell_reference, spell_exprs, spell_more_exprs, spell_more, spell_choices, spell_list, SpecialTree, special_of, ValueFunctionTree, VariableFunctionTree, FunctionTree, of_values, of_variable, of_choices, function_of, takes, IsReferring, exprs_count, IsCall, bare_primary, WellPrimary, WellBelow, WellAll, WellList, ◌>>=◌, run_of, after_run, number_at, is_digit_or_point, text_from, past, many, after_comma, list_at, Readers, reference_with, bracket_with, choice_with, select_with, call_with, refer_with, function_by, special_by, dollar_by, dollar_with, primary_with, nat_le}
+use Rattle.mgrammar.proofs.ReadingBasics.{Takes, Again, Stops, Stops-weaker, Begins, Begins-weaker, Begins-append, goes_on, bind_some, chosen, some_is, run_parts, run_again, past_takes, not_past, text_takes, text_again}
+use Rattle.mgrammar.proofs.ReadingActuals.{ActualEnds, called_takes, called_again}
 use Rattle.mgrammar.proofs.ReadingNumbers.{number_takes, number_again, number_begins, goes_on_number}
 use Rattle.mgrammar.proofs.ReadingLists.{each, joined_by, spell_more-each, many_takes, comma_takes, more_again, list_takes, list_again}
 use Rattle.mgrammar.proofs.ReadingReferences.{OperandEnds, Ends, Greedy, TakesFree, AgainFree, operand_ends, greedy_ends, WellWithin, is_open, begins_reference, reference_takes_free, reference_again_free, reference_begins}
-use Rattle.mgrammar.proofs.ReadingTrees.{WellInner, exprs_list, exprs_back, more_exprs-list, spell_exprs-list, count-length, exprs_well, exprs_inner, spell_choice, WellChoice, choices_list, choices_back, spell_choices-list, choices_well, choices_inner}
+use Rattle.mgrammar.proofs.ReadingTrees.{WellInner, exprs_list, exprs_back, more_exprs-list, spell_exprs-list, count-length, exprs_well, exprs_inner, spell_choice, WellChoice, choices_list, choices_back, spell_choices-list, choices_well, choices_inner, WellHanded}
 
 pub not_on : (c : ℕ) → goes_on c ≡ false → (goes_on_number c ≡ false) × (is_letter c ≡ false) × (eqb c 34 ≡ false) × (is_open c ≡ false)
 not_on c h = (grind (arith, nat_tests), grind (arith, nat_tests), grind (arith, nat_tests), grind (arith, nat_tests))
@@ -56,7 +57,7 @@ first_well : (d : ℕ) (es : List ExprTree) → WellList (WellInner d) es → (0
 first_well d [] w = absurd w
 first_well d (e ∷ es) w = (w.0.0, w)
 
-module _ (d : ℕ) (r : Readers) (inner_takes : Takes spell_expr (WellInner d) (r.inner)) (within_takes : Takes spell_reference (WellWithin d) (r.within)) (below_takes : TakesFree spell_primary (WellBelow d) bare_primary (r.below)) where
+module _ (d : ℕ) (r : Readers) (inner_takes : Takes spell_expr (WellInner d) (r.inner)) (within_takes : Takes spell_reference (WellWithin d) (r.within)) (handed_takes : Takes spell_actual (WellHanded d) (r.handed)) (below_takes : TakesFree spell_primary (WellBelow d) bare_primary (r.below)) where
   bracket_primary : (c : ℕ) (cs : List ℕ) (x : PrimaryTree × List ℕ) → c ≡ 40 → bracket_with r cs ≡ Some x → PrimaryIs d (c ∷ cs) x
   unfolding bracket_with
   bracket_primary c cs x at e =
@@ -145,13 +146,22 @@ module _ (d : ℕ) (r : Readers) (inner_takes : Takes spell_expr (WellInner d) (
   dollar_takes w after ds None x p l h e = special_takes w after ds (special_of w) x p l refl e
   dollar_takes w after ds (Some inside) x p l h e = function_takes w inside ds after (function_of w) x p (past_takes 40 after inside h) l refl e
 
-  dollar_primary : (c : ℕ) (cs : List ℕ) (x : PrimaryTree × List ℕ) → c ≡ 36 → dollar_with r cs ≡ Some x → PrimaryIs d (c ∷ cs) x
-  unfolding dollar_with
-  dollar_primary c cs x at e =
+  dollars_take : (cs : List ℕ) (o : Option (List ℕ)) (x : PrimaryTree × List ℕ) → past 36 cs ≡ o → dollars_by r cs o ≡ Some x → PrimaryIs d (36 ∷ cs) x
+  dollars_take cs None x h e =
       let w = run_of is_letter cs in
       let after = after_run is_letter cs in
       let parts = run_parts is_letter cs in
-      let is : PrimaryIs d (36 ∷ cs) x = dollar_takes w after cs (past 40 after) x parts.0 parts.1 refl e in
+      dollar_takes w after cs (past 40 after) x parts.0 parts.1 refl e
+  dollars_take cs (Some behind) x h e =
+      let b = bind_some (called_with r behind) (λ x. Some (extrinsic x.0.0 x.0.1, x.1)) x e in
+      let t = called_takes d r handed_takes behind b.0 b.1 in
+      subst (PrimaryIs d (36 ∷ cs)) {x = (extrinsic b.0.0.0 b.0.0.1, b.0.1)} (some_is (extrinsic b.0.0.0 b.0.0.1, b.0.1) x b.2)
+      (ap (λ (y : List ℕ). 36 ∷ y) (past_takes 36 cs behind h ∙ ap (λ (y : List ℕ). 36 ∷ y) t.0), t.1, tt)
+
+  dollar_primary : (c : ℕ) (cs : List ℕ) (x : PrimaryTree × List ℕ) → c ≡ 36 → dollar_with r cs ≡ Some x → PrimaryIs d (c ∷ cs) x
+  unfolding dollar_with
+  dollar_primary c cs x at e =
+      let is = dollars_take cs (past 36 cs) x refl e in
       (ap (λ (y : ℕ). y ∷ cs) at ∙ is.0, is.1, is.2)
 
   reference_primary : (cs : List ℕ) (x : PrimaryTree × List ℕ) → (reference_with r cs >>= λ v. Some (reference v.0, v.1)) ≡ Some x → PrimaryIs d cs x
@@ -242,22 +252,40 @@ refer_step : (r : Readers) (g : VariableFunctionTree) (most : ℕ) (w cs t : Lis
 unfolding refer_with
 refer_step r g most w cs t v more rest f u h k = rw (f, h, k, u) refl
 
+letter_no_dollar : (c : ℕ) → is_letter c ≡ true → eqb c 36 ≡ false
+letter_no_dollar c h = grind (arith, nat_tests)
+
+-- no further `$` stands where a word begins, or where none does
+word_no_dollar : (w rest : List ℕ) → AllAre is_letter w → Stops (λ c. eqb c 36) rest → past 36 (w ++ rest) ≡ None
+word_no_dollar [] rest l s = not_past 36 rest s
+word_no_dollar (c ∷ w) rest l s = rw (letter_no_dollar c l.0) refl
+
 function_step : (r : Readers) (w cs : List ℕ) (p : PrimaryTree) (rest : List ℕ) → AllAre is_letter w → function_by r w (function_of w) cs ≡ Some (p, rest) → primary_with r (36 ∷ (w ++ 40 ∷ cs)) ≡ Some (p, rest)
 unfolding primary_with dollar_with
 function_step r w cs p rest l h =
     let i = run_again is_letter w (40 ∷ cs) l refl in
-    rw (i.0, i.1) h
+    rw (word_no_dollar w (40 ∷ cs) l refl, i.0, i.1) h
 
 -- no bracket opens here
 no_bracket : (cs : List ℕ) → Stops is_open cs → past 40 cs ≡ None
 no_bracket [] s = refl
 no_bracket (c ∷ cs) s = rw s refl
 
+no_word : special_of [] ≡ None
+unfolding special_of
+no_word = refl
+
 special_step : (r : Readers) (w rest : List ℕ) (v : SpecialTree) → AllAre is_letter w → special_of w ≡ Some v → Stops is_letter rest → Stops is_open rest → primary_with r (36 ∷ (w ++ rest)) ≡ Some (special w, rest)
 unfolding primary_with dollar_with
-special_step r w rest v l f s t =
-    let i = run_again is_letter w rest l s in
-    rw (i.0, i.1, no_bracket rest t, f) refl
+special_step r [] rest v l f s t = absurd (let clash : None ≡ Some v = sym no_word ∙ f in cc)
+special_step r (c ∷ w) rest v l f s t =
+    let i = run_again is_letter (c ∷ w) rest l s in
+    let first : past 36 (c ∷ (w ++ rest)) ≡ None = rw (letter_no_dollar c l.0) refl in
+    rw (first, i.0, i.1, no_bracket rest t, f) refl
+
+extrinsic_step : (r : Readers) (cs : List ℕ) (x : EntryTree × ActualsTree) (rest : List ℕ) → called_with r cs ≡ Some (x, rest) → primary_with r (36 ∷ 36 ∷ cs) ≡ Some (extrinsic x.0 x.1, rest)
+unfolding primary_with dollar_with
+extrinsic_step r cs x rest h = rw h refl
 
 -- the text of a function of a variable, and what follows it
 pub refer_spread : (w v more rest : List ℕ) → (36 ∷ (w ++ 40 ∷ (v ++ (more ++ 41 ∷ [])))) ++ rest ≡ 36 ∷ (w ++ 40 ∷ (v ++ (more ++ 41 ∷ rest)))
@@ -268,7 +296,7 @@ pub more_ends : (es : List ExprTree) (rest : List ℕ) → OperandEnds (spell_mo
 more_ends [] rest = refl
 more_ends (e ∷ es) rest = refl
 
-module _ (d : ℕ) (r : Readers) (inner_again : Again spell_expr (WellInner d) Ends (r.inner)) (within_again : Again spell_reference (WellWithin d) OperandEnds (r.within)) (below_again : AgainFree spell_primary (WellBelow d) bare_primary (r.below)) where
+module _ (d : ℕ) (r : Readers) (inner_again : Again spell_expr (WellInner d) Ends (r.inner)) (within_again : Again spell_reference (WellWithin d) OperandEnds (r.within)) (handed_again : Again spell_actual (WellHanded d) ActualEnds (r.handed)) (below_again : AgainFree spell_primary (WellBelow d) bare_primary (r.below)) where
   choice_again : Again spell_choice (WellChoice d) Ends (choice_with r)
   choice_again c rest w s =
       ap (choice_with r) (append_assoc (spell_expr c.0) (58 ∷ spell_expr c.1) rest)
@@ -329,6 +357,7 @@ module _ (d : ℕ) (r : Readers) (inner_again : Again spell_expr (WellInner d) E
       ∙ bracket_step r (spell_expr e ++ 41 ∷ rest) e rest (inner_again e (41 ∷ rest) w (refl, refl))
   primary_again_free (call word args) rest w s g = call_again word args rest w
   primary_again_free (select word all) rest w s g = select_again word all rest w
+  primary_again_free (extrinsic e xs) rest w s g = extrinsic_step r (spell_called (e, xs) ++ rest) (e, xs) rest (called_again d r handed_again (e, xs) rest w s)
 
   pub primary_again : Again spell_primary (WellPrimary d) OperandEnds (primary_with r)
   primary_again p rest w s = primary_again_free p rest w (operand_ends rest s) (greedy_ends (bare_primary p) rest s)

@@ -6,7 +6,7 @@ use Rattle.mgrammar.proofs.ReadingLists.{each, joined_by, listed_or_one, bracket
 use Rattle.mgrammar.proofs.ReadingTrees.{WellInner, exprs_list, exprs_back, more_exprs-list, count-length, exprs_well, exprs_inner}
 use Rattle.mgrammar.proofs.ReadingReferences.{OperandEnds, Ends, TakesFree, AgainFree, WellWithin, begins_reference, reference_takes, reference_again, reference_begins, bare_spelled, bare_well, bare_reference_is}
 use Rattle.mgrammar.proofs.ReadingPrimaries.{reference_tests, refer_cells, refer_spread, more_ends}
-use Rattle.mgrammar.proofs.ReadingExprs.{begins_operand, inner_takes, within_takes, below_takes, inner_again, within_again, below_again, expr_takes, expr_again, read_pattern_takes, read_pattern_again}
+use Rattle.mgrammar.proofs.ReadingExprs.{begins_operand, inner_takes, within_takes, below_takes, handed_takes, handed_again, inner_again, within_again, below_again, expr_takes, expr_again, read_pattern_takes, read_pattern_again}
 
 -- ---- what is read is spelled so
 
@@ -89,7 +89,7 @@ set_argument_takes_by : (cs : List ℕ) (d : DestinationTree) (t : List ℕ) (o 
 set_argument_takes_by cs d t None x p w h e = given_takes cs d t (bare_destination d) x p w refl e
 set_argument_takes_by cs d t (Some rest) x p w h e =
     let v = bind_some (expr_at max_depth rest) (λ v. Some (assign d v.0, v.1)) x e in
-    let value = expr_takes max_depth (readers_at max_depth) (inner_takes max_depth) (within_takes max_depth) (below_takes max_depth) (read_pattern_takes max_depth) rest v.0 v.1 in
+    let value = expr_takes max_depth (readers_at max_depth) (inner_takes max_depth) (within_takes max_depth) (handed_takes max_depth) (below_takes max_depth) (read_pattern_takes max_depth) rest v.0 v.1 in
     subst (IsRead spell_arg (WellArg set_argument) cs) {x = (assign d v.0.0, v.0.1)} (some_is (assign d v.0.0, v.0.1) x v.2)
     (joined_by 61 cs (spell_destination d) t rest (spell_expr v.0.0) v.0.1 p (past_takes 61 t rest h) value.0, ((w, value.1), refl))
 
@@ -166,7 +166,7 @@ pub set_argument_again : Again spell_arg (WellArg set_argument) (λ rest. Ends r
 set_argument_again (assign destination value) rest w s =
     let u : List ℕ = spell_expr value ++ rest in
     ap set_argument_at (append_assoc (spell_destination destination) (61 ∷ spell_expr value) rest)
-    ∙ assignment_step (spell_destination destination ++ 61 ∷ u) (61 ∷ u) u destination value rest (destination_again destination (61 ∷ u) w.0.0 refl) refl (expr_again max_depth (readers_at max_depth) (inner_again max_depth) (within_again max_depth) (below_again max_depth) (read_pattern_again max_depth) value rest w.0.1 s.0)
+    ∙ assignment_step (spell_destination destination ++ 61 ∷ u) (61 ∷ u) u destination value rest (destination_again destination (61 ∷ u) w.0.0 refl) refl (expr_again max_depth (readers_at max_depth) (inner_again max_depth) (within_again max_depth) (handed_again max_depth) (below_again max_depth) (read_pattern_again max_depth) value rest w.0.1 s.0)
 set_argument_again (indirect_args f p) rest w s =
     let v : ReferenceTree = indirect p no_exprs in
     let well : WellReference max_depth v = bare_well max_depth p w.2 in

@@ -1,6 +1,6 @@
 -- SPDX-License-Identifier: Apache-2.0
--- Runs of steps, of arguments and of choices, as lists.
-use Rattle.mgrammar.proofs.GrammarWords.{◌≡◌, ℕ, suc, ◌<◌, ◌-◌, List, [], ◌∷◌, ◌++◌, length, refl, sym, ap, ◌∙◌, append_assoc, ExprTree, TailTree, TailsTree, no_tails, tail, tails_of, ExprsTree, no_exprs, exprs, exprs_of, ChoicesTree, no_choices, choice, choices_of, spell_tail, spell_tails, spell_expr, spell_exprs, spell_more_exprs, spell_choices, spell_more_choices, spell_list, spell_more, exprs_count, HasChoice, WellExpr, WellTail, WellTails, WellExprs, WellChoices, WellAll, WellList}
+-- Runs of steps, of arguments, of choices and of actuals, as lists.
+use Rattle.mgrammar.proofs.GrammarWords.{◌≡◌, ℕ, suc, ◌<◌, ◌-◌, List, [], ◌∷◌, ◌++◌, length, refl, sym, ap, ◌∙◌, append_assoc, ExprTree, TailTree, TailsTree, no_tails, tail, tails_of, ExprsTree, no_exprs, exprs, exprs_of, ChoicesTree, no_choices, choice, choices_of, ActualTree, ActualsTree, no_actuals, actuals, actuals_of, spell_actual, spell_more_actuals, spell_tail, spell_tails, spell_expr, spell_exprs, spell_more_exprs, spell_choices, spell_more_choices, spell_list, spell_more, exprs_count, HasChoice, WellExpr, WellTail, WellTails, WellExprs, WellChoices, WellActual, WellMoreActuals, WellAll, WellList}
 use Rattle.mgrammar.proofs.ReadingLists.{each}
 
 -- ---- steps
@@ -106,3 +106,29 @@ choices_each d (choice c v rest) lt w = (((lt, w.0), (lt, w.1)), choices_each d 
 pub choices_inner : (d : ℕ) (s : ChoicesTree) → 0 < d → HasChoice s → WellChoices (d - 1) s → WellList (WellChoice d) (choices_list s)
 choices_inner d no_choices lt h w = absurd h
 choices_inner d (choice c v rest) lt h w = choices_each d (choice c v rest) lt w
+
+-- ---- actuals
+
+-- an actual in brackets, if this many more brackets may be open
+abbrev pub WellHanded : ℕ → ActualTree → Type 0
+WellHanded d a = (0 < d) × WellActual (d - 1) a
+
+abbrev pub actuals_list : ActualsTree → List ActualTree
+actuals_list no_actuals = []
+actuals_list (actuals a rest) = a ∷ actuals_list rest
+
+pub actuals_back : (s : ActualsTree) → actuals_of (actuals_list s) ≡ s
+actuals_back no_actuals = refl
+actuals_back (actuals a rest) = ap (λ (x : ActualsTree). actuals a x) (actuals_back rest)
+
+pub more_actuals-list : (xs : List ActualTree) → spell_more_actuals (actuals_of xs) ≡ spell_more spell_actual xs
+more_actuals-list [] = refl
+more_actuals-list (a ∷ xs) = ap (λ (y : List ℕ). 44 ∷ (spell_actual a ++ y)) (more_actuals-list xs)
+
+pub actuals_well : (d : ℕ) (xs : List ActualTree) → WellAll (WellHanded d) xs → WellMoreActuals (d - 1) (actuals_of xs)
+actuals_well d [] w = tt
+actuals_well d (a ∷ xs) w = (w.0.1, actuals_well d xs w.1)
+
+pub actuals_inner : (d : ℕ) (s : ActualsTree) → 0 < d → WellMoreActuals (d - 1) s → WellAll (WellHanded d) (actuals_list s)
+actuals_inner d no_actuals lt w = tt
+actuals_inner d (actuals a rest) lt w = ((lt, w.0), actuals_inner d rest lt w.1)

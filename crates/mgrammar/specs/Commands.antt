@@ -6,7 +6,7 @@
 -- HANG: so it has a row of its own, which has no other word, and each of the two has its whole word alone.
 use Rattle.std.specs.Prelude.{ℕ, Bool, true, false, ◌&&◌, nat_le, if◌then◌else◌, Option, Some, None, List, [], ◌∷◌, codes}
 use Rattle.mgrammar.specs.Grammar.{is_at_most, is_either, KeywordTree, set_word, kill_word, new_word, if_word, else_word, for_word, quit_word, write_word, do_word, goto_word, execute_word, lock_word, halt_word, hang_word, halt_or_hang_word}
-use Rattle.mgrammar.specs.Grammar.{FormTree, set_argument, kill_argument, new_argument, if_argument, for_argument, write_argument, do_argument, goto_argument, xecute_argument, lock_argument, hang_argument, no_argument}
+use Rattle.mgrammar.specs.Grammar.{FormTree, set_argument, kill_argument, new_argument, if_argument, for_argument, write_argument, do_argument, goto_argument, xecute_argument, lock_argument, hang_argument, quit_argument, no_argument}
 
 pub record CommandRow : Type 0 where
   pub short : List ℕ
@@ -28,7 +28,7 @@ command_row new_word = row (codes "n") (codes "new") new_argument 0 None true 0
 command_row if_word = row (codes "i") (codes "if") if_argument 0 None false 0
 command_row else_word = row (codes "e") (codes "else") no_argument 0 (Some 0) false 0
 command_row for_word = row (codes "f") (codes "for") for_argument 0 (Some 1) false 0
-command_row quit_word = row (codes "q") (codes "quit") no_argument 0 (Some 0) true 0
+command_row quit_word = row (codes "q") (codes "quit") quit_argument 0 (Some 1) true 0
 command_row write_word = row (codes "w") (codes "write") write_argument 1 None true 0
 command_row do_word = row (codes "d") (codes "do") do_argument 0 None true 0
 command_row goto_word = row (codes "g") (codes "goto") goto_argument 1 None true 0
@@ -63,7 +63,8 @@ takes_args k n = nat_le (command_row k).least n && is_at_most (command_row k).mo
 abbrev pub takes_condition : KeywordTree → Bool
 takes_condition k = (command_row k).is_conditioned
 
--- the first language that has the command with so many arguments
+-- the first language that has the command with so many arguments: QUIT has its value later
 abbrev pub since_keyword : KeywordTree → ℕ → ℕ
+since_keyword quit_word n = if nat_le 1 n then 1 else 0
 since_keyword halt_or_hang_word n = if nat_le 1 n then (command_row hang_word).since else (command_row halt_word).since
 since_keyword k n = (command_row k).since

@@ -74,10 +74,16 @@ abbrev pub patterns_of : List (List AtomTree) → PatternsTree
 patterns_of [] = no_patterns
 patterns_of (p ∷ rest) = more_patterns (atoms_of p) (patterns_of rest)
 
+-- `entryref`: a `label`, one in a routine, or a routine's first line
+pub data EntryTree : Type 0 where
+  at_label : List ℕ → EntryTree
+  at_label_in : (label routine : List ℕ) → EntryTree
+  at_routine : List ℕ → EntryTree
+
 -- `expr`; `exprtail`, of which a list of steps is a run, those of `**` apart, which take steps of a line, with a `pattern` as it is written or, in pattern indirection, the operand of
 -- an `@`; `expratom` with its unary
 -- operators in front; `numlit` and `strlit`, each with its characters; `svn`, with its word as it is written; `glvn`; `function`, with
--- its word, those of a variable and $SELECT apart
+-- its word, those of a variable and $SELECT apart; `exfunc`, an entry with its actuals
 mutual
   pub data ExprTree : Type 0 where
     expr : OperandTree → TailsTree → ExprTree
@@ -106,6 +112,7 @@ mutual
     call : List ℕ → ExprsTree → PrimaryTree
     select : List ℕ → ChoicesTree → PrimaryTree
     refer : List ℕ → ReferenceTree → ExprsTree → PrimaryTree
+    extrinsic : EntryTree → ActualsTree → PrimaryTree
 
   -- `glvn`: `lvn`, a name, and its subscripts, of which there may be none; `gvn`, such a name and subscripts after a `^`, and
   -- with an `environment` in front of them; and the subscripts of a naked reference, which come after the `^` alone. Name
@@ -127,6 +134,18 @@ mutual
     no_choices : ChoicesTree
     choice : ExprTree → ExprTree → ChoicesTree → ChoicesTree
 
+  -- `actual`: nothing; an expression; by reference, an `actualname`, or the operand of an `@` whose value is one
+  pub data ActualTree : Type 0 where
+    missing_actual : ActualTree
+    value_actual : ExprTree → ActualTree
+    name_actual : List ℕ → ActualTree
+    indirect_actual : PrimaryTree → ActualTree
+
+  -- `actuallist`, of one actual or more; or none
+  pub data ActualsTree : Type 0 where
+    no_actuals : ActualsTree
+    actuals : ActualTree → ActualsTree → ActualsTree
+
 abbrev pub tails_of : List TailTree → TailsTree
 tails_of [] = no_tails
 tails_of (s ∷ ss) = tail s (tails_of ss)
@@ -138,6 +157,10 @@ exprs_of (e ∷ es) = exprs e (exprs_of es)
 abbrev pub choices_of : List (ExprTree × ExprTree) → ChoicesTree
 choices_of [] = no_choices
 choices_of (c ∷ cs) = choice c.0 c.1 (choices_of cs)
+
+abbrev pub actuals_of : List ActualTree → ActualsTree
+actuals_of [] = no_actuals
+actuals_of (a ∷ rest) = actuals a (actuals_of rest)
 
 -- `setleft`: a variable; or `setpiece` or `setextract` with its word, its variable, and the values after that
 pub data TargetTree : Type 0 where
@@ -154,12 +177,6 @@ pub data ParameterTree : Type 0 where
   once : ExprTree → ParameterTree
   onward : ExprTree → ExprTree → ParameterTree
   until : ExprTree → ExprTree → ExprTree → ParameterTree
-
--- `entryref`: a `label`, one in a routine, or a routine's first line
-pub data EntryTree : Type 0 where
-  at_label : List ℕ → EntryTree
-  at_label_in : (label routine : List ℕ) → EntryTree
-  at_routine : List ℕ → EntryTree
 
 -- how a `lockargument` begins: without a sign, with a `+` or with a `-`
 pub data LockKindTree : Type 0 where
@@ -185,12 +202,13 @@ pub data FormTree : Type 0 where
   xecute_argument : FormTree
   lock_argument : FormTree
   hang_argument : FormTree
+  quit_argument : FormTree
   no_argument : FormTree
 
 -- an argument of any command: `setargument`, a destination and a value; `writeargument`, formats, a character by its code, or a value;
 -- `killargument`, a variable, or the names that are spared; `newargument`, a name, or the names that are spared; the condition
 -- of `ifargument`; what comes after FOR, the name of an index and its parameters; and with a `postcond` of its own or none,
--- `doargument`, `gotoargument` and `xargument`; `lockargument`, with its `timeout` or none; the number of `hangargument`. Argument
+-- `doargument`, of which actuals are a part, `gotoargument` and `xargument`; `lockargument`, with its `timeout` or none; the number of `hangargument`; the value of `quitargument`. Argument
 -- indirection: arguments of this form that a text gives, the value of the `expratom` after an `@`
 pub data ArgTree : Type 0 where
   assign : DestinationTree → ExprTree → ArgTree
@@ -203,11 +221,12 @@ pub data ArgTree : Type 0 where
   new_others : List (List ℕ) → ArgTree
   tested : ExprTree → ArgTree
   loop : List ℕ → List ParameterTree → ArgTree
-  do_one : EntryTree → Option ExprTree → ArgTree
+  do_one : EntryTree → ActualsTree → Option ExprTree → ArgTree
   go_to : EntryTree → Option ExprTree → ArgTree
   executed : ExprTree → Option ExprTree → ArgTree
   locked : LockKindTree → LockedTree → Option ExprTree → ArgTree
   hang_for : ExprTree → ArgTree
+  returned : ExprTree → ArgTree
   indirect_args : FormTree → PrimaryTree → ArgTree
 
 -- `commandword`, whatever its spelling; the letter of HALT and HANG, which its arguments tell apart, is a word of its own
@@ -321,6 +340,11 @@ abbrev pub spell_atoms : List AtomTree → List ℕ
 spell_atoms [] = []
 spell_atoms (a ∷ rest) = spell_atom a ++ spell_atoms rest
 
+abbrev pub spell_entry : EntryTree → List ℕ
+spell_entry (at_label label) = label
+spell_entry (at_label_in label routine) = label ++ 94 ∷ routine
+spell_entry (at_routine routine) = 94 ∷ routine
+
 abbrev mutual
   pub spell_expr : ExprTree → List ℕ
   spell_expr (expr first rest) = spell_operand first ++ spell_tails rest
@@ -349,6 +373,7 @@ abbrev mutual
   spell_primary (call word args) = 36 ∷ (word ++ 40 ∷ (spell_exprs args ++ 41 ∷ []))
   spell_primary (select word choices) = 36 ∷ (word ++ 40 ∷ (spell_choices choices ++ 41 ∷ []))
   spell_primary (refer word r more) = 36 ∷ (word ++ 40 ∷ (spell_reference r ++ (spell_more_exprs more ++ 41 ∷ [])))
+  spell_primary (extrinsic e xs) = 36 ∷ 36 ∷ (spell_entry e ++ spell_actuals xs)
 
   pub spell_reference : ReferenceTree → List ℕ
   spell_reference (local name subscripts) = name ++ spell_subscripts subscripts
@@ -385,6 +410,26 @@ abbrev mutual
   spell_more_choices no_choices = []
   spell_more_choices (choice c v rest) = 44 ∷ (spell_expr c ++ 58 ∷ (spell_expr v ++ spell_more_choices rest))
 
+  pub spell_actual : ActualTree → List ℕ
+  spell_actual missing_actual = []
+  spell_actual (value_actual e) = spell_expr e
+  spell_actual (name_actual name) = 46 ∷ name
+  spell_actual (indirect_actual p) = 46 ∷ 64 ∷ spell_primary p
+
+  -- in brackets, if there are some
+  pub spell_actuals : ActualsTree → List ℕ
+  spell_actuals no_actuals = []
+  spell_actuals (actuals a rest) = 40 ∷ (spell_actual a ++ (spell_more_actuals rest ++ 41 ∷ []))
+
+  -- with a comma before each
+  pub spell_more_actuals : ActualsTree → List ℕ
+  spell_more_actuals no_actuals = []
+  spell_more_actuals (actuals a rest) = 44 ∷ (spell_actual a ++ spell_more_actuals rest)
+
+-- an entry with its actuals
+abbrev pub spell_called : EntryTree × ActualsTree → List ℕ
+spell_called x = spell_entry x.0 ++ spell_actuals x.1
+
 -- with a comma before each
 abbrev pub spell_more : {A : Type 0} → (A → List ℕ) → List A → List ℕ
 spell_more spell [] = []
@@ -417,11 +462,6 @@ abbrev pub spell_condition : Option ExprTree → List ℕ
 spell_condition None = []
 spell_condition (Some e) = 58 ∷ spell_expr e
 
-abbrev pub spell_entry : EntryTree → List ℕ
-spell_entry (at_label label) = label
-spell_entry (at_label_in label routine) = label ++ 94 ∷ routine
-spell_entry (at_routine routine) = 94 ∷ routine
-
 abbrev pub spell_kind : LockKindTree → List ℕ
 spell_kind anew = []
 spell_kind adding = 43 ∷ []
@@ -447,11 +487,12 @@ spell_arg (new_one name) = name
 spell_arg (new_others names) = spell_names names
 spell_arg (tested e) = spell_expr e
 spell_arg (loop index parameters) = index ++ 61 ∷ spell_list spell_parameter parameters
-spell_arg (do_one entry c) = spell_entry entry ++ spell_condition c
+spell_arg (do_one entry xs c) = spell_called (entry, xs) ++ spell_condition c
 spell_arg (go_to entry c) = spell_entry entry ++ spell_condition c
 spell_arg (executed e c) = spell_expr e ++ spell_condition c
 spell_arg (locked k names t) = (spell_kind k ++ spell_locked names) ++ spell_condition t
 spell_arg (hang_for e) = spell_expr e
+spell_arg (returned e) = spell_expr e
 spell_arg (indirect_args f p) = 64 ∷ spell_primary p
 
 -- after a space, if there are some
@@ -497,6 +538,7 @@ may_be_indirect goto_argument = true
 may_be_indirect xecute_argument = true
 may_be_indirect lock_argument = true
 may_be_indirect hang_argument = true
+may_be_indirect quit_argument = false
 may_be_indirect no_argument = false
 
 -- a format of WRITE: a `!`, or a `#`

@@ -1,12 +1,14 @@
 -- SPDX-License-Identifier: Apache-2.0
 -- The laws of the grammar. The functions of src/ named after them carry them.
-use Rattle.std.specs.Prelude.{◌≡◌, ◌≤◌, ◌↔◌, ℕ, true, List, Some}
+use Rattle.std.specs.Prelude.{◌≡◌, ◌≤◌, ◌↔◌, ℕ, true, false, List, Some, None}
+use Rattle.mspec.specs.Names.{IsName}
 use Rattle.mgrammar.specs.Grammar.{ReferenceTree, ArgTree, AtomTree, FormTree, may_be_indirect, LineTree, spell_reference, spell_list, spell_arg, spell_atoms, spell}
 use Rattle.mgrammar.specs.WellFormed.{max_depth, WellReference, WellList, WellArg, WellAtom, well}
 use Rattle.mgrammar.specs.Reading.{line_at}
-use Rattle.mgrammar.specs.IndirectTexts.{ref_at, args_of, pattern_of}
-use Rattle.mgrammar.specs.RoutineLine.{RoutineLineTree, spell_routine_line, well_routine_line, routine_line_at, label_of, dots_of, dots_of_body}
-use Rattle.mgrammar.specs.Languages.{since_line, since_routine_line, since_reference, since_args, line_in, routine_line_in, ref_in, args_in}
+use Rattle.mgrammar.specs.IndirectTexts.{ref_at, args_of, pattern_of, name_of}
+use Rattle.mgrammar.specs.RoutineLine.{RoutineLineTree, spell_routine_line, well_routine_line, routine_line_at, label_of, formals_of, dots_of, dots_of_body}
+use Rattle.mgrammar.specs.CallsIn.{has_call_line}
+use Rattle.mgrammar.specs.Languages.{since_line, since_formals, since_routine_line, since_reference, since_args, line_in, routine_line_in, ref_in, args_in}
 
 -- no text has two trees
 abbrev pub OneTree : Type 0
@@ -24,13 +26,16 @@ OneRoutineTree = (s t : RoutineLineTree) → well_routine_line s → well_routin
 abbrev pub ReadsItsRoutineTree : Type 0
 ReadsItsRoutineTree = (text : List ℕ) (l : RoutineLineTree) → (routine_line_at text ≡ Some l) ↔ ((spell_routine_line l ≡ text) × well_routine_line l)
 
--- what is told of a text that has a tree, without reading it whole
-pub record TellsRoutineLine (text : List ℕ) (l : RoutineLineTree) : Type 0 where
-  pub label : label_of text ≡ l.label
-  pub dots : dots_of text ≡ dots_of_body l.body
+-- what is told in a language of a text that has a tree, without reading it whole
+pub record TellsRoutineLine (n : ℕ) (text : List ℕ) (l : RoutineLineTree) : Type 0 where
+  pub label : label_of n text ≡ l.label
+  pub formals : formals_of n text ≡ l.formals
+  pub dots : dots_of n text ≡ dots_of_body l.body
 
+-- if the language has formal lists or the tree none
 abbrev pub ToldOfItsTree : Type 0
-ToldOfItsTree = (text : List ℕ) (l : RoutineLineTree) → routine_line_at text ≡ Some l → TellsRoutineLine text l
+ToldOfItsTree =
+    (n : ℕ) (text : List ℕ) (l : RoutineLineTree) → routine_line_at text ≡ Some l → since_formals l.formals ≤ n → TellsRoutineLine n text l
 
 -- as the text of a name indirection, no text has two trees
 abbrev pub OneReference : Type 0
@@ -60,6 +65,10 @@ OnePattern = (s t : List AtomTree) → WellList (WellAtom max_depth) s → WellL
 abbrev pub ReadsItsPattern : Type 0
 ReadsItsPattern = (text : List ℕ) (atoms : List AtomTree) → (pattern_of text ≡ Some atoms) ↔ ((spell_atoms atoms ≡ text) × WellList (WellAtom max_depth) atoms)
 
+-- in an actual, a text is read as a name exactly when it is one
+abbrev pub ReadsItsName : Type 0
+ReadsItsName = (text name : List ℕ) → (name_of text ≡ Some name) ↔ ((name ≡ text) × IsName name)
+
 -- in a language a text is read as a tree exactly when that is the well-formed tree that spells it, and the language has all its forms
 abbrev pub ReadsItsTreeIn : Type 0
 ReadsItsTreeIn = (n : ℕ) (text : List ℕ) (l : LineTree) → (line_in n text ≡ Some l) ↔ ((spell l ≡ text) × well l × (since_line l ≤ n))
@@ -82,3 +91,11 @@ ReadsItsArgumentsIn =
 -- what one language reads a text as, each later one does
 abbrev pub LaterLanguagesRead : Type 0
 LaterLanguagesRead = (n m : ℕ) → n ≤ m → (text : List ℕ) (l : LineTree) → line_in n text ≡ Some l → line_in m text ≡ Some l
+
+-- no line of the profile calls a function
+abbrev pub ProfileHasNoCall : Type 0
+ProfileHasNoCall = (l : LineTree) → since_line l ≡ 0 → has_call_line l ≡ false
+
+-- and no line of a routine has a formal list there, whatever its text is
+abbrev pub ProfileHasNoList : Type 0
+ProfileHasNoList = (text : List ℕ) → formals_of 0 text ≡ None

@@ -5,8 +5,8 @@
 -- the rows of its words: 0 is the profile, and each later language has all that those before it have. A text whose tree needs a later
 -- language is as a text that has no tree.
 use Rattle.std.specs.Prelude.{ℕ, nat_le, max, if◌then◌else◌, List, [], ◌∷◌, length, Option, Some, None}
-use Rattle.mgrammar.specs.Grammar.{RepeatedTree, classes, copies, group, AtomTree, ExprTree, expr, TailsTree, no_tails, tail, TailTree, apply, matches, matches_not, raise, matches_indirect, matches_not_indirect, OperandTree, operand, PrimaryTree, number, text, special, reference, bracket, call, select, refer, ReferenceTree, local, global, naked, indirect, extended, ExprsTree, no_exprs, exprs, ChoicesTree, no_choices, choice}
-use Rattle.mgrammar.specs.Grammar.{TargetTree, variable, part, DestinationTree, one, several, ParameterTree, once, onward, until, LockedTree, lock_one, lock_several, FormTree, ArgTree, assign, formats, coded, shown, kill_one, kill_others, new_one, new_others, tested, loop, do_one, go_to, executed, locked, hang_for, indirect_args, CommandTree, SpacedTree, LineTree, is_bang}
+use Rattle.mgrammar.specs.Grammar.{RepeatedTree, classes, copies, group, AtomTree, ExprTree, expr, TailsTree, no_tails, tail, TailTree, apply, matches, matches_not, raise, matches_indirect, matches_not_indirect, OperandTree, operand, PrimaryTree, number, text, special, reference, bracket, call, select, refer, extrinsic, ReferenceTree, local, global, naked, indirect, extended, ExprsTree, no_exprs, exprs, ChoicesTree, no_choices, choice, ActualTree, missing_actual, value_actual, name_actual, indirect_actual, ActualsTree, no_actuals, actuals}
+use Rattle.mgrammar.specs.Grammar.{TargetTree, variable, part, DestinationTree, one, several, ParameterTree, once, onward, until, LockedTree, lock_one, lock_several, FormTree, ArgTree, assign, formats, coded, shown, kill_one, kill_others, new_one, new_others, tested, loop, do_one, go_to, executed, locked, hang_for, returned, indirect_args, CommandTree, SpacedTree, LineTree, is_bang}
 use Rattle.mgrammar.specs.Functions.{since_function, since_values, since_part}
 use Rattle.mgrammar.specs.WellFormed.{exprs_count}
 use Rattle.mgrammar.specs.Commands.{since_keyword}
@@ -62,6 +62,7 @@ abbrev mutual
   since_primary (call word args) = max (max (since_function word) (since_values word (exprs_count args))) (since_exprs args)
   since_primary (select word choices) = max (since_function word) (since_choices choices)
   since_primary (refer word r more) = max (since_function word) (max (since_reference r) (since_exprs more))
+  since_primary (extrinsic e xs) = max 2 (since_actuals xs)
 
   pub since_reference : ReferenceTree → ℕ
   since_reference (local name subscripts) = since_exprs subscripts
@@ -77,6 +78,16 @@ abbrev mutual
   pub since_choices : ChoicesTree → ℕ
   since_choices no_choices = 0
   since_choices (choice c v rest) = max (since_expr c) (max (since_expr v) (since_choices rest))
+
+  pub since_actual : ActualTree → ℕ
+  since_actual missing_actual = 0
+  since_actual (value_actual e) = since_expr e
+  since_actual (name_actual name) = 0
+  since_actual (indirect_actual p) = since_primary p
+
+  pub since_actuals : ActualsTree → ℕ
+  since_actuals no_actuals = 0
+  since_actuals (actuals a rest) = max 1 (max (since_actual a) (since_actuals rest))
 
 abbrev pub since_target : TargetTree → ℕ
 since_target (variable r) = since_reference r
@@ -111,11 +122,12 @@ since_arg (new_one name) = 0
 since_arg (new_others names) = 0
 since_arg (tested e) = since_expr e
 since_arg (loop index parameters) = since_all since_parameter parameters
-since_arg (do_one entry c) = since_optional since_expr c
+since_arg (do_one entry xs c) = max (since_actuals xs) (since_optional since_expr c)
 since_arg (go_to entry c) = since_optional since_expr c
 since_arg (executed e c) = max (since_expr e) (since_optional since_expr c)
 since_arg (locked k names t) = max (since_locked names) (since_optional since_expr t)
 since_arg (hang_for e) = since_expr e
+since_arg (returned e) = since_expr e
 since_arg (indirect_args f p) = since_primary p
 
 abbrev pub since_args : List ArgTree → ℕ
@@ -134,8 +146,12 @@ abbrev pub since_body : BodyTree → ℕ
 since_body (short o) = 0
 since_body (spaced_out dots l) = since_line l
 
+abbrev pub since_formals : Option (List (List ℕ)) → ℕ
+since_formals None = 0
+since_formals (Some names) = 1
+
 abbrev pub since_routine_line : RoutineLineTree → ℕ
-since_routine_line l = since_body l.body
+since_routine_line l = max (since_formals l.formals) (since_body l.body)
 
 -- ---- what a text is read as in a language
 

@@ -10,5 +10,6 @@ pub mod ReadingWords
 pub mod IndirectTexts
 pub mod RoutineLine
 pub mod Languages
+pub mod CallsIn
 pub mod GrammarLaws
 pub mod Matching

@@ -3,12 +3,14 @@
 -- the grammar, which a reader checks in its place.
 use Rattle.std.specs.Prelude.{ℕ, suc, ◌-◌, Bool, true, false, not, ◌&&◌, ◌||◌, ◌==◌, nat_le, if◌then◌else◌, List, [], ◌∷◌, length, drop, Option, Some, None}
 use Rattle.mspec.specs.Names.{is_letter, is_character}
-use Rattle.mgrammar.specs.Grammar.{ExprTree, exprs_of, PrimaryTree, ReferenceTree, TargetTree, variable, part, DestinationTree, one, several, ParameterTree, once, onward, until, EntryTree, at_label, at_label_in, at_routine, ArgTree, assign, formats, coded, shown, kill_one, kill_others, new_one, new_others, tested, loop, do_one, go_to, executed, locked, hang_for, indirect_args, LockKindTree, anew, adding, giving_back, LockedTree, lock_one, lock_several, CommandTree, SpacedTree, LineTree, KeywordTree, FormTree, set_argument, kill_argument, new_argument, if_argument, for_argument, write_argument, do_argument, goto_argument, xecute_argument, lock_argument, hang_argument, no_argument, is_format}
+use Rattle.mgrammar.specs.Grammar.{ExprTree, exprs_of, PrimaryTree, ReferenceTree, TargetTree, variable, part, DestinationTree, one, several, ParameterTree, once, onward, until, EntryTree, ActualsTree, ArgTree, assign, formats, coded, shown, kill_one, kill_others, new_one, new_others, tested, loop, do_one, go_to, executed, locked, hang_for, returned, indirect_args, LockKindTree, anew, adding, giving_back, LockedTree, lock_one, lock_several, CommandTree, SpacedTree, LineTree, KeywordTree, FormTree, set_argument, kill_argument, new_argument, if_argument, for_argument, write_argument, do_argument, goto_argument, xecute_argument, lock_argument, hang_argument, quit_argument, no_argument, is_format}
 use Rattle.mgrammar.specs.Commands.{keyword_of, form_of, takes_args, takes_condition}
 use Rattle.mgrammar.specs.Functions.{FunctionTree, of_values, of_variable, of_choices, function_of, takes, is_part}
 use Rattle.mgrammar.specs.WellFormed.{bare_destination, is_named, bare_arg, settled, least_gap, max_depth}
 use Rattle.mgrammar.specs.ReadingWords.{Read, ◌>>=◌, run_of, after_run, after_sign, name_at, past, many, after_comma, list_at}
-use Rattle.mgrammar.specs.ReadingExpressions.{Readers, reference_with, readers_at, expr_at}
+use Rattle.mgrammar.specs.ReadingExpressions.{Readers, reference_with, called_with, readers_at, expr_at}
+pub use Rattle.mgrammar.specs.ReadingExpressions.{label_by, entry_by}
+unfoldable pub use Rattle.mgrammar.specs.ReadingExpressions.{entry_at}
 
 -- ---- arguments
 
@@ -106,24 +108,15 @@ abbrev pub postcondition_by : List ℕ → Option (List ℕ) → Read (Option Ex
 postcondition_by cs None = Some (None, cs)
 postcondition_by cs (Some rest) = expr_at max_depth rest >>= λ e. Some (Some e.0, e.1)
 
--- a name is read: a routine's after a `^`, and otherwise a label
-abbrev pub label_by : List ℕ → List ℕ → Option (List ℕ) → Read EntryTree
-label_by label cs None = Some (at_label label, cs)
-label_by label cs (Some rest) = name_at rest >>= λ n. Some (at_label_in label n.0, n.1)
-
-abbrev pub entry_by : List ℕ → Option (List ℕ) → Read EntryTree
-entry_by cs None = name_at cs >>= λ n. label_by n.0 n.1 (past 94 n.1)
-entry_by cs (Some rest) = name_at rest >>= λ n. Some (at_routine n.0, n.1)
-
-unfoldable pub entry_at : List ℕ → Read EntryTree
-entry_at cs = entry_by cs (past 94 cs)
-
 -- an item with a postconditional of its own
 abbrev pub conditioned : {A : Type 0} → (A → Option ExprTree → ArgTree) → A × List ℕ → Read ArgTree
 conditioned made x = postcondition_by x.1 (past 58 x.1) >>= λ c. Some (made x.0 c.0, c.1)
 
+abbrev pub doing_called : EntryTree × ActualsTree → Option ExprTree → ArgTree
+doing_called x c = do_one x.0 x.1 c
+
 unfoldable pub do_argument_at : List ℕ → Read ArgTree
-do_argument_at cs = entry_at cs >>= conditioned do_one
+do_argument_at cs = called_with (readers_at max_depth) cs >>= conditioned doing_called
 
 unfoldable pub goto_argument_at : List ℕ → Read ArgTree
 goto_argument_at cs = entry_at cs >>= conditioned go_to
@@ -149,6 +142,9 @@ lock_argument_at cs = locked_at (after_sign cs) >>= conditioned (locked (kind_of
 
 unfoldable pub hang_argument_at : List ℕ → Read ArgTree
 hang_argument_at cs = expr_at max_depth cs >>= λ e. Some (hang_for e.0, e.1)
+
+unfoldable pub quit_argument_at : List ℕ → Read ArgTree
+quit_argument_at cs = expr_at max_depth cs >>= λ e. Some (returned e.0, e.1)
 
 -- ---- argument indirection
 
@@ -176,6 +172,7 @@ arg_at goto_argument = operand_or goto_argument_at goto_argument
 arg_at xecute_argument = settled_with xecute_argument_at xecute_argument
 arg_at lock_argument = settled_with lock_argument_at lock_argument
 arg_at hang_argument = settled_with hang_argument_at hang_argument
+arg_at quit_argument = quit_argument_at
 arg_at no_argument = λ cs. None
 
 -- ---- commands and lines

@@ -1,20 +1,41 @@
 -- SPDX-License-Identifier: Apache-2.0
--- How expressions are read: references, calls, brackets and what operators tie.
-use Rattle.std.specs.Prelude.{ℕ, zero, suc, false, ◌==◌, nat_le, if◌then◌else◌, List, [], ◌∷◌, length, Option, Some, None}
+-- How expressions are read: references, calls with their actuals, brackets and what operators tie.
+use Rattle.std.specs.Prelude.{ℕ, zero, suc, Bool, false, ◌&&◌, ◌||◌, is_none, ◌==◌, nat_le, if◌then◌else◌, List, [], ◌∷◌, length, Option, Some, None}
 use Rattle.mspec.specs.Names.{is_letter}
-use Rattle.mgrammar.specs.Grammar.{AtomTree, ExprTree, expr, TailTree, apply, matches, matches_not, raise, matches_indirect, matches_not_indirect, tails_of, OperandTree, operand, PrimaryTree, number, text, special, reference, bracket, call, select, refer, ReferenceTree, local, global, naked, indirect, extended, ExprsTree, no_exprs, exprs_of, choices_of}
+use Rattle.mgrammar.specs.Grammar.{AtomTree, ExprTree, expr, TailTree, apply, matches, matches_not, raise, matches_indirect, matches_not_indirect, tails_of, OperandTree, operand, PrimaryTree, number, text, special, reference, bracket, call, select, refer, extrinsic, ReferenceTree, local, global, naked, indirect, extended, ExprsTree, no_exprs, exprs_of, choices_of, EntryTree, at_label, at_label_in, at_routine, ActualTree, missing_actual, value_actual, name_actual, indirect_actual, ActualsTree, no_actuals, actuals_of}
 use Rattle.mgrammar.specs.Specials.{SpecialTree, special_of}
 use Rattle.mgrammar.specs.Functions.{FunctionTree, of_values, of_variable, of_choices, function_of, takes}
 use Rattle.mgrammar.specs.ReadingWords.{Read, ◌>>=◌, run_of, after_run, is_digit_or_point, number_at, name_at, text_from, past, many, after_comma, list_at, pattern_at, signs_of, after_signs, OperatorTree, operator_at, between, matching, matching_not, raising}
 
 -- ---- expressions
 
--- how to read an expression and a variable in brackets, the operand of an `@`, and a pattern
+-- a name is read: a routine's after a `^`, and otherwise a label
+abbrev pub label_by : List ℕ → List ℕ → Option (List ℕ) → Read EntryTree
+label_by label cs None = Some (at_label label, cs)
+label_by label cs (Some rest) = name_at rest >>= λ n. Some (at_label_in label n.0, n.1)
+
+abbrev pub entry_by : List ℕ → Option (List ℕ) → Read EntryTree
+entry_by cs None = name_at cs >>= λ n. label_by n.0 n.1 (past 94 n.1)
+entry_by cs (Some rest) = name_at rest >>= λ n. Some (at_routine n.0, n.1)
+
+unfoldable pub entry_at : List ℕ → Read EntryTree
+entry_at cs = entry_by cs (past 94 cs)
+
+-- how to read an expression, a variable and an actual in brackets, the operand of an `@`, and a pattern
 pub record Readers : Type 0 where
   pub inner : List ℕ → Read ExprTree
   pub within : List ℕ → Read ReferenceTree
+  pub handed : List ℕ → Read ActualTree
   pub below : List ℕ → Read PrimaryTree
   pub pattern : List ℕ → Read (List AtomTree)
+
+-- an actual ends here: at a comma, or at the bracket that closes
+abbrev pub is_actual_end : ℕ → Bool
+is_actual_end c = c == 44 || c == 41
+
+-- a point that begins no number
+abbrev pub is_reference_point : ℕ → List ℕ → Bool
+is_reference_point c cs = c == 46 && is_none (number_at (c ∷ cs))
 
 -- the text after an `@`, if a bracket opens there
 abbrev pub attached_at : List ℕ → Option (List ℕ)
@@ -26,6 +47,16 @@ module _ (r : Readers) where
   subscripts_with [] = Some (no_exprs, [])
   subscripts_with (c ∷ cs) =
       if c == 40 then (list_at (r.inner) cs >>= λ x. past 41 x.1 >>= λ rest. Some (exprs_of x.0, rest)) else Some (no_exprs, c ∷ cs)
+
+  -- actuals, if a bracket opens
+  unfoldable pub actuals_with : List ℕ → Read ActualsTree
+  actuals_with [] = Some (no_actuals, [])
+  actuals_with (c ∷ cs) =
+      if c == 40 then (list_at (r.handed) cs >>= λ x. past 41 x.1 >>= λ rest. Some (actuals_of x.0, rest)) else Some (no_actuals, c ∷ cs)
+
+  -- an entry with its actuals
+  unfoldable pub called_with : List ℕ → Read (EntryTree × ActualsTree)
+  called_with cs = entry_at cs >>= λ e. actuals_with e.1 >>= λ x. Some ((e.0, x.0), x.1)
 
   -- those after an operand, given that this text with a bracket in front comes after an `@`, or none does
   abbrev pub attached_by : List ℕ → Option (List ℕ) → Read ExprsTree
@@ -103,9 +134,14 @@ module _ (r : Readers) where
   dollar_by w cs None = special_by w (special_of w) cs
   dollar_by w cs (Some inside) = function_by w (function_of w) inside
 
+  -- given that this text comes after a further `$`, or none does
+  abbrev pub dollars_by : List ℕ → Option (List ℕ) → Read PrimaryTree
+  dollars_by cs None = dollar_by (run_of is_letter cs) (after_run is_letter cs) (past 40 (after_run is_letter cs))
+  dollars_by cs (Some behind) = called_with behind >>= λ x. Some (extrinsic x.0.0 x.0.1, x.1)
+
   -- after a `$`
   unfoldable pub dollar_with : List ℕ → Read PrimaryTree
-  dollar_with cs = dollar_by (run_of is_letter cs) (after_run is_letter cs) (past 40 (after_run is_letter cs))
+  dollar_with cs = dollars_by cs (past 36 cs)
 
   unfoldable pub primary_with : List ℕ → Read PrimaryTree
   primary_with [] = None
@@ -146,13 +182,26 @@ module _ (r : Readers) where
   unfoldable pub expr_with : List ℕ → Read ExprTree
   expr_with cs = operand_with cs >>= λ o. many tail_with (length o.1) o.1 >>= λ s. Some (expr o.0 (tails_of s.0), s.1)
 
+  -- after a point, given that this text comes after an `@`, or none does
+  abbrev pub name_actual_by : List ℕ → Option (List ℕ) → Read ActualTree
+  name_actual_by cs None = name_at cs >>= λ n. Some (name_actual n.0, n.1)
+  name_actual_by cs (Some behind) = r.below behind >>= λ p. Some (indirect_actual p.0, p.1)
+
+  unfoldable pub actual_with : List ℕ → Read ActualTree
+  actual_with [] = None
+  actual_with (c ∷ cs) =
+      if is_actual_end c then Some (missing_actual, c ∷ cs)
+      else (if is_reference_point c cs then name_actual_by cs (past 64 cs)
+      else (expr_with (c ∷ cs) >>= λ e. Some (value_actual e.0, e.1)))
+
 -- what may stand within, if this many more brackets may be open
 unfoldable pub readers_at : ℕ → Readers
-readers_at zero = record { inner = λ cs. None; within = λ cs. None; below = λ cs. None; pattern = pattern_at zero }
+readers_at zero = record { inner = λ cs. None; within = λ cs. None; handed = λ cs. None; below = λ cs. None; pattern = pattern_at zero }
 readers_at (suc d) =
     record {
       inner = expr_with (readers_at d);
       within = reference_with (readers_at d);
+      handed = actual_with (readers_at d);
       below = primary_with (readers_at d);
       pattern = pattern_at (suc d);
     }

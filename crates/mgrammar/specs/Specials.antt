@@ -13,6 +13,7 @@ pub data SpecialTree : Type 0 where
   storage_special : SpecialTree
   column_special : SpecialTree
   row_special : SpecialTree
+  quit_special : SpecialTree
 
 pub record SpecialRow : Type 0 where
   pub short : List ℕ
@@ -29,10 +30,11 @@ special_rows =
     ∷ row (codes "i") (codes "io") io_special 1
     ∷ row (codes "j") (codes "job") job_special 1
     ∷ row (codes "p") (codes "principal") principal_special 1
+    ∷ row (codes "q") (codes "quit") quit_special 1
     ∷ row (codes "s") (codes "storage") storage_special 1
-    ∷
-    row (codes "x") (codes "x") column_special 1 ∷
-    row (codes "y") (codes "y") row_special 1 ∷ []
+    ∷ row (codes "x") (codes "x") column_special 1
+    ∷ row (codes "y") (codes "y") row_special 1
+    ∷ []
 
 abbrev pub special_named : List ℕ → List SpecialRow → Option SpecialTree
 special_named w [] = None

@@ -5,7 +5,7 @@ use Rattle.std.specs.Prelude.{◌≡◌, ℕ, suc, ◌-◌, ◌<◌, ◌≤◌, 
 pub use Rattle.mspec.specs.Limits.{max_depth}
 use Rattle.mspec.specs.Literal.{is_digit, Literal, IsLiteral, spell_literal}
 use Rattle.mspec.specs.Names.{is_letter, is_character, AllAre, IsName}
-use Rattle.mgrammar.specs.Grammar.{CountTree, RepeatedTree, classes, copies, group, AtomsTree, no_atoms, more_atoms, PatternsTree, no_patterns, more_patterns, AtomTree, ExprTree, expr, TailsTree, no_tails, tail, TailTree, apply, matches, matches_not, raise, matches_indirect, matches_not_indirect, OperandTree, operand, PrimaryTree, number, text, special, reference, bracket, call, select, refer, ReferenceTree, local, global, naked, indirect, extended, ExprsTree, no_exprs, exprs, ChoicesTree, no_choices, choice, TargetTree, variable, part, DestinationTree, one, several, ParameterTree, once, onward, until, EntryTree, at_label, at_label_in, at_routine, ArgTree, assign, formats, coded, shown, kill_one, kill_others, new_one, new_others, tested, loop, do_one, go_to, executed, locked, hang_for, indirect_args, LockedTree, lock_one, lock_several, anew, adding, giving_back, KeywordTree, CommandTree, SpacedTree, LineTree, FormTree, set_argument, kill_argument, new_argument, if_argument, for_argument, write_argument, do_argument, goto_argument, xecute_argument, lock_argument, hang_argument, may_be_indirect, is_pattern_letter, is_format}
+use Rattle.mgrammar.specs.Grammar.{CountTree, RepeatedTree, classes, copies, group, AtomsTree, no_atoms, more_atoms, PatternsTree, no_patterns, more_patterns, AtomTree, ExprTree, expr, TailsTree, no_tails, tail, TailTree, apply, matches, matches_not, raise, matches_indirect, matches_not_indirect, OperandTree, operand, PrimaryTree, number, text, special, reference, bracket, call, select, refer, extrinsic, ReferenceTree, local, global, naked, indirect, extended, ExprsTree, no_exprs, exprs, ChoicesTree, no_choices, choice, ActualTree, missing_actual, value_actual, name_actual, indirect_actual, ActualsTree, no_actuals, actuals, TargetTree, variable, part, DestinationTree, one, several, ParameterTree, once, onward, until, EntryTree, at_label, at_label_in, at_routine, ArgTree, assign, formats, coded, shown, kill_one, kill_others, new_one, new_others, tested, loop, do_one, go_to, executed, locked, hang_for, returned, indirect_args, LockedTree, lock_one, lock_several, anew, adding, giving_back, KeywordTree, CommandTree, SpacedTree, LineTree, FormTree, set_argument, kill_argument, new_argument, if_argument, for_argument, write_argument, do_argument, goto_argument, xecute_argument, lock_argument, hang_argument, quit_argument, may_be_indirect, is_pattern_letter, is_format}
 use Rattle.mgrammar.specs.Specials.{SpecialTree, special_of}
 use Rattle.mgrammar.specs.Commands.{keyword_of, form_of, takes_args, takes_condition}
 use Rattle.mgrammar.specs.Functions.{ValueFunctionTree, VariableFunctionTree, of_values, of_variable, of_choices, function_of, takes, is_part}
@@ -110,6 +110,7 @@ bare_primary (bracket e) = None
 bare_primary (call word args) = None
 bare_primary (select word parts) = None
 bare_primary (refer word r more) = None
+bare_primary (extrinsic e xs) = None
 
 abbrev pub bare_operand : OperandTree → Option PrimaryTree
 bare_operand (operand [] p) = bare_primary p
@@ -130,6 +131,11 @@ IsAttached p no_exprs = Unit {0}
 IsAttached p (exprs e rest) = bare_primary p ≡ None
 
 -- ---- expressions
+
+abbrev pub WellEntry : EntryTree → Type 0
+WellEntry (at_label label) = IsName label
+WellEntry (at_label_in label routine) = IsName label × IsName routine
+WellEntry (at_routine routine) = IsName routine
 
 -- if this many more brackets may be open, counting `( )`, `| |` and operands of `@` together
 abbrev mutual
@@ -160,6 +166,7 @@ abbrev mutual
   WellPrimary d (call word args) = (0 < d) × AllAre is_letter word × IsCall word (exprs_count args) × WellExprs (d - 1) args
   WellPrimary d (select word choices) = (0 < d) × IsSelect word × HasChoice choices × WellChoices (d - 1) choices
   WellPrimary d (refer word r more) = (0 < d) × AllAre is_letter word × IsReferring word (exprs_count more) × WellReference (d - 1) r × WellExprs (d - 1) more
+  WellPrimary d (extrinsic e xs) = WellEntry e × WellActuals d xs
 
   pub WellReference : ℕ → ReferenceTree → Type 0
   WellReference d (local name subscripts) = IsName name × WellSubscripts d subscripts
@@ -180,6 +187,21 @@ abbrev mutual
   WellChoices d no_choices = Unit {0}
   WellChoices d (choice c v rest) = WellExpr d c × WellExpr d v × WellChoices d rest
 
+  pub WellActual : ℕ → ActualTree → Type 0
+  WellActual d missing_actual = Unit {0}
+  WellActual d (value_actual e) = WellExpr d e
+  WellActual d (name_actual name) = IsName name
+  WellActual d (indirect_actual p) = (0 < d) × WellPrimary (d - 1) p
+
+  -- in brackets, if there are some
+  pub WellActuals : ℕ → ActualsTree → Type 0
+  WellActuals d no_actuals = Unit {0}
+  WellActuals d (actuals a rest) = (0 < d) × WellActual (d - 1) a × WellMoreActuals (d - 1) rest
+
+  pub WellMoreActuals : ℕ → ActualsTree → Type 0
+  WellMoreActuals d no_actuals = Unit {0}
+  WellMoreActuals d (actuals a rest) = WellActual d a × WellMoreActuals d rest
+
 -- if there is one
 abbrev pub WellOptional : ℕ → Option ExprTree → Type 0
 WellOptional d None = Unit {0}
@@ -198,10 +220,8 @@ WellParameter (once e) = WellExpr max_depth e
 WellParameter (onward e by) = WellExpr max_depth e × WellExpr max_depth by
 WellParameter (until e by to) = WellExpr max_depth e × WellExpr max_depth by × WellExpr max_depth to
 
-abbrev pub WellEntry : EntryTree → Type 0
-WellEntry (at_label label) = IsName label
-WellEntry (at_label_in label routine) = IsName label × IsName routine
-WellEntry (at_routine routine) = IsName routine
+abbrev pub WellCalled : ℕ → EntryTree × ActualsTree → Type 0
+WellCalled d x = WellEntry x.0 × WellActuals d x.1
 
 -- what LOCK names is no naked reference
 abbrev pub is_named : ReferenceTree → Bool
@@ -231,11 +251,12 @@ WellPlain write_argument (formats run None) = (0 < length run) × AllAre is_form
 WellPlain write_argument (formats run (Some e)) = AllAre is_format run × WellExpr max_depth e
 WellPlain write_argument (coded e) = WellExpr max_depth e
 WellPlain write_argument (shown e) = WellExpr max_depth e
-WellPlain do_argument (do_one entry c) = WellEntry entry × WellOptional max_depth c
+WellPlain do_argument (do_one entry xs c) = WellCalled max_depth (entry, xs) × WellOptional max_depth c
 WellPlain goto_argument (go_to entry c) = WellEntry entry × WellOptional max_depth c
 WellPlain xecute_argument (executed e c) = WellExpr max_depth e × WellOptional max_depth c
 WellPlain lock_argument (locked k names t) = WellLocked names × WellOptional max_depth t
 WellPlain hang_argument (hang_for e) = WellExpr max_depth e
+WellPlain quit_argument (returned e) = WellExpr max_depth e
 WellPlain f a = ⊥
 
 -- the operand, if an argument is an `@` with it and nothing more
@@ -250,7 +271,7 @@ bare_arg (new_one name) = None
 bare_arg (new_others names) = None
 bare_arg (tested e) = bare_expr e
 bare_arg (loop index parameters) = None
-bare_arg (do_one entry c) = None
+bare_arg (do_one entry xs c) = None
 bare_arg (go_to entry c) = None
 bare_arg (executed e None) = bare_expr e
 bare_arg (executed e (Some c)) = None
@@ -260,6 +281,7 @@ bare_arg (locked anew (lock_several rs) t) = None
 bare_arg (locked adding names t) = None
 bare_arg (locked giving_back names t) = None
 bare_arg (hang_for e) = bare_expr e
+bare_arg (returned e) = None
 bare_arg (indirect_args f p) = None
 
 -- an argument of this form, unless it is an `@` with this operand and nothing more

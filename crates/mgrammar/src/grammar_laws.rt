@@ -1,6 +1,6 @@
 // SPDX-License-Identifier: Apache-2.0
 // The laws of the grammar. Each function's contract is the law, and its body is empty: the code never calls them.
-ghost use Rattle.mgrammar.specs.GrammarLaws.{OneTree, ReadsItsTree, OneRoutineTree, ReadsItsRoutineTree, ToldOfItsTree, OneReference, ReadsItsReference, OneArgumentList, ReadsItsArguments, OnePattern, ReadsItsPattern, ReadsItsTreeIn, ReadsItsRoutineTreeIn, ReadsItsReferenceIn, ReadsItsArgumentsIn, LaterLanguagesRead};
+ghost use Rattle.mgrammar.specs.GrammarLaws.{OneTree, ReadsItsTree, OneRoutineTree, ReadsItsRoutineTree, ToldOfItsTree, OneReference, ReadsItsReference, OneArgumentList, ReadsItsArguments, OnePattern, ReadsItsPattern, ReadsItsName, ReadsItsTreeIn, ReadsItsRoutineTreeIn, ReadsItsReferenceIn, ReadsItsArgumentsIn, LaterLanguagesRead, ProfileHasNoCall, ProfileHasNoList};
 
 /// No text has two trees.
 #[tactic(auto, using(crate::proofs::ReadingLines::one_tree))]
@@ -15,7 +15,6 @@ pub fn reads_its_tree()
 {}
 
 /// As a line of a routine, no text has two trees.
-#[tactic(auto, using(crate::proofs::ReadingRoutines::one_routine_tree))]
 pub fn one_routine_tree()
     ensures { OneRoutineTree }
 {}
@@ -25,8 +24,8 @@ pub fn reads_its_routine_tree()
     ensures { ReadsItsRoutineTree }
 {}
 
-/// The label and the dots that are told of a text without reading it whole are those of its tree, if it has one. Labels are
-/// searched for, and lines passed over, by these alone.
+/// The label, the formal list and the dots that are told of a text without reading it whole are those of its tree, if it has one.
+/// Labels are searched for, and lines passed over, by these alone.
 pub fn told_of_its_tree()
     ensures { ToldOfItsTree }
 {}
@@ -64,6 +63,11 @@ pub fn reads_its_pattern()
     ensures { ReadsItsPattern }
 {}
 
+/// In an actual, the text of an indirection is read as a name exactly when it is one.
+pub fn reads_its_name()
+    ensures { ReadsItsName }
+{}
+
 /// In a language, a text is read as a tree exactly when the tree is the well-formed one that spells it, and the language has all
 /// its forms. So each language has trees of the one grammar alone, and which these are is told by the tree.
 pub fn reads_its_tree_in()
@@ -88,4 +92,14 @@ pub fn reads_its_arguments_in()
 /// What a language reads a text as, each later language does.
 pub fn later_languages_read()
     ensures { LaterLanguagesRead }
+{}
+
+/// No line of the profile calls a function, so that there its meaning turns on nothing that functions give.
+pub fn profile_has_no_call()
+    ensures { ProfileHasNoCall }
+{}
+
+/// No line of a routine has a formal list in the profile, so that none is refused there for having one.
+pub fn profile_has_no_list()
+    ensures { ProfileHasNoList }
 {}

@@ -3,7 +3,7 @@
 use Rattle.std.specs.Prelude.{ℕ, zero, suc, Bool, true, false, List, [], ◌∷◌, ◌++◌, map, length, Option, Some, None}
 use Rattle.mspec.specs.Code.{Code, M6, Zsteps}
 pub use Rattle.mspec.specs.Node.{Text, Node}
-use Rattle.mspec.specs.Scopes.{Scopes, bottom, value_at, assigned, with_level}
+use Rattle.mspec.specs.Scopes.{Scopes, Binding, bottom, value_at, assigned, with_level, bound}
 use Rattle.mspec.specs.Cursor.{Cursor, format_byte, after_characters, after_formats}
 use Rattle.mspec.specs.Plan.{Op, Answer, Plan, Done, Ask, then_plan}
 
@@ -18,6 +18,10 @@ no_locals = bottom ∷ []
 -- with one more level
 unfoldable pub level_begun : Locals → Locals
 level_begun locals = with_level locals
+
+-- with one that has formal parameters
+unfoldable pub level_bound : List (Text × Binding) → Locals → Locals
+level_bound bs locals = bound bs locals
 
 unfoldable pub value_of : Locals → Text → List Text → Option Text
 value_of locals name xs = value_at locals name xs
@@ -111,6 +115,10 @@ give_some c (Some a) = give a
 -- the terminal that the line comes from
 abbrev pub terminal_is : Act ℕ
 terminal_is s = Done (Gives s.given.terminal s)
+
+-- what is done in the line's language
+abbrev pub in_language : {A : Type 0} → (ℕ → Act A) → Act A
+in_language f s = f s.given.language s
 
 -- what a text is read as in the line's language, if it is read as anything
 abbrev pub read_so : {A : Type 0} → Code → (ℕ → Option A) → Act A

@@ -15,6 +15,10 @@ account_named name = record { name = name; steps = 2000; language = 0 }
 abbrev pub with_steps : ℕ → Account
 with_steps n = record { name = codes "ALICE"; steps = n; language = 0 }
 
+-- whose lines are read in this language
+abbrev pub alice_in : ℕ → Account
+alice_in language = record { name = codes "ALICE"; steps = 2000; language = language }
+
 abbrev pub account : Account
 account = with_steps 2000
 

@@ -1,6 +1,6 @@
 -- SPDX-License-Identifier: Apache-2.0
 -- Globals on examples, as proved equations. What a line asks of the world is followed one operation after another.
-use Rattle.mmeaning.proofs.MeaningWords.{Bool, cond, Option, ap, ◌∙◌, eq_by_cmp, nat_cmp, get, insert, retain_keys, get-insert, get-empty, Op, Answer, Plan, Done, Ask, Ops, perform, Outcome, Fails, State, LineTree, line_in, Completion, Reply, World, Session, normal, kept, ended, begun, is_too_long, is_ascii, not, option_map, get_cut, node_cmp_total, node_cmp_exact, computes, Code, M1, M7, Zsub, node_cmp, significant_digits, is_node_within, status, Shared, act, Text, Node}
+use Rattle.mmeaning.proofs.MeaningWords.{Bool, cond, Option, ap, ◌∙◌, eq_by_cmp, nat_cmp, get, insert, retain_keys, get-insert, get-empty, Op, Answer, Plan, Done, Ask, Ops, perform, Outcome, Fails, State, LineTree, line_in, Completion, Reply, World, Session, normal, kept, Halted, Faulted, settled, ended, begun, is_too_long, is_ascii, not, option_map, get_cut, node_cmp_total, node_cmp_exact, computes, Code, is_halting, Own, M1, M7, Zsub, node_cmp, significant_digits, is_node_within, status, Shared, act, Text, Node}
 use Rattle.mmeaning.proofs.ExampleAccount.{alice}
 use Rattle.mmeaning.proofs.LineRuns.{event, shut, shut_run, shut_step, line_is}
 use Rattle.mmeaning.proofs.Running.{◌≡◌, List, [], ◌∷◌, Some, None, true, false, refl, codes, empty, gets, Globals, new_session, opening, account, done, failed, AreAnswered, at_last, Anywhere, runs}
@@ -40,11 +40,12 @@ kept_session : (s : Session) → get (insert (empty {X = Session} {R = nat_cmp})
 kept_session s = simp gets
 
 refers : {g : Globals} {t : Text} {c : Code} {s : State} {w : Shared} (l : Option LineTree) → line_in 0 t ≡ l → is_too_long t ≡ false → is_ascii t ≡ true
-    → Comes (shut_run (codes "ALICE") l (begun 1 account new_session)) (opening g).shared (Fails c s, w) → Refers g t s.naked
-refers {g = g} {t = t} {s = s} l tree short ascii run = record {
+    → Comes (shut_run (codes "ALICE") l (begun 1 account new_session)) (opening g).shared (Fails c s, w) → is_halting c ≡ false → Refers g t s.naked
+refers {g = g} {t = t} {c = c} {s = s} {w = w} l tree short ascii run on = record {
   is =
       ap (λ (x : Reply × World). option_map (λ (s : Session). s.naked) (get x.1.sessions 1))
       (line_is account (opening g) t l tree ∙ opened g t l short ascii ∙ ap (ended 1 (opening g)) run.is)
+      ∙ ap (λ (b : Bool). option_map (λ (s : Session). s.naked) (get (settled 1 (opening g) (cond b Halted (Faulted (Own c))) s w).sessions 1)) on
       ∙ ap (option_map (λ (s : Session). s.naked)) (kept_session (kept s));
 }
 
@@ -101,6 +102,6 @@ record Referred : Type 0 where
 referred : Referred
 unfolding runs shut computes
 referred = record {
-  undefined_is_referred_to = refers _ refl refl refl (asked true refl (asked None (same (node_none (at (codes "A") (codes "x" ∷ [])))) finished));
-  refused_is_not = λ g. refers _ refl refl refl (asked true refl (asked tt refl (asked true refl finished)));
+  undefined_is_referred_to = refers _ refl refl refl (asked true refl (asked None (same (node_none (at (codes "A") (codes "x" ∷ [])))) finished)) refl;
+  refused_is_not = λ g. refers _ refl refl refl (asked true refl (asked tt refl (asked true refl finished))) refl;
 }

@@ -1,7 +1,7 @@
 -- SPDX-License-Identifier: Apache-2.0
 -- GOTO on examples, as proved equations: a loop of six turns, each in an equation of its own.
-use Rattle.mmeaning.proofs.MeaningWords.{sym, zero, ◌*◌, ℕ, ◌^◌, suc, ap, ◌∙◌, insert, Plan, then_plan, perform, Gives, give, Locals, State, Outcome, Act, on_gives, Completion, Go_on, Position, digits, canonical_value, size_text, no_locals, level_begun, value_of, assigned_to, name_at, line_in, label_at, routine_line_in, tree_none, tree_put, tree_again, text_none, text_put, text_again, value_some, round_pos, text_1, text_2, text_3, text_4, text_8, text_16, bottom, multiply, loop, until, for_word, is, less, number, text, reference, at_label, at_label_in, shown, do_one, go_to, set_word, quit_word, write_word, do_word, goto_word, CommandTree, LineTree, SpacedTree, RoutineLineTree, spaced_out, reads_in, Shared, act, commands_in, home}
-use Rattle.mmeaning.proofs.Calls.{assoc_plan, then_give}
+use Rattle.mmeaning.proofs.MeaningWords.{zero, ◌*◌, ℕ, ◌^◌, suc, ap, ◌∙◌, insert, Plan, then_plan, perform, Locals, State, Outcome, Act, on_gives, Completion, Go_on, Position, digits, canonical_value, size_text, no_locals, level_begun, value_of, assigned_to, name_at, line_in, label_at, formals_at, routine_line_in, tree_none, tree_put, tree_again, text_none, text_put, text_again, value_some, round_pos, text_1, text_2, text_3, text_4, text_8, text_16, bottom, multiply, loop, until, for_word, is, less, number, text, reference, at_label, at_label_in, shown, do_one, no_actuals, go_to, set_word, quit_word, write_word, do_word, goto_word, CommandTree, LineTree, SpacedTree, RoutineLineTree, spaced_out, reads_in, Shared, act, commands_in, home}
+use Rattle.mmeaning.proofs.Calls.{assoc_plan}
 use Rattle.std.specs.Prelude.{length}
 use Rattle.mmeaning.proofs.ExampleAccount.{alice, of_profile}
 use Rattle.mmeaning.proofs.LineRuns.{shut, entered, opened, text_opened}
@@ -27,7 +27,7 @@ abbrev doubling : List Text
 doubling = codes "A S N=1" ∷ codes "B S N=N*2 G:N<50 B" ∷ codes " W N Q" ∷ []
 
 abbrev of_label : Text → List SpacedTree → RoutineLineTree
-of_label label cs = record { label = Some label; body = spaced_out [] (line cs) }
+of_label label cs = record { label = Some label; formals = None; body = spaced_out [] (line cs) }
 
 abbrev doubling_1 : RoutineLineTree
 doubling_1 = of_label (codes "A") ((command set_word 83 (set_to (named (codes "N")) (only (number (codes "1"))) ∷ []), 0) ∷ [])
@@ -40,6 +40,7 @@ doubling_2 =
 abbrev doubling_3 : RoutineLineTree
 doubling_3 = record {
   label = None;
+  formals = None;
   body = spaced_out [] (line ((command write_word 87 (shown (only (reference (named (codes "N")))) ∷ []), 1) ∷ (command quit_word 81 [], 0) ∷ []));
 }
 
@@ -58,7 +59,7 @@ doubling_3_read = refl
 -- D A^G W "."
 abbrev goto_line : LineTree
 goto_line =
-    line ((command do_word 68 (do_one (at_label_in (codes "A") (codes "G")) None ∷ []), 1) ∷ (command write_word 87 (shown (only (text (codes "."))) ∷ []), 0) ∷ [])
+    line ((command do_word 68 (do_one (at_label_in (codes "A") (codes "G")) no_actuals None ∷ []), 1) ∷ (command write_word 87 (shown (only (text (codes "."))) ∷ []), 0) ∷ [])
 
 goto_read : line_in 0 (codes "D A^G W \".\"") ≡ Some goto_line
 unfolding reads_in
@@ -92,7 +93,7 @@ module _ (levels : ℕ) (locals : Text → Locals) (have : HaveNumber locals) wh
 
   -- where the second line stands
   abbrev second : Position
-  second = record { depth = record { levels = levels; indirections = 0 }; level = record { copy = doubling; next = Some 2; dots = 0 } }
+  second = record { depth = record { levels = levels; indirections = 0; wants_value = false }; level = record { copy = doubling; next = Some 2; dots = 0 } }
 
   abbrev entered_at : ℕ → ℕ → Text → (Completion → Act Completion) → Shared → Outcome Completion × Shared
   entered_at n steps x f w = in_store (then_plan (entered (codes "ALICE") n second looping (at_number steps x [])) (on_gives f)) w
@@ -115,7 +116,7 @@ module _ (levels : ℕ) (locals : Text → Locals) (have : HaveNumber locals) wh
     from_16 : Turn (codes "16") (codes "32")
 
   turns : Turns
-  unfolding name_at label_at
+  unfolding name_at label_at formals_at
   turns = record {
     from_1 = λ n steps f w. simp (by_number, have.reads, have.sets, doubling_2_read);
     from_2 = λ n steps f w. simp (by_number, have.reads, have.sets, doubling_2_read);
@@ -126,7 +127,7 @@ module _ (levels : ℕ) (locals : Text → Locals) (have : HaveNumber locals) wh
 
   -- six steps of the last turn, one of the third line and three of its commands
   last_turn : (n steps : ℕ) (f : Completion → Act Completion) (w : Shared) → entered_at (suc (suc n)) (suc (suc (suc (suc (suc (suc (suc (suc (suc (suc steps)))))))))) (codes "32") f w ≡ in_store (f Go_on (at_number steps (codes "64") (codes "64"))) w
-  unfolding name_at label_at
+  unfolding name_at label_at formals_at
   last_turn n steps f w = simp (by_number, text_opened, have.reads, have.sets, doubling_3_read)
 
   abbrev for_turns : ℕ → ℕ → ℕ
@@ -155,7 +156,7 @@ do_turns : (f : Completion → Act Completion) (w : Shared) → shut_at 1 in_do 
 do_turns f w = all_turns 1 in_do do_have 1992 1950 f w
 
 goto_in_routine : (g : Globals) → lines_in g (codes "G") ≡ doubling → AreAnswered account (opening g) (codes "D A^G W \".\"" ∷ []) (done (codes "64.") ∷ [])
-unfolding name_at label_at no_locals level_begun value_of assigned_to canonical_value
+unfolding name_at label_at formals_at no_locals level_begun value_of assigned_to canonical_value
 goto_in_routine g h =
     at_last (Some goto_line) goto_read (simp (by_number, variables, gets, doubling_1_read, doubling_2_read, asked g (codes "G") doubling h, text_opened (codes "ALICE") 2000, do_turns))
 
@@ -190,14 +191,11 @@ line_have : HaveNumber in_line
 unfolding value_of assigned_to level_begun
 line_have = record { reads = λ x. simp variables; sets = λ x y. simp variables }
 
--- nothing follows the level of the line
-line_turns : (w : Shared) → perform (act alice 1 (codes "ALICE")) ((shut (codes "ALICE") 1999).enter (second 0 in_line line_have) looping (at_number 0 in_line line_have 1990 (codes "1") [])) w ≡ (Gives Go_on (at_number 0 in_line line_have 1945 (codes "64") (codes "64")), w)
-line_turns w =
-    ap (λ p. perform (act alice 1 (codes "ALICE")) p w) (sym (then_give ((shut (codes "ALICE") 1999).enter (second 0 in_line line_have) looping (at_number 0 in_line line_have 1990 (codes "1") []))))
-    ∙ all_turns 0 in_line line_have 1992 1945 give w
+line_turns : (f : Completion → Act Completion) (w : Shared) → shut_at 0 in_line line_have 1999 1990 (codes "1") f w ≡ in_store 0 in_line line_have (f Go_on (at_number 0 in_line line_have 1945 (codes "64") (codes "64"))) w
+line_turns f w = all_turns 0 in_line line_have 1992 1945 f w
 
 goto_leaves_for : (g : Globals) → lines_in g (codes "G") ≡ doubling → AreAnswered account (opening g) (codes "F I=1:1:3 G A^G" ∷ codes "W I" ∷ []) (done (codes "64") ∷ done (codes "1") ∷ [])
-unfolding name_at label_at no_locals level_begun value_of assigned_to canonical_value
+unfolding name_at label_at formals_at no_locals level_begun value_of assigned_to canonical_value
 goto_leaves_for g h =
     at_first (serving_in g (record { locals = with_index (codes "64"); naked = None; test = false; cursor = at_column 2 })) (Some for_line) for_read
     (simp (by_number, text_3, variables, gets, doubling_1_read, doubling_2_read, asked g (codes "G") doubling h, opened, text_opened (codes "ALICE") 2000, line_turns))

@@ -1,15 +1,15 @@
 -- SPDX-License-Identifier: Apache-2.0
 -- Histories and normal transitions.
-use Rattle.mmeaning.proofs.MeaningWords.{◌≡◌, Bool, true, false, [], ◌∷◌, Option, Some, None, refl, sym, ap, ◌∙◌, subst, map, get, Outcome, Gives, Fails, Completion, Halts, Settings, Account, World, Event, Reply, Transition, TransitionBy, normal, at_account, checked, is_too_long, is_ascii, ending_of, reply_of, is_failure, replies, world_after, NormalNeverFails, NormalTransitionsAreHistory, HistoryIsNormal}
+use Rattle.mmeaning.proofs.MeaningWords.{◌≡◌, Bool, true, false, [], ◌∷◌, Option, Some, None, refl, sym, ap, ◌∙◌, subst, map, get, Outcome, Gives, Fails, Code, Own, Halting, Completion, Ending, Faulted, Settings, Account, World, Event, Reply, Transition, TransitionBy, normal, at_account, checked, is_too_long, is_ascii, ending_of, reply_of, is_failure, replies, world_after, NormalNeverFails, NoneShowsHalting, NormalTransitionsAreHistory, HistoryIsNormal}
 
 -- no act ends with a loss
-ending_is_own : (s : Completion) → is_failure (ending_of s) ≡ false
-ending_is_own Halts = refl
-ending_is_own s = refl
+ending_is_own : (c : Code) → is_failure (ending_of c) ≡ false
+ending_is_own Halting = refl
+ending_is_own c = refl
 
 reply_is_own : (o : Outcome Completion) → is_failure (reply_of o).ending ≡ false
-reply_is_own (Gives completion s) = ending_is_own completion
-reply_is_own (Fails code s) = refl
+reply_is_own (Gives completion s) = refl
+reply_is_own (Fails code s) = ending_is_own code
 
 checked_is_own : (long ascii : Bool) (settings : Settings) (e : Event) (world : World) (account : Account) → is_failure (checked long ascii settings e world account).0.ending ≡ false
 checked_is_own true ascii settings e world account = refl
@@ -22,6 +22,31 @@ account_is_own settings e world (Some account) = checked_is_own (is_too_long e.t
 
 pub normal_never_fails : NormalNeverFails
 normal_never_fails settings e world = account_is_own settings e world (get settings.terminals e.terminal)
+
+-- nor is the code of HALT shown
+abbrev is_shown : Ending → Bool
+is_shown (Faulted (Own Halting)) = true
+is_shown e = false
+
+ending_hides : (c : Code) → is_shown (ending_of c) ≡ false
+ending_hides Halting = refl
+ending_hides c = refl
+
+reply_hides : (o : Outcome Completion) → is_shown (reply_of o).ending ≡ false
+reply_hides (Gives completion s) = refl
+reply_hides (Fails code s) = ending_hides code
+
+checked_hides : (long ascii : Bool) (settings : Settings) (e : Event) (world : World) (account : Account) → is_shown (checked long ascii settings e world account).0.ending ≡ false
+checked_hides true ascii settings e world account = refl
+checked_hides false false settings e world account = refl
+checked_hides false true settings e world account = reply_hides _
+
+account_hides : (settings : Settings) (e : Event) (world : World) (o : Option Account) → is_shown (at_account settings e world o).0.ending ≡ false
+account_hides settings e world None = refl
+account_hides settings e world (Some account) = checked_hides (is_too_long e.text) (is_ascii e.text) settings e world account
+
+pub none_shows_halting : NoneShowsHalting
+none_shows_halting settings e world is = absurd (let clash : false ≡ true = sym (account_hides settings e world (get settings.terminals e.terminal)) ∙ ap is_shown is in cc)
 
 -- a normal transition is a transition
 normal_transition : (settings : Settings) (e : Event) (world : World) → Transition settings e (normal settings e world).0 world (normal settings e world).1

@@ -1,16 +1,16 @@
 -- SPDX-License-Identifier: Apache-2.0
 -- How deep indirections may stand, on examples, as proved equations: which are levels at once, and in which order they are refused.
-use Rattle.mmeaning.proofs.MeaningWords.{◌≡◌, ℕ, zero, suc, ◌+◌, ◌≤◌, Bool, true, false, List, [], ◌∷◌, Option, Some, None, refl, arith, rules, codes, nat_lt, M9, Zdepth, Zsyntax, Done, nat_tests, Text, Node, Locals, level_begun, State, Gives, Fails, value_of, assigned_to, divide, number, PrimaryTree, text, bracket, reference, ReferenceTree, indirect, exprs, no_exprs, variable, one, write_argument, at_label, do_argument, do_one, indirect_args, do_word, CommandTree, many, list_at, name_at, entry_at, do_argument_at, ref_at, ref_in, args_of, args_in, RoutineLineTree, spaced_out, dots_of, label_at, routine_line_in, reads_in, of_global, of_naked, of_local, Inside, inside, evaluated, finds, is_indirection_free, Context, context, given, setting, Position, commands, target, computes, Cursor}
+use Rattle.mmeaning.proofs.MeaningWords.{◌≡◌, ℕ, zero, suc, ◌+◌, ◌≤◌, Bool, true, false, List, [], ◌∷◌, Option, Some, None, refl, arith, rules, codes, nat_lt, M9, Zdepth, Zsyntax, Done, nat_tests, Text, Node, Locals, level_begun, State, Gives, Fails, value_of, assigned_to, divide, number, PrimaryTree, text, bracket, reference, ReferenceTree, indirect, exprs, no_exprs, variable, one, write_argument, at_label, do_argument, do_one, no_actuals, indirect_args, do_word, CommandTree, many, list_at, name_at, entry_at, actuals_with, called_with, do_argument_at, ref_at, ref_in, args_of, args_in, RoutineLineTree, spaced_out, label_at, formals_at, formals_in, routine_line_in, reads_in, of_global, of_naked, of_local, Inside, inside, evaluated, finds, is_indirection_free, Context, context, given, setting, Position, commands, target, computes, Cursor}
 use Rattle.mgrammar.specs.ReadingExpressions.{subscripts_with, attached_with, indirect_with, reference_with, primary_with, readers_at}
 use Rattle.mmeaning.proofs.LineTrees.{only, with_operator, command, line}
 use Rattle.mmeaning.proofs.ExampleAccount.{of_profile}
 
 -- with this many levels open, of which this many are indirections
 abbrev within : ℕ → ℕ → Inside
-within levels indirections = inside (codes "ALICE") 9 (record { levels = levels; indirections = indirections })
+within levels indirections = inside (codes "ALICE") 9 (record { levels = levels; indirections = indirections; wants_value = false })
 
 abbrev at : ℕ → ℕ → Context
-at levels indirections = context (codes "ALICE") 9 (record { depth = record { levels = levels; indirections = indirections }; level = record { copy = []; next = None; dots = 0 } })
+at levels indirections = context (codes "ALICE") 9 (record { depth = record { levels = levels; indirections = indirections; wants_value = false }; level = record { copy = []; next = None; dots = 0 } })
 
 abbrev in_text : List ℕ → PrimaryTree
 in_text t = text t
@@ -91,27 +91,19 @@ abbrev itself_commands : List CommandTree
 itself_commands = command do_word 68 (indirect_args do_argument (text (codes "T")) ∷ []) ∷ []
 
 abbrev itself : RoutineLineTree
-itself = record { label = Some (codes "T"); body = spaced_out [] (line ((command do_word 68 (indirect_args do_argument (text (codes "T")) ∷ []), 0) ∷ [])) }
+itself = record { label = Some (codes "T"); formals = None; body = spaced_out [] (line ((command do_word 68 (indirect_args do_argument (text (codes "T")) ∷ []), 0) ∷ [])) }
 
 itself_read : routine_line_in 0 itself_line ≡ Some itself
 unfolding reads_in
 itself_read = refl
 
-entry_read : args_in do_argument 0 (codes "T") ≡ Some (do_one (at_label (codes "T")) None ∷ [])
-unfolding args_in args_of many list_at name_at entry_at do_argument_at
+entry_read : args_in do_argument 0 (codes "T") ≡ Some (do_one (at_label (codes "T")) no_actuals None ∷ [])
+unfolding args_in args_of many list_at name_at entry_at actuals_with called_with do_argument_at
 entry_read = refl
-
-entry_found : (s : State) → target (itself_line ∷ []) 0 (at_label (codes "T")) s ≡ Done (Gives (record { copy = itself_line ∷ []; line = 0 }) s)
-unfolding name_at label_at
-entry_found s = refl
-
-no_dots : dots_of itself_line ≡ 0
-unfolding name_at label_at
-no_dots = refl
 
 abbrev in_line : ℕ → ℕ → Position
 in_line levels indirections = record {
-  depth = record { levels = levels; indirections = indirections };
+  depth = record { levels = levels; indirections = indirections; wants_value = false };
   level = record { copy = itself_line ∷ []; next = Some 1; dots = 0 };
 }
 
@@ -128,17 +120,25 @@ module _ (naked : Option Node) (test : Bool) (cursor : Cursor) (out : Text) (ste
   abbrev in_state : Locals → ℕ → State
   in_state locals n = record { locals = locals; naked = naked; test = test; cursor = cursor; out = out; steps = n; given = of_profile }
 
+  entry_found : (locals : Locals) (n : ℕ) → target (itself_line ∷ []) 0 (at_label (codes "T")) (in_state locals n) ≡ Done (Gives (record { copy = itself_line ∷ []; line = 0 }) (in_state locals n))
+  unfolding name_at label_at formals_at
+  entry_found locals n = refl
+
+  no_formals : formals_in 0 (Some itself_line) ≡ None
+  unfolding name_at label_at formals_at
+  no_formals = refl
+
   -- this many more indirections may be opened
   abbrev IsRefused : ℕ → ℕ → ℕ → ℕ → Locals → Type 0
   IsRefused k levels indirections n locals =
       commands (context (codes "ALICE") n (in_line levels indirections)) itself_commands (in_state locals (steps_for k steps)) ≡ Done (Fails Zdepth (in_state (begun_more k locals) steps))
 
-  at_limit : (levels indirections n : ℕ) (locals : Locals) → is_indirection_free (record { levels = levels; indirections = indirections }) ≡ false → IsRefused zero levels indirections n locals
+  at_limit : (levels indirections n : ℕ) (locals : Locals) → is_indirection_free (record { levels = levels; indirections = indirections; wants_value = false }) ≡ false → IsRefused zero levels indirections n locals
   at_limit levels indirections n locals full = rw full refl
 
-  below_limit : (k levels indirections n : ℕ) (locals : Locals) → is_indirection_free (record { levels = levels; indirections = indirections }) ≡ true → nat_lt (levels + 1) 256 ≡ true
+  below_limit : (k levels indirections n : ℕ) (locals : Locals) → is_indirection_free (record { levels = levels; indirections = indirections; wants_value = false }) ≡ true → nat_lt (levels + 1) 256 ≡ true
       → IsRefused k (levels + 1 + 1) (indirections + 1) n (level_begun locals) → IsRefused (suc k) levels indirections (suc (suc n)) locals
-  below_limit k levels indirections n locals free level inner = rw (free, entry_read, level, entry_found, no_dots, itself_read, inner) refl
+  below_limit k levels indirections n locals free level inner = rw (free, entry_read, level, entry_found, no_formals, itself_read, inner) refl
 
   refused : (k levels indirections n : ℕ) (locals : Locals) → k + indirections ≡ 32 → k + k + levels ≤ 255 → k + k ≤ n → IsRefused k levels indirections n locals
   refused zero levels indirections n locals e few le = at_limit levels indirections n locals (grind (arith, nat_tests, e))

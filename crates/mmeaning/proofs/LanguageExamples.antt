@@ -1,18 +1,14 @@
 -- SPDX-License-Identifier: Apache-2.0
 -- Languages on examples, as proved equations: what the lines of an account do whose language has a form, and of one whose language does
 -- not.
-use Rattle.mmeaning.proofs.MeaningWords.{ℕ, Bool, true, false, ◌++◌, List, Some, None, M6, M9, M10, M13, M28, M94, Zover, Zsteps, Zsyntax, Account, State, Act, give_some, ◌>>=◌, Done, Gives, Fails, computes, reads_in, rules}
+use Rattle.mmeaning.proofs.MeaningWords.{ℕ, Bool, true, false, ◌++◌, List, Some, None, M6, M9, M10, M13, M28, M94, Zover, Zsteps, Zsyntax, State, Act, give_some, ◌>>=◌, Done, Gives, Fails, computes, reads_in, rules}
 use Rattle.mgrammar.specs.IndirectTexts.{pattern_of}
 use Rattle.mmeaning.specs.Operators.{raising, matching}
 use Rattle.std.specs.Prelude.{pos, negsuc}
 use Rattle.mmeaning.specs.LineMeaning.{coded_character}
-use Rattle.mmeaning.proofs.RoutineRuns.{lines_in}
+use Rattle.mmeaning.proofs.ExampleAccount.{alice_in}
 use Rattle.mmeaning.proofs.LineRuns.{Cases, AreAnsweredEach}
-use Rattle.mmeaning.proofs.Running.{◌≡◌, [], ◌∷◌, refl, codes, empty, Globals, Text, opening, done, failed, at_case, no_more, asked, runs, running}
-
--- ALICE, whose lines are read in this language
-abbrev alice_in : ℕ → Account
-alice_in language = record { name = codes "ALICE"; steps = 2000; language = language }
+use Rattle.mmeaning.proofs.Running.{◌≡◌, [], ◌∷◌, refl, codes, empty, Text, opening, done, failed, at_case, no_more, asked, WithEachIn, runs, running}
 
 abbrev EachIn : ℕ → Cases → Type 0
 EachIn language cases = AreAnsweredEach (alice_in language) (opening empty) cases
@@ -76,20 +72,17 @@ patterns =
     (at_case _ refl (simp running) no_more))))
 
 -- a routine's line is read in the language of the line that enters it; its label is told without that
-abbrev RoutineIn : ℕ → List Text → Cases → Type 0
-RoutineIn language lines cases = (g : Globals) → lines_in g (codes "T") ≡ lines → AreAnsweredEach (alice_in language) (opening g) cases
-
 abbrev lines : List Text
 lines = codes "T W $RE(\"ab\")" ∷ codes "U W 3" ∷ []
 
-routine_of_profile : RoutineIn 0 lines (
+routine_of_profile : WithEachIn 0 (codes "T") lines (
     (codes "W 1 D T^T", failed (codes "1") Zsyntax) ∷
     (codes "D U^T", done (codes "3")) ∷
     (codes "D V^T", failed [] M13) ∷ [])
 unfolding runs
 routine_of_profile = λ g h. at_case _ refl (simp (running, asked g _ _ h)) (at_case _ refl (simp (running, asked g _ _ h)) (at_case _ refl (simp (running, asked g _ _ h)) no_more))
 
-routine_of_first_language : RoutineIn 1 lines (
+routine_of_first_language : WithEachIn 1 (codes "T") lines (
     (codes "W 1 D T^T", done (codes "1ba3")) ∷
     (codes "D U^T", done (codes "3")) ∷ [])
 unfolding runs

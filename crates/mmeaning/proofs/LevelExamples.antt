@@ -1,6 +1,6 @@
 -- SPDX-License-Identifier: Apache-2.0
 -- Levels on examples, as proved equations: how many may be open, and in which order DO, GOTO and XECUTE are refused.
-use Rattle.mmeaning.proofs.MeaningWords.{◌≡◌, ℕ, zero, suc, ◌+◌, ◌≤◌, Bool, true, false, List, [], ◌∷◌, Option, Some, None, refl, ap, subst, ◌∙◌, arith, rules, codes, nat_lt, M9, M13, Zdepth, Zlevel, Zsyntax, Plan, Done, then_plan, line_in, text_run, nat_tests, Scope, Text, Node, Locals, State, Outcome, Gives, Fails, on_gives, level_begun, value_of, divide, number, text, reference, at_label, executed, execute_word, LineTree, reads_in, Completion, Position, top_level, after_level, run_within, Context, Go_on, Goes, context, commands, doing, doing_block, executing, going, commands_of, computes, Cursor}
+use Rattle.mmeaning.proofs.MeaningWords.{◌≡◌, ℕ, zero, suc, ◌+◌, ◌≤◌, Bool, true, false, List, [], ◌∷◌, Option, Some, None, refl, ap, subst, ◌∙◌, arith, rules, codes, nat_lt, M9, M13, Zdepth, Zlevel, Zsyntax, Plan, Done, then_plan, line_in, text_run, nat_tests, Scope, Text, Node, Locals, State, Outcome, Gives, Fails, on_gives, level_begun, value_of, divide, number, text, reference, at_label, executed, execute_word, LineTree, reads_in, Completion, Position, top_level, after_level, closed, stays, run_within, Context, Go_on, Goes, context, commands, doing, no_actuals, doing_block, executing, going, commands_of, computes, Cursor}
 use Rattle.mmeaning.proofs.LineTrees.{only, with_operator, named, command, line}
 use Rattle.mmeaning.proofs.ExampleAccount.{of_profile}
 
@@ -9,14 +9,14 @@ abbrev lines : List Text
 lines = codes "T W 1" ∷ codes "U . W 2" ∷ codes "V )" ∷ []
 
 abbrev within : ℕ → ℕ → Context
-within levels dots = context (codes "ALICE") 9 (record { depth = record { levels = levels; indirections = 0 }; level = record { copy = lines; next = None; dots = dots } })
+within levels dots = context (codes "ALICE") 9 (record { depth = record { levels = levels; indirections = 0; wants_value = false }; level = record { copy = lines; next = None; dots = dots } })
 
 -- ---- the 257th level is refused
 
 record Refused : Type 0 where
   -- before the line of a DO is sought
-  level_before_line : (s : State) → doing (within 256 0) (at_label (codes "NO")) s ≡ Done (Fails Zdepth s)
-  line_sought : (s : State) → doing (within 255 0) (at_label (codes "NO")) s ≡ Done (Fails M13 s)
+  level_before_line : (s : State) → doing (within 256 0) (at_label (codes "NO")) no_actuals s ≡ Done (Fails Zdepth s)
+  line_sought : (s : State) → doing (within 255 0) (at_label (codes "NO")) no_actuals s ≡ Done (Fails M13 s)
   -- even for an argumentless DO that no line follows
   level_of_block : (s : State) → doing_block (within 256 0) s ≡ Done (Fails Zdepth s)
   block_ends : (naked : Option Node) (test : Bool) (cursor : Cursor) (out : Text) (steps : ℕ) (top : Scope) (below : Locals)
@@ -37,7 +37,7 @@ record Refused : Type 0 where
   goto_dots : (s : State) → going (within 256 1) (at_label (codes "U")) s ≡ Done (Gives (Goes (record { copy = lines; line = 1 })) s)
   goto_other_dots : (s : State) → going (within 256 1) (at_label (codes "T")) s ≡ Done (Fails Zlevel s)
   -- the level of a DO with an argument has none
-  do_dots : (s : State) → doing (within 0 1) (at_label (codes "U")) s ≡ Done (Fails Zlevel s)
+  do_dots : (s : State) → doing (within 0 1) (at_label (codes "U")) no_actuals s ≡ Done (Fails Zlevel s)
 
 refused_levels : Refused
 unfolding reads_in level_begun computes
@@ -54,7 +54,7 @@ unfolding reads_in
 itself_read = refl
 
 abbrev open_levels : ℕ → Position
-open_levels levels = record { depth = record { levels = levels; indirections = 0 }; level = record { copy = []; next = None; dots = 0 } }
+open_levels levels = record { depth = record { levels = levels; indirections = 0; wants_value = false }; level = record { copy = []; next = None; dots = 0 } }
 
 -- two steps for each further level, and for the one that is refused
 abbrev steps_for : ℕ → ℕ → ℕ
@@ -93,7 +93,7 @@ module _ (naked : Option Node) (test : Bool) (cursor : Cursor) (out : Text) (ste
       below_limit k levels n locals (grind (arith, nat_tests, e)) h (refused k (levels + 1) n (level_begun locals) (omega (arith, e)) (omega (arith, le)) (begun_value locals ∙ h))
 
 run_refused : (n : ℕ) (s after : State) → commands (context (codes "ALICE") n top_level) (commands_of itself) s ≡ Done (Fails Zdepth after) → run_within (codes "ALICE") n (commands_of itself) s ≡ Done (Fails Zdepth after)
-run_refused n s after h = ap (λ (p : Plan (Outcome Completion)). then_plan p (on_gives (after_level (context (codes "ALICE") n top_level)))) h
+run_refused n s after h = ap (λ (p : Plan (Outcome Completion)). then_plan (then_plan p (on_gives (after_level (context (codes "ALICE") n top_level)))) (on_gives (closed stays))) h
 
 -- the state that it leaves: 1,486 of 2,000 steps, and 256 levels more
 text_of_itself : (naked : Option Node) (test : Bool) (cursor : Cursor) (out : Text) (locals : Locals) → value_of locals (codes "A") [] ≡ Some (codes "X A")

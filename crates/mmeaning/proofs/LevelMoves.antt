@@ -13,4 +13,4 @@ module _ (a : Text) (fs : List View) (ns : List ℕ) where
 
 -- a line of a terminal: its commands on top of the outermost level, which doesn't close
 pub line_begins : (a : Text) (n : ℕ) (cs : List CommandTree) → ◌≡◌ {A = Act Completion} (run_within a n cs) (left a (Rests top_level cs ∷ Levels top_level stays ∷ []) (n ∷ n ∷ []) Go_on)
-line_begins a n cs = sym (ended (run_within a n cs >>= closed stays) ∙ ended (run_within a n cs)) ∙ text_entered a [] [] n top_level stays cs
+line_begins a n cs = sym (ended (run_within a n cs)) ∙ text_entered a [] [] n top_level stays cs

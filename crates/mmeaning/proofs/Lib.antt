@@ -31,3 +31,8 @@ pub mod LockRuns
 pub mod LockRows
 pub mod EnvironmentExamples
 pub mod LanguageExamples
+pub mod ParameterExamples
+pub mod FunctionExamples
+pub mod Uncalled
+pub mod UncalledArguments
+pub mod KeptTests

@@ -1,7 +1,7 @@
 -- SPDX-License-Identifier: Apache-2.0
 -- Lines of a terminal, one after another, in a form that `simp` computes: a turn is opened only if its state is known, since what
 -- runs a turn holds what runs the next one, and so on for all the fuel.
-use Rattle.mmeaning.proofs.MeaningWords.{◌≡◌, ℕ, zero, suc, Bool, true, false, List, [], ◌∷◌, Option, Some, None, refl, ap, ◌∙◌, map, empty, get, insert, get-insert, nat_cmp_total, Plan, perform, Zsyntax, Zsteps, Zterm, Zline, Zchar, ReferenceTree, ExprsTree, ArgTree, CommandTree, LineTree, line_in, opening, replies, Text, Node, Locals, Given, no_locals, assigned_to, State, Outcome, Act, ◌>>=◌, fail, Evaluated, Depth, through, finds, inside, Completion, Position, top_level, Turning, Texts, Context, texts, arguments, commands, after_turn, after_level, commands_of, Account, Settings, Session, World, Event, Reply, plan_of, begun, session_or_new, ended, refused, is_too_long, is_ascii, checked, at_account, normal, Cursor}
+use Rattle.mmeaning.proofs.MeaningWords.{◌≡◌, ℕ, zero, suc, Bool, true, false, List, [], ◌∷◌, Option, Some, None, refl, ap, ◌∙◌, map, empty, get, insert, get-insert, nat_cmp_total, Plan, perform, Zsyntax, Zsteps, Zterm, Zline, Zchar, ReferenceTree, ExprsTree, EntryTree, ActualsTree, ArgTree, CommandTree, LineTree, line_in, opening, replies, Text, Node, Locals, Given, no_locals, assigned_to, State, Outcome, Act, ◌>>=◌, fail, Evaluated, Calls, Depth, through, finds, inside, answering, Completion, Position, top_level, Turning, Texts, Context, texts, arguments, commands, after_turn, after_level, closed, stays, commands_of, Account, Settings, Session, World, Event, Reply, plan_of, begun, session_or_new, ended, refused, is_too_long, is_ascii, checked, at_account, normal, Cursor}
 use Rattle.mmeaning.specs.Transition.{act}
 use Rattle.mmeaning.proofs.ExampleAccount.{account, settings_of}
 
@@ -53,7 +53,7 @@ at a n p = record { account = a; fuel = n; position = p; texts = shut a n }
 
 abbrev pub shut_run : Text → Option LineTree → State → Plan (Outcome Completion)
 shut_run a None s = fail Zsyntax s
-shut_run a (Some l) s = (commands (at a s.steps top_level) (commands_of l) >>= after_level (at a s.steps top_level)) s
+shut_run a (Some l) s = (commands (at a s.steps top_level) (commands_of l) >>= after_level (at a s.steps top_level) >>= closed stays) s
 
 run_is_shut : (terminal : ℕ) (a : Account) (s : Session) (l : Option LineTree) → plan_of terminal a s l ≡ shut_run a.name l (begun terminal a s)
 unfolding shut
@@ -168,13 +168,23 @@ list_opened a zero p args locals naked test cursor out steps given = refl
 list_opened a (suc n) p args locals naked test cursor out steps given = refl
 
 -- what a text names is found if the state is known, too
-abbrev pub found : Text → ℕ → Depth → ReferenceTree → ExprsTree → Act Evaluated
-found a zero d r subscripts = fail Zsteps
-found a (suc n) d r subscripts = through (inside a n d) r subscripts
+abbrev pub found : Text → ℕ → Calls → Depth → ReferenceTree → ExprsTree → Act Evaluated
+found a zero calls d r subscripts = fail Zsteps
+found a (suc n) calls d r subscripts = through (inside a n d) calls r subscripts
 
-pub name_found : (a : Text) (n : ℕ) (d : Depth) (r : ReferenceTree) (subscripts : ExprsTree) → Opens (finds a n d r subscripts) (found a n d r subscripts)
+pub name_found : (a : Text) (n : ℕ) (calls : Calls) (d : Depth) (r : ReferenceTree) (subscripts : ExprsTree) → Opens (finds a n calls d r subscripts) (found a n calls d r subscripts)
 unfolding finds
-name_found a zero d r subscripts locals naked test cursor out steps given = refl
-name_found a (suc n) d r subscripts locals naked test cursor out steps given = refl
+name_found a zero calls d r subscripts locals naked test cursor out steps given = refl
+name_found a (suc n) calls d r subscripts locals naked test cursor out steps given = refl
+
+-- so is a function called
+abbrev pub answered : Text → ℕ → Position → EntryTree → ActualsTree → Act Text
+answered a zero p e xs = fail Zsteps
+answered a (suc n) p e xs = answering (at a n p) e xs
+
+pub call_opened : (a : Text) (n : ℕ) (p : Position) (e : EntryTree) (xs : ActualsTree) → Opens ((shut a n).call p e xs) (answered a n p e xs)
+unfolding shut
+call_opened a zero p e xs locals naked test cursor out steps given = refl
+call_opened a (suc n) p e xs locals naked test cursor out steps given = refl
 
 pub ruleset turns = (opened)

@@ -23,10 +23,10 @@ abbrev pub his : Ops Shared
 his = act lending 3 (codes "BOB")
 
 abbrev pub her_line : Inside
-her_line = inside (codes "ALICE") 9 (record { levels = 0; indirections = 0 })
+her_line = inside (codes "ALICE") 9 (record { levels = 0; indirections = 0; wants_value = false })
 
 abbrev pub his_line : Inside
-his_line = inside (codes "BOB") 9 (record { levels = 0; indirections = 0 })
+his_line = inside (codes "BOB") 9 (record { levels = 0; indirections = 0; wants_value = false })
 
 abbrev pub line_of : ℕ × Text → Event
 line_of l = record { terminal = l.0; text = l.1 }

@@ -3,8 +3,8 @@
 use Rattle.mmeaning.proofs.MeaningWords.{◌≡◌, ℕ, Bool, false, List, [], None, refl, ap, codes, empty, insert, Locks, May, Put, Kill, Routine, Plan, Ask, perform, Completion, opening, Globals, lines_of, Mode, may, Text, Node, Outcome, no_locals, assigned_to, act, Settings, Session, World, Reply, home}
 use Rattle.mmeaning.specs.Transition.{Shared}
 use Rattle.mmeaning.proofs.Calls.{assoc_plan}
-use Rattle.mmeaning.proofs.LineRuns.{opened, text_opened, list_opened, name_found, AreAnswered, Cases, AreAnsweredEach}
-use Rattle.mmeaning.proofs.ExampleAccount.{with_steps, account}
+use Rattle.mmeaning.proofs.LineRuns.{opened, text_opened, list_opened, name_found, call_opened, AreAnswered, Cases, AreAnsweredEach}
+use Rattle.mmeaning.proofs.ExampleAccount.{with_steps, alice_in, account}
 
 -- the lines of ALICE's routines
 unfoldable pub lines_in : Globals → Text → List Text
@@ -38,7 +38,7 @@ abbrev pub holding_in : Globals → Text → Text → World
 holding_in g name x = serving_in g (record { locals = assigned_to no_locals name [] x; naked = None; test = false; cursor = home })
 
 -- A level is deep within plans one after another, where `simp` doesn't look: it brings what is done next to the front.
-pub ruleset computed_levels = (opened, text_opened, list_opened, name_found, assoc_plan)
+pub ruleset computed_levels = (opened, text_opened, list_opened, name_found, call_opened, assoc_plan)
 
 -- what lines of a terminal are answered in any store, and in one that has these lines of a routine
 abbrev pub Anywhere : List Text → List Reply → Type 0
@@ -50,6 +50,9 @@ With name lines ts rs = (g : Globals) → lines_in g name ≡ lines → AreAnswe
 abbrev pub WithSteps : ℕ → Text → List Text → List Text → List Reply → Type 0
 WithSteps n name lines ts rs = (g : Globals) → lines_in g name ≡ lines → AreAnswered (with_steps n) (opening g) ts rs
 
--- where each line stands by itself
+-- where each line stands by itself, and is read in this language
+abbrev pub WithEachIn : ℕ → Text → List Text → Cases → Type 0
+WithEachIn language name lines cases = (g : Globals) → lines_in g name ≡ lines → AreAnsweredEach (alice_in language) (opening g) cases
+
 abbrev pub WithEach : Text → List Text → Cases → Type 0
 WithEach name lines cases = (g : Globals) → lines_in g name ≡ lines → AreAnsweredEach account (opening g) cases

@@ -9,15 +9,15 @@ pub use Rattle.mmeaning.specs.Transition.{new_session}
 pub use Rattle.mmeaning.specs.History.{opening}
 pub use Rattle.mmeaning.proofs.ExampleAccount.{account, with_steps, done, failed}
 pub use Rattle.mmeaning.proofs.LineRuns.{AreAnswered, Answered, AreAnsweredEach, Each, serving, at_column, holding_after, holding, at_first, at_last, at_case, no_more}
-pub use Rattle.mmeaning.proofs.RoutineRuns.{lines_in, asked, serving_in, holding_in, With, WithSteps, WithEach, Anywhere, computed_operations}
-use Rattle.mmeaning.proofs.MeaningWords.{◌*◌, rules, ◌^◌, no_locals, level_begun, value_of, assigned_to, canonical_value, size_text, computed_maps, computed_numbers, computes, reads_in, Bool}
+pub use Rattle.mmeaning.proofs.RoutineRuns.{lines_in, asked, serving_in, holding_in, With, WithSteps, WithEach, WithEachIn, Anywhere, computed_operations}
+use Rattle.mmeaning.proofs.MeaningWords.{◌*◌, rules, ◌^◌, no_locals, level_begun, level_bound, value_of, assigned_to, canonical_value, size_text, computed_maps, computed_numbers, computes, reads_in, Bool}
 use Rattle.mspec.specs.Pieces.{pieces_of}
 use Rattle.mspec.specs.TextFunctions.{first_place, with_piece}
 use Rattle.mmeaning.proofs.RoutineRuns.{computed_levels}
 
 -- its own line names them
 unfoldable pub runs : Bool
-unfolding reads_in assigned_to canonical_value first_place level_begun no_locals pieces_of value_of with_piece
+unfolding reads_in assigned_to canonical_value first_place level_begun level_bound no_locals pieces_of value_of with_piece
 runs = true
 
 pub ruleset running = (computed_levels, gets, computed_maps, computed_numbers)

@@ -1,6 +1,6 @@
 -- SPDX-License-Identifier: Apache-2.0
 -- What operations do on examples, as proved equations: an account does what its settings let it, and nothing else.
-use Rattle.mmeaning.proofs.MeaningWords.{◌≡◌, [], ◌∷◌, None, true, false, rules, codes, empty, get, insert, remove, LockName, taken, released, May, Value, Status, Put, Kill, Take, State, Gives, Halts, Quits, World, Finished, Halted, ended, kept, Read, Write, status, Shared, act, took, Text, Node}
+use Rattle.mmeaning.proofs.MeaningWords.{◌≡◌, [], ◌∷◌, None, true, false, rules, codes, empty, get, insert, remove, LockName, taken, released, May, Value, Status, Put, Kill, Take, State, Gives, Fails, Halting, Quits, World, Finished, Halted, ended, kept, Read, Write, status, Shared, act, took, Text, Node}
 use Rattle.mspec.specs.Access.{Settings}
 use Rattle.mmeaning.proofs.ExampleAccount.{account_named}
 
@@ -39,7 +39,7 @@ record Ends : Type 0 where
   own_lock : (w : Shared) → act lending 1 (codes "ALICE") (Take (lock (hers (codes "X")) ∷ [])) w ≡ took w (taken w.locks 1 (lock (hers (codes "X")) ∷ []))
   other_lock : (w : Shared) → act lending 2 (codes "BOB") (Take (lock (hers (codes "X")) ∷ [])) w ≡ (false, w)
   -- a line that halts closes its session and releases its locks; one that quits does neither
-  halted : (world : World) (s : State) (w : Shared) → ended 1 world (Gives Halts s, w) ≡ (record { out = s.out; ending = Halted }, record { shared = record w { locks = released w.locks 1 }; sessions = remove world.sessions 1 })
+  halted : (world : World) (s : State) (w : Shared) → ended 1 world (Fails Halting s, w) ≡ (record { out = s.out; ending = Halted }, record { shared = record w { locks = released w.locks 1 }; sessions = remove world.sessions 1 })
   quitted : (world : World) (s : State) (w : Shared) → ended 1 world (Gives Quits s, w) ≡ (record { out = s.out; ending = Finished }, record { shared = w; sessions = insert world.sessions 1 (kept s) })
 
 ends : Ends

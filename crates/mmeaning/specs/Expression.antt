@@ -1,7 +1,7 @@
 -- SPDX-License-Identifier: Apache-2.0
 -- Expression meaning: the text that an expression gives, or its code.
 --
--- Restates "Expressions", "$SELECT", the environment of "Global variable name gvn", which is an account, and what "Indirection" says of
+-- Restates "Expressions", "$SELECT", "Extrinsic function", the environment of "Global variable name gvn", which is an account, and what "Indirection" says of
 -- names, subscripts and patterns, of ISO/IEC 11756:1999: operators apply from left to right, none before another, and unary operators bind to the
 -- operand after them. Both operands of an operator are evaluated, the left one first. A text that stands for an `@` names a variable,
 -- and what it has to evaluate is evaluated where it stands.
@@ -10,7 +10,7 @@ pub use Rattle.mspec.specs.Limits.{max_levels, max_indirections}
 use Rattle.mspec.specs.Number.{significant_digits}
 use Rattle.mspec.specs.NumberText.{numeric_value}
 use Rattle.mspec.specs.Interpretations.{truth_text}
-use Rattle.mgrammar.specs.Grammar.{ExprTree, expr, TailsTree, no_tails, tail, TailTree, apply, matches, matches_not, raise, matches_indirect, matches_not_indirect, OperandTree, operand, PrimaryTree, number, text, special, reference, bracket, call, select, refer, ReferenceTree, local, global, naked, indirect, extended, ExprsTree, no_exprs, exprs, ChoicesTree, no_choices, choice}
+use Rattle.mgrammar.specs.Grammar.{ExprTree, expr, TailsTree, no_tails, tail, TailTree, apply, matches, matches_not, raise, matches_indirect, matches_not_indirect, OperandTree, operand, PrimaryTree, number, text, special, reference, bracket, call, select, refer, extrinsic, EntryTree, ActualsTree, ReferenceTree, local, global, naked, indirect, extended, ExprsTree, no_exprs, exprs, ChoicesTree, no_choices, choice}
 use Rattle.mgrammar.specs.Specials.{special_of}
 use Rattle.mgrammar.specs.Functions.{function_of}
 use Rattle.mgrammar.specs.IndirectTexts.{pattern_of}
@@ -21,10 +21,12 @@ use Rattle.mmeaning.specs.Operators.{as_text, as_truth, unaries, binary, raising
 use Rattle.mmeaning.specs.Functions.{call_value}
 use Rattle.mmeaning.specs.Variables.{Evaluated, of_local, of_global, of_naked, subscripts_of, with_subscripts, reading, resolve, read_at, referring, special_value}
 
--- how deep a text stands: the levels that are open, of which some are indirections under evaluation
+-- how deep a text stands: the levels that are open, of which some are indirections under evaluation; and whether a value is wanted of its
+-- level, as one is of a function's
 pub record Depth : Type 0 where
   pub levels : ℕ
   pub indirections : ℕ
+  pub wants_value : Bool
 
 abbrev pub is_indirection_free : Depth → Bool
 is_indirection_free d = nat_lt d.levels max_levels && nat_lt d.indirections max_indirections
@@ -34,21 +36,31 @@ an_indirection_free d = unless Zdepth (is_indirection_free d)
 
 -- an indirection is a level while what its text has is evaluated or done
 abbrev pub indirected : Depth → Depth
-indirected d = record { levels = d.levels + 1; indirections = d.indirections + 1 }
+indirected d = record d { levels = d.levels + 1; indirections = d.indirections + 1 }
 
--- where an expression stands: whose line it belongs to, how deep it is, and what evaluates, at a given depth, the variable that a text
--- names, which is no part of the tree, with the subscripts after it, once the step of its operand is spent
+-- what a function gives for its actuals, at a given depth, once the step of its primary is spent
+abbrev pub Calls : Type 0
+Calls = Depth → EntryTree → ActualsTree → Act Text
+
+-- no function is called, as in the text of a name indirection, where only a variable is found
+abbrev pub no_calls : Calls
+no_calls d e xs = fail Zsyntax
+
+-- where an expression stands: whose line it belongs to, how deep it is, what functions give, and what evaluates, at a given depth, the
+-- variable that a text names, which is no part of the tree, with the subscripts after it, which may call functions as the tree may, once
+-- the step of its operand is spent
 pub record Inside : Type 0 where
   pub account : Text
   pub depth : Depth
-  pub find : Depth → ReferenceTree → ExprsTree → Act Evaluated
+  pub calls : Calls
+  pub find : Calls → Depth → ReferenceTree → ExprsTree → Act Evaluated
 
 -- what the variable that a text names has to evaluate, and the subscripts after it; the text is read in the line's language
 abbrev pub named_by : Inside → ExprsTree → Text → Act Evaluated
 named_by i subscripts x = do
   an_indirection_free i.depth
   r ← read_so Zsyntax (λ l. ref_in l x)
-  i.find (indirected i.depth) r subscripts
+  i.find i.calls (indirected i.depth) r subscripts
 
 -- whether a value matches the pattern that a text is, which has nothing to evaluate; it counts as an indirection all the same
 abbrev pub matches_text : Inside → Text → Text → Act Bool
@@ -101,7 +113,7 @@ abbrev mutual
   pub primary_value : Inside → PrimaryTree → Act Text
   primary_value i (number literal) = charge >> as_text (numeric_value significant_digits literal)
   primary_value i (text t) = charge >> give t
-  primary_value i (special word) = charge >> special_value (special_of word)
+  primary_value i (special word) = charge >> special_value i.depth.wants_value (special_of word)
   primary_value i (reference r) = do
     charge
     v ← evaluated i r
@@ -114,6 +126,7 @@ abbrev mutual
     call_value word xs
   primary_value i (select word choices) = charge >> chosen i choices
   primary_value i (refer word r more) = charge >> referring (function_of word) (evaluated i r) (values i [] more)
+  primary_value i (extrinsic e xs) = charge >> i.calls i.depth e xs
 
   -- what a reference has to evaluate; it costs nothing by itself
   pub evaluated : Inside → ReferenceTree → Act Evaluated
@@ -156,18 +169,18 @@ optional_value i (Some e) = do
   x ← value i e
   give (Some x)
 
--- what a text names: first its own parts, then the subscripts after it
-abbrev pub through : Inside → ReferenceTree → ExprsTree → Act Evaluated
-through i r subscripts = do
+-- what a text names: first its own parts, then the subscripts after it, which have calls
+abbrev pub through : Inside → Calls → ReferenceTree → ExprsTree → Act Evaluated
+through i calls r subscripts = do
   v ← evaluated i r
-  xs ← values i (subscripts_of v) subscripts
+  xs ← values (record i { calls = calls }) (subscripts_of v) subscripts
   give (with_subscripts xs v)
 
 -- with at most this many texts
-unfoldable pub finds : Text → ℕ → Depth → ReferenceTree → ExprsTree → Act Evaluated
-finds a zero d r subscripts = fail Zsteps
-finds a (suc n) d r subscripts = through (record { account = a; depth = d; find = finds a n }) r subscripts
+unfoldable pub finds : Text → ℕ → Calls → Depth → ReferenceTree → ExprsTree → Act Evaluated
+finds a zero calls d r subscripts = fail Zsteps
+finds a (suc n) calls d r subscripts = through (record { account = a; depth = d; calls = no_calls; find = finds a n }) calls r subscripts
 
--- in a line of this account, in which this many texts that are no part of the tree may be entered
+-- in a line of this account, in which this many texts that are no part of the tree may be entered, and no function is called
 abbrev pub inside : Text → ℕ → Depth → Inside
-inside a n d = record { account = a; depth = d; find = finds a n }
+inside a n d = record { account = a; depth = d; calls = no_calls; find = finds a n }

@@ -8,7 +8,7 @@ use Rattle.mspec.specs.Trees.{text_eq}
 use Rattle.mspec.specs.Scopes.{without_level}
 use Rattle.mspec.specs.Code.{M13, Zdepth, Zlevel}
 use Rattle.mspec.specs.Plan.{Routine}
-use Rattle.mspec.specs.Act.{Text, Act, ◌>>=◌, ◌>>◌, give, give_some, unless, ask, with_locals, set_test}
+use Rattle.mspec.specs.Act.{Text, Act, ◌>>=◌, ◌>>◌, give, read_so, in_language, unless, ask, with_locals, set_test}
 use Rattle.mgrammar.specs.Grammar.{EntryTree, at_label, at_label_in, at_routine, CommandTree, LineTree}
 use Rattle.mgrammar.specs.RoutineLine.{BodyTree, short, spaced_out, label_of, dots_of}
 use Rattle.mmeaning.specs.Expression.{Depth, indirected}
@@ -29,7 +29,7 @@ pub record Position : Type 0 where
 -- a line from outside, at the only level that is open
 abbrev pub top_level : Position
 top_level = record {
-  depth = record { levels = 0; indirections = 0 };
+  depth = record { levels = 0; indirections = 0; wants_value = false };
   level = record { copy = []; next = None; dots = 0 };
 }
 
@@ -50,22 +50,22 @@ abbrev pub is_label : Text → Option Text → Bool
 is_label label None = false
 is_label label (Some name) = text_eq label name
 
--- whether a line matches the entry, which means the first such line
-abbrev pub is_entry : EntryTree → Text → Bool
-is_entry (at_label label) line = is_label label (label_of line)
-is_entry (at_label_in label routine) line = is_label label (label_of line)
-is_entry (at_routine routine) line = true
+-- whether in this language a line matches the entry, which means the first such line
+abbrev pub is_entry : (language : ℕ) → EntryTree → Text → Bool
+is_entry l (at_label label) line = is_label label (label_of l line)
+is_entry l (at_label_in label routine) line = is_label label (label_of l line)
+is_entry l (at_routine routine) line = true
 
-abbrev pub has_dots : ℕ → Option Text → Bool
-has_dots dots None = false
-has_dots dots (Some line) = dots_of line == dots
+abbrev pub has_dots : (language : ℕ) → ℕ → Option Text → Bool
+has_dots l dots None = false
+has_dots l dots (Some line) = dots_of l line == dots
 
 -- the line that the entry means: there has to be one, and it has to have as many dots as the level
 abbrev pub target : List Text → ℕ → EntryTree → Act Target
 target copy dots e = do
   lines ← lines_of_entry copy e
-  n ← give_some M13 (position (is_entry e) lines)
-  unless Zlevel (has_dots dots (slice_get lines n))
+  n ← read_so M13 (λ l. position (is_entry l e) lines)
+  in_language (λ l. unless Zlevel (has_dots l dots (slice_get lines n)))
   give (record { copy = lines; line = n })
 
 -- ---- levels that are opened
@@ -73,26 +73,36 @@ target copy dots e = do
 abbrev pub a_level_free : Depth → Act (Unit {0})
 a_level_free d = unless Zdepth (nat_lt d.levels max_levels)
 
--- one level deeper
-abbrev pub deeper : Position → Level → Position
-deeper p l = record { depth = record { levels = p.depth.levels + 1; indirections = p.depth.indirections }; level = l }
-
 -- within an indirection, whose arguments are done in the level that it is in
 abbrev pub within_indirection : Position → Position
 within_indirection p = record { depth = indirected p.depth; level = p.level }
 
 -- ---- how a level closes
 
--- not at all, as the outermost one does, which goes with its line; its scope goes; and besides that, $TEST is again what it was
+-- not at all, as the outermost one does, which goes with its line; its scope goes; and besides that, $TEST is again what it was; and,
+-- of a function, besides both there is a value
 pub data Closing : Type 0 where
   stays : Closing
   leaves : Closing
   restores : Bool → Closing
+  answers : Bool → Closing
+
+-- whether a value is wanted of a level that closes so
+abbrev pub wants : Closing → Bool
+wants stays = false
+wants leaves = false
+wants (restores b) = false
+wants (answers b) = true
+
+-- one level deeper
+abbrev pub deeper : Closing → Position → Level → Position
+deeper c p l = record { depth = record { levels = p.depth.levels + 1; indirections = p.depth.indirections; wants_value = wants c }; level = l }
 
 abbrev pub closing : Closing → Act (Unit {0})
 closing stays = give tt
 closing leaves = with_locals without_level
 closing (restores b) = with_locals without_level >> set_test b
+closing (answers b) = with_locals without_level >> set_test b
 
 -- ---- commands of a line
 

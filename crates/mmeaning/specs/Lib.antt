@@ -6,6 +6,7 @@ pub mod Expression
 pub mod Courses
 pub mod Locking
 pub mod Levels
+pub mod Parameters
 pub mod LineMeaning
 pub mod Shared
 pub mod Transition
@@ -14,3 +15,4 @@ pub mod TransitionLaws
 pub mod Calls
 pub mod Frames
 pub mod Yields
+pub mod CallLaws

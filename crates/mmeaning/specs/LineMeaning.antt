@@ -1,43 +1,45 @@
 -- SPDX-License-Identifier: Apache-2.0
 -- Line meaning: what the commands of a line do, one after another.
 --
--- Restates "Commands" of ISO/IEC 11756:1999, "Do", "Else", "For", "Goto", "Halt", "Hang", "If", "Kill", "New", "Quit", "Set", "Write" and
+-- Restates "Commands" and "Extrinsic function" of ISO/IEC 11756:1999, "Do", "Else", "For", "Goto", "Halt", "Hang", "If", "Kill", "New", "Quit", "Set", "Write" and
 -- "Xecute" among them, and what "Indirection" says of arguments: arguments are done from left to right, each as if it stood in a command of its
 -- own, and those that a text gives as if they stood in its place. A DO without arguments does the lines after its own that have one dot
 -- more, and keeps $TEST. LOCK is in Locking. Each text is read in the language that the line is given.
-use Rattle.std.specs.Prelude.{ℕ, zero, suc, ◌+◌, ℤ, pos, negsuc, ◌+ℤ◌, Bool, true, not, cond, nat_lt, nat_le, ◌==◌, List, [], ◌∷◌, ◌++◌, length, drop, Option, Some, None}
+use Rattle.std.specs.Prelude.{ℕ, zero, suc, ◌+◌, ℤ, pos, negsuc, ◌+ℤ◌, Bool, true, not, cond, nat_lt, nat_le, ◌==◌, List, [], ◌∷◌, ◌++◌, length, drop, Option, Some, None, is_none}
 use Rattle.mspec.specs.Number.{sum_of}
 use Rattle.mspec.specs.NumberText.{number_text}
 use Rattle.mspec.specs.TextFunctions.{set_piece_of, has_places, set_range_of}
 pub use Rattle.mspec.specs.Cursor.{line_end}
 use Rattle.mspec.specs.Cursor.{is_column, spaces_to}
 use Rattle.mspec.specs.Scopes.{killed_except, newed, newed_except}
-use Rattle.mgrammar.specs.Grammar.{ExprTree, EntryTree, ReferenceTree, TargetTree, variable, part, DestinationTree, one, several, ParameterTree, once, onward, until, KeywordTree, set_word, kill_word, new_word, if_word, else_word, for_word, quit_word, write_word, do_word, goto_word, execute_word, lock_word, halt_word, hang_word, halt_or_hang_word, ArgTree, assign, formats, coded, shown, kill_one, kill_others, new_one, new_others, tested, loop, do_one, go_to, executed, locked, hang_for, indirect_args, FormTree, PrimaryTree, CommandTree, LineTree}
+use Rattle.mgrammar.specs.Grammar.{ExprTree, EntryTree, ActualsTree, ReferenceTree, TargetTree, variable, part, DestinationTree, one, several, ParameterTree, once, onward, until, KeywordTree, set_word, kill_word, new_word, if_word, else_word, for_word, quit_word, write_word, do_word, goto_word, execute_word, lock_word, halt_word, hang_word, halt_or_hang_word, ArgTree, assign, formats, coded, shown, kill_one, kill_others, new_one, new_others, tested, loop, do_one, go_to, executed, locked, hang_for, returned, indirect_args, FormTree, PrimaryTree, CommandTree, LineTree}
 use Rattle.mgrammar.specs.Functions.{ValueFunctionTree, FunctionTree, of_values, extract_function, piece_function, function_of}
 use Rattle.mgrammar.specs.Languages.{line_in, routine_line_in, args_in}
-use Rattle.mgrammar.specs.RoutineLine.{dots_of}
-use Rattle.mspec.specs.Code.{M15, Zarg, Zchar, Zsteps, Zsyntax}
+use Rattle.mgrammar.specs.RoutineLine.{formals_of, dots_of}
+use Rattle.mspec.specs.Code.{M11, M15, M16, M17, Halting, Zarg, Zchar, Zsteps, Zsyntax}
 use Rattle.mspec.specs.Plan.{Release}
-use Rattle.mspec.specs.Act.{Text, Act, level_begun, ◌>>=◌, ◌>>◌, give, give_some, read_so, fail, unless, ask, charge, write, write_formats, with_locals, test_is, set_test, cursor_is}
+use Rattle.mspec.specs.Act.{Text, Act, Locals, level_begun, ◌>>=◌, ◌>>◌, give, give_some, read_so, in_language, fail, unless, ask, charge, write, write_formats, with_locals, test_is, set_test, cursor_is}
 use Rattle.mmeaning.specs.Operators.{outcome, as_number, as_truth, as_text}
 use Rattle.mmeaning.specs.Functions.{as_whole, text_at, whole_at}
 use Rattle.mmeaning.specs.Variables.{Evaluated, at_local, writing, resolve, found_at, read_or, put_at, kill_at}
 use Rattle.mmeaning.specs.Expression.{Inside, inside, an_indirection_free, primary_value, value, values, evaluated}
 pub use Rattle.mmeaning.specs.Expression.{optional_value}
 use Rattle.mmeaning.specs.Locking.{locking}
-pub use Rattle.mmeaning.specs.Levels.{Level, Position, top_level, Target, Closing, leaves, restores}
+pub use Rattle.mmeaning.specs.Levels.{Level, Position, top_level, Target, Closing, stays, leaves, restores, answers}
 use Rattle.mmeaning.specs.Levels.{target, a_level_free, deeper, within_indirection, closing, commands_of, commands_in}
+use Rattle.mmeaning.specs.Parameters.{handed_over, with_list, formals_of_target, formals_for, with_formals}
 use Rattle.mmeaning.specs.Courses.{Course, last_turn, endless, limited, forever, is_past}
 
 -- ---- how a line goes on
 
--- with what is next; with what comes after the rest of the line; out of its turn or its level; with another line; or not at all
+-- with what is next; with what comes after the rest of the line; out of its turn or its level; with another line; or out of its level
+-- with a value
 pub data Completion : Type 0 where
   Go_on : Completion
   Skips : Completion
   Quits : Completion
   Goes : Target → Completion
-  Halts : Completion
+  Returns : Text → Completion
 
 -- what is next, unless a completion passes it by
 abbrev pub after : Completion → Act Completion → Act Completion
@@ -45,7 +47,7 @@ after Go_on p = p
 after Skips p = give Skips
 after Quits p = give Quits
 after (Goes t) p = give (Goes t)
-after Halts p = give Halts
+after (Returns v) p = give (Returns v)
 
 -- a FOR under way: its index, how its parameter goes on, the parameters after that, and the rest of the line
 pub record Turning : Type 0 where
@@ -54,11 +56,13 @@ pub record Turning : Type 0 where
   pub parameters : List ParameterTree
   pub body : List CommandTree
 
--- what runs commands once more, or commands or arguments of a text that is no part of the tree, once its step is spent
+-- what runs commands once more, or commands or arguments of a text that is no part of the tree, or calls a function, once its step is
+-- spent
 pub record Texts : Type 0 where
   pub turn : Position → Turning → Act Completion
   pub list : Position → List ArgTree → Act Completion
   pub enter : Position → List CommandTree → Act Completion
+  pub call : Position → EntryTree → ActualsTree → Act Text
 
 pub record Context : Type 0 where
   pub account : Text
@@ -70,8 +74,9 @@ pub record Context : Type 0 where
 abbrev pub at_level : Context → Level → Context
 at_level x l = record x { position = record { depth = x.position.depth; level = l } }
 
+-- an expression of a line may call functions, however deep it is in indirections
 abbrev pub inside_of : Context → Inside
-inside_of x = inside x.account x.fuel x.position.depth
+inside_of x = record (inside x.account x.fuel x.position.depth) { calls = λ d e xs. x.texts.call (record { depth = d; level = x.position.level }) e xs }
 
 -- ---- SET
 
@@ -203,6 +208,13 @@ killing i r = do
   p ← resolve writing v
   kill_at p
 
+-- ---- QUIT
+
+abbrev pub returning : Inside → ExprTree → Act Completion
+returning i e = do
+  x ← value i e
+  give (Returns x)
+
 -- ---- conditions
 
 -- the truth of the condition, if there is one
@@ -285,13 +297,13 @@ after_course x t (limited by limit) = do
   cond (is_past by (n +ℤ by) limit) (next_parameter x t.index t.body t.parameters) (stepped x t n by)
 after_course x t forever = begin_turn x t
 
--- QUIT ends the FOR with all its parameters; the rest of the line was the FOR's
+-- QUIT ends the FOR with all its parameters; the rest of the line was the FOR's. No value is wanted of a turn.
 abbrev pub after_turn : Context → Turning → Completion → Act Completion
 after_turn x t Go_on = after_course x t t.course
 after_turn x t Skips = after_course x t t.course
 after_turn x t Quits = give Skips
 after_turn x t (Goes g) = give (Goes g)
-after_turn x t Halts = give Halts
+after_turn x t (Returns v) = fail M16
 
 abbrev pub turns_forever : Context → List CommandTree → Act Completion
 turns_forever x body = begin_turn x (record { index = []; course = forever; parameters = []; body = body })
@@ -304,13 +316,20 @@ line_entered x n text = do
   l ← read_so Zsyntax (λ n. routine_line_in n text)
   x.texts.enter (record { depth = x.position.depth; level = record x.position.level { next = Some (n + 1) } }) (commands_in l.body)
 
+-- one that no DO names: it has no formal list
+abbrev pub line_reached : Context → ℕ → Text → Act Completion
+line_reached x n text = do
+  in_language (λ l. unless M11 (is_none (formals_of l text)))
+  line_entered x n text
+
 -- The lines from a place on, which are these. One with more dots than the level's is passed over; one with fewer ends the level, as does
 -- the end of the lines. A line that is entered or passed over costs a step.
 abbrev pub lines_reached : Context → ℕ → List Text → Act Completion
 lines_reached x n [] = give Go_on
 lines_reached x n (text ∷ rest) =
-    cond (nat_lt x.position.level.dots (dots_of text)) (charge >> lines_reached x (n + 1) rest)
-    (cond (dots_of text == x.position.level.dots) (charge >> line_entered x n text) (give Go_on))
+    in_language (λ l.
+    cond (nat_lt x.position.level.dots (dots_of l text)) (charge >> lines_reached x (n + 1) rest)
+    (cond (dots_of l text == x.position.level.dots) (charge >> line_reached x n text) (give Go_on)))
 
 abbrev pub lines_from : Context → Option ℕ → Act Completion
 lines_from x None = give Go_on
@@ -320,36 +339,72 @@ lines_from x (Some n) = lines_reached x n (drop n x.position.level.copy)
 abbrev pub lines_next : Context → Act Completion
 lines_next x = lines_from x x.position.level.next
 
+-- the first of these lines, which a DO names, and those after it
+abbrev pub first_called : Context → ℕ → List Text → Act Completion
+first_called x n [] = give Go_on
+first_called x n (text ∷ rest) = charge >> line_entered x n text
+
+abbrev pub called_from : Context → Option ℕ → Act Completion
+called_from x None = give Go_on
+called_from x (Some n) = first_called x n (drop n x.position.level.copy)
+
+abbrev pub lines_called : Context → Act Completion
+lines_called x = called_from x x.position.level.next
+
 -- What follows a line of a level. GOTO goes on with the line that it names, in the same level.
 abbrev pub after_level : Context → Completion → Act Completion
 after_level x Go_on = lines_next x
 after_level x Skips = lines_next x
 after_level x Quits = give Go_on
 after_level x (Goes t) = lines_next (at_level x (record x.position.level { copy = t.copy; next = Some t.line }))
-after_level x Halts = give Halts
+after_level x (Returns v) = give (Returns v)
 
 -- ---- levels that DO and XECUTE open
 
+-- a value that a level is left with is wanted of a function alone, which cannot do without
 abbrev pub closed : Closing → Completion → Act Completion
+closed (answers b) (Returns v) = closing (answers b) >> give (Returns v)
+closed (answers b) s = fail M17
+closed c (Returns v) = fail M16
 closed c s = closing c >> give s
 
--- what is done in a level of its own, which then closes
-abbrev pub in_level : Context → Level → Closing → (Context → Act Completion) → Act Completion
-in_level x l c act = with_locals level_begun >> (act (record x { position = deeper x.position l }) >>= closed c)
+-- what is done in a level of its own, once its scope is there; the level then closes
+abbrev pub in_level : Context → Level → Closing → (Locals → Locals) → (Context → Act Completion) → Act Completion
+in_level x l c begins act = with_locals begins >> (act (record x { position = deeper c x.position l }) >>= closed c)
 
--- DO with an argument: the lines from the one that it names on
-abbrev pub doing : Context → EntryTree → Act Completion
-doing x e = do
+-- the lines from the one that an entry names on, in a level with the formal parameters of that line. The actuals come first, so what they do
+-- stands even if there is no such line.
+abbrev pub calling : Context → EntryTree → ActualsTree → Closing → Act Completion
+calling x e xs c = do
+  bs ← handed_over (inside_of x) xs
   a_level_free x.position.depth
   t ← target x.position.level.copy 0 e
-  in_level x (record { copy = t.copy; next = Some t.line; dots = 0 }) leaves lines_next
+  names ← formals_of_target t
+  formals ← formals_for xs names bs
+  in_level x (record { copy = t.copy; next = Some t.line; dots = 0 }) c (with_formals formals) lines_called
+
+-- DO with an argument
+abbrev pub doing : Context → EntryTree → ActualsTree → Act Completion
+doing x e xs = calling x e xs leaves
+
+-- the value that a function's level is left with, which no other completion of it lacks
+abbrev pub returned_value : Completion → Act Text
+returned_value (Returns v) = give v
+returned_value s = fail M17
+
+-- a function: $TEST is afterwards what it was before its actuals, and the naked indicator is not
+abbrev pub answering : Context → EntryTree → ActualsTree → Act Text
+answering x e xs = do
+  b ← test_is
+  s ← calling x e (with_list xs) (answers b)
+  returned_value s
 
 -- argumentless DO: the lines after this one that have one dot more
 abbrev pub doing_block : Context → Act Completion
 doing_block x = do
   a_level_free x.position.depth
   b ← test_is
-  in_level x (record x.position.level { dots = x.position.level.dots + 1 }) (restores b) lines_next
+  in_level x (record x.position.level { dots = x.position.level.dots + 1 }) (restores b) level_begun lines_next
 
 -- XECUTE: a text, whose labels are sought where those of its line are
 abbrev pub executing : Context → ExprTree → Act Completion
@@ -357,7 +412,7 @@ executing x e = do
   text ← value (inside_of x) e
   a_level_free x.position.depth
   l ← read_so Zsyntax (λ n. line_in n text)
-  in_level x (record { copy = x.position.level.copy; next = None; dots = 0 }) leaves (λ y. y.texts.enter y.position (commands_of l))
+  in_level x (record { copy = x.position.level.copy; next = None; dots = 0 }) leaves level_begun (λ y. y.texts.enter y.position (commands_of l))
 
 -- GOTO: a line with as many dots as the level
 abbrev pub going : Context → EntryTree → Act Completion
@@ -397,11 +452,12 @@ argument x (new_one name) = with_locals (newed (name ∷ [])) >> give Go_on
 argument x (new_others names) = with_locals (newed_except names) >> give Go_on
 argument x (tested e) = testing (inside_of x) e
 argument x (loop index parameters) = give Go_on
-argument x (do_one e c) = where_holds x c (doing x e)
+argument x (do_one e xs c) = where_holds x c (doing x e xs)
 argument x (go_to e c) = where_holds x c (going x e)
 argument x (executed e c) = where_holds x c (executing x e)
 argument x (locked k names t) = locking (inside_of x) k names t >> give Go_on
 argument x (hang_for e) = hanging (inside_of x) e >> give Go_on
+argument x (returned e) = returning (inside_of x) e
 argument x (indirect_args f p) = given x f p
 
 abbrev pub arguments : Context → List ArgTree → Act Completion
@@ -427,9 +483,9 @@ bare x do_word rest = doing_block x
 bare x goto_word rest = give Go_on
 bare x execute_word rest = give Go_on
 bare x lock_word rest = ask Release >> give Go_on
-bare x halt_word rest = give Halts
+bare x halt_word rest = fail Halting
 bare x hang_word rest = give Go_on
-bare x halt_or_hang_word rest = give Halts
+bare x halt_or_hang_word rest = fail Halting
 
 -- a command, before the rest of its line, which FOR does in its turns
 abbrev pub effect : Context → KeywordTree → List ArgTree → List CommandTree → Act Completion
@@ -450,21 +506,22 @@ commands x (c ∷ rest) = charge >> (conditional x c rest >>= (λ s. after s (co
 
 -- with at most this many texts
 abbrev pub texts : Text → ℕ → Texts
-texts a zero = record { turn = λ _ _. fail Zsteps; list = λ _ _. fail Zsteps; enter = λ _ _. fail Zsteps }
+texts a zero = record { turn = λ _ _. fail Zsteps; list = λ _ _. fail Zsteps; enter = λ _ _. fail Zsteps; call = λ _ _ _. fail Zsteps }
 texts a (suc n) =
     let at : Position → Context = λ p. record { account = a; fuel = n; position = p; texts = texts a n } in
     record {
       turn = λ p t. commands (at p) t.body >>= after_turn (at p) t;
       list = λ p args. arguments (at p) args;
       enter = λ p cs. commands (at p) cs >>= after_level (at p);
+      call = λ p e xs. answering (at p) e xs;
     }
 
 abbrev pub context : Text → ℕ → Position → Context
 context a n p = record { account = a; fuel = n; position = p; texts = texts a n }
 
--- as many texts can be entered as there are steps, since each costs one
+-- as many texts can be entered as there are steps, since each costs one; no value is wanted of a terminal's line
 abbrev pub run_within : Text → ℕ → List CommandTree → Act Completion
-run_within a n cs = (texts a (suc n)).enter top_level cs
+run_within a n cs = (texts a (suc n)).enter top_level cs >>= closed stays
 
 abbrev pub run : Text → LineTree → Act Completion
 run a l s = run_within a s.steps (commands_of l) s

@@ -1,10 +1,10 @@
 -- SPDX-License-Identifier: Apache-2.0
 -- A transition: one line of one terminal, run to its end.
-use Rattle.std.specs.Prelude.{◌≡◌, ℕ, Bool, true, false, nat_lt, [], length, Option, Some, None}
+use Rattle.std.specs.Prelude.{◌≡◌, ℕ, Bool, true, false, cond, nat_lt, [], length, Option, Some, None}
 use Rattle.std.specs.List.{list_all}
 use Rattle.std.specs.Ordering.{nat_cmp}
 use Rattle.std.specs.FinMap.{FinMap, get, insert, remove}
-use Rattle.mspec.specs.Code.{Code, Zterm, Zline, Zchar, Zsyntax, Fault, Own, Lost}
+use Rattle.mspec.specs.Code.{Code, Zterm, Zline, Zchar, Zsyntax, is_halting, Fault, Own, Lost}
 pub use Rattle.mspec.specs.Limits.{max_line}
 use Rattle.mspec.specs.Plan.{Plan, perform, cut_short}
 use Rattle.mspec.specs.LockConflict.{released}
@@ -14,7 +14,7 @@ use Rattle.mspec.specs.Scopes.{outermost}
 use Rattle.mspec.specs.Names.{is_character}
 use Rattle.mgrammar.specs.Grammar.{LineTree}
 use Rattle.mgrammar.specs.Languages.{line_in}
-use Rattle.mmeaning.specs.LineMeaning.{Completion, Go_on, Skips, Quits, Goes, Halts, run}
+use Rattle.mmeaning.specs.LineMeaning.{Completion, run}
 pub use Rattle.mspec.specs.Access.{Account, Settings}
 pub use Rattle.mmeaning.specs.Shared.{Shared, act}
 
@@ -67,17 +67,13 @@ text_run a (Some tree) = run a tree
 abbrev pub plan_of : ℕ → Account → Session → Option LineTree → Plan (Outcome Completion)
 plan_of terminal account s tree = text_run account.name tree (begun terminal account s)
 
--- how a line that gives this completion ends
-abbrev pub ending_of : Completion → Ending
-ending_of Go_on = Finished
-ending_of Skips = Finished
-ending_of Quits = Finished
-ending_of (Goes t) = Finished
-ending_of Halts = Halted
+-- how a line that fails with this code ends
+abbrev pub ending_of : Code → Ending
+ending_of c = cond (is_halting c) Halted (Faulted (Own c))
 
 abbrev pub reply_of : Outcome Completion → Reply
-reply_of (Gives completion s) = record { out = s.out; ending = ending_of completion }
-reply_of (Fails code s) = record { out = s.out; ending = Faulted (Own code) }
+reply_of (Gives completion s) = record { out = s.out; ending = Finished }
+reply_of (Fails code s) = record { out = s.out; ending = ending_of code }
 
 abbrev pub state_of : Outcome Completion → State
 state_of (Gives completion s) = s

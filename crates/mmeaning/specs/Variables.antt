@@ -1,7 +1,7 @@
 -- SPDX-License-Identifier: Apache-2.0
 -- Variables: the checks of a reference, and what is asked of the place that it names.
 --
--- Restates "Local variable name lvn", "Global variable name gvn", "$DATA", "$GET", "$ORDER", "$IO", "$JOB", "$PRINCIPAL", "$STORAGE", "$TEST", "$X" and
+-- Restates "Local variable name lvn", "Global variable name gvn", "$DATA", "$GET", "$ORDER", "$IO", "$JOB", "$PRINCIPAL", "$QUIT", "$STORAGE", "$TEST", "$X" and
 -- "$Y" of ISO/IEC 11756:1999, and what "LOCK" says of an nref. A reference is checked once all its subscripts are evaluated.
 use Rattle.std.specs.Prelude.{ℕ, ◌+◌, ◌*◌, pos, negsuc, Bool, true, false, cond, ◌&&◌, nat_le, nat_lt, List, [], ◌∷◌, ◌++◌, length, Option, Some, None, unwrap_or, slice_get}
 use Rattle.std.specs.Ordering.{int_eq}
@@ -15,7 +15,7 @@ use Rattle.mspec.specs.Interpretations.{truth_text}
 use Rattle.mspec.specs.Code.{M1, M7, Zarg, Zgrant, Zlong, Zsub, Zsyntax}
 use Rattle.mspec.specs.Plan.{May, Value, Status, Neighbour, Put, Kill}
 use Rattle.mspec.specs.Act.{Text, Node, Act, ◌>>=◌, ◌>>◌, give, give_some, fail, unless, ask, get_local, set_local, with_locals, of_locals, value_of, terminal_is, test_is, cursor_is, naked_is, set_naked}
-use Rattle.mgrammar.specs.Specials.{SpecialTree, test_special, io_special, job_special, principal_special, storage_special, column_special, row_special}
+use Rattle.mgrammar.specs.Specials.{SpecialTree, test_special, io_special, job_special, principal_special, storage_special, column_special, row_special, quit_special}
 use Rattle.mgrammar.specs.Functions.{VariableFunctionTree, data_function, get_function, order_function, FunctionTree, of_values, of_variable, of_choices}
 use Rattle.mmeaning.specs.Functions.{whole_text, as_whole}
 
@@ -200,19 +200,20 @@ terminal_number = do
   n ← terminal_is
   give (whole_text (pos n))
 
--- $STORAGE is how many characters a text may have, whatever is stored
-abbrev pub special_value : Option SpecialTree → Act Text
-special_value None = fail Zsyntax
-special_value (Some test_special) = do
+-- $STORAGE is how many characters a text may have, whatever is stored; $QUIT is whether a value is wanted of the level
+abbrev pub special_value : (wants_value : Bool) → Option SpecialTree → Act Text
+special_value wanted None = fail Zsyntax
+special_value wanted (Some test_special) = do
   b ← test_is
   give (truth_text b)
-special_value (Some io_special) = terminal_number
-special_value (Some job_special) = terminal_number
-special_value (Some principal_special) = terminal_number
-special_value (Some storage_special) = give (whole_text (pos max_text))
-special_value (Some column_special) = do
+special_value wanted (Some io_special) = terminal_number
+special_value wanted (Some job_special) = terminal_number
+special_value wanted (Some principal_special) = terminal_number
+special_value wanted (Some storage_special) = give (whole_text (pos max_text))
+special_value wanted (Some column_special) = do
   c ← cursor_is
   give (whole_text (pos c.column))
-special_value (Some row_special) = do
+special_value wanted (Some row_special) = do
   c ← cursor_is
   give (whole_text (pos c.row))
+special_value wanted (Some quit_special) = give (truth_text wanted)

@@ -5,12 +5,18 @@ ghost use Rattle.mspec.specs.Plan.{Plan};
 ghost use Rattle.mspec.specs.Act.{Text, Outcome};
 ghost use Rattle.mmeaning.specs.LineMeaning.{Completion};
 ghost use Rattle.mmeaning.specs.Transition.{Settings, Shared};
-ghost use Rattle.mmeaning.specs.TransitionLaws.{NormalNeverFails, PlanKeepsOthersLocks, NormalTransitionsAreHistory, HistoryIsNormal};
+ghost use Rattle.mmeaning.specs.TransitionLaws.{NormalNeverFails, NoneShowsHalting, PlanKeepsOthersLocks, NormalTransitionsAreHistory, HistoryIsNormal};
 
 /// A normal transition is never answered ZMEM or ZSTORE.
 #[tactic(auto, using(crate::proofs::Histories::normal_never_fails))]
 pub fn normal_never_fails()
     ensures { NormalNeverFails }
+{}
+
+/// No reply shows the code by which HALT ends a line.
+#[tactic(auto, using(crate::proofs::Histories::none_shows_halting))]
+pub fn none_shows_halting()
+    ensures { NoneShowsHalting }
 {}
 
 /// What a line does changes no lock of another terminal.

@@ -39,8 +39,8 @@ fn bounds(keyword: Keyword) -> (usize, Option<usize>)
         | Keyword::Do
         | Keyword::Lock
         | Keyword::HaltOrHang => (0, None),
-        Keyword::Else | Keyword::Quit | Keyword::Halt => (0, Some(0)),
-        Keyword::For => (0, Some(1)),
+        Keyword::Else | Keyword::Halt => (0, Some(0)),
+        Keyword::For | Keyword::Quit => (0, Some(1)),
     }
 }
 

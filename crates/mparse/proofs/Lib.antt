@@ -1,4 +1,5 @@
 -- SPDX-License-Identifier: Apache-2.0
 mod ParseWords
 mod Lists
+mod Points
 mod WholeTexts

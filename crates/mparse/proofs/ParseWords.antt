@@ -15,8 +15,9 @@ pub use Rattle.mgrammar.specs.IndirectTexts.{args_of, ref_at}
 pub use Rattle.mgrammar.specs.Reading.{line_at, spaced_at}
 unfoldable pub use Rattle.mgrammar.specs.Reading.{parameter_at}
 pub use Rattle.mgrammar.specs.ReadingExpressions.{choice_with, inner_at, readers_at, tail_with}
-pub use Rattle.mgrammar.specs.ReadingWords.{Read, after_comma, many, past, with_front}
-unfoldable pub use Rattle.mgrammar.specs.ReadingWords.{list_at}
+pub use Rattle.mgrammar.specs.ReadingWords.{Read, after_comma, many, past, run_of, with_front}
+unfoldable pub use Rattle.mgrammar.specs.ReadingWords.{list_at, number_at, point_at}
+pub use Rattle.mspec.specs.Literal.{is_digit}
 pub use Rattle.mgrammar.specs.RoutineLine.{RoutineLineTree, dot_at, routine_line_at, spell_routine_line, well_routine_line}
 unfoldable pub use Rattle.mgrammar.specs.RoutineLine.{dots_at}
 pub use Rattle.mgrammar.specs.WellFormed.{WellArg, WellList, WellReference, bare_expr, bare_primary, bare_reference, max_depth, well}
@@ -24,5 +25,5 @@ pub use Rattle.mscan.proofs.Faults.{comma_fails, fails, list_fails}
 pub use Rattle.mscan.specs.Gives.{Gives}
 pub use Rattle.mscan.specs.declared.fault.ParseFault.{ParseFault}
 pub use Rattle.mscan.specs.declared.fault.ParseFault.TheVariants.{Syntax}
-pub use Rattle.mtree.specs.Tree.{ChoiceTree, arg_tree, choice_layer, choice_tree, expr_layer, expr_tree, keyword_tree, line_tree, operand_layer, operand_tree, primary_layer, primary_tree, reference_layer, reference_tree, referring_layer, routine_line_tree, sign_tree, spaced_tree, tail_layer, tail_tree}
+pub use Rattle.mtree.specs.Tree.{CalledTree, ChoiceTree, actual_layer, actual_tree, arg_tree, called_layer, called_tree, choice_layer, choice_tree, expr_layer, expr_tree, keyword_tree, line_tree, operand_layer, operand_tree, primary_layer, primary_tree, reference_layer, reference_tree, referring_layer, routine_line_tree, sign_tree, spaced_tree, tail_layer, tail_tree}
 pub use Rattle.mtree.specs.declared.tree.Expr.{Expr}

@@ -8,7 +8,7 @@ ghost use Rattle.mgrammar.specs.ReadingWords.{past};
 ghost use Rattle.mtree.specs.Tree.{arg_tree, keyword_tree, command_tree};
 ghost use Rattle.mscan.specs.Gives.{Gives};
 
-use crate::control::{for_argument, hang_argument, if_argument, postcondition};
+use crate::control::{for_argument, hang_argument, if_argument, postcondition, quit_argument};
 use crate::entry::{do_argument, goto_argument, xecute_argument};
 use crate::expr::expr;
 use crate::list::{Items, list};
@@ -78,7 +78,8 @@ impl Items for Keyword {
             Keyword::Execute => xecute_argument(alloc, bytes),
             Keyword::Lock => lock_argument(alloc, bytes),
             Keyword::Hang | Keyword::HaltOrHang => hang_argument(alloc, bytes),
-            Keyword::Else | Keyword::Quit | Keyword::Halt => Err(ParseFault::Syntax),
+            Keyword::Quit => quit_argument(alloc, bytes),
+            Keyword::Else | Keyword::Halt => Err(ParseFault::Syntax),
         }
     }
 }

@@ -1,8 +1,8 @@
 // SPDX-License-Identifier: Apache-2.0
-// The arguments of IF, FOR and HANG, and postconditionals.
+// The arguments of IF, FOR, HANG and QUIT, and postconditionals.
 ghost use Rattle.std.specs.Prelude.{option_map};
 ghost use Rattle.mgrammar.specs.Grammar.{ParameterTree, if_argument, hang_argument};
-ghost use Rattle.mgrammar.specs.Reading.{if_argument_at, hang_argument_at, settled_with, parameter_at, for_argument_at, postcondition_by, postcondition_at};
+ghost use Rattle.mgrammar.specs.Reading.{if_argument_at, hang_argument_at, quit_argument_at, settled_with, parameter_at, for_argument_at, postcondition_by, postcondition_at};
 ghost use Rattle.mgrammar.specs.ReadingWords.{past};
 ghost use Rattle.mtree.specs.Tree.{expr_tree, parameter_tree, keyword_tree, arg_tree, condition_tree};
 ghost use Rattle.mscan.specs.Gives.{Gives};
@@ -37,6 +37,15 @@ pub fn hang_argument(alloc: Global, bytes: &[u8]) -> Result<(Arg, &[u8]), ParseF
         Ok(operand) => Ok((Arg::Indirect(Keyword::Hang, operand), rest)),
         Err(seconds) => Ok((Arg::HangFor(seconds), rest)),
     }
+}
+
+// A value, which no text gives.
+#[tactic(auto, unfolding(mgrammar::specs::Reading::quit_argument_at))]
+pub fn quit_argument(alloc: Global, bytes: &[u8]) -> Result<(Arg, &[u8]), ParseFault>
+    ensures { Gives (λ x. (arg_tree x.0, x.1.now)) result (quit_argument_at bytes.now) }
+{
+    let (value, rest) = expr(alloc, bytes, MAX_DEPTH)?;
+    Ok((Arg::Returned(value), rest))
 }
 
 // A value; or a start and an increment, and a limit if there is one.

@@ -1,5 +1,5 @@
 // SPDX-License-Identifier: Apache-2.0
-// The arguments of DO, GOTO and XECUTE: where they lead or a text, each with a postconditional of its own; or an `@` with its
+// The arguments of DO, GOTO and XECUTE: what they call, where they lead or a text, each with a postconditional of its own; or an `@` with its
 // operand and nothing more.
 ghost use Rattle.mgrammar.specs.Reading.{entry_at, do_argument_at, goto_argument_at, xecute_argument_at, settled_with, operand_or};
 ghost use Rattle.mgrammar.specs.Grammar.{do_argument, goto_argument, xecute_argument};
@@ -7,7 +7,7 @@ ghost use Rattle.mtree.specs.Tree.{entry_tree, arg_tree};
 ghost use Rattle.mscan.specs.Gives.{Gives};
 
 use crate::control::behind_colon;
-use crate::expr::{below, expr};
+use crate::expr::{below, called, expr};
 use mscan::{ParseFault, name, past};
 use mspec::limits::MAX_DEPTH;
 use mtree::{Arg, Entry, Keyword};
@@ -15,7 +15,7 @@ use std::alloc::Global;
 
 // A label, a label and the routine that it belongs to, or a routine alone.
 #[tactic(auto, unfolding(mgrammar::specs::Reading::entry_at))]
-fn entry(alloc: Global, bytes: &[u8]) -> Result<(Entry, &[u8]), ParseFault>
+pub fn entry(alloc: Global, bytes: &[u8]) -> Result<(Entry, &[u8]), ParseFault>
     ensures { Gives (λ x. (entry_tree x.0, x.1.now)) result (entry_at bytes.now) }
 {
     if let Some(behind) = past(b'^', bytes) {
@@ -38,9 +38,9 @@ pub fn do_argument(alloc: Global, bytes: &[u8]) -> Result<(Arg, &[u8]), ParseFau
         let (operand, rest) = below(alloc, behind, MAX_DEPTH)?;
         return Ok((Arg::Indirect(Keyword::Do, operand), rest));
     }
-    let (entry, rest) = entry(alloc, bytes)?;
+    let (called, rest) = called(alloc, bytes, MAX_DEPTH)?;
     let (condition, rest) = behind_colon(alloc, rest)?;
-    Ok((Arg::DoOne(entry, condition), rest))
+    Ok((Arg::DoOne(called, condition), rest))
 }
 
 #[tactic(auto, unfolding(mgrammar::specs::Reading::goto_argument_at))]

@@ -1,13 +1,14 @@
 // SPDX-License-Identifier: Apache-2.0
 // Expressions.
 ghost use Rattle.std.specs.Prelude.{◌≡◌, ◌<◌, length, map, option_map};
-ghost use Rattle.mgrammar.specs.Grammar.{exprs_of, choices_of};
+ghost use Rattle.mgrammar.specs.Grammar.{exprs_of, choices_of, actuals_of};
 ghost use Rattle.mgrammar.specs.ReadingWords.{past, with_front, many, after_comma, list_at};
-ghost use Rattle.mgrammar.specs.ReadingExpressions.{subscripts_with, attached_at, attached_with, indirect_with, local_by, extended_with, owned_by, reference_with, bracket_with, choice_with, select_with, call_with, refer_with, dollar_with, primary_with, operand_with, matches_by, matches_not_by, tail_by, tail_with, expr_with, readers_at, inner_at};
-ghost use Rattle.mtree.specs.Tree.{atom_tree, expr_tree, operand_tree, primary_tree, reference_tree, tail_tree, choice_tree};
+ghost use Rattle.mgrammar.specs.ReadingExpressions.{subscripts_with, attached_at, attached_with, indirect_with, local_by, extended_with, owned_by, reference_with, bracket_with, choice_with, select_with, call_with, refer_with, dollar_with, primary_with, operand_with, matches_by, matches_not_by, tail_by, tail_with, expr_with, is_reference_point, name_actual_by, actual_with, actuals_with, called_with, dollars_by, readers_at, inner_at};
+ghost use Rattle.mtree.specs.Tree.{atom_tree, expr_tree, operand_tree, primary_tree, reference_tree, tail_tree, choice_tree, actual_tree, called_tree};
 ghost use Rattle.mscan.specs.Gives.{Gives};
 ghost use Rattle.mscan.specs.Operators.{operator_tree};
 
+use crate::entry::entry;
 use mforms::takes;
 use mnum::Bytes7;
 use mscan::{
@@ -15,8 +16,8 @@ use mscan::{
     text_after,
 };
 use mtree::{
-    Atom, Choice, Expr, FunctionWord, Literal, Operand, Primary, Reference, Referring, Tail,
-    ValueWord, VariableWord, special_of,
+    Actual, Atom, Called, Choice, Expr, FunctionWord, Literal, Operand, Primary, Reference,
+    Referring, Tail, ValueWord, VariableWord, special_of,
 };
 use std::alloc::Global;
 
@@ -307,13 +308,16 @@ fn bracket(alloc: Global, bytes: &[u8], depth: u32) -> Result<(Primary, &[u8]), 
     Ok((Primary::Bracket(Box::new(alloc, expr)?), rest))
 }
 
-// The rest of what begins with a `$`, after the `$`: a function if a bracket opens after its word, and otherwise a special
-// variable.
+// The rest of what begins with a `$`, after the `$`: a call after a further `$`, a function if a bracket opens after its word, and
+// otherwise a special variable.
 #[cycle(expr)]
 #[tactic(auto, unfolding(mgrammar::specs::ReadingExpressions::dollar_with))]
 fn dollar(alloc: Global, bytes: &[u8], depth: u32) -> Result<(Primary, &[u8]), ParseFault>
     ensures { Gives (λ x. (primary_tree x.0, x.1.now)) result (dollar_with (readers_at depth) bytes.now) }
 {
+    if let Some(behind) = past(b'$', bytes) {
+        return extrinsic(alloc, behind, depth);
+    }
     let (letters, rest) = run(Class::Letter, bytes);
     let word = Bytes7::from_slice(alloc, letters)?;
     let Some(rest) = past(b'(', rest) else {
@@ -330,6 +334,112 @@ fn dollar(alloc: Global, bytes: &[u8], depth: u32) -> Result<(Primary, &[u8]), P
         FunctionWord::OfVariable { word, most } => refer(alloc, word, most, rest, depth),
         FunctionWord::OfChoices(word) => select(alloc, word, rest, depth),
     }
+}
+
+// The rest of a call of a function of a routine, after its `$$`.
+#[cycle(expr)]
+fn extrinsic(alloc: Global, bytes: &[u8], depth: u32) -> Result<(Primary, &[u8]), ParseFault>
+    ensures { Gives (λ x. (primary_tree x.0, x.1.now)) result (dollars_by (readers_at depth) bytes.now (Some bytes.now)) }
+{
+    let (called, rest) = called(alloc, bytes, depth)?;
+    Ok((Primary::Extrinsic(Box::new(alloc, called)?), rest))
+}
+
+// What DO or a function calls: where that stands, and its actuals.
+#[cycle(expr)]
+#[tactic(auto, unfolding(mgrammar::specs::ReadingExpressions::called_with))]
+pub fn called(alloc: Global, bytes: &[u8], depth: u32) -> Result<(Called, &[u8]), ParseFault>
+    ensures { Gives (λ x. (called_tree x.0, x.1.now)) result (called_with (readers_at depth) bytes.now) }
+{
+    let (entry, rest) = entry(alloc, bytes)?;
+    let (actuals, rest) = actuals(alloc, rest, depth)?;
+    Ok((Called { entry, actuals }, rest))
+}
+
+// Actuals, if a bracket opens.
+#[cycle(expr)]
+#[tactic(auto, unfolding(mgrammar::specs::ReadingExpressions::actuals_with))]
+fn actuals(alloc: Global, bytes: &[u8], depth: u32) -> Result<(Vec<Actual>, &[u8]), ParseFault>
+    ensures { Gives (λ x. (actuals_of (map actual_tree x.0.items), x.1.now)) result (actuals_with (readers_at depth) bytes.now) }
+{
+    let Some((b'(', behind)) = bytes.split_first() else {
+        return Ok((Vec::new(alloc), bytes));
+    };
+    let (actuals, rest) = some_actuals(alloc, behind, depth)?;
+    let rest = expect(b')', rest)?;
+    Ok((actuals, rest))
+}
+
+// Actuals with commas between.
+#[cycle(expr)]
+fn some_actuals(alloc: Global, bytes: &[u8], depth: u32) -> Result<(Vec<Actual>, &[u8]), ParseFault>
+    ensures { Gives (λ x. (map actual_tree x.0.items, x.1.now)) result (list_at ((readers_at depth).handed) bytes.now) }
+{
+    let (first, start) = handed(alloc, bytes, depth)?;
+    let mut all = Vec::new(alloc);
+    all.push(first)?;
+    let mut rest = start;
+    for _ in 0..start.len() {
+        let Some(behind) = past(b',', rest) else {
+            break;
+        };
+        let (item, after) = handed(alloc, behind, depth)?;
+        all.push(item)?;
+        rest = after;
+    }
+    Ok((all, rest))
+}
+
+// The actual after an opening bracket, in which one bracket fewer may open.
+#[cycle(expr)]
+#[tactic(auto, unfolding(mgrammar::specs::ReadingExpressions::readers_at))]
+fn handed(alloc: Global, bytes: &[u8], depth: u32) -> Result<(Actual, &[u8]), ParseFault>
+    ensures { Gives (λ x. (actual_tree x.0, x.1.now)) result ((readers_at depth).handed bytes.now) }
+{
+    if depth == 0 {
+        return Err(ParseFault::Syntax);
+    }
+    actual(alloc, bytes, depth - 1)
+}
+
+// Whether a character is a point that begins no number.
+fn is_reference_point(byte: u8, behind: &[u8]) -> bool
+    ensures { result ≡ is_reference_point byte behind.now }
+{
+    byte == b'.' && run(Class::Digit, behind).0.is_empty()
+}
+
+// Nothing where a comma or the closing bracket comes, a variable after a point that begins no number, and otherwise a value.
+#[cycle(expr)]
+#[tactic(auto, unfolding(mgrammar::specs::ReadingExpressions::actual_with))]
+fn actual(alloc: Global, bytes: &[u8], depth: u32) -> Result<(Actual, &[u8]), ParseFault>
+    ensures { Gives (λ x. (actual_tree x.0, x.1.now)) result (actual_with (readers_at depth) bytes.now) }
+{
+    let Some((first, behind)) = bytes.split_first() else {
+        return Err(ParseFault::Syntax);
+    };
+    if *first == b',' || *first == b')' {
+        return Ok((Actual::Missing, bytes));
+    }
+    if is_reference_point(*first, behind) {
+        return by_reference(alloc, behind, depth);
+    }
+    let (value, rest) = expr(alloc, bytes, depth)?;
+    Ok((Actual::Value(value), rest))
+}
+
+// The rest of an actual by reference, after its point: the operand of an `@` if one comes, and otherwise a name.
+#[cycle(expr)]
+fn by_reference(alloc: Global, bytes: &[u8], depth: u32) -> Result<(Actual, &[u8]), ParseFault>
+    ensures { Gives (λ x. (actual_tree x.0, x.1.now)) result (name_actual_by (readers_at depth) bytes.now (past 64 bytes.now)) }
+{
+    let Some(behind) = past(b'@', bytes) else {
+        let (name, rest) = name(alloc, bytes)?;
+        return Ok((Actual::Name(name), rest));
+    };
+    let (operand, rest) = below(alloc, behind, depth)?;
+    let operand = Box::new(alloc, operand)?;
+    Ok((Actual::IndirectName(operand), rest))
 }
 
 // The rest of a function of a variable and at most `most` values, after its bracket.

@@ -1,16 +1,18 @@
 // SPDX-License-Identifier: Apache-2.0
-// The texts of indirection, read whole: a variable, arguments of a command, or a pattern.
-ghost use Rattle.std.specs.Prelude.{◌≡◌, true, List, map, IfOk, Err};
+// The texts of indirection, read whole: a variable, arguments of a command, a pattern, or a name.
+ghost use Rattle.std.specs.Prelude.{◌≡◌, true, ℕ, List, map, IfOk, Err};
 ghost use Rattle.mgrammar.specs.Grammar.{ReferenceTree, ArgTree, AtomTree, may_be_indirect, spell_reference, spell_list, spell_arg, spell_atoms};
 ghost use Rattle.mgrammar.specs.Commands.{form_of};
 ghost use Rattle.mgrammar.specs.WellFormed.{max_depth, WellReference, WellList, WellArg, WellAtom};
-ghost use Rattle.mgrammar.specs.IndirectTexts.{ref_at, args_of, pattern_of};
+ghost use Rattle.mgrammar.specs.IndirectTexts.{ref_at, args_of, pattern_of, name_of};
+ghost use Rattle.mspec.specs.Names.{IsName};
 ghost use Rattle.mtree.specs.Tree.{reference_tree, arg_tree, keyword_tree, atom_tree};
 ghost use Rattle.mscan.specs.Gives.{Gives};
 
 use crate::expr::reference;
 use crate::list::list;
-use mscan::{ParseFault, pattern};
+use mnum::Name;
+use mscan::{ParseFault, name, pattern};
 use mspec::limits::MAX_DEPTH;
 use mtree::{Arg, Atom, Keyword, Reference};
 use std::alloc::Global;
@@ -48,6 +50,17 @@ fn whole_pattern(alloc: Global, text: &[u8]) -> Result<Vec<Atom>, ParseFault>
     Ok(atoms)
 }
 
+#[tactic(auto, unfolding(mgrammar::specs::IndirectTexts::name_of))]
+fn whole_name(alloc: Global, text: &[u8]) -> Result<Name, ParseFault>
+    ensures { Gives (λ n. n) result (name_of text.now) }
+{
+    let (name, rest) = name(alloc, text)?;
+    if !rest.is_empty() {
+        return Err(ParseFault::Syntax);
+    }
+    Ok(name)
+}
+
 /// The variable that a text of any bytes is, as the value of an operand of name indirection: the one tree of the grammar that has this
 /// text.
 ///
@@ -64,8 +77,8 @@ pub fn parse_ref(alloc: Global, text: &[u8]) -> Result<Reference, ParseFault>
 }
 
 /// The arguments that a text of any bytes is, as the value of an operand of argument indirection of this command: the one list of
-/// trees of the grammar that has this text, with at least one argument. The command is one whose arguments a text may give: any but FOR,
-/// and those that take none: ELSE, QUIT and HALT.
+/// trees of the grammar that has this text, with at least one argument. The command is one whose arguments a text may give: any but FOR
+/// and QUIT, and those that take none: ELSE and HALT.
 ///
 /// # Errors
 ///
@@ -92,4 +105,18 @@ pub fn parse_pattern(alloc: Global, text: &[u8]) -> Result<Vec<Atom>, ParseFault
     ensures syntax { result ≡ Err ParseFault.Syntax → (atoms : List AtomTree) → WellList (WellAtom max_depth) atoms → spell_atoms atoms ≡ text.now → ⊥ }
 {
     whole_pattern(alloc, text)
+}
+
+/// The name that a text of any bytes is, as the value of the operand of an `@` in an actual.
+///
+/// # Errors
+///
+/// `Syntax` only if the text is no name, as when it is empty; `Memory` if it runs out of memory.
+#[tactic(auto, using(mgrammar::proofs::ReadingIndirectTexts::reads_its_name, crate::proofs::WholeTexts::is_tree, crate::proofs::WholeTexts::is_syntax))]
+pub fn parse_name(alloc: Global, text: &[u8]) -> Result<Name, ParseFault>
+    ensures read { Gives (λ n. n) result (name_of text.now) }
+    ensures tree { IfOk result (λ n. IsName n × (n ≡ text.now)) }
+    ensures syntax { result ≡ Err ParseFault.Syntax → (n : List ℕ) → IsName n → n ≡ text.now → ⊥ }
+{
+    whole_name(alloc, text)
 }

@@ -17,7 +17,7 @@ mod routine_line;
 mod scope;
 mod set_arguments;
 
-pub use indirect::{parse_args, parse_pattern, parse_ref};
+pub use indirect::{parse_args, parse_name, parse_pattern, parse_ref};
 pub use line::parse_line;
-pub use mscan::{ParseFault, dots_of, label_of};
+pub use mscan::{ParseFault, dots_of, formals_of, has_formal_list, label_of};
 pub use routine_line::parse_routine_line;

@@ -1,15 +1,15 @@
 // SPDX-License-Identifier: Apache-2.0
-// Lines of routines: a label or none, and after it a comment, or dots and what a line of a terminal has too.
+// Lines of routines: a label or none, a formal list or none, and after these a comment, or dots and what a line of a terminal has too.
 ghost use Rattle.std.specs.Prelude.{◌≡◌, IfOk, Err, Some, option_map};
-ghost use Rattle.mgrammar.specs.RoutineLine.{RoutineLineTree, spell_routine_line, well_routine_line, dot_at, dots_at, body_at, routine_line_at};
-ghost use Rattle.mtree.specs.Tree.{body_tree, routine_line_tree, IsBodyCounted};
+ghost use Rattle.mgrammar.specs.RoutineLine.{formals_at, RoutineLineTree, spell_routine_line, well_routine_line, dot_at, dots_at, body_at, routine_line_at};
+ghost use Rattle.mtree.specs.Tree.{formals_tree, body_tree, routine_line_tree, IsBodyCounted};
 ghost use Rattle.mscan.specs.Gives.{Gives};
 
 use crate::line::{comment, line};
 use mnum::Name;
-use mscan::{Class, ParseFault, label, past, run};
+use mscan::{Class, ParseFault, formals, label, past, run};
 use mtree::{Body, RoutineLine};
-use std::alloc::Global;
+use std::alloc::{AllocError, Global};
 use std::rc::Rc;
 
 // The next dot, if one comes, given by the number of spaces before it.
@@ -38,7 +38,22 @@ fn dots(alloc: Global, bytes: &[u8]) -> Result<(Vec<usize>, &[u8]), ParseFault>
     Ok((all, rest))
 }
 
-// What comes after the label.
+// The names of the formal list after a label, or none, and what comes after these.
+#[tactic(auto, unfolding(mgrammar::specs::RoutineLine::formals_at))]
+fn listed<'t>(
+    alloc: Global,
+    label: Option<&[u8]>,
+    bytes: &'t [u8],
+) -> Result<(Option<Vec<Name>>, &'t [u8]), AllocError>
+    ensures { IfOk result (λ x. (formals_tree x.0, x.1.now) ≡ formals_at (option_map (λ n. n.now) label.entry) bytes.now) }
+{
+    match label {
+        None => Ok((None, bytes)),
+        Some(_) => formals(alloc, bytes),
+    }
+}
+
+// What comes after the label and its formal list.
 #[tactic(auto, unfolding(mgrammar::specs::RoutineLine::body_at))]
 fn body(alloc: Global, bytes: &[u8]) -> Result<Body, ParseFault>
     ensures read { Gives (λ b. body_tree b) result (body_at bytes.now) }
@@ -57,13 +72,18 @@ fn routine_line(alloc: Global, text: &[u8]) -> Result<RoutineLine, ParseFault>
     ensures read { Gives (λ l. routine_line_tree l) result (routine_line_at text.now) }
     ensures counted { IfOk result (λ l. IsBodyCounted l.body) }
 {
-    let (name, rest) = label(text);
+    let (name, rest) = label(true, text);
+    let (formals, rest) = listed(alloc, name, rest)?;
     let body = body(alloc, rest)?;
     let label = match name {
         None => None,
         Some(name) => Some(Name::from_slice(alloc, name)?),
     };
-    Ok(RoutineLine { label, body })
+    Ok(RoutineLine {
+        label,
+        formals,
+        body,
+    })
 }
 
 /// The tree of a routine's line of any bytes: the one tree of the grammar that has this text. It is the tree that the meaning of a

@@ -1,4 +1,5 @@
 -- SPDX-License-Identifier: Apache-2.0
 pub mod CharacterRuns
 pub mod Faults
+pub mod ListedNames
 pub mod NameRuns

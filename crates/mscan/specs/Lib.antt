@@ -2,3 +2,4 @@
 pub mod Gives
 pub mod Classes
 pub mod Operators
+pub mod Formals

@@ -4,6 +4,7 @@
 #![tactic(auto)]
 
 mod fault;
+mod formal_lists;
 mod numbers;
 mod operator;
 mod patterns;
@@ -11,8 +12,9 @@ mod routine;
 mod runs;
 
 pub use fault::ParseFault;
+pub use formal_lists::formals;
 pub use numbers::number;
 pub use operator::{Operator, next_operator, signs};
 pub use patterns::pattern;
-pub use routine::{dots_of, label, label_of};
+pub use routine::{dots_of, formals_of, has_formal_list, label, label_of};
 pub use runs::{Class, expect, name, name_bytes, past, run, text_after};

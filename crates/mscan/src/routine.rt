@@ -1,46 +1,104 @@
 // SPDX-License-Identifier: Apache-2.0
-// What a line of a routine begins with, its label and its dots, found without reading what comes after them.
-ghost use Rattle.std.specs.Prelude.{◌≡◌, length, option_map, IfSome};
+// What a line of a routine begins with, its label, its formal list and its dots, found without reading what comes after them.
+ghost use Rattle.std.specs.Prelude.{◌≡◌, length, option_map, is_some, IfOk, IfSome};
 ghost use Rattle.std.specs.List.{filter};
 ghost use Rattle.mspec.specs.Names.{IsName};
 ghost use Rattle.mgrammar.specs.ReadingWords.{run_of};
-ghost use Rattle.mgrammar.specs.RoutineLine.{label_ends, label_at, label_of, is_dot, is_space_or_dot, dots_of};
+ghost use Rattle.mgrammar.specs.RoutineLine.{has_formals, label_ends, label_at, label_of, formals_behind, formals_of, is_dot, is_space_or_dot, dots_of};
+ghost use Rattle.mtree.specs.Tree.{formals_tree};
 
+use crate::formal_lists::{formal_list, formals};
 use crate::runs::name_bytes;
+use mnum::Name;
+use std::alloc::{AllocError, Global};
 
-// Whether a label ends before this text.
-fn label_ends(bytes: &[u8]) -> bool
-    ensures { result ≡ label_ends bytes.now }
+// Whether a language has formal lists.
+fn has_formals(language: u32) -> bool
+    ensures { result ≡ has_formals language }
+{
+    language >= 1
+}
+
+// Whether a label ends before this text, of which a bracket may begin a formal list.
+fn label_ends(lists: bool, bytes: &[u8]) -> bool
+    ensures { result ≡ label_ends lists bytes.now }
 {
     match bytes.first() {
         None => true,
-        Some(byte) => *byte == b' ' || *byte == b';',
+        Some(byte) => *byte == b' ' || *byte == b';' || (lists && *byte == b'('),
     }
 }
 
-/// The label of a routine's line of any bytes, or none, and the text after it. Takes no memory.
+/// The label of a routine's line of any bytes, or none, and the text after it, of which a bracket may begin a formal list. Takes no
+/// memory.
 #[tactic(auto, unfolding(mgrammar::specs::RoutineLine::label_at))]
-pub fn label(line: &[u8]) -> (Option<&[u8]>, &[u8])
-    ensures label { (option_map (λ x. x.now) result.0, result.1.now) ≡ label_at line.now }
+pub fn label(lists: bool, line: &[u8]) -> (Option<&[u8]>, &[u8])
+    ensures label { (option_map (λ x. x.now) result.0, result.1.now) ≡ label_at lists line.now }
     ensures is_name { IfSome result.0 (λ x. IsName x.now) }
 {
     let Some((name, rest)) = name_bytes(line) else {
         return (None, line);
     };
-    if label_ends(rest) {
+    if label_ends(lists, rest) {
         (Some(name), rest)
     } else {
         (None, line)
     }
 }
 
-/// The label of a routine's line of any bytes: the name that it begins with, if the line's end, a space or a comment comes
-/// after it. Takes no memory.
-pub fn label_of(line: &[u8]) -> Option<&[u8]>
-    ensures label { option_map (λ x. x.now) result ≡ label_of line.now }
+/// The label of a routine's line of any bytes, in a language: the name that it begins with, if the line's end, a space, a comment or,
+/// where there are formal lists, a bracket comes after it. Takes no memory.
+pub fn label_of(language: u32, line: &[u8]) -> Option<&[u8]>
+    ensures label { option_map (λ x. x.now) result ≡ label_of language line.now }
     ensures is_name { IfSome result (λ x. IsName x.now) }
 {
-    label(line).0
+    label(has_formals(language), line).0
+}
+
+/// Whether a routine's line of any bytes has a formal list after its label, in a language. Takes no memory.
+#[tactic(auto, unfolding(mgrammar::specs::RoutineLine::formals_at))]
+pub fn has_formal_list(language: u32, line: &[u8]) -> bool
+    ensures { result ≡ is_some (formals_of language line.now) }
+{
+    match label(has_formals(language), line) {
+        (None, _) => false,
+        (Some(_), rest) => formal_list(rest).is_some(),
+    }
+}
+
+/// The names of the formal list of a routine's line of any bytes, in a language, or none.
+///
+/// # Errors
+///
+/// `AllocError` if it runs out of memory.
+#[tactic(auto, unfolding(mgrammar::specs::RoutineLine::formals_at))]
+pub fn formals_of(
+    alloc: Global,
+    language: u32,
+    line: &[u8],
+) -> Result<Option<Vec<Name>>, AllocError>
+    ensures { IfOk result (λ names. formals_tree names ≡ formals_of language line.now) }
+{
+    let (Some(_), rest) = label(has_formals(language), line) else {
+        return Ok(None);
+    };
+    let (names, _) = formals(alloc, rest)?;
+    Ok(names)
+}
+
+// What follows the label of a routine's line of any bytes and its formal list, in a language.
+#[tactic(auto, unfolding(mgrammar::specs::RoutineLine::formals_at))]
+fn behind_formals(language: u32, line: &[u8]) -> &[u8]
+    ensures { result.now ≡ (formals_behind (label_at (has_formals language) line.now)).1 }
+{
+    let (label, rest) = label(has_formals(language), line);
+    let Some(_) = label else {
+        return rest;
+    };
+    match formal_list(rest) {
+        None => rest,
+        Some((_, behind)) => behind,
+    }
 }
 
 // The dots in the run of spaces and dots that the text begins with.
@@ -58,11 +116,12 @@ fn dots_in_run(bytes: &[u8]) -> usize
     dots
 }
 
-/// How many dots a routine's line of any bytes has after its label and a space, with spaces between or none. Takes no memory.
-pub fn dots_of(line: &[u8]) -> usize
-    ensures { result ≡ dots_of line.now }
+/// How many dots a routine's line of any bytes has after its label, its formal list and a space, with spaces between or none, in a
+/// language. Takes no memory.
+pub fn dots_of(language: u32, line: &[u8]) -> usize
+    ensures { result ≡ dots_of language line.now }
 {
-    match label(line).1 {
+    match behind_formals(language, line) {
         [b' ', rest @ ..] => dots_in_run(rest),
         _ => 0,
     }

@@ -25,6 +25,10 @@ max_none a = omega arith
 pub max_more : (a b c : ℕ) → max (max a b) c ≡ max a (max b c)
 max_more a b c = omega arith
 
+-- that of one more actual, whose list is of language 1
+pub max_three : (a b c : ℕ) → max (max a (max 1 b)) c ≡ max a (max 1 (max b c))
+max_three a b c = omega arith
+
 -- the arguments of a command are as many as they were
 pub args_counted : (args : List Arg) → length (map arg_tree args) ≡ length args
 args_counted args = length-map args arg_tree

@@ -3,10 +3,11 @@
 use Rattle.std.proofs.Common.{◌≡◌, ℕ, ◌<◌, List, [], ◌∷◌, ◌++◌, length, map, refl, ap, subst, ◌∙◌, arith}
 use Rattle.std.specs.Prelude.{Result, Ok, Err, OnOk}
 use Rattle.std.proofs.lemmas.List.{append_assoc}
-use Rattle.mgrammar.specs.Grammar.{ExprTree, exprs_of, choices_of, spell_expr, spell_exprs, spell_more_exprs, spell_choices, spell_more_choices, spell_more, spell_list, spell_target, spell_reference, spell_parameter, spell_arg, spell_args, spell_subscripts, spell_attached}
-use Rattle.mtree.specs.Tree.{expr_tree, choice_tree, reference_tree, target_tree, parameter_tree, arg_tree}
+use Rattle.mgrammar.specs.Grammar.{ExprTree, exprs_of, choices_of, spell_expr, spell_exprs, spell_more_exprs, spell_choices, spell_more_choices, spell_more, spell_list, spell_target, spell_reference, spell_parameter, spell_arg, spell_args, spell_subscripts, spell_attached, actuals_of, spell_actual, spell_actuals, spell_more_actuals}
+use Rattle.mtree.specs.Tree.{expr_tree, choice_tree, reference_tree, target_tree, parameter_tree, arg_tree, actual_tree}
 use Rattle.mtree.specs.declared.tree.Expr.{Expr}
 use Rattle.mtree.specs.declared.tree.Choice.{Choice}
+use Rattle.mtree.specs.declared.tree.Actual.{Actual}
 use Rattle.mtree.specs.declared.tree.Reference.{Reference}
 use Rattle.mtree.specs.declared.tree.Target.{Target}
 use Rattle.mtree.specs.declared.tree.Parameter.{Parameter}
@@ -75,6 +76,26 @@ module _ {X E : Type 0} (r : Result X E) (old before new : List ℕ) where
       let subscripts = spell_subscripts (exprs_of (map expr_tree (x ∷ xs))) in
       let e : before ++ subscripts ≡ old ++ 64 ∷ subscripts = ap (λ (t : List ℕ). t ++ subscripts) b ∙ append_assoc old (64 ∷ []) subscripts in
       subst (λ (t : List ℕ). OnOk r (new ≡ t)) e n
+
+-- actuals
+
+more_actuals : (xs : List Actual) → spell_more (λ x. spell_actual (actual_tree x)) xs ≡ spell_more_actuals (actuals_of (map actual_tree xs))
+more_actuals [] = refl
+more_actuals (x ∷ xs) = ap (λ (t : List ℕ). 44 ∷ (spell_actual (actual_tree x) ++ t)) (more_actuals xs)
+
+-- some actuals, in brackets
+pub some_actuals : {X E : Type 0} (r : Result X E) (xs : List Actual) (old before mid new : List ℕ) → 0 < length xs → before ≡ old ++ 40 ∷ [] → mid ≡ before ++ spell_list (λ x. spell_actual (actual_tree x)) xs → OnOk r (new ≡ mid ++ 41 ∷ [])
+    → OnOk r (new ≡ old ++ spell_actuals (actuals_of (map actual_tree xs)))
+some_actuals (Err e) xs old before mid new some b m n = tt
+some_actuals (Ok y) [] old before mid new some b m n = absurd (omega arith)
+some_actuals (Ok y) (x ∷ xs) old before mid new some b m n =
+    let first = spell_actual (actual_tree x) in
+    let more = spell_more_actuals (actuals_of (map actual_tree xs)) in
+    n ∙ ap (λ (t : List ℕ). t ++ 41 ∷ []) (m ∙ ap (λ (t : List ℕ). t ++ spell_list (λ x. spell_actual (actual_tree x)) (x ∷ xs)) b)
+    ∙ append_assoc (old ++ 40 ∷ []) (spell_list (λ x. spell_actual (actual_tree x)) (x ∷ xs)) (41 ∷ [])
+    ∙ append_assoc old (40 ∷ []) (spell_list (λ x. spell_actual (actual_tree x)) (x ∷ xs) ++ 41 ∷ [])
+    ∙ ap (λ (t : List ℕ). old ++ 40 ∷ ((first ++ t) ++ 41 ∷ [])) (more_actuals xs)
+    ∙ ap (λ (t : List ℕ). old ++ 40 ∷ t) (append_assoc first more (41 ∷ []))
 
 -- the text of a choice
 abbrev pub choice_text : ExprTree × ExprTree → List ℕ

@@ -1,9 +1,9 @@
 -- SPDX-License-Identifier: Apache-2.0
 -- What is an `@` with its operand and nothing more, by how many subscripts, signs and steps are beside it.
 use Rattle.std.proofs.Common.{◌≡◌, ◌<◌, List, [], ◌∷◌, length, map, Some, None, Box, Vec, Global, refl, sym, ap, ◌∙◌, arith}
-use Rattle.mgrammar.specs.Grammar.{ExprTree, TailTree, tails_of, OperandTree, PrimaryTree, ReferenceTree, exprs_of}
+use Rattle.mgrammar.specs.Grammar.{ExprTree, TailTree, tails_of, OperandTree, PrimaryTree, ReferenceTree, ActualTree, exprs_of}
 use Rattle.mgrammar.specs.WellFormed.{bare_reference, bare_primary, bare_expr}
-use Rattle.mtree.specs.Tree.{ChoiceTree, expr_tree, tail_tree, operand_tree, primary_tree, reference_tree, sign_tree, primary_layer, reference_layer, tail_layer, choice_layer, expr_layer, operand_layer, referring_layer}
+use Rattle.mtree.specs.Tree.{CalledTree, ChoiceTree, expr_tree, tail_tree, operand_tree, primary_tree, reference_tree, sign_tree, actual_layer, primary_layer, reference_layer, tail_layer, called_layer, choice_layer, expr_layer, operand_layer, referring_layer}
 use Rattle.mtree.specs.declared.tree.Expr.{Expr}
 use Rattle.mgrammar.specs.Grammar as grammar
 use Rattle.mtree.specs.declared.tree.Tail.{Tail}
@@ -11,18 +11,18 @@ use Rattle.mtree.specs.declared.tree.Operand.{Operand}
 use Rattle.mtree.specs.declared.tree.Primary.{Primary}
 use Rattle.mtree.specs.declared.tree.Reference.TheVariants as reference
 use Rattle.mtree.specs.declared.tree.Sign.{Sign}
-use Rattle.mtree.specs.declared.tree.Primary.TheFolds.{fold_out-Expr, fold_out-Operand, fold-roll-Reference}
+use Rattle.mtree.specs.declared.tree.Actual.TheFolds.{fold_out-Expr, fold_out-Operand, fold-roll-Reference}
 
 -- ---- a level of a tree
 
 expr_is : (e : Expr) → expr_tree e ≡ grammar.expr (operand_tree e.first) (tails_of (map tail_tree e.rest.items))
-expr_is = fold_out-Expr PrimaryTree ReferenceTree TailTree ChoiceTree ExprTree OperandTree PrimaryTree primary_layer reference_layer tail_layer choice_layer expr_layer operand_layer referring_layer
+expr_is = fold_out-Expr ActualTree PrimaryTree ReferenceTree TailTree CalledTree ChoiceTree ExprTree OperandTree PrimaryTree actual_layer primary_layer reference_layer tail_layer called_layer choice_layer expr_layer operand_layer referring_layer
 
 operand_is : (o : Operand) → operand_tree o ≡ grammar.operand (map sign_tree o.signs.items) (primary_tree o.primary)
-operand_is = fold_out-Operand PrimaryTree ReferenceTree TailTree ChoiceTree ExprTree OperandTree PrimaryTree primary_layer reference_layer tail_layer choice_layer expr_layer operand_layer referring_layer
+operand_is = fold_out-Operand ActualTree PrimaryTree ReferenceTree TailTree CalledTree ChoiceTree ExprTree OperandTree PrimaryTree actual_layer primary_layer reference_layer tail_layer called_layer choice_layer expr_layer operand_layer referring_layer
 
 indirect_is : (operand : Box Primary Global) (subscripts : Vec Expr Global) → reference_tree (reference.Indirect operand subscripts) ≡ grammar.indirect (primary_tree operand.value) (exprs_of (map expr_tree subscripts.items))
-indirect_is operand subscripts = ap reference_tree (sym (reference.rolls-Indirect operand subscripts)) ∙ fold-roll-Reference PrimaryTree ReferenceTree TailTree ChoiceTree ExprTree OperandTree PrimaryTree primary_layer reference_layer tail_layer choice_layer expr_layer operand_layer referring_layer _
+indirect_is operand subscripts = ap reference_tree (sym (reference.rolls-Indirect operand subscripts)) ∙ fold-roll-Reference ActualTree PrimaryTree ReferenceTree TailTree CalledTree ChoiceTree ExprTree OperandTree PrimaryTree actual_layer primary_layer reference_layer tail_layer called_layer choice_layer expr_layer operand_layer referring_layer _
 
 -- ---- variables
 

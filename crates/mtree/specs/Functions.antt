@@ -3,12 +3,12 @@
 use Rattle.std.specs.Prelude.{◌≡◌, ℕ, Option, Some, List}
 use Rattle.mgrammar.specs.Functions.{ValueFunctionTree, ascii_function, char_function, extract_function, find_function, format_number_function, justify_function, length_function, piece_function, reverse_function, translate_function}
 use Rattle.mgrammar.specs.Functions.{VariableFunctionTree, data_function, get_function, order_function, FunctionTree, of_values, of_variable, of_choices, function_of}
-use Rattle.mtree.specs.declared.tree.ValueFunction.{ValueFunction}
-use Rattle.mtree.specs.declared.tree.ValueFunction.TheVariants as values
-use Rattle.mtree.specs.declared.tree.VariableFunction.{VariableFunction}
-use Rattle.mtree.specs.declared.tree.VariableFunction.TheVariants as variable
-use Rattle.mtree.specs.declared.tree.Function.{Function}
-use Rattle.mtree.specs.declared.tree.Function.TheVariants as function
+use Rattle.mtree.specs.declared.intrinsic.ValueFunction.{ValueFunction}
+use Rattle.mtree.specs.declared.intrinsic.ValueFunction.TheVariants as values
+use Rattle.mtree.specs.declared.intrinsic.VariableFunction.{VariableFunction}
+use Rattle.mtree.specs.declared.intrinsic.VariableFunction.TheVariants as variable
+use Rattle.mtree.specs.declared.intrinsic.Function.{Function}
+use Rattle.mtree.specs.declared.intrinsic.Function.TheVariants as function
 
 abbrev pub value_function_tree : ValueFunction → ValueFunctionTree
 value_function_tree values.Ascii = ascii_function

@@ -1,9 +1,9 @@
 -- SPDX-License-Identifier: Apache-2.0
 -- A line of the program as a plain tree of the grammar.
 pub use Rattle.mtree.specs.Functions.{value_function_tree, variable_function_tree, function_tree}
-use Rattle.std.specs.Prelude.{◌≡◌, List, Option, Box, map, option_map}
+use Rattle.std.specs.Prelude.{◌≡◌, List, Option, Box, Vec, map, option_map}
 use Rattle.mgrammar.specs.Grammar as grammar
-use Rattle.mgrammar.specs.Grammar.{SignTree, TruthTree, BinaryTree, KeywordTree, RepeatedTree, patterns_of, AtomTree, ExprTree, TailTree, tails_of, exprs_of, choices_of, OperandTree, PrimaryTree, ReferenceTree, TargetTree, DestinationTree, ParameterTree, EntryTree, LockKindTree, LockedTree, ArgTree, CommandTree, SpacedTree, LineTree}
+use Rattle.mgrammar.specs.Grammar.{SignTree, TruthTree, BinaryTree, KeywordTree, RepeatedTree, patterns_of, AtomTree, ExprTree, TailTree, tails_of, exprs_of, choices_of, OperandTree, PrimaryTree, ReferenceTree, ActualTree, ActualsTree, actuals_of, TargetTree, DestinationTree, ParameterTree, EntryTree, LockKindTree, LockedTree, ArgTree, CommandTree, SpacedTree, LineTree}
 use Rattle.mgrammar.specs.Specials as specials
 use Rattle.mgrammar.specs.Specials.{SpecialTree}
 use Rattle.mgrammar.specs.Commands.{form_of}
@@ -18,8 +18,8 @@ use Rattle.mtree.specs.declared.tree.Binary.{Binary}
 use Rattle.mtree.specs.declared.tree.Binary.TheVariants as binary
 use Rattle.mtree.specs.declared.tree.Keyword.{Keyword}
 use Rattle.mtree.specs.declared.tree.Keyword.TheVariants as keyword
-use Rattle.mtree.specs.declared.tree.SpecialVariable.{SpecialVariable}
-use Rattle.mtree.specs.declared.tree.SpecialVariable.TheVariants as special_variable
+use Rattle.mtree.specs.declared.intrinsic.SpecialVariable.{SpecialVariable}
+use Rattle.mtree.specs.declared.intrinsic.SpecialVariable.TheVariants as special_variable
 use Rattle.mtree.specs.declared.tree.Repeated.{Repeated, fold-Repeated}
 use Rattle.mtree.specs.declared.tree.Repeated.TheOpen.{Repeated-F, Alternative-F, Atom-F}
 use Rattle.mtree.specs.declared.tree.Alternative.{Alternative, fold-Alternative}
@@ -31,7 +31,9 @@ use Rattle.mtree.specs.declared.tree.Primary.{Primary, fold-Primary}
 use Rattle.mtree.specs.declared.tree.Choice.{Choice, fold-Choice}
 use Rattle.mtree.specs.declared.tree.Reference.{Reference, fold-Reference}
 use Rattle.mtree.specs.declared.tree.Referring.{Referring, fold-Referring}
-use Rattle.mtree.specs.declared.tree.Primary.TheOpen.{Primary-F, Expr-F, Operand-F, Tail-F, Choice-F, Reference-F, Referring-F}
+use Rattle.mtree.specs.declared.tree.Actual.{Actual, fold-Actual}
+use Rattle.mtree.specs.declared.tree.Called.{Called, fold-Called}
+use Rattle.mtree.specs.declared.tree.Actual.TheOpen.{Primary-F, Expr-F, Operand-F, Tail-F, Choice-F, Reference-F, Referring-F, Actual-F, Called-F}
 use Rattle.mtree.specs.declared.tree.PartTarget.{PartTarget}
 use Rattle.mtree.specs.declared.tree.Target.{Target}
 use Rattle.mtree.specs.declared.tree.Target.TheVariants as target
@@ -105,6 +107,7 @@ special_tree special_variable.Principal = specials.principal_special
 special_tree special_variable.Storage = specials.storage_special
 special_tree special_variable.Column = specials.column_special
 special_tree special_variable.Row = specials.row_special
+special_tree special_variable.Quit = specials.quit_special
 
 -- one level of a pattern
 abbrev pub repeated_layer : Repeated-F RepeatedTree (List AtomTree) AtomTree → RepeatedTree
@@ -127,15 +130,24 @@ alternative_trees = fold-Alternative RepeatedTree (List AtomTree) AtomTree repea
 abbrev pub atom_tree : Atom → AtomTree
 atom_tree = fold-Atom RepeatedTree (List AtomTree) AtomTree repeated_layer alternative_layer atom_layer
 
+abbrev pub entry_tree : Entry → EntryTree
+entry_tree (entry.Label label) = grammar.at_label label
+entry_tree (entry.LabelIn label name) = grammar.at_label_in label name
+entry_tree (entry.Routine name) = grammar.at_routine name
+
+-- an entry with its actuals
+abbrev pub CalledTree : Type 0
+CalledTree = EntryTree × ActualsTree
+
 -- a condition, and its value
 abbrev pub ChoiceTree : Type 0
 ChoiceTree = ExprTree × ExprTree
 
 -- one level of a tree, with what each part stands for in its place
-abbrev pub expr_layer : Expr-F PrimaryTree ReferenceTree TailTree ChoiceTree ExprTree OperandTree PrimaryTree → ExprTree
+abbrev pub expr_layer : Expr-F ActualTree PrimaryTree ReferenceTree TailTree CalledTree ChoiceTree ExprTree OperandTree PrimaryTree → ExprTree
 expr_layer e = grammar.expr e.first (tails_of e.rest.items)
 
-abbrev pub tail_layer : Tail-F PrimaryTree ReferenceTree TailTree ChoiceTree ExprTree OperandTree PrimaryTree → TailTree
+abbrev pub tail_layer : Tail-F ActualTree PrimaryTree ReferenceTree TailTree CalledTree ChoiceTree ExprTree OperandTree PrimaryTree → TailTree
 tail_layer (Tail-F.Apply b o) = grammar.apply (binary_tree b) o
 tail_layer (Tail-F.Matches atoms) = grammar.matches (map atom_tree atoms.items)
 tail_layer (Tail-F.MatchesNot atoms) = grammar.matches_not (map atom_tree atoms.items)
@@ -143,10 +155,10 @@ tail_layer (Tail-F.Raise o) = grammar.raise o
 tail_layer (Tail-F.MatchesIndirect p) = grammar.matches_indirect p.value
 tail_layer (Tail-F.MatchesNotIndirect p) = grammar.matches_not_indirect p.value
 
-abbrev pub operand_layer : Operand-F PrimaryTree ReferenceTree TailTree ChoiceTree ExprTree OperandTree PrimaryTree → OperandTree
+abbrev pub operand_layer : Operand-F ActualTree PrimaryTree ReferenceTree TailTree CalledTree ChoiceTree ExprTree OperandTree PrimaryTree → OperandTree
 operand_layer o = grammar.operand (map sign_tree o.signs.items) o.primary
 
-abbrev pub primary_layer : Primary-F PrimaryTree ReferenceTree TailTree ChoiceTree ExprTree OperandTree PrimaryTree → PrimaryTree
+abbrev pub primary_layer : Primary-F ActualTree PrimaryTree ReferenceTree TailTree CalledTree ChoiceTree ExprTree OperandTree PrimaryTree → PrimaryTree
 primary_layer (Primary-F.Number literal) = grammar.number literal
 primary_layer (Primary-F.Text t) = grammar.text t
 primary_layer (Primary-F.Special word) = grammar.special word
@@ -155,8 +167,9 @@ primary_layer (Primary-F.Bracket e) = grammar.bracket e.value
 primary_layer (Primary-F.Call word args) = grammar.call word (exprs_of args.items)
 primary_layer (Primary-F.Select word choices) = grammar.select word (choices_of choices.items)
 primary_layer (Primary-F.Refer r) = r.value
+primary_layer (Primary-F.Extrinsic c) = grammar.extrinsic c.value.0 c.value.1
 
-abbrev pub reference_layer : Reference-F PrimaryTree ReferenceTree TailTree ChoiceTree ExprTree OperandTree PrimaryTree → ReferenceTree
+abbrev pub reference_layer : Reference-F ActualTree PrimaryTree ReferenceTree TailTree CalledTree ChoiceTree ExprTree OperandTree PrimaryTree → ReferenceTree
 reference_layer (Reference-F.Variable name) = grammar.local name grammar.no_exprs
 reference_layer (Reference-F.Node name subscript) = grammar.local name (grammar.exprs subscript.value grammar.no_exprs)
 reference_layer (Reference-F.Local name subscripts) = grammar.local name (exprs_of subscripts.items)
@@ -165,32 +178,47 @@ reference_layer (Reference-F.Naked subscripts) = grammar.naked (exprs_of subscri
 reference_layer (Reference-F.Indirect p subscripts) = grammar.indirect p.value (exprs_of subscripts.items)
 reference_layer (Reference-F.Extended e name subscripts) = grammar.extended e.value name (exprs_of subscripts.items)
 
-abbrev pub referring_layer : Referring-F PrimaryTree ReferenceTree TailTree ChoiceTree ExprTree OperandTree PrimaryTree → PrimaryTree
+abbrev pub referring_layer : Referring-F ActualTree PrimaryTree ReferenceTree TailTree CalledTree ChoiceTree ExprTree OperandTree PrimaryTree → PrimaryTree
 referring_layer r = grammar.refer r.word r.reference (exprs_of r.more.items)
 
-abbrev pub choice_layer : Choice-F PrimaryTree ReferenceTree TailTree ChoiceTree ExprTree OperandTree PrimaryTree → ChoiceTree
+abbrev pub choice_layer : Choice-F ActualTree PrimaryTree ReferenceTree TailTree CalledTree ChoiceTree ExprTree OperandTree PrimaryTree → ChoiceTree
 choice_layer c = (c.condition, c.value)
 
+abbrev pub actual_layer : Actual-F ActualTree PrimaryTree ReferenceTree TailTree CalledTree ChoiceTree ExprTree OperandTree PrimaryTree → ActualTree
+actual_layer Actual-F.Missing = grammar.missing_actual
+actual_layer (Actual-F.Value e) = grammar.value_actual e
+actual_layer (Actual-F.Name name) = grammar.name_actual name
+actual_layer (Actual-F.IndirectName p) = grammar.indirect_actual p.value
+
+abbrev pub called_layer : Called-F ActualTree PrimaryTree ReferenceTree TailTree CalledTree ChoiceTree ExprTree OperandTree PrimaryTree → CalledTree
+called_layer c = (entry_tree c.entry, actuals_of c.actuals.items)
+
 abbrev pub expr_tree : Expr → ExprTree
-expr_tree = fold-Expr PrimaryTree ReferenceTree TailTree ChoiceTree ExprTree OperandTree PrimaryTree primary_layer reference_layer tail_layer choice_layer expr_layer operand_layer referring_layer
+expr_tree = fold-Expr ActualTree PrimaryTree ReferenceTree TailTree CalledTree ChoiceTree ExprTree OperandTree PrimaryTree actual_layer primary_layer reference_layer tail_layer called_layer choice_layer expr_layer operand_layer referring_layer
 
 abbrev pub tail_tree : Tail → TailTree
-tail_tree = fold-Tail PrimaryTree ReferenceTree TailTree ChoiceTree ExprTree OperandTree PrimaryTree primary_layer reference_layer tail_layer choice_layer expr_layer operand_layer referring_layer
+tail_tree = fold-Tail ActualTree PrimaryTree ReferenceTree TailTree CalledTree ChoiceTree ExprTree OperandTree PrimaryTree actual_layer primary_layer reference_layer tail_layer called_layer choice_layer expr_layer operand_layer referring_layer
 
 abbrev pub operand_tree : Operand → OperandTree
-operand_tree = fold-Operand PrimaryTree ReferenceTree TailTree ChoiceTree ExprTree OperandTree PrimaryTree primary_layer reference_layer tail_layer choice_layer expr_layer operand_layer referring_layer
+operand_tree = fold-Operand ActualTree PrimaryTree ReferenceTree TailTree CalledTree ChoiceTree ExprTree OperandTree PrimaryTree actual_layer primary_layer reference_layer tail_layer called_layer choice_layer expr_layer operand_layer referring_layer
 
 abbrev pub primary_tree : Primary → PrimaryTree
-primary_tree = fold-Primary PrimaryTree ReferenceTree TailTree ChoiceTree ExprTree OperandTree PrimaryTree primary_layer reference_layer tail_layer choice_layer expr_layer operand_layer referring_layer
+primary_tree = fold-Primary ActualTree PrimaryTree ReferenceTree TailTree CalledTree ChoiceTree ExprTree OperandTree PrimaryTree actual_layer primary_layer reference_layer tail_layer called_layer choice_layer expr_layer operand_layer referring_layer
 
 abbrev pub choice_tree : Choice → ChoiceTree
-choice_tree = fold-Choice PrimaryTree ReferenceTree TailTree ChoiceTree ExprTree OperandTree PrimaryTree primary_layer reference_layer tail_layer choice_layer expr_layer operand_layer referring_layer
+choice_tree = fold-Choice ActualTree PrimaryTree ReferenceTree TailTree CalledTree ChoiceTree ExprTree OperandTree PrimaryTree actual_layer primary_layer reference_layer tail_layer called_layer choice_layer expr_layer operand_layer referring_layer
 
 abbrev pub reference_tree : Reference → ReferenceTree
-reference_tree = fold-Reference PrimaryTree ReferenceTree TailTree ChoiceTree ExprTree OperandTree PrimaryTree primary_layer reference_layer tail_layer choice_layer expr_layer operand_layer referring_layer
+reference_tree = fold-Reference ActualTree PrimaryTree ReferenceTree TailTree CalledTree ChoiceTree ExprTree OperandTree PrimaryTree actual_layer primary_layer reference_layer tail_layer called_layer choice_layer expr_layer operand_layer referring_layer
 
 abbrev pub referring_tree : Referring → PrimaryTree
-referring_tree = fold-Referring PrimaryTree ReferenceTree TailTree ChoiceTree ExprTree OperandTree PrimaryTree primary_layer reference_layer tail_layer choice_layer expr_layer operand_layer referring_layer
+referring_tree = fold-Referring ActualTree PrimaryTree ReferenceTree TailTree CalledTree ChoiceTree ExprTree OperandTree PrimaryTree actual_layer primary_layer reference_layer tail_layer called_layer choice_layer expr_layer operand_layer referring_layer
+
+abbrev pub actual_tree : Actual → ActualTree
+actual_tree = fold-Actual ActualTree PrimaryTree ReferenceTree TailTree CalledTree ChoiceTree ExprTree OperandTree PrimaryTree actual_layer primary_layer reference_layer tail_layer called_layer choice_layer expr_layer operand_layer referring_layer
+
+abbrev pub called_tree : Called → CalledTree
+called_tree = fold-Called ActualTree PrimaryTree ReferenceTree TailTree CalledTree ChoiceTree ExprTree OperandTree PrimaryTree actual_layer primary_layer reference_layer tail_layer called_layer choice_layer expr_layer operand_layer referring_layer
 
 abbrev pub part_tree : PartTarget → TargetTree
 part_tree p = grammar.part p.word (reference_tree p.reference) (exprs_of (map expr_tree p.more.items))
@@ -210,11 +238,6 @@ parameter_tree (parameter.Until e by to) = grammar.until (expr_tree e) (expr_tre
 
 abbrev pub condition_tree : {G : Type 0} → Option (Box Expr G) → Option ExprTree
 condition_tree = option_map (λ e. expr_tree e.value)
-
-abbrev pub entry_tree : Entry → EntryTree
-entry_tree (entry.Label label) = grammar.at_label label
-entry_tree (entry.LabelIn label name) = grammar.at_label_in label name
-entry_tree (entry.Routine name) = grammar.at_routine name
 
 abbrev pub kind_tree : LockKind → LockKindTree
 kind_tree lock_kind.Anew = grammar.anew
@@ -236,11 +259,12 @@ arg_tree (arg.NewOne name) = grammar.new_one name
 arg_tree (arg.NewOthers names) = grammar.new_others names.items
 arg_tree (arg.Tested e) = grammar.tested (expr_tree e)
 arg_tree (arg.Loop index parameters) = grammar.loop index (map parameter_tree parameters.items)
-arg_tree (arg.DoOne e c) = grammar.do_one (entry_tree e) (condition_tree c)
+arg_tree (arg.DoOne x c) = grammar.do_one (called_tree x).0 (called_tree x).1 (condition_tree c)
 arg_tree (arg.GoTo e c) = grammar.go_to (entry_tree e) (condition_tree c)
 arg_tree (arg.Executed e c) = grammar.executed (expr_tree e) (condition_tree c)
 arg_tree (arg.Lock k names t) = grammar.locked (kind_tree k) (locked_tree names) (condition_tree t)
 arg_tree (arg.HangFor e) = grammar.hang_for (expr_tree e)
+arg_tree (arg.Returned e) = grammar.returned (expr_tree e)
 arg_tree (arg.Indirect k p) = grammar.indirect_args (form_of (keyword_tree k)) (primary_tree p)
 
 abbrev pub command_tree : Command → CommandTree
@@ -256,8 +280,11 @@ abbrev pub body_tree : Body → BodyTree
 body_tree (body.Short comment) = routine.short comment
 body_tree (body.Spaced dots l) = routine.spaced_out dots.items (line_tree l.value)
 
+abbrev pub formals_tree : {A G : Type 0} → Option (Vec A G) → Option (List A)
+formals_tree = option_map (λ names. names.items)
+
 abbrev pub routine_line_tree : RoutineLine → RoutineLineTree
-routine_line_tree l = record { label = l.label; body = body_tree l.body }
+routine_line_tree l = record { label = l.label; formals = formals_tree l.formals; body = body_tree l.body }
 
 -- the first language that a line tells is the one that has all forms of its tree
 abbrev pub IsCounted : Line → Type 0

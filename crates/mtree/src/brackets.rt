@@ -3,7 +3,7 @@
 ghost use Rattle.mtree.specs.Brackets.{IsSaid};
 
 use crate::function_word::{ValueWord, VariableWord};
-use crate::tree::Function;
+use crate::intrinsic::Function;
 use crate::words::function_row;
 use mnum::Bytes7;
 

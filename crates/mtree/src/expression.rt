@@ -1,15 +1,16 @@
 // SPDX-License-Identifier: Apache-2.0
 // The text of an expression.
 ghost use Rattle.std.specs.Prelude.{◌≡◌, ◌++◌, ◌<◌, ◌∷◌, [], List, ℕ, OnOk, map};
-ghost use Rattle.mgrammar.specs.Grammar.{sign_char, spell_truth, spell_binary, spell_signs, spell_atoms, spell_expr, tails_of, exprs_of, choices_of, spell_tails, spell_tail, spell_operand, spell_primary, spell_reference, spell_subscripts, spell_attached, spell_exprs, spell_more_exprs, spell_choices};
-ghost use Rattle.mtree.specs.Tree.{sign_tree, truth_tree, binary_tree, atom_tree, expr_tree, tail_tree, operand_tree, primary_tree, reference_tree, referring_tree, choice_tree};
+ghost use Rattle.mgrammar.specs.Grammar.{sign_char, spell_truth, spell_binary, spell_signs, spell_atoms, spell_expr, tails_of, exprs_of, choices_of, spell_tails, spell_tail, spell_operand, spell_primary, spell_reference, spell_subscripts, spell_attached, spell_exprs, spell_more_exprs, spell_choices, actuals_of, spell_entry, spell_actual, spell_actuals, spell_called};
+ghost use Rattle.mtree.specs.Tree.{sign_tree, truth_tree, binary_tree, atom_tree, expr_tree, tail_tree, operand_tree, primary_tree, reference_tree, referring_tree, choice_tree, entry_tree, actual_tree, called_tree};
 
 use crate::function_word::ValueWord;
 use crate::patterns::put_atoms;
 use crate::pieces::{put_string, put_text};
 use crate::put_list::{Listed, put_list};
 use crate::tree::{
-    Binary, Choice, Expr, Operand, Primary, Reference, Referring, Sign, Tail, Truth,
+    Actual, Binary, Called, Choice, Entry, Expr, Operand, Primary, Reference, Referring, Sign,
+    Tail, Truth,
 };
 use mnum::Bytes7;
 use std::alloc::AllocError;
@@ -147,6 +148,7 @@ pub fn put_primary(out: &mut Bytes7, primary: &Primary) -> Result<(), AllocError
         Primary::Call(word, arguments) => put_call(out, word, arguments),
         Primary::Select(word, choices) => put_select(out, word, choices),
         Primary::Refer(referring) => put_referring(out, referring),
+        Primary::Extrinsic(called) => put_extrinsic(out, called),
     }
 }
 
@@ -274,6 +276,53 @@ fn put_referring(out: &mut Bytes7, referring: &Referring) -> Result<(), AllocErr
     out.push(b')')
 }
 
+pub fn put_entry(out: &mut Bytes7, entry: &Entry) -> Result<(), AllocError>
+    ensures { OnOk result (out.new ≡ out.old ++ spell_entry (entry_tree entry.now)) }
+{
+    match entry {
+        Entry::Label(label) => put_text(out, label.as_bytes7()),
+        Entry::LabelIn(label, routine) => {
+            put_text(out, label.as_bytes7())?;
+            out.push(b'^')?;
+            put_text(out, routine.as_bytes7())
+        }
+        Entry::Routine(routine) => {
+            out.push(b'^')?;
+            put_text(out, routine.as_bytes7())
+        }
+    }
+}
+
+// In brackets, if there are some.
+#[cycle(expr)]
+fn put_actuals(out: &mut Bytes7, actuals: &Vec<Actual>) -> Result<(), AllocError>
+    ensures { OnOk result (out.new ≡ out.old ++ spell_actuals (actuals_of (map actual_tree actuals.now.items))) }
+{
+    if actuals.is_empty() {
+        return Ok(());
+    }
+    out.push(b'(')?;
+    put_list(out, actuals)?;
+    out.push(b')')
+}
+
+#[cycle(expr)]
+pub fn put_called(out: &mut Bytes7, called: &Called) -> Result<(), AllocError>
+    ensures { OnOk result (out.new ≡ out.old ++ spell_called (called_tree called.now)) }
+{
+    put_entry(out, &called.entry)?;
+    put_actuals(out, &called.actuals)
+}
+
+#[cycle(expr)]
+fn put_extrinsic(out: &mut Bytes7, called: &Called) -> Result<(), AllocError>
+    ensures { OnOk result (out.new ≡ out.old ++ 36 ∷ 36 ∷ spell_called (called_tree called.now)) }
+{
+    out.push(b'$')?;
+    out.push(b'$')?;
+    put_called(out, called)
+}
+
 // Each with a comma before it.
 #[cycle(expr)]
 pub fn put_more(out: &mut Bytes7, more: &[Expr]) -> Result<(), AllocError>
@@ -292,6 +341,27 @@ impl Listed for Expr {
     #[cycle(expr)]
     fn put(&self, out: &mut Bytes7) -> Result<(), AllocError> {
         put_expr(out, self)
+    }
+}
+
+impl Listed for Actual {
+    ghost spelling = { λ a. spell_actual (actual_tree a) };
+
+    #[cycle(expr)]
+    fn put(&self, out: &mut Bytes7) -> Result<(), AllocError> {
+        match self {
+            Actual::Missing => Ok(()),
+            Actual::Value(value) => put_expr(out, value),
+            Actual::Name(name) => {
+                out.push(b'.')?;
+                put_text(out, name.as_bytes7())
+            }
+            Actual::IndirectName(operand) => {
+                out.push(b'.')?;
+                out.push(b'@')?;
+                put_primary(out, operand)
+            }
+        }
     }
 }
 

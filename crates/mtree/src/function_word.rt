@@ -4,7 +4,7 @@ ghost use Rattle.std.specs.Prelude.{◌≡◌, max};
 ghost use Rattle.mgrammar.specs.Functions.{since_function, since_values};
 ghost use Rattle.mtree.specs.Functions.{IsValueWord, IsVariableWord, value_function_tree, variable_function_tree};
 
-use crate::tree::{ValueFunction, VariableFunction};
+use crate::intrinsic::{ValueFunction, VariableFunction};
 use crate::words::{later, since_values};
 use mnum::Bytes7;
 use std::marker::Model;

@@ -11,6 +11,7 @@ mod brackets;
 mod count;
 mod expression;
 mod function_word;
+pub mod intrinsic;
 mod letters;
 mod literal;
 mod patterns;
@@ -25,14 +26,14 @@ pub mod write;
 pub use brackets::FunctionWord;
 pub use count::Count;
 pub use function_word::{ValueWord, VariableWord};
+pub use intrinsic::{Function, SpecialVariable, ValueFunction, VariableFunction};
 pub use letters::Letters;
 pub use literal::Literal;
 pub use since::{since_args, since_commands, since_reference, since_routine_line};
 pub use tree::{
-    Alternative, Arg, Atom, Binary, Body, Choice, Command, Destination, Entry, Expr, Function,
-    Keyword, Line, LockKind, Locked, Operand, Parameter, PartTarget, Primary, Reference, Referring,
-    Repeated, RoutineLine, Sign, Spaced, SpecialVariable, Tail, Target, Truth, ValueFunction,
-    VariableFunction,
+    Actual, Alternative, Arg, Atom, Binary, Body, Called, Choice, Command, Destination, Entry,
+    Expr, Keyword, Line, LockKind, Locked, Operand, Parameter, PartTarget, Primary, Reference,
+    Referring, Repeated, RoutineLine, Sign, Spaced, Tail, Target, Truth,
 };
 pub use words::{function_of, is_part, keyword_of, special_of};
 pub use write::{write_line, write_routine_line};

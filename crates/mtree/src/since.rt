@@ -1,15 +1,17 @@
 // SPDX-License-Identifier: Apache-2.0
 // The first language that has all forms of a tree.
 ghost use Rattle.std.specs.Prelude.{◌≡◌, map};
-ghost use Rattle.mgrammar.specs.Grammar.{tails_of, exprs_of, choices_of, formats};
-ghost use Rattle.mgrammar.specs.Languages.{since_all, since_optional, since_atom, since_expr, since_tails, since_tail, since_operand, since_primary, since_reference, since_exprs, since_choices, since_target, since_destination, since_parameter, since_locked, since_format, since_arg, since_args, since_command, since_spaced, since_routine_line};
-ghost use Rattle.mtree.specs.Tree.{atom_tree, expr_tree, tail_tree, operand_tree, primary_tree, reference_tree, referring_tree, choice_tree, part_tree, target_tree, destination_tree, parameter_tree, locked_tree, arg_tree, command_tree, spaced_tree, condition_tree, routine_line_tree, IsBodyCounted};
+ghost use Rattle.mgrammar.specs.Grammar.{tails_of, exprs_of, choices_of, actuals_of, formats};
+ghost use Rattle.mgrammar.specs.Languages.{since_all, since_optional, since_atom, since_expr, since_tails, since_tail, since_operand, since_primary, since_reference, since_exprs, since_choices, since_actual, since_actuals, since_target, since_destination, since_parameter, since_locked, since_format, since_arg, since_args, since_command, since_spaced, since_formals, since_body, since_routine_line};
+ghost use Rattle.mtree.specs.Tree.{atom_tree, expr_tree, tail_tree, operand_tree, primary_tree, reference_tree, referring_tree, choice_tree, actual_tree, called_tree, part_tree, target_tree, destination_tree, parameter_tree, locked_tree, arg_tree, command_tree, spaced_tree, condition_tree, formals_tree, body_tree, routine_line_tree, IsBodyCounted};
 
 use crate::tree::{
-    Arg, Atom, Body, Choice, Command, Destination, Expr, Locked, Operand, Parameter, PartTarget,
-    Primary, Reference, Referring, Repeated, RoutineLine, Spaced, Tail, Target,
+    Actual, Arg, Atom, Body, Called, Choice, Command, Destination, Expr, Locked, Operand,
+    Parameter, PartTarget, Primary, Reference, Referring, Repeated, RoutineLine, Spaced, Tail,
+    Target,
 };
 use crate::words::{later, since_function, since_keyword, since_part_of, since_special};
+use mnum::Name;
 
 // That of an atom of a pattern: no group stands in a pattern of the profile.
 fn since_atom(atom: &Atom) -> u32
@@ -95,6 +97,7 @@ fn since_primary(primary: &Primary) -> u32
             later(since_function(word.as_bytes()), since_choices(choices))
         }
         Primary::Refer(referring) => since_referring(referring),
+        Primary::Extrinsic(called) => later(2, since_called(called)),
     }
 }
 
@@ -150,6 +153,39 @@ fn since_choices(choices: &[Choice]) -> u32
         since = later(since, both);
     }
     since
+}
+
+#[cycle(since)]
+fn since_actual(actual: &Actual) -> u32
+    ensures { result ≡ since_actual (actual_tree actual.now) }
+{
+    match actual {
+        Actual::Missing => 0,
+        Actual::Value(value) => since_expr(value),
+        Actual::Name(_) => 0,
+        Actual::IndirectName(operand) => since_primary(operand),
+    }
+}
+
+// That of actuals, whose list is of language 1.
+#[cycle(since)]
+#[tactic(auto, using(crate::proofs::InLanguages::max_three))]
+fn since_actuals(actuals: &[Actual]) -> u32
+    ensures { result ≡ since_actuals (actuals_of (map actual_tree actuals.now)) }
+{
+    let mut since = 0;
+    for actual in actuals {
+        since = later(since, later(1, since_actual(actual)));
+    }
+    since
+}
+
+// That of the actuals of what is called.
+#[cycle(since)]
+fn since_called(called: &Called) -> u32
+    ensures { result ≡ since_actuals (called_tree called.now).1 }
+{
+    since_actuals(&called.actuals)
 }
 
 fn since_condition(condition: &Option<Box<Expr>>) -> u32
@@ -288,11 +324,12 @@ fn since_arg(arg: &Arg) -> u32
         Arg::NewOthers(_) => 0,
         Arg::Tested(condition) => since_expr(condition),
         Arg::Loop(_, parameters) => since_parameters(parameters),
-        Arg::DoOne(_, condition) => since_condition(condition),
+        Arg::DoOne(called, condition) => later(since_called(called), since_condition(condition)),
         Arg::GoTo(_, condition) => since_condition(condition),
         Arg::Executed(text, condition) => later(since_expr(text), since_condition(condition)),
         Arg::Lock(_, names, timeout) => later(since_locked(names), since_condition(timeout)),
         Arg::HangFor(seconds) => since_expr(seconds),
+        Arg::Returned(value) => since_expr(value),
         Arg::Indirect(_, operand) => since_primary(operand),
     }
 }
@@ -333,13 +370,30 @@ pub fn since_commands(commands: &[Spaced]) -> u32
     since
 }
 
-/// That of a routine's line, which its commands tell. Takes no memory.
+// That of a formal list, if there is one.
+fn since_formals(formals: &Option<Vec<Name>>) -> u32
+    ensures { result ≡ since_formals (formals_tree formals.now) }
+{
+    match formals {
+        None => 0,
+        Some(_) => 1,
+    }
+}
+
+fn since_body(body: &Body) -> u32
+    requires { IsBodyCounted body.now }
+    ensures { result ≡ since_body (body_tree body.now) }
+{
+    match body {
+        Body::Short(_) => 0,
+        Body::Spaced(_, line) => line.since,
+    }
+}
+
+/// That of a routine's line, which its formal list and its commands tell. Takes no memory.
 pub fn since_routine_line(line: &RoutineLine) -> u32
     requires { IsBodyCounted line.now.body }
     ensures { result ≡ since_routine_line (routine_line_tree line.now) }
 {
-    match &line.body {
-        Body::Short(_) => 0,
-        Body::Spaced(_, line) => line.since,
-    }
+    later(since_formals(&line.formals), since_body(&line.body))
 }

@@ -4,6 +4,7 @@ mod bare_operand;
 
 use crate::count::Count;
 use crate::function_word::{ValueWord, VariableWord};
+use crate::intrinsic::SpecialVariable;
 use crate::letters::Letters;
 use crate::literal::Literal;
 use mnum::{Bytes7, Name};
@@ -133,6 +134,29 @@ pub enum Primary {
     Select(Bytes7, Vec<Choice>),
     /// A function of a variable.
     Refer(Box<Referring>),
+    /// The value that a function of a routine gives: where it stands, after `$$`, and its actuals.
+    Extrinsic(Box<Called>),
+}
+
+/// What is handed over to a formal.
+#[cycle(tree)]
+pub enum Actual {
+    /// Nothing: the formal has no value.
+    Missing,
+    /// A value.
+    Value(Expr),
+    /// By reference: the name of a local variable after a `.`.
+    Name(Name),
+    /// By reference: the operand after `.@`, whose value is such a name.
+    IndirectName(Box<Primary>),
+}
+
+/// What DO or a function calls: where that stands, and the actuals after it. A list in brackets has one actual or more, and of none
+/// there is no list.
+#[cycle(tree)]
+pub struct Called {
+    pub entry: Entry,
+    pub actuals: Vec<Actual>,
 }
 
 /// A variable. `Reference::of_local` makes the local ones.
@@ -172,66 +196,6 @@ pub struct Choice {
     pub value: Expr,
 }
 
-/// A function of values.
-#[derive(Clone, Copy, PartialEq, Eq)]
-pub enum ValueFunction {
-    Ascii,
-    Char,
-    Extract,
-    Find,
-    FormatNumber,
-    Justify,
-    Length,
-    Piece,
-    Reverse,
-    Translate,
-}
-
-/// A function of a variable.
-#[derive(Clone, Copy, PartialEq, Eq)]
-pub enum VariableFunction {
-    Data,
-    Get,
-    Order,
-}
-
-/// What a function's word says: the function, and what its brackets hold.
-#[derive(Clone, Copy, PartialEq, Eq)]
-pub enum Function {
-    /// At least `least` values, and at most `most`, if there is a bound.
-    OfValues {
-        function: ValueFunction,
-        least: usize,
-        most: Option<usize>,
-    },
-    /// A variable, and after it at most `most` values.
-    OfVariable {
-        function: VariableFunction,
-        most: usize,
-    },
-    /// Choices: `$SELECT`.
-    OfChoices,
-}
-
-/// What a special variable's word says.
-#[derive(Clone, Copy, PartialEq, Eq)]
-pub enum SpecialVariable {
-    /// What the last condition of IF gave.
-    Test,
-    /// The device in use: the number of the line's terminal.
-    Io,
-    /// The job: that number too.
-    Job,
-    /// The device that the line comes from: that number too.
-    Principal,
-    /// How many characters a text may have.
-    Storage,
-    /// `$X`: how many characters the terminal's line has.
-    Column,
-    /// `$Y`: how many lines its page has before that one.
-    Row,
-}
-
 /// A part of a variable, to which SET assigns, as `$PIECE` and `$EXTRACT` are: its word after the `$`, the variable, and the
 /// values after that.
 pub struct PartTarget {
@@ -266,7 +230,7 @@ pub enum Parameter {
     Until(Expr, Expr, Expr),
 }
 
-/// Where DO and GOTO lead.
+/// Where DO, GOTO and functions lead.
 #[derive(Drop)]
 pub enum Entry {
     /// To a label of the level's own routine.
@@ -318,8 +282,8 @@ pub enum Arg {
     Tested(Expr),
     /// Of FOR: the name of its index, and what that takes on.
     Loop(Name, Vec<Parameter>),
-    /// Of DO: where it leads, and its own postconditional.
-    DoOne(Entry, Option<Box<Expr>>),
+    /// Of DO: what it calls, and its own postconditional.
+    DoOne(Called, Option<Box<Expr>>),
     /// Of GOTO: where it leads, and its own postconditional.
     GoTo(Entry, Option<Box<Expr>>),
     /// Of XECUTE: a text, and its own postconditional.
@@ -328,6 +292,8 @@ pub enum Arg {
     Lock(LockKind, Locked, Option<Box<Expr>>),
     /// Of HANG: how many seconds.
     HangFor(Expr),
+    /// Of QUIT: its value.
+    Returned(Expr),
     /// Argument indirection: the word that the command has, and the operand after an `@`, whose value is the text of arguments.
     Indirect(Keyword, Primary),
 }
@@ -381,7 +347,7 @@ pub struct Line {
     pub since: u32,
 }
 
-/// What comes after the label of a routine's line.
+/// What comes after the label and the formal list of a routine's line.
 #[derive(Drop)]
 pub enum Body {
     /// Nothing, or at once a comment: the text after `;`, if there is one.
@@ -391,9 +357,11 @@ pub enum Body {
     Spaced(Vec<usize>, Rc<Line>),
 }
 
-/// A line of a routine: its label, if it has one, and what comes after that.
+/// A line of a routine: its label and its formal list, if it has them, and what comes after those.
 pub struct RoutineLine {
     pub label: Option<Name>,
+    /// The names of the formal list, which stands after a label alone, and of which no two are equal.
+    pub formals: Option<Vec<Name>>,
     pub body: Body,
 }
 
@@ -460,7 +428,30 @@ impl Drop for Primary {
             Primary::Call(_, _) => {}
             Primary::Select(_, _) => {}
             Primary::Refer(_) => {}
+            Primary::Extrinsic(_) => {}
         }
+    }
+}
+
+impl Drop for Actual {
+    #[cycle(drop)]
+    fn drop(self) {
+        match self {
+            Actual::Missing => {}
+            Actual::Value(_) => {}
+            Actual::Name(_) => {}
+            Actual::IndirectName(_) => {}
+        }
+    }
+}
+
+impl Drop for Called {
+    #[cycle(drop)]
+    fn drop(self) {
+        let Called {
+            entry: _,
+            actuals: _,
+        } = self;
     }
 }
 
@@ -538,6 +529,7 @@ impl Drop for Arg {
             Arg::Executed(_, _) => {}
             Arg::Lock(_, _, _) => {}
             Arg::HangFor(_) => {}
+            Arg::Returned(_) => {}
             Arg::Indirect(_, _) => {}
         }
     }
@@ -567,6 +559,10 @@ impl Drop for Line {
 
 impl Drop for RoutineLine {
     fn drop(self) {
-        let RoutineLine { label: _, body: _ } = self;
+        let RoutineLine {
+            label: _,
+            formals: _,
+            body: _,
+        } = self;
     }
 }

@@ -7,7 +7,8 @@ ghost use Rattle.mgrammar.specs.Commands.{keyword_of, since_keyword};
 ghost use Rattle.mgrammar.specs.Functions.{of_values, of_variable, function_of, since_function, since_values, is_part, since_part};
 ghost use Rattle.mtree.specs.Tree.{keyword_tree, value_function_tree, variable_function_tree, function_tree, special_tree};
 
-use crate::tree::{Function, Keyword, SpecialVariable, ValueFunction, VariableFunction};
+use crate::intrinsic::{Function, SpecialVariable, ValueFunction, VariableFunction};
+use crate::tree::Keyword;
 
 // The later of two languages.
 pub(crate) fn later(one: u32, other: u32) -> u32
@@ -74,7 +75,6 @@ pub fn since_keyword(keyword: Keyword, count: usize) -> u32
         | Keyword::If
         | Keyword::Else
         | Keyword::For
-        | Keyword::Quit
         | Keyword::Write
         | Keyword::Do
         | Keyword::Goto
@@ -82,7 +82,7 @@ pub fn since_keyword(keyword: Keyword, count: usize) -> u32
         | Keyword::Lock
         | Keyword::Halt => 0,
         Keyword::Hang => 1,
-        Keyword::HaltOrHang => { if count > 0 { 1 } else { 0 } }
+        Keyword::Quit | Keyword::HaltOrHang => { if count > 0 { 1 } else { 0 } }
     }
 }
 
@@ -208,6 +208,8 @@ fn special_row(word: &[u8]) -> Option<(SpecialVariable, u32)>
         Some((SpecialVariable::Job, 1))
     } else if is_either(word, b"p", b"principal") {
         Some((SpecialVariable::Principal, 1))
+    } else if is_either(word, b"q", b"quit") {
+        Some((SpecialVariable::Quit, 1))
     } else if is_either(word, b"s", b"storage") {
         Some((SpecialVariable::Storage, 1))
     } else if is_either(word, b"x", b"x") {

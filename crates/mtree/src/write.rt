@@ -1,17 +1,19 @@
 // SPDX-License-Identifier: Apache-2.0
 // The text of a line: each function appends the spelling of its part, as `mgrammar` has it.
 ghost use Rattle.std.specs.Prelude.{◌≡◌, ◌++◌, ◌∷◌, [], List, ℕ, IfOk, OnOk, map};
-ghost use Rattle.mgrammar.specs.Grammar.{assign, loop, spell_target, spell_destination, spell_names, spell_parameter, spell_entry, spell_kind, spell_locked, spell_arg, spell_condition, spell_args, spell_comment, spell_command, spell_commands, spell};
+ghost use Rattle.mgrammar.specs.Grammar.{assign, loop, spell_target, spell_destination, spell_names, spell_parameter, spell_entry, spell_called, spell_kind, spell_locked, spell_arg, spell_condition, spell_args, spell_comment, spell_command, spell_commands, spell};
 ghost use Rattle.mgrammar.specs.Grammar.{do_one, go_to, executed, formats, locked, spell_expr, spell_primary, spell_reference};
-ghost use Rattle.mgrammar.specs.RoutineLine.{spell_dots, spell_label, spell_body, spell_routine_line};
-ghost use Rattle.mtree.specs.Tree.{expr_tree, primary_tree, part_tree, target_tree, destination_tree, parameter_tree, entry_tree, kind_tree, locked_tree, reference_tree, arg_tree, command_tree, spaced_tree, line_tree, condition_tree, body_tree, routine_line_tree};
+ghost use Rattle.mgrammar.specs.RoutineLine.{spell_dots, spell_label, spell_formals, spell_body, spell_routine_line};
+ghost use Rattle.mtree.specs.Tree.{expr_tree, primary_tree, part_tree, target_tree, destination_tree, parameter_tree, entry_tree, called_tree, kind_tree, locked_tree, reference_tree, arg_tree, command_tree, spaced_tree, line_tree, condition_tree, formals_tree, body_tree, routine_line_tree};
 
-use crate::expression::{put_expr, put_more, put_primary, put_reference, put_word};
+use crate::expression::{
+    put_called, put_entry, put_expr, put_more, put_primary, put_reference, put_word,
+};
 use crate::pieces::{put_run, put_text};
 use crate::put_list::{Listed, put_bracketed, put_list};
 use crate::tree::{
-    Arg, Body, Command, Destination, Entry, Expr, Line, LockKind, Locked, Parameter, PartTarget,
-    Primary, Reference, RoutineLine, Spaced, Target,
+    Arg, Body, Called, Command, Destination, Entry, Expr, Line, LockKind, Locked, Parameter,
+    PartTarget, Primary, Reference, RoutineLine, Spaced, Target,
 };
 use mnum::{Bytes7, Name};
 use std::alloc::{AllocError, Global};
@@ -114,24 +116,19 @@ fn put_condition(out: &mut Bytes7, condition: &Option<Box<Expr>>) -> Result<(), 
     Ok(())
 }
 
-fn put_entry(out: &mut Bytes7, entry: &Entry) -> Result<(), AllocError>
-    ensures { OnOk result (out.new ≡ out.old ++ spell_entry (entry_tree entry.now)) }
+// What DO calls, and the condition after that.
+fn put_conditioned_call(
+    out: &mut Bytes7,
+    called: &Called,
+    condition: &Option<Box<Expr>>,
+) -> Result<(), AllocError>
+    ensures { OnOk result (out.new ≡ out.old ++ spell_called (called_tree called.now) ++ spell_condition (condition_tree condition.now)) }
 {
-    match entry {
-        Entry::Label(label) => put_text(out, label.as_bytes7()),
-        Entry::LabelIn(label, routine) => {
-            put_text(out, label.as_bytes7())?;
-            out.push(b'^')?;
-            put_text(out, routine.as_bytes7())
-        }
-        Entry::Routine(routine) => {
-            out.push(b'^')?;
-            put_text(out, routine.as_bytes7())
-        }
-    }
+    put_called(out, called)?;
+    put_condition(out, condition)
 }
 
-// Where DO and GOTO lead, and the condition after that.
+// Where GOTO leads, and the condition after that.
 fn put_conditioned_entry(
     out: &mut Bytes7,
     entry: &Entry,
@@ -239,11 +236,12 @@ impl Listed for Arg {
             Arg::NewOthers(names) => put_names(out, names),
             Arg::Tested(condition) => put_expr(out, condition),
             Arg::Loop(index, parameters) => put_loop(out, index, parameters),
-            Arg::DoOne(entry, condition) => put_conditioned_entry(out, entry, condition),
+            Arg::DoOne(called, condition) => put_conditioned_call(out, called, condition),
             Arg::GoTo(entry, condition) => put_conditioned_entry(out, entry, condition),
             Arg::Executed(text, condition) => put_execution(out, text, condition),
             Arg::Lock(kind, names, timeout) => put_lock(out, *kind, names, timeout),
             Arg::HangFor(seconds) => put_expr(out, seconds),
+            Arg::Returned(value) => put_expr(out, value),
             Arg::Indirect(_, operand) => put_operand(out, operand),
         }
     }
@@ -317,6 +315,16 @@ fn put_label(out: &mut Bytes7, label: &Option<Name>) -> Result<(), AllocError>
     Ok(())
 }
 
+// In brackets, if there is a list.
+fn put_formals(out: &mut Bytes7, formals: &Option<Vec<Name>>) -> Result<(), AllocError>
+    ensures { OnOk result (out.new ≡ out.old ++ spell_formals (formals_tree formals.now)) }
+{
+    if let Some(names) = formals {
+        put_names(out, names)?;
+    }
+    Ok(())
+}
+
 fn put_body(out: &mut Bytes7, body: &Body) -> Result<(), AllocError>
     ensures { OnOk result (out.new ≡ out.old ++ spell_body (body_tree body.now)) }
 {
@@ -353,6 +361,7 @@ pub fn write_routine_line(alloc: Global, line: &RoutineLine) -> Result<Bytes7, A
 {
     let mut out = Bytes7::empty(alloc);
     put_label(&mut out, &line.label)?;
+    put_formals(&mut out, &line.formals)?;
     put_body(&mut out, &line.body)?;
     Ok(out)
 }

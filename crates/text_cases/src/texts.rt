@@ -1,9 +1,9 @@
 // SPDX-License-Identifier: Apache-2.0
 // Texts of M by themselves: parsed and written back.
-use mnum::Bytes7;
-use mparse::{ParseFault, dots_of, label_of, parse_line, parse_routine_line};
+use mnum::{Bytes7, Name};
+use mparse::{ParseFault, dots_of, formals_of, label_of, parse_line, parse_routine_line};
 use mtranscript::{bytes_of, play, play_each, print_result};
-use mtree::{write_line, write_routine_line};
+use mtree::{since_routine_line, write_line, write_routine_line};
 use std::alloc::Global;
 
 /// For each text: `same` if its tree is written as the text, `refused` if it has no tree.
@@ -18,26 +18,48 @@ pub fn play_texts(alloc: Global, cases: &[&str], out: &mut Vec<u8>) -> anyhow::R
     })
 }
 
-/// For each text, as a line of a routine: its label, `-` if it has none, how many dots it has, and `same` or `refused` as for texts.
+/// For each text, as a line of a routine in a language: its label, `-` if it has none, its formal list if it has one, how many dots it
+/// has, and `same` or `refused` as for texts.
 ///
 /// # Errors
 ///
 /// If an escape is invalid, or if memory runs out.
-pub fn play_routine_lines(alloc: Global, cases: &[&str], out: &mut Vec<u8>) -> anyhow::Result<()> {
+pub fn play_routine_lines(
+    alloc: Global,
+    language: u32,
+    cases: &[&str],
+    out: &mut Vec<u8>,
+) -> anyhow::Result<()> {
     play_each(
         cases,
         out,
-        |case| routine_line(alloc, &bytes_of(alloc, case)?),
+        |case| routine_line(alloc, language, &bytes_of(alloc, case)?),
     )
 }
 
-fn routine_line(alloc: Global, text: &[u8]) -> anyhow::Result<Vec<u8>> {
-    let dots = format!(in alloc; " {} ", dots_of(text))?;
+fn routine_line(alloc: Global, language: u32, text: &[u8]) -> anyhow::Result<Vec<u8>> {
+    let dots = format!(in alloc; " {} ", dots_of(language, text))?;
     let mut told = Vec::new(alloc);
-    told.extend_from_slice(label_of(text).unwrap_or(b"-"))?;
+    told.extend_from_slice(label_of(language, text).unwrap_or(b"-"))?;
+    if let Some(names) = formals_of(alloc, language, text)? {
+        tell_formals(&mut told, &names)?;
+    }
     told.extend_from_slice(dots.as_bytes())?;
-    told.extend_from_slice(compared(text, &routine_line_again(alloc, text)))?;
+    told.extend_from_slice(compared(text, &routine_line_again(alloc, language, text)))?;
     Ok(told)
+}
+
+// The names of a formal list in brackets.
+fn tell_formals(told: &mut Vec<u8>, names: &[Name]) -> anyhow::Result<()> {
+    told.push(b'(')?;
+    for (i, name) in names.iter().enumerate() {
+        if i > 0 {
+            told.push(b',')?;
+        }
+        told.extend_from_slice(name.as_bytes())?;
+    }
+    told.push(b')')?;
+    Ok(())
 }
 
 // The text of the tree of a text.
@@ -46,8 +68,11 @@ fn line_again(alloc: Global, text: &[u8]) -> Result<Bytes7, ParseFault> {
     Ok(write_line(alloc, &line)?)
 }
 
-fn routine_line_again(alloc: Global, text: &[u8]) -> Result<Bytes7, ParseFault> {
+fn routine_line_again(alloc: Global, language: u32, text: &[u8]) -> Result<Bytes7, ParseFault> {
     let line = parse_routine_line(alloc, text)?;
+    if since_routine_line(&line) > language {
+        return Err(ParseFault::Syntax);
+    }
     Ok(write_routine_line(alloc, &line)?)
 }
 

@@ -1,8 +1,8 @@
 -- SPDX-License-Identifier: Apache-2.0
-use Rattle.mparse.proofs.ParseWords.{◌≡◌, ◌++◌, ◌∷◌, [], length, map, refl, sym, rules, err_from_is_err_and, map_push, expr_tree, tail_tree, choice_tree, with_front, many, after_comma, list_at, choice_with, tail_with, readers_at, inner_at, goes_on, stops, is_done, list_begins, comma_goes_on, comma_stops, fails, list_fails, comma_fails}
+use Rattle.mparse.proofs.ParseWords.{◌≡◌, ◌++◌, ◌∷◌, [], length, map, refl, sym, rules, err_from_is_err_and, map_push, expr_tree, tail_tree, choice_tree, actual_tree, with_front, many, after_comma, list_at, choice_with, tail_with, readers_at, inner_at, goes_on, stops, is_done, list_begins, comma_goes_on, comma_stops, fails, list_fails, comma_fails}
 use Rattle.mparse.proofs.Lists.{list_goes_on}
 use Rattle.mparse.proofs.expr.+expr.Goals as goal
-use Rattle.mparse.proofs.expr.+expr.Goals.{tails-else-loop-test, tails-then-loop-test+in_ok-tail+in_default, more_exprs-else-loop-test, more_exprs-then-loop-test+in_default, choices-else-loop-test, choices-then-loop-test+in_default}
+use Rattle.mparse.proofs.expr.+expr.Goals.{tails-else-loop-test, tails-then-loop-test+in_ok-tail+in_default, more_exprs-else-loop-test, more_exprs-then-loop-test+in_default, choices-else-loop-test, choices-then-loop-test+in_default, some_actuals-else-loop-test, some_actuals-then-loop-test+in_default}
 
 pub tails-returns-in_err-tail : goal.tails-returns-in_err-tail
 tails-returns-in_err-tail t c =
@@ -88,4 +88,33 @@ choices-returns t c =
     elim c.loop-test.branch [
       | choices-else-loop-test w ↦ is_done (after_comma (choice_with (readers_at c.args.depth))) (map choice_tree c.loop.all.items) (length c.in_ok-first.start.now) c.loop.counter c.loop.rest.now (list_at (choice_with (readers_at c.args.depth)) c.args.bytes.now) w.loop-test.false c.loop.invariant
       | choices-then-loop-test+in_default w ↦ comma_stops (choice_with (readers_at c.args.depth)) (map choice_tree c.loop.all.items) (length c.in_ok-first.start.now) c.loop.counter c.loop.rest.now (list_at (choice_with (readers_at c.args.depth)) c.args.bytes.now) w.loop-test.true (search rules) c.loop.invariant
+    ]
+
+pub some_actuals-returns-in_err-first : goal.some_actuals-returns-in_err-first
+some_actuals-returns-in_err-first t c =
+    let p = err_from_is_err_and c.from_residual.result c.from_residual.ensures.1 in
+    rw (p.1, p.2) (list_fails ((readers_at c.args.depth).handed) c.in_err-first.field-0.0 c.args.bytes.now c.in_err-first.ensures)
+
+pub some_actuals-loop-init : goal.some_actuals-loop-init
+some_actuals-loop-init t c =
+    let e : map actual_tree c.push.new.self.items ≡ actual_tree c.in_ok-first.first ∷ [] = rw (c.in_ok-push.ensures.items, c.new-all.ensures.items) refl in
+    rw e (list_begins ((readers_at c.args.depth).handed) c.args.bytes.now (actual_tree c.in_ok-first.first) c.in_ok-first.start.now c.in_ok-first.ensures)
+
+pub some_actuals-returns-in_err-item : goal.some_actuals-returns-in_err-item
+some_actuals-returns-in_err-item t c =
+    let p = err_from_is_err_and c.from_residual-in_err-item.result c.from_residual-in_err-item.ensures.1 in
+    rw (p.1, p.2) (comma_fails ((readers_at c.args.depth).handed) c.in_err-item.field-0.0 (map actual_tree c.loop.all.items) (length c.in_ok-first.start.now) c.loop.counter c.loop.rest.now c.in-Some.behind.now
+    (list_at ((readers_at c.args.depth).handed) c.args.bytes.now) c.loop-test.true (search rules) c.in_err-item.ensures c.loop.invariant)
+
+pub some_actuals-loop-preserved : goal.some_actuals-loop-preserved
+some_actuals-loop-preserved t c =
+    let e : map actual_tree c.push-in-loop.new.self.items ≡ map actual_tree c.loop.all.items ++ actual_tree c.in_ok-item.item ∷ [] = rw c.in_ok-push-2.ensures.items (map_push _ c.loop.all.items c.in_ok-item.item) in
+    rw e (comma_goes_on ((readers_at c.args.depth).handed) (map actual_tree c.loop.all.items) (length c.in_ok-first.start.now) c.loop.counter c.loop.rest.now c.in-Some.behind.now (actual_tree c.in_ok-item.item) c.in_ok-item.after.now
+    (list_at ((readers_at c.args.depth).handed) c.args.bytes.now) c.loop-test.true (search rules) c.in_ok-item.ensures c.loop.invariant)
+
+pub some_actuals-returns : goal.some_actuals-returns
+some_actuals-returns t c =
+    elim c.loop-test.branch [
+      | some_actuals-else-loop-test w ↦ is_done (after_comma ((readers_at c.args.depth).handed)) (map actual_tree c.loop.all.items) (length c.in_ok-first.start.now) c.loop.counter c.loop.rest.now (list_at ((readers_at c.args.depth).handed) c.args.bytes.now) w.loop-test.false c.loop.invariant
+      | some_actuals-then-loop-test+in_default w ↦ comma_stops ((readers_at c.args.depth).handed) (map actual_tree c.loop.all.items) (length c.in_ok-first.start.now) c.loop.counter c.loop.rest.now (list_at ((readers_at c.args.depth).handed) c.args.bytes.now) w.loop-test.true (search rules) c.loop.invariant
     ]

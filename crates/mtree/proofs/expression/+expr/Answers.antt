@@ -1,7 +1,7 @@
 -- SPDX-License-Identifier: Apache-2.0
 use Rattle.std.proofs.Common.{◌≡◌, ◌<◌, length, ◌∙◌, arith}
 use Rattle.std.proofs.lemmas.Bool.Decides.{nat_tests}
-use Rattle.mtree.proofs.ListTexts.{arguments, choices, in_bracket, some_subscripts, no_attached, some_attached}
+use Rattle.mtree.proofs.ListTexts.{arguments, choices, in_bracket, some_subscripts, some_actuals, no_attached, some_attached}
 use Rattle.mtree.proofs.expression.+expr.Goals as goal
 use Rattle.mtree.proofs.expression.+expr.Goals.{put_attached-then-not-is_empty+in_ok-push, put_attached-else-not-is_empty}
 
@@ -20,6 +20,11 @@ pub put_subscripts-returns : goal.put_subscripts-returns
 put_subscripts-returns t c =
     let some : 0 < length c.args.subscripts.now.items = grind (arith, nat_tests, c.if-is_empty.ensures, c.is_empty.ensures, c.if-is_empty.false) in
     some_subscripts c.push-2.result c.args.subscripts.now.items c.args.out.now c.push.new.self c.put_list.new.out c.push-2.new.self some c.in_ok-push.ensures.ok c.in_ok-put_list.ensures c.push-2.ensures.ok
+
+pub put_actuals-returns : goal.put_actuals-returns
+put_actuals-returns t c =
+    let some : 0 < length c.args.actuals.now.items = grind (arith, nat_tests, c.if-is_empty.ensures, c.is_empty.ensures, c.if-is_empty.false) in
+    some_actuals c.push-2.result c.args.actuals.now.items c.args.out.now c.push.new.self c.put_list.new.out c.push-2.new.self some c.in_ok-push.ensures.ok c.in_ok-put_list.ensures c.push-2.ensures.ok
 
 pub put_attached-returns : goal.put_attached-returns
 put_attached-returns t c =

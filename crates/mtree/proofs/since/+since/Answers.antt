@@ -1,18 +1,18 @@
 -- SPDX-License-Identifier: Apache-2.0
 use Rattle.std.proofs.Common.{◌≡◌, ◌∙◌, ap, arith, sym, map, List, ℕ, Vec, Global}
 use Rattle.mgrammar.specs.Grammar as grammar
-use Rattle.mgrammar.specs.Grammar.{exprs_of, PrimaryTree, ReferenceTree, TailTree, ExprTree, OperandTree}
+use Rattle.mgrammar.specs.Grammar.{exprs_of, ActualTree, PrimaryTree, ReferenceTree, TailTree, ExprTree, OperandTree}
 use Rattle.mgrammar.specs.Languages.{since_primary, since_exprs}
-use Rattle.mtree.specs.Tree.{ChoiceTree, expr_tree, primary_tree, primary_layer, reference_layer, tail_layer, choice_layer, expr_layer, operand_layer, referring_layer}
+use Rattle.mtree.specs.Tree.{CalledTree, ChoiceTree, expr_tree, primary_tree, actual_layer, primary_layer, reference_layer, tail_layer, called_layer, choice_layer, expr_layer, operand_layer, referring_layer}
 use Rattle.mtree.specs.declared.tree.Expr.{Expr}
 use Rattle.mtree.specs.declared.tree.Primary.{Primary}
 use Rattle.mtree.specs.declared.tree.Primary.TheVariants as primary
-use Rattle.mtree.specs.declared.tree.Primary.TheFolds.{fold-roll-Primary}
+use Rattle.mtree.specs.declared.tree.Actual.TheFolds.{fold-roll-Primary}
 use Rattle.mtree.proofs.InLanguages.{call_since}
 use Rattle.mtree.proofs.since.+since.Goals as goal
 
 call_is : (word : List ℕ) (values : Vec Expr Global) → primary_tree (primary.Call word values) ≡ grammar.call word (exprs_of (map expr_tree values.items))
-call_is word values = ap primary_tree (sym (primary.rolls-Call word values)) ∙ fold-roll-Primary PrimaryTree ReferenceTree TailTree ChoiceTree ExprTree OperandTree PrimaryTree primary_layer reference_layer tail_layer choice_layer expr_layer operand_layer referring_layer _
+call_is word values = ap primary_tree (sym (primary.rolls-Call word values)) ∙ fold-roll-Primary ActualTree PrimaryTree ReferenceTree TailTree CalledTree ChoiceTree ExprTree OperandTree PrimaryTree actual_layer primary_layer reference_layer tail_layer called_layer choice_layer expr_layer operand_layer referring_layer _
 
 pub since_primary-returns-in-Call : goal.since_primary-returns-in-Call
 since_primary-returns-in-Call m c =

@@ -4,5 +4,10 @@ pub mod Calls
 pub mod Characters
 pub mod Targets
 pub mod Labels
+pub mod Spoken
+pub mod HandedActuals
+pub mod PairedNames
+pub mod LevelFormals
+pub mod Handed
 pub mod Locking
 pub mod CommandLaws

@@ -16,9 +16,9 @@ begin_apart xs ys = false
 abbrev pub target_view : Target → levels.Target
 target_view t = record { copy = t.copy.value.items; line = t.line }
 
--- the line that is meant, among these
-abbrev pub target_among : List Text → ℕ → EntryTree → Act levels.Target
-target_among lines dots e = do
-  n ← give_some M13 (position (is_entry e) lines)
-  unless Zlevel (has_dots dots (slice_get lines n))
+-- the line that is meant in a language, among these
+abbrev pub target_among : (language : ℕ) → List Text → ℕ → EntryTree → Act levels.Target
+target_among l lines dots e = do
+  n ← give_some M13 (position (is_entry l e) lines)
+  unless Zlevel (has_dots l dots (slice_get lines n))
   give (record { copy = lines; line = n })

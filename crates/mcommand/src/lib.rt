@@ -1,9 +1,12 @@
 // SPDX-License-Identifier: Apache-2.0
-//! What the arguments of commands that run no text do: SET, KILL, IF, LOCK, WRITE and HANG, postconditionals, and the parameters of FOR.
+//! What the arguments of commands that run no text do: SET, KILL, IF, LOCK, WRITE and HANG, postconditionals, the parameters of FOR,
+//! and what the actuals of DO hand over.
 #![tactic(auto)]
 
+mod actuals;
 mod condition;
 mod for_parameter;
+mod formals;
 mod hang;
 mod kill;
 mod lock;
@@ -13,6 +16,7 @@ mod target;
 mod write;
 
 pub use for_parameter::Course;
+pub use formals::formals_for;
 pub use parts::Parts;
 pub use target::Target;
 pub use write::LINE_END;

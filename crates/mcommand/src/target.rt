@@ -6,6 +6,7 @@ ghost use Rattle.mmeaning.specs.Yields.{Yields};
 ghost use Rattle.moperator.specs.Codes.{fault_of};
 ghost use Rattle.mgrammar.specs.RoutineLine.{label_of};
 ghost use Rattle.mtree.specs.Tree.{entry_tree};
+ghost use Rattle.meval.specs.Evaluates.{standing_of};
 ghost use Rattle.mcommand.specs.Does.{Does};
 ghost use Rattle.mcommand.specs.Targets.{begin_apart, target_view, target_among};
 
@@ -37,47 +38,47 @@ fn begin_apart(one: &[u8], other: &[u8]) -> bool
 }
 
 // Whether a line has this label. Most lines begin with another character, so their label need not be read.
-fn has_label(label: &[u8], line: &[u8]) -> bool
-    ensures { result ≡ levels.is_label label.now (label_of line.now) }
+fn has_label(language: u32, label: &[u8], line: &[u8]) -> bool
+    ensures { result ≡ levels.is_label label.now (label_of language line.now) }
 {
     if begin_apart(label, line) {
         return false;
     }
-    match label_of(line) {
+    match label_of(language, line) {
         None => false,
         Some(name) => name == label,
     }
 }
 
-// Whether a line matches an entry. The first such line is the one that is meant.
-fn is_entry(entry: &Entry, line: &[u8]) -> bool
-    ensures { result ≡ levels.is_entry (entry_tree entry.now) line.now }
+// Whether a line matches an entry in a language. The first such line is the one that is meant.
+fn is_entry(language: u32, entry: &Entry, line: &[u8]) -> bool
+    ensures { result ≡ levels.is_entry language (entry_tree entry.now) line.now }
 {
     match entry {
-        Entry::Label(label) => has_label(label.as_bytes(), line),
-        Entry::LabelIn(label, _) => has_label(label.as_bytes(), line),
+        Entry::Label(label) => has_label(language, label.as_bytes(), line),
+        Entry::LabelIn(label, _) => has_label(language, label.as_bytes(), line),
         Entry::Routine(_) => true,
     }
 }
 
 // The place of the line that is meant.
-fn place_of(entry: &Entry, lines: &[Bytes7]) -> Option<usize>
-    ensures { result ≡ position (levels.is_entry (entry_tree entry.now)) lines.now }
+fn place_of(language: u32, entry: &Entry, lines: &[Bytes7]) -> Option<usize>
+    ensures { result ≡ position (levels.is_entry language (entry_tree entry.now)) lines.now }
 {
     lines
         .iter()
-        .position(|line| is_entry(entry, line.as_bytes()))
+        .position(|line| is_entry(language, entry, line.as_bytes()))
 }
 
 // The line that is meant, among these lines.
-fn among(entry: &Entry, dots: usize, copy: Rc<Vec<Bytes7>>) -> Result<Target, Code>
-    ensures stands { IfOk result (λ target. levels.has_dots dots (slice_get target.copy.value.items target.line) ≡ true) }
-    ensures does { Yields fault_of (target_among copy.value.items dots (entry_tree entry.now)) target_view result }
+fn among(language: u32, entry: &Entry, dots: usize, copy: Rc<Vec<Bytes7>>) -> Result<Target, Code>
+    ensures stands { IfOk result (λ target. levels.has_dots language dots (slice_get target.copy.value.items target.line) ≡ true) }
+    ensures does { Yields fault_of (target_among language copy.value.items dots (entry_tree entry.now)) target_view result }
 {
-    let Some(line) = place_of(entry, &copy) else {
+    let Some(line) = place_of(language, entry, &copy) else {
         return Err(Code::M13);
     };
-    if dots_of(copy[line].as_bytes()) != dots {
+    if dots_of(language, copy[line].as_bytes()) != dots {
         return Err(Code::Zlevel);
     }
     Ok(Target { copy, line })
@@ -100,7 +101,7 @@ impl<'a, S: NodeStore> Parts<'a, S> {
         }
     }
 
-    /// The line that DO or GOTO leads to, if the level has these lines and the line is to have this many dots.
+    /// The line that DO or GOTO leads to in the account's language, if the level has these lines and the line is to have this many dots.
     ///
     /// # Errors
     ///
@@ -113,10 +114,10 @@ impl<'a, S: NodeStore> Parts<'a, S> {
         dots: usize,
         entry: &Entry,
     ) -> Result<Target, Code>
-        ensures stands { IfOk result (λ target. levels.has_dots dots (slice_get target.copy.value.items target.line) ≡ true) }
+        ensures stands { IfOk result (λ target. levels.has_dots (standing_of self.old.eval).given.language dots (slice_get target.copy.value.items target.line) ≡ true) }
         ensures does { Does S.NodeStore (λ i. levels.target copy.now.value.items dots (entry_tree entry.now)) target_view self.old result self.new }
     {
         let copy = self.lines_of_entry(alloc, copy, entry)?;
-        among(entry, dots, copy)
+        among(self.eval.language(), entry, dots, copy)
     }
 }

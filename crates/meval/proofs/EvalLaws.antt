@@ -10,8 +10,8 @@ pub use Rattle.meval.proofs.LocalVariables.{function_failed, got, let_through, n
 pub use Rattle.meval.proofs.Locks.{global_name, local_name}
 pub use Rattle.meval.proofs.PowerRuns.{not_applied, not_charged, often_enough, once_more}
 pub use Rattle.meval.proofs.References.{gives_own, no_walk, node_of, not_empty, own_failed, own_told, owned, walks}
-pub use Rattle.meval.proofs.TreeViews.{apply_is, bracket_is, call_is, expr_is, extended_is, global_is, indirect_is, local_is, matches_indirect_is, matches_is, matches_not_indirect_is, matches_not_is, naked_is, node_is, number_is, operand_is, raise_is, refer_is, reference_is, referring_is, select_is, special_is, text_is, variable_is}
-pub use Rattle.meval.proofs.Trees.{charge_failed, from_end, from_tail, is_chosen, next_choice, next_value, none_chosen, not_chosen, value_failed, values_end}
+pub use Rattle.meval.proofs.TreeViews.{apply_is, bracket_is, call_is, expr_is, extended_is, extrinsic_is, global_is, indirect_is, local_is, matches_indirect_is, matches_is, matches_not_indirect_is, matches_not_is, naked_is, node_is, number_is, operand_is, raise_is, refer_is, reference_is, referring_is, select_is, special_is, text_is, variable_is}
+pub use Rattle.meval.proofs.Trees.{charge_failed, from_end, from_tail, is_chosen, next_choice, next_value, none_chosen, not_chosen, uncalled, value_failed, values_end}
 pub use Rattle.mkey.specs.Way.{way}
 pub use Rattle.moperator.proofs.Numbers.{computed_outcome}
 pub use Rattle.std.proofs.Common.{List}

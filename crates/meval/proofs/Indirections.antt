@@ -1,6 +1,6 @@
 -- SPDX-License-Identifier: Apache-2.0
 -- Calls of an indirection: subscripts after those that a reference has already, and what a text names, evaluated an indirection deeper.
-use Rattle.meval.proofs.EvalWords.{Doubts-same, Doubts-then, undoubted, ◌≡◌, suc, ◌<◌, Bool, [], ◌∷◌, ◌++◌, Some, None, Result, Ok, Err, subst, refl, sym, ap, ◌∙◌, ◌↔◌, IsTrue, IsSome, false≢true, false_from_ne_true, IsErr, IsErrAnd, append_assoc, append-nil, Act, ◌>>=◌, ◌>>◌, give, give_some, PrimaryTree, ReferenceTree, indirect, ExprsTree, no_exprs, exprs, Evaluated, subscripts_of, with_subscripts, Inside, inside, is_indirection_free, an_indirection_free, indirected, named_by, value, values, primary_value, evaluated, through, finds, Did, Yields, assoc, did_then, did_spent, Ghosts, fault_of, Code, Depth, Eval, Evaluates, standing_of, eval_here, depth_of, true, false, List, Option, Text, yielded_so, read_so}
+use Rattle.meval.proofs.EvalWords.{Doubts-same, Doubts-then, undoubted, ◌≡◌, suc, ◌<◌, Bool, [], ◌∷◌, ◌++◌, Some, None, Result, Ok, Err, subst, refl, sym, ap, ◌∙◌, ◌↔◌, IsTrue, IsSome, false≢true, false_from_ne_true, IsErr, IsErrAnd, append_assoc, append-nil, Act, ◌>>=◌, ◌>>◌, give, give_some, PrimaryTree, ReferenceTree, indirect, ExprsTree, no_exprs, exprs, Evaluated, subscripts_of, with_subscripts, Inside, inside, is_indirection_free, an_indirection_free, indirected, named_by, no_calls, value, values, primary_value, evaluated, through, finds, Did, Yields, assoc, did_then, did_spent, Ghosts, fault_of, Code, Depth, Eval, Evaluates, standing_of, eval_here, depth_of, true, false, List, Option, Text, yielded_so, read_so}
 use Rattle.mspec.specs.Code as spec
 use Rattle.mgrammar.specs.Languages.{ref_in}
 use Rattle.mmeaning.specs.Expression as meaning
@@ -62,19 +62,19 @@ module _ {S Y : Type 0} {g : Ghosts S} {j : Y → Evaluated} where
 
   -- one too deep
   pub evaluates_deep : {mid : Eval S} (subscripts : ExprsTree) (x : Text) → is_indirection_free (depth_of mid.depth) ≡ false → Evaluates g (λ i. named_by i subscripts x) j mid (Err code.Zdepth) mid
-  evaluates_deep subscripts x full = deep_fails (λ i. read_so spec.Zsyntax (λ l. ref_in l x) >>= (λ r. i.find (indirected i.depth) r subscripts)) full
+  evaluates_deep subscripts x full = deep_fails (λ i. read_so spec.Zsyntax (λ l. ref_in l x) >>= (λ r. i.find i.calls (indirected i.depth) r subscripts)) full
 
   -- one whose text names no variable, or for whose tree memory runs out
   pub evaluates_unnamed : {R : Type 0} {mid : Eval S} {e : Code} {r : Result Y Code} {f : R → ReferenceTree} (subscripts : ExprsTree) (x : Text) → is_indirection_free (depth_of mid.depth) ≡ true
       → Yields fault_of (give_some spec.Zsyntax (ref_in (standing_of mid).given.language x)) f (Err e) → IsErr r × IsErrAnd r (λ c. c ≡ e) → Evaluates g (λ i. named_by i subscripts x) j mid r mid
   evaluates_unnamed subscripts x free none is =
-      free_then (λ i. read_so spec.Zsyntax (λ l. ref_in l x) >>= (λ r. i.find (indirected i.depth) r subscripts)) free
-      (evaluates_stopped (λ i r. i.find (indirected i.depth) r subscripts) (evaluates_read spec.Zsyntax (λ l. ref_in l x) none) is)
+      free_then (λ i. read_so spec.Zsyntax (λ l. ref_in l x) >>= (λ r. i.find i.calls (indirected i.depth) r subscripts)) free
+      (evaluates_stopped (λ i r. i.find i.calls (indirected i.depth) r subscripts) (evaluates_read spec.Zsyntax (λ l. ref_in l x) none) is)
 
   -- a name indirection: its operand spent a step, so what its text names is evaluated with one text fewer, an indirection deeper
   pub evaluates_entry : {R : Type 0} {old mid within : Eval S} {res : Result Y Code} (p : PrimaryTree) (subscripts : ExprsTree) (x : Text) (tree : R → ReferenceTree) (r : R) (deeper : Depth)
       → Evaluates g (λ i. primary_value i p) (λ (v : Text). v) old (Ok x) mid → mid.steps < old.steps → is_indirection_free (depth_of mid.depth) ≡ true → depth_of deeper ≡ indirected (depth_of mid.depth)
-      → Yields {E = Code} fault_of (give_some spec.Zsyntax (ref_in (standing_of mid).given.language x)) tree (Ok r) → Evaluates g (λ i. through i (tree r) subscripts) j (record mid { depth = deeper }) res within
+      → Yields {E = Code} fault_of (give_some spec.Zsyntax (ref_in (standing_of mid).given.language x)) tree (Ok r) → Evaluates g (λ i. through i i.calls (tree r) subscripts) j (record mid { depth = deeper }) res within
       → Evaluates g (λ i. evaluated i (indirect p subscripts)) j old res (record within { depth = mid.depth })
   unfolding finds
   evaluates_entry {old = old} {mid = mid} {within = within} {res = res} p subscripts x tree r deeper d less free is named k =
@@ -84,11 +84,11 @@ module _ {S Y : Type 0} {g : Ghosts S} {j : Y → Evaluated} where
       record {
         at = λ sure out locks.
             let found =
-            subst (λ (e : meaning.Depth). Did (standing_of old) (IsSteady g within.store.now) fault_of (λ n. through (inside a n e) (tree r) subscripts) j (eval_here g mid out locks) res (eval_here g within out locks)) is
-            (moved (λ i. through i (tree r) subscripts) d.keeps.same refl (k.at sure out locks))
+            subst (λ (e : meaning.Depth). Did (standing_of old) (IsSteady g within.store.now) fault_of (λ n. through (inside a n e) no_calls (tree r) subscripts) j (eval_here g mid out locks) res (eval_here g within out locks)) is
+            (moved (λ i. through i i.calls (tree r) subscripts) d.keeps.same refl (k.at sure out locks))
             in
             did_spent (λ n x. named_by (inside a n (depth_of old.depth)) subscripts x) (d.at (undoubted k.doubt sure) out locks) less
-            (rw free (did_then {early = IsSteady g within.store.now} (λ n r. finds a (suc n) (indirected (depth_of old.depth)) r subscripts) (yielded_so spec.Zsyntax (λ l. ref_in l x) (eval_here g mid out locks) named) found));
+            (rw free (did_then {early = IsSteady g within.store.now} (λ n r. finds a (suc n) no_calls (indirected (depth_of old.depth)) r subscripts) (yielded_so spec.Zsyntax (λ l. ref_in l x) (eval_here g mid out locks) named) found));
         doubt = Doubts-then d.doubt k.doubt;
         keeps = keeps_on d.keeps (record { same = k.keeps.same; session = k.keeps.session; store = k.keeps.store; fewer = k.keeps.fewer });
         depth = d.depth;

@@ -1,9 +1,11 @@
 -- SPDX-License-Identifier: Apache-2.0
 -- The parts of a tree, from a place on.
-use Rattle.meval.proofs.EvalWords.{Doubts-same, ◌≡◌, ℕ, ◌+◌, ◌<◌, ◌≤◌, [], ◌∷◌, ◌++◌, Bool, length, drop, get_or, map, Result, Ok, Err, subst, refl, sym, arith, cond, significant_digits, numeric_value, Act, ◌>>=◌, charge, give, PrimaryTree, ExprTree, tail, tails_of, exprs_of, choices_of, number, text, special, reference, bracket, call, select, refer, special_of, as_text, as_truth, Inside, value, tails_value, primary_value, evaluated, values, chosen, reading, resolve, read_at, referring, special_value, expr_tree, tail_tree, choice_tree, Expr, Tail, Choice, Ghosts, Code, M4, Eval, Evaluates, List, true, false, Text, function_of, call_value}
+use Rattle.meval.proofs.EvalWords.{Doubts-same, ◌≡◌, ℕ, ◌+◌, ◌<◌, ◌≤◌, [], ◌∷◌, ◌++◌, Bool, length, drop, get_or, map, Result, Ok, Err, subst, refl, sym, arith, cond, significant_digits, numeric_value, Act, ◌>>=◌, charge, give, fail, PrimaryTree, ExprTree, EntryTree, ActualsTree, tail, tails_of, exprs_of, choices_of, number, text, special, reference, bracket, call, select, refer, extrinsic, special_of, as_text, as_truth, Inside, value, tails_value, primary_value, evaluated, values, chosen, reading, resolve, read_at, referring, special_value, expr_tree, tail_tree, choice_tree, Expr, Tail, Choice, Ghosts, Code, M4, Eval, Evaluates, List, true, false, Text, function_of, call_value}
 use Rattle.std.proofs.Math.ListN.{drop_of_length-le}
 use Rattle.mspec.proofs.ListPlaces.{next_item}
-use Rattle.meval.proofs.Calls.{evaluates_then, evaluates_failed, evaluates_gives, keeps_itself}
+use Rattle.mspec.specs.Code as spec
+use Rattle.moperator.specs.declared.code.Code.TheVariants as code
+use Rattle.meval.proofs.Calls.{evaluates_then, evaluates_failed, evaluates_gives, evaluates_fails, keeps_itself}
 use Rattle.meval.proofs.TreeViews.{choice_is}
 
 -- what an evaluation gives is its text
@@ -15,12 +17,19 @@ module _ {S : Type 0} {g : Ghosts S} where
   pub charge_failed : {old new : Eval S} (p : PrimaryTree) (e : Code) → Evaluates g (λ i. charge) (λ (u : Unit {0}). u) old (Err e) new → Evaluates g (λ i. primary_value i p) itself old (Err e) new
   charge_failed (number literal) e d = evaluates_failed (λ i _. as_text (numeric_value significant_digits literal)) d
   charge_failed (text t) e d = evaluates_failed (λ i _. give t) d
-  charge_failed (special word) e d = evaluates_failed (λ i _. special_value (special_of word)) d
+  charge_failed (special word) e d = evaluates_failed (λ i _. special_value i.depth.wants_value (special_of word)) d
   charge_failed (reference r) e d = evaluates_failed (λ i _. evaluated i r >>= (λ v. resolve reading v >>= read_at)) d
   charge_failed (bracket e') e d = evaluates_failed (λ i _. value i e') d
   charge_failed (call word args) e d = evaluates_failed (λ i _. values i [] args >>= call_value word) d
   charge_failed (select word choices) e d = evaluates_failed (λ i _. chosen i choices) d
   charge_failed (refer word r more) e d = evaluates_failed (λ i _. referring (function_of word) (evaluated i r) (values i [] more)) d
+  charge_failed (extrinsic e' xs) e d = evaluates_failed (λ i _. i.calls i.depth e' xs) d
+
+  -- no function is called
+  pub uncalled : {e : Eval S} (entry : EntryTree) (xs : ActualsTree) → Evaluates g (λ i. i.calls i.depth entry xs) itself e (Err code.Zsyntax) e
+  uncalled {e = e} entry xs =
+      let fails : Evaluates g (λ i. fail spec.Zsyntax) itself e (Err code.Zsyntax) e = evaluates_fails itself spec.Zsyntax code.Zsyntax refl in
+      record { at = fails.at; doubt = fails.doubt; keeps = fails.keeps; depth = fails.depth }
 
   -- ---- steps of an expression
 

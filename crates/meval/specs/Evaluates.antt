@@ -18,7 +18,7 @@ use Rattle.meval.specs.declared.depth.Depth.{Depth}
 use Rattle.meval.specs.declared.eval.Eval.{Eval}
 
 abbrev pub depth_of : Depth → meaning.Depth
-depth_of d = record { levels = d.levels; indirections = d.indirections }
+depth_of d = record { levels = d.levels; indirections = d.indirections; wants_value = d.wants_value }
 
 abbrev pub standing_of : {S : Type 0} → Eval S → Standing
 standing_of e = record {

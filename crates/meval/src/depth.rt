@@ -6,11 +6,13 @@ ghost use Rattle.meval.specs.Evaluates.{depth_of};
 
 use mspec::limits::{MAX_INDIRECTIONS, MAX_LEVELS};
 
-/// How deep a text stands: the levels that are open, of which some are indirections under evaluation.
+/// How deep a text stands: the levels that are open, of which some are indirections under evaluation; and in what kind of level.
 #[derive(Clone, Copy, PartialEq, Eq)]
 pub struct Depth {
     pub levels: u32,
     pub indirections: u32,
+    /// Whether a value is wanted of its level, as one is of a function's.
+    pub wants_value: bool,
 }
 
 impl Depth {
@@ -26,6 +28,7 @@ impl Depth {
         Some(Depth {
             levels: self.levels + 1,
             indirections: self.indirections + 1,
+            wants_value: self.wants_value,
         })
     }
 }

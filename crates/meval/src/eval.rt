@@ -76,7 +76,8 @@ impl<'a, S: NodeStore> Eval<'a, S> {
 
     /// The language that the texts of its line are read in. Takes no memory.
     pub fn language(&self) -> u32
-        ensures { result ≡ (standing_of self.now).given.language }
+        ensures language { result ≡ (standing_of self.now).given.language }
+        ensures known { result ≤ 1 }
     {
         self.settings.language_of(self.account)
     }
@@ -101,6 +102,7 @@ impl<'a, S: NodeStore> Eval<'a, S> {
             Primary::Call(word, arguments) => self.called(alloc, word, arguments),
             Primary::Select(_, choices) => self.chosen(alloc, choices),
             Primary::Refer(referring) => self.referring(alloc, referring),
+            Primary::Extrinsic(_) => Err(Code::Zsyntax),
         }
     }
 
@@ -254,7 +256,7 @@ impl<'a, S: NodeStore> Eval<'a, S> {
         reference: Reference,
         subscripts: &[Expr],
     ) -> Result<Pending<'u>, Code>
-        ensures { Evaluates S.NodeStore (λ i. meaning.through i (reference_tree reference) (exprs_of (map expr_tree subscripts.now))) pending_view self.old result self.new }
+        ensures { Evaluates S.NodeStore (λ i. meaning.through i i.calls (reference_tree reference) (exprs_of (map expr_tree subscripts.now))) pending_view self.old result self.new }
     {
         match reference.into_name() {
             Ok(name) => self.fast_through(alloc, name, subscripts),
@@ -270,7 +272,7 @@ impl<'a, S: NodeStore> Eval<'a, S> {
         reference: &Reference,
         subscripts: &[Expr],
     ) -> Result<Pending<'u>, Code>
-        ensures { Evaluates S.NodeStore (λ i. meaning.through i (reference_tree reference.now) (exprs_of (map expr_tree subscripts.now))) pending_view self.old result self.new }
+        ensures { Evaluates S.NodeStore (λ i. meaning.through i i.calls (reference_tree reference.now) (exprs_of (map expr_tree subscripts.now))) pending_view self.old result self.new }
     {
         let front = self.evaluated(alloc, reference)?;
         let values = self.values(alloc, subscripts)?;

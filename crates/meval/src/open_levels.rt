@@ -1,7 +1,8 @@
 // SPDX-License-Identifier: Apache-2.0
 // Levels of execution, and the lines of routines that run in them.
 ghost use Rattle.std.specs.Prelude.{◌≡◌, ◌<◌, Ok, IfOk, IfErr};
-ghost use Rattle.mspec.specs.Act.{with_locals, level_begun, ask};
+ghost use Rattle.mlocal.specs.Bindings.{bindings_of};
+ghost use Rattle.mspec.specs.Act.{with_locals, level_begun, level_bound, ask};
 ghost use Rattle.mspec.specs.Limits.{max_levels};
 ghost use Rattle.mspec.specs.Plan.{Routine};
 ghost use Rattle.mspec.specs.Scopes.{without_level};
@@ -13,6 +14,7 @@ use crate::eval::Eval;
 use crate::globals::code_of;
 use mglobal::shared_routine;
 use mkey::is_account_name;
+use mlocal::Binding;
 use mnodes::NodeStore;
 use mnum::{Bytes7, Name};
 use moperator::Code;
@@ -48,6 +50,20 @@ impl<'a, S: NodeStore> Eval<'a, S> {
         ensures { Evaluates S.NodeStore (λ i. with_locals level_begun) (λ u. u) self.old result self.new }
     {
         self.session.locals.enter()?;
+        Ok(())
+    }
+
+    /// Opens a level with formal parameters, whose names are all different: each is a variable of its own, or another name of one of the
+    /// caller's.
+    ///
+    /// # Errors
+    ///
+    /// `Zmem` if memory runs out; all variables are then as they were.
+    #[tactic(auto, unfolding(mspec::specs::Act::level_bound))]
+    pub fn open_bound_level(&mut self, bindings: Vec<(Name, Binding)>) -> Result<(), Code>
+        ensures { Evaluates S.NodeStore (λ i. with_locals (level_bound (bindings_of bindings.items))) (λ u. u) self.old result self.new }
+    {
+        self.session.locals.enter_bound(bindings)?;
         Ok(())
     }
 

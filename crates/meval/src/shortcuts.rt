@@ -117,7 +117,7 @@ impl<'a, S: NodeStore> Eval<'a, S> {
         name: Name,
         subscripts: &[Expr],
     ) -> Result<Pending<'u>, Code>
-        ensures { Evaluates S.NodeStore (λ i. meaning.through i (local name no_exprs) (exprs_of (map expr_tree subscripts.now))) pending_view self.old result self.new }
+        ensures { Evaluates S.NodeStore (λ i. meaning.through i i.calls (local name no_exprs) (exprs_of (map expr_tree subscripts.now))) pending_view self.old result self.new }
     {
         let values = self.values(alloc, subscripts)?;
         Ok(Pending::Local(VariableName::Own(name), values))

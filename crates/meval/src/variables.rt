@@ -162,13 +162,14 @@ impl<'a, S: NodeStore> Eval<'a, S> {
 
     // The value of a special variable.
     pub(crate) fn special(&mut self, word: &Bytes7) -> Result<Value, Code>
-        ensures { Evaluates S.NodeStore (λ i. variables.special_value (special_of word.now)) (λ v. v) self.old result self.new }
+        ensures { Evaluates S.NodeStore (λ i. variables.special_value i.depth.wants_value (special_of word.now)) (λ v. v) self.old result self.new }
     {
         match special_of(word.as_bytes()) {
             Some(SpecialVariable::Test) => Ok(Value::of_truth(self.session.test)),
             Some(SpecialVariable::Io) => Ok(self.terminal_number()),
             Some(SpecialVariable::Job) => Ok(self.terminal_number()),
             Some(SpecialVariable::Principal) => Ok(self.terminal_number()),
+            Some(SpecialVariable::Quit) => Ok(Value::of_truth(self.depth.wants_value)),
             Some(SpecialVariable::Storage) => Ok(Value::of_whole(MAX_TEXT as i64)),
             Some(SpecialVariable::Column) => Ok(Value::of_whole(self.session.cursor.column as i64)),
             Some(SpecialVariable::Row) => Ok(Value::of_whole(self.session.cursor.row as i64)),

@@ -13,7 +13,7 @@ use Rattle.mgrant.specs.declared.document.AccountEntry.{AccountEntry}
 
 -- an entry of the list of accounts, as the code reads it
 abbrev pub account_view : AccountEntry → WrittenAccount
-account_view e = record { name = e.name.items; terminals = e.terminals.items; steps = e.steps; language = e.language }
+account_view e = record { name = e.name.items; terminals = e.terminals.items; steps = e.steps; language = e.language.number }
 
 abbrev pub names_in : List Account → List Text
 names_in accounts = map (λ a. a.name) accounts

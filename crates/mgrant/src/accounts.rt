@@ -1,6 +1,6 @@
 // SPDX-License-Identifier: Apache-2.0
 // Accounts, one record each, found by their places or by their names.
-ghost use Rattle.std.specs.Prelude.{◌≡◌, IfOk, IfSome, IfNone, MatchOption, false, length, option_map, slice_get};
+ghost use Rattle.std.specs.Prelude.{◌≡◌, ◌≤◌, IfOk, IfSome, IfNone, MatchOption, false, length, option_map, slice_get};
 ghost use Rattle.std.specs.List.{list_any};
 ghost use Rattle.mspec.specs.Trees.{text_eq};
 ghost use Rattle.mgrant.specs.Document.{has_steps};
@@ -10,6 +10,7 @@ ghost use Rattle.mgrant.specs.Words.{text_in, IsIndex, IsPlaceOf};
 
 use crate::checks::number_within;
 use crate::document::AccountEntry;
+use crate::language::Language;
 use crate::words::{Places, place_in};
 use mspec::limits::MAX_STEPS;
 use std::alloc::{AllocError, Global};
@@ -20,7 +21,7 @@ use std::marker::Model;
 pub(crate) struct Account {
     name: Vec<u8>,
     steps: u32,
-    language: u32,
+    language: Language,
 }
 
 impl Model for Account {
@@ -28,7 +29,7 @@ impl Model for Account {
 
     ghost Value = { access.Account };
 
-    ghost view = { λ account. record { name = account.name.items; steps = account.steps; language = account.language } };
+    ghost view = { λ account. record { name = account.name.items; steps = account.steps; language = account.language.number } };
 }
 
 impl Account {
@@ -60,9 +61,10 @@ impl Account {
     }
 
     pub fn language(&self) -> u32
-        ensures { result ≡ self.now.language }
+        ensures language { result ≡ self.now.language }
+        ensures known { result ≤ 1 }
     {
-        self.language
+        self.language.number
     }
 }
 

@@ -9,6 +9,7 @@ ghost use Rattle.mgrant.specs.Document.{WrittenAccount, WrittenGrant, has_only, 
 ghost use Rattle.mgrant.specs.Reading.{grant_view, entries_view, keys_view};
 ghost use Rattle.mgrant.specs.View.{account_view};
 
+use crate::language::Language;
 use mspec::limits::MAX_ENTRIES;
 use std::alloc::{AllocError, Global};
 use toml::{Table, Value};
@@ -19,7 +20,7 @@ pub(crate) struct AccountEntry {
     pub name: Vec<u8>,
     pub terminals: Vec<i64>,
     pub steps: i64,
-    pub language: u32,
+    pub language: Language,
 }
 
 // An entry of the list of grants, as it is written.
@@ -89,15 +90,15 @@ fn integer_at(table: &Table, key: &str) -> Option<i64>
 }
 
 // The language at its key, 0 if it is absent.
-fn language_at(table: &Table) -> Option<u32>
-    ensures { result ≡ language_at (table_view table.now) }
+fn language_at(table: &Table) -> Option<Language>
+    ensures { option_map (λ language. language.number) result ≡ language_at (table_view table.now) }
 {
     let Some(value) = value_at(table, "language") else {
-        return Some(0);
+        return Some(Language { number: 0 });
     };
     match value.as_integer() {
-        Some(0) => Some(0),
-        Some(1) => Some(1),
+        Some(0) => Some(Language { number: 0 }),
+        Some(1) => Some(Language { number: 1 }),
         _ => None,
     }
 }

@@ -13,6 +13,7 @@ mod document;
 mod fault;
 mod flow;
 mod grants;
+mod language;
 mod mode;
 mod names;
 mod settings;

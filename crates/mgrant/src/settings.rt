@@ -1,6 +1,6 @@
 // SPDX-License-Identifier: Apache-2.0
 // Settings: who has which terminals, and who may do what.
-ghost use Rattle.std.specs.Prelude.{◌≡◌, ◌<◌, ◌↔◌, ◌⊎◌, Some, None, IfOk, IfErr, IfSome, IsTrue, All, false, length, slice_index_or, option_and_then};
+ghost use Rattle.std.specs.Prelude.{◌≡◌, ◌<◌, ◌≤◌, ◌↔◌, ◌⊎◌, Some, None, IfOk, IfErr, IfSome, IsTrue, All, false, length, slice_index_or, option_and_then};
 ghost use Rattle.std.specs.List.{filter, range_with_len};
 ghost use Rattle.toml.specs.View.{table_view};
 ghost use Rattle.mspec.specs.KeyBytes.{IsAccountName};
@@ -176,7 +176,8 @@ impl Settings {
 
     /// The language of an account's lines, 0 or 1; 0 for an id that names none here. Takes no memory.
     pub fn language_of(&self, id: AccountId) -> u32
-        ensures { result ≡ access.language_at self.now id }
+        ensures language { result ≡ access.language_at self.now id }
+        ensures known { result ≤ 1 }
     {
         match self.accounts.at(id.place()) {
             Some(account) => account.language(),

@@ -17,12 +17,22 @@ pub enum Code {
     M9,
     /// In a pattern the least count is above the greatest.
     M10,
+    /// A line with a formal list that is not called.
+    M11,
     /// There is no such line.
     M13,
     /// The index of a FOR is undefined.
     M15,
+    /// QUIT with a value where none is wanted.
+    M16,
+    /// A function that ends without a value.
+    M17,
+    /// Actuals for a line that has no formal list.
+    M20,
     /// An exponent with a fraction.
     M28,
+    /// More actuals than the line has formal parameters.
+    M58,
     /// Zero to the power zero.
     M94,
     /// A text of more than 4,095 characters.
@@ -51,6 +61,8 @@ pub enum Code {
     Zline,
     /// A terminal that no account has.
     Zterm,
+    /// HALT, which ends a line as a code does, from whatever level; no reply shows it.
+    Halting,
     /// Out of memory.
     Zmem,
     /// A fault of the database.

@@ -1,5 +1,5 @@
 -- SPDX-License-Identifier: Apache-2.0
-use Rattle.meval.proofs.EvalLaws.{◌≡◌, ◌∙◌, ◌++◌, length, [], ◌∷◌, map, refl, sym, ap, arith, nat_tests, nil_from_length, apply, exprs_of, named_by, values, at_local, of_global, subscripts_of, with_subscripts, resolve, reading, direction_of, residual_is, slice_get, ◌>>=◌, give, expr_tree, operand_tree, reference_tree, tail_tree, units, read_act, data_act, data_at, get_act, get_from, order_from, order_behind, pending_view, walk_view, of_local, of_naked, read_or, unwrap_or, decides_subscripts, read_at, List, computed_outcome, evaluates_regrouped, evaluates_then, evaluates_whole, evaluates_failed, evaluates_gives, evaluates_seen, evaluates_refused, evaluates_stopped, evaluates_wanting, evaluates_yielded, never_refused, keeps_itself, keeps_on, node_evaluated, node_failed, variable_told, function_failed, got, let_through, ordered_next, ordered_stopped, walk_through, walk_refused, step_leads, operand_refused, operator_refused, leads_itself, leads_on, leads_into, of_primary, alone, in_brackets, bracket_refused, not_free, is_free, evaluates_behind, evaluates_deep, evaluates_unnamed, evaluates_entry, evaluated, gives_own, node_of, own_failed, own_told, owned, expr_is, operand_is, number_is, text_is, special_is, reference_is, variable_is, node_is, local_is, global_is, naked_is, indirect_is, extended_is, refer_is, referring_is, bracket_is, call_is, select_is, apply_is, matches_indirect_is, matches_is, matches_not_indirect_is, matches_not_is, raise_is, charge_failed, from_tail, from_end, next_value, value_failed, values_end, next_choice, is_chosen, not_chosen, none_chosen}
+use Rattle.meval.proofs.EvalLaws.{◌≡◌, ◌∙◌, ◌++◌, length, [], ◌∷◌, map, refl, sym, ap, arith, nat_tests, nil_from_length, apply, exprs_of, named_by, values, at_local, of_global, subscripts_of, with_subscripts, resolve, reading, direction_of, residual_is, slice_get, ◌>>=◌, give, expr_tree, operand_tree, reference_tree, tail_tree, units, read_act, data_act, data_at, get_act, get_from, order_from, order_behind, pending_view, walk_view, of_local, of_naked, read_or, unwrap_or, decides_subscripts, read_at, List, computed_outcome, evaluates_regrouped, evaluates_then, evaluates_whole, evaluates_failed, evaluates_gives, evaluates_seen, evaluates_refused, evaluates_stopped, evaluates_wanting, evaluates_yielded, never_refused, keeps_itself, keeps_on, node_evaluated, node_failed, variable_told, function_failed, got, let_through, ordered_next, ordered_stopped, walk_through, walk_refused, step_leads, operand_refused, operator_refused, leads_itself, leads_on, leads_into, of_primary, alone, in_brackets, bracket_refused, not_free, is_free, evaluates_behind, evaluates_deep, evaluates_unnamed, evaluates_entry, evaluated, gives_own, node_of, own_failed, own_told, owned, expr_is, operand_is, number_is, text_is, special_is, reference_is, variable_is, node_is, local_is, global_is, naked_is, indirect_is, extended_is, extrinsic_is, refer_is, referring_is, bracket_is, call_is, select_is, apply_is, matches_indirect_is, matches_is, matches_not_indirect_is, matches_not_is, raise_is, charge_failed, uncalled, from_tail, from_end, next_value, value_failed, values_end, next_choice, is_chosen, not_chosen, none_chosen}
 use Rattle.std.proofs.Common.{Ok}
 use Rattle.std.specs.Prelude.{not}
 use Rattle.mspec.specs.Interpretations.{truth_text}
@@ -81,6 +81,9 @@ pub primary-returns-in-Refer-clause-does : goal.primary-returns-in-Refer-clause-
 primary-returns-in-Refer-clause-does g t c =
     let k = rw c.deref-in-Refer.ensures at c.referring.ensures in
     rw (c.in-Refer.is, refer_is c.in-Refer.referring, referring_is c.in-Refer.referring.value) (evaluates_then _ c.in_ok-charge.ensures.does k)
+
+pub primary-returns-in-Extrinsic-clause-does : goal.primary-returns-in-Extrinsic-clause-does
+primary-returns-in-Extrinsic-clause-does g t c = rw (c.in-Extrinsic.is, extrinsic_is c.in-Extrinsic.field-0) (evaluates_then _ c.in_ok-charge.ensures.does (uncalled _ _))
 
 -- ---- variables and functions of values
 
@@ -261,14 +264,14 @@ named-returns-in_err-text g t c =
 pub named-returns-in_err-reference : goal.named-returns-in_err-reference
 named-returns-in_err-reference g t c =
     let free = is_free _ _ c.in-Some.is c.indirected.ensures.free in
-    let none = rw (c.in_ok-text.ensures, c.language.ensures) at c.in_err-reference.ensures in
+    let none = rw (c.in_ok-text.ensures, c.language.ensures.language) at c.in_err-reference.ensures in
     evaluates_then (λ i x. named_by i _ x) c.in_ok-value.ensures.does (evaluates_unnamed _ _ free none c.from_residual-in_err-reference.ensures)
 
 pub named-returns : goal.named-returns
 named-returns g t c =
     let free = is_free _ _ c.in-Some.is c.indirected.ensures.free in
     let deeper = rw c.in-Some.is at c.indirected.ensures.deeper in
-    let named = rw (c.in_ok-text.ensures, c.language.ensures) at c.in_ok-reference.ensures in
+    let named = rw (c.in_ok-text.ensures, c.language.ensures.language) at c.in_ok-reference.ensures in
     evaluates_entry _ _ _ reference_tree _ _ c.in_ok-value.ensures.does c.in_ok-value.ensures.spent free deeper named c.through_given-result.ensures
 
 pub through_given-returns-in-Ok : goal.through_given-returns-in-Ok

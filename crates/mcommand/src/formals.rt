@@ -1,0 +1,63 @@
+// SPDX-License-Identifier: Apache-2.0
+// The formal parameters of a level that DO opens.
+ghost use Rattle.std.specs.Prelude.{◌≡◌, length, map, option_map, IfOk};
+ghost use Rattle.mgrammar.specs.Grammar.{actuals_of};
+ghost use Rattle.mgrammar.specs.RoutineLine.{formals_of};
+ghost use Rattle.mmeaning.specs.Parameters as meaning;
+ghost use Rattle.mmeaning.specs.Yields.{Yields};
+ghost use Rattle.moperator.specs.Codes.{fault_of};
+ghost use Rattle.mtree.specs.Tree.{actual_tree};
+ghost use Rattle.mlocal.specs.Bindings.{binding_of, bindings_of};
+
+use mlocal::Binding;
+use mnum::Name;
+use moperator::Code;
+use mscan::formals_of;
+use mtree::Actual;
+use std::alloc::{AllocError, Global};
+
+// Names, each with what its actual hands over; those past the last actual have no value.
+fn paired(
+    alloc: Global,
+    names: Vec<Name>,
+    bindings: Vec<Binding>,
+) -> Result<Vec<(Name, Binding)>, AllocError>
+    ensures { IfOk result (λ formals. bindings_of formals.items ≡ meaning.paired names.items (map binding_of bindings.items)) }
+{
+    let mut formals = Vec::with_capacity(alloc, names.len())?;
+    let mut rest = bindings.into_iter();
+    for name in names {
+        let binding = rest.next().unwrap_or(Binding::Unset);
+        formals.push((name, binding))?;
+    }
+    Ok(formals)
+}
+
+/// The formal parameters of a line in a language, each with what its actual hands over; none if the line has no formal list.
+///
+/// # Errors
+///
+/// `M20` if there are actuals, but no formal list; `M58` if there are more actuals than formal parameters; `Zmem` if memory runs out.
+pub fn formals_for(
+    alloc: Global,
+    language: u32,
+    actuals: &[Actual],
+    line: &[u8],
+    bindings: Vec<Binding>,
+) -> Result<Option<Vec<(Name, Binding)>>, Code>
+    ensures { Yields fault_of (meaning.formals_for (actuals_of (map actual_tree actuals.now)) (formals_of language line.now) (map binding_of bindings.items)) (option_map (λ formals. bindings_of formals.items)) result }
+{
+    match formals_of(alloc, language, line)? {
+        None => if actuals.is_empty() {
+            Ok(None)
+        } else {
+            Err(Code::M20)
+        },
+        Some(names) => if bindings.len() > names.len() {
+            Err(Code::M58)
+        } else {
+            let formals = paired(alloc, names, bindings)?;
+            Ok(Some(formals))
+        },
+    }
+}

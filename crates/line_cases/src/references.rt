@@ -64,6 +64,7 @@ fn resolved(alloc: Global, there: &mut Resolving<'_>, case: &str) -> anyhow::Res
         depth: Depth {
             levels: 1,
             indirections: 0,
+            wants_value: false,
         },
     };
     match place_of(alloc, &mut eval, &reference) {

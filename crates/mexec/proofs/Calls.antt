@@ -1,12 +1,14 @@
 -- SPDX-License-Identifier: Apache-2.0
 -- How the calls of this crate are put together.
-use Rattle.mexec.proofs.ExecWords.{Doubts-same, Doubts-then, undoubted, ◌≡◌, ℕ, zero, suc, ◌≤◌, ◌<◌, ◌+◌, ◌++◌, List, [], ◌∷◌, Result, Ok, Err, length, drop, get_or, refl, sym, ◌∙◌, subst, arith, drop_more, IsErr, IsErrAnd, Text, Act, ◌>>=◌, ◌>>◌, give, set_test, ExprTree, ArgTree, CommandTree, as_truth, Inside, inside, value, Go_on, after, Standing, Here, Did, View, Rests, Lists, left, frame, Enough, MovedOn, residual_is, did_then, did_failed, did_gives, then_follows, then_failed, assoc, ended, Ghosts, fault_of, Code, Zmem, standing_of, depth_of, Parts, Does, DoesAt, KeepsLoans, here_of, Runs, view, stack, stacked, resting, completion_of, went, listing, at_done, keeps_at_depth, keeps_itself, keeps_on, Completion}
+use Rattle.mexec.proofs.ExecWords.{Doubts-same, Doubts-then, undoubted, ◌≡◌, ℕ, zero, suc, ◌≤◌, ◌<◌, ◌+◌, ◌++◌, List, [], ◌∷◌, Result, Ok, Err, length, drop, get_or, refl, sym, ◌∙◌, subst, arith, drop_more, IsErr, IsErrAnd, Text, Act, ◌>>=◌, ◌>>◌, give, set_test, ExprTree, ArgTree, CommandTree, as_truth, Inside, inside, inside_of, context, value, Go_on, after, Standing, Here, Did, View, Rests, Lists, left, frame, Enough, MovedOn, residual_is, did_then, did_failed, did_gives, then_follows, then_failed, assoc, ended, Ghosts, fault_of, Code, Zmem, standing_of, depth_of, Parts, Does, DoesAt, KeepsLoans, here_of, Runs, view, stack, stacked, resting, completion_of, position_of, went, listing, at_done, keeps_at_depth, keeps_itself, keeps_on, Completion}
 use Rattle.mmeaning.specs.LineMeaning as meaning
 use Rattle.mnodes.specs.Steady.{IsSteady}
 use Rattle.mmeaning.proofs.Moves.{on_then, on_failed, on_lost, on_completion, on_frame, on_top, enough}
 use Rattle.meval.specs.declared.depth.Depth.{Depth}
 use Rattle.mcommand.specs.Conditions.{tested}
 use Rattle.mexec.specs.declared.frames.Frame.{Frame}
+use Rattle.mexec.specs.declared.frames.Position as positions
+use Rattle.mexec.proofs.Here.{Here as InLine}
 use Rattle.mexec.specs.declared.completion.Completion.TheVariants as completion
 
 -- ---- acts
@@ -64,6 +66,11 @@ at_depth d k = record { at = λ sure. k.at sure; doubt = k.doubt; keeps = keeps_
 -- an act by another name
 pub at_as : {S A X : Type 0} {g : Ghosts S} {p q : Text → ℕ → Act A} {f : X → A} {old new : Parts S} {r : Result X Code} → ((a : Text) (n : ℕ) → ◌≡◌ {A = Act A} (p a n) (q a n)) → DoesAt g q f old r new → DoesAt g p f old r new
 at_as {g = g} {f = f} {old = old} {new = new} {r = r} same k = subst (λ p. DoesAt g p f old r new) (λ i a n. sym (same a n) i) k
+
+-- the same in a line's context, for an act that calls no function
+pub goes_here : {S : Type 0} {g : Ghosts S} (p : positions.Position) (act : Inside → Act (Unit {0})) → InLine (position_of p) act → {old new : Parts S} (r : Result (Unit {0}) Code)
+    → Does g act (λ (u : Unit {0}). u) (record old { eval = record old.eval { depth = p.depth } }) r new → DoesAt g (λ a n. act (inside_of (context a n (position_of p))) >> give Go_on) completion_of old (went r) new
+goes_here p act here r d = at_as (λ a n. λ i. here a n i >> give Go_on) (goes_on act p.depth r d)
 
 -- ---- acts before frames
 

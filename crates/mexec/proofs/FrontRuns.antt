@@ -10,6 +10,7 @@ use Rattle.mexec.specs.declared.arguments.Entrance as entrances
 use Rattle.mexec.specs.declared.front.Stop as the_stop
 use Rattle.mexec.specs.declared.completion.Progress as the_progress
 use Rattle.mexec.specs.declared.completion.Progress.TheVariants as progress
+use Rattle.mexec.specs.Arguments.{IsUncalled}
 use Rattle.mexec.proofs.ArgumentRuns.{argument_is}
 use Rattle.mexec.proofs.Loops.{course_runs, turn_begins, turn_done}
 use Rattle.mexec.proofs.Calls.{at_then, at_failed, at_stopped, at_gives, at_as, runs_then, runs_stopped, runs_as, some_item}
@@ -81,17 +82,9 @@ passes_next completion.GoOn more next h = absurd (h refl)
 passes_next s more next h = refl
 
 -- what follows a turn
-after_turn_is : (x : Context) (t : Turning) (s : meaning.Completion) → ◌≡◌ {A = Act meaning.Completion} (meaning.after_turn x t s) (turn_left x t (turn_ends s))
+pub after_turn_is : (x : Context) (t : Turning) (s : meaning.Completion) → ◌≡◌ {A = Act meaning.Completion} (meaning.after_turn x t s) (turn_ends s >>= turn_left x t)
 after_turn_is x t Go_on = refl
 after_turn_is x t s = refl
-
--- the FOR goes on
-pub turn_goes_on : (x : Context) (t : Turning) (s : meaning.Completion) → None ≡ turn_ends s → ◌≡◌ {A = Act meaning.Completion} (meaning.after_turn x t s) (meaning.after_course x t t.course)
-turn_goes_on x t s e = after_turn_is x t s ∙ ap (turn_left x t) (sym e)
-
--- or not
-pub turn_is_over : (x : Context) (t : Turning) (s ended : meaning.Completion) → Some ended ≡ turn_ends s → ◌≡◌ {A = Act meaning.Completion} (meaning.after_turn x t s) (give ended)
-turn_is_over x t s ended e = after_turn_is x t s ∙ ap (turn_left x t) (sym e)
 
 -- ---- stops
 
@@ -99,9 +92,10 @@ turn_is_over x t s ended e = after_turn_is x t s ∙ ap (turn_left x t) (sym e)
 pub args_there : (l : Line) (k : ℕ) (x : Spaced) → k < length l.commands.items → x ≡ get_or l.commands.items k x → args_before l (k + 1) ≡ x.command.args.items
 args_there l k x less is = let at : (k + 1) - 1 ≡ k = omega arith in rw (at, slice_get_read l.commands.items (length l.commands.items) k x refl less is) refl
 
-pub begun_stops : (args : List Arg) (r : Result (the_progress.Progress entrances.Entrance × ℕ) Code) → IfOk (stops_at r) (λ o. IfStops o (StopsIn args))
-begun_stops args (Ok (progress.Over s, at)) = tt
-begun_stops args r = tt
+pub begun_stops : (args : List Arg) (r : Result (the_progress.Progress entrances.Entrance × ℕ) Code) → IfOk r (λ begun. IfStops begun.0 IsUncalled) → IfOk (stops_at r) (λ o. IfStops o (StopsIn args))
+begun_stops args (Ok (progress.Over s, at)) quiet = tt
+begun_stops args (Ok (progress.Stops e, at)) quiet = quiet
+begun_stops args (Err c) quiet = tt
 
 begun_is : (args : List Arg) (b : the_progress.Progress entrances.Entrance) (at : ℕ) → outcome_of args (at_begun b at) ≡ args_outcome (start_of b) (map arg_tree (drop at args))
 begun_is args (progress.Over s) at = refl

@@ -1,9 +1,11 @@
 -- SPDX-License-Identifier: Apache-2.0
 -- Lines and texts that are entered, frame by frame.
-use Rattle.mexec.proofs.ExecWords.{Doubts-same, ◌≡◌, ℕ, zero, suc, ◌<◌, ◌≤◌, ◌+◌, Bool, true, false, cond, List, [], ◌∷◌, Option, Some, None, Result, Ok, Err, length, drop, get_or, slice_get, refl, sym, ap, ◌∙◌, subst, eqb-true, le-ltb, lt-ltb, arith, drop-drop, get_or-drop, IsErr, IsErrAnd, Text, Act, ◌>>=◌, ◌>>◌, give, give_some, charge, ArgTree, CommandTree, BodyTree, short, spaced_out, RoutineLineTree, dots_of, indirected, Level, Closing, leaves, deeper, within_indirection, has_dots, commands_of, commands_in, Context, Go_on, texts, context, commands, lines_reached, lines_from, lines_next, line_entered, after_level, closed, View, Rests, Lists, Levels, frame, assoc, Ghosts, fault_of, Code, Zmem, Evaluates, Parts, Does, DoesAt, here_of, Runs, reached, next_reached, entering, so_deep, at_next, text_position, on_body, next_item, Zsyntax, Depth, Yields, read_so, routine_line_in, standing_of}
+use Rattle.mexec.proofs.ExecWords.{Doubts-same, ◌≡◌, ℕ, zero, suc, ◌<◌, ◌≤◌, ◌+◌, Bool, true, false, cond, List, [], ◌∷◌, Option, Some, None, Result, Ok, Err, length, drop, get_or, is_some, slice_get, refl, sym, ap, ◌∙◌, subst, le-ltb, lt-ltb, arith, drop-drop, get_or-drop, IsErr, IsErrAnd, Text, Act, ◌>>=◌, ◌>>◌, give, give_some, charge, ArgTree, CommandTree, BodyTree, short, spaced_out, RoutineLineTree, dots_of, formals_of, indirected, Level, Closing, leaves, restores, deeper, within_indirection, has_dots, commands_of, commands_in, Context, Go_on, texts, context, commands, lines_reached, lines_from, lines_next, lines_called, line_entered, line_reached, after_level, closed, View, Rests, Lists, Levels, frame, assoc, Ghosts, fault_of, Code, Zmem, Evaluates, Parts, Does, DoesAt, here_of, Runs, reached, next_reached, line_then, entering, reaching, level_deeper, so_deep, at_next, text_position, on_body, next_item, Zsyntax, Depth, Yields, read_so, in_language, unless, is_none, routine_line_in, standing_of}
 use Rattle.std.specs.Prelude.{nat_lt, ◌==◌}
 use Rattle.mmeaning.specs.LineMeaning.{Position, Completion}
 use Rattle.mspec.specs.Code as spec
+use Rattle.moperator.specs.declared.code.Code.TheVariants.{M11}
+use Rattle.mcommand.proofs.Spoken.{at_in}
 use Rattle.mmeaning.proofs.Yieldings.{yielded, yielded_so}
 use Rattle.meval.specs.declared.eval.Eval.{Eval}
 use Rattle.mexec.specs.declared.completion.Completion as completions
@@ -23,76 +25,89 @@ there n xs x rest e = let same : n + 0 ≡ n = omega arith in ap (λ k. get_or x
 -- ---- the line that comes next
 
 -- what follows, once it is known which line is entered
-abbrev pub line_reached : Context → Option ℕ → Act Completion
-line_reached x None = give Go_on
-line_reached x (Some n) = charge >> line_entered x n (get_or x.position.level.copy n [])
+abbrev pub then_reached : Context → Option ℕ → Act Completion
+then_reached x None = give Go_on
+then_reached x (Some n) = charge >> line_reached x n (get_or x.position.level.copy n [])
 
 module _ (x : Context) where
-  reached_is : (n : ℕ) (lines : List Text) → drop n x.position.level.copy ≡ lines → ◌≡◌ {A = Act Completion} (lines_reached x n lines) (reached x.position.level.dots n lines >>= line_reached x)
+  reached_is : (n : ℕ) (lines : List Text) → drop n x.position.level.copy ≡ lines → ◌≡◌ {A = Act Completion} (lines_reached x n lines) (reached x.position.level.dots n lines >>= then_reached x)
   reached_is n [] e = refl
-  reached_is n (text ∷ rest) e = go (nat_lt x.position.level.dots (dots_of text)) (dots_of text == x.position.level.dots) (reached_is (n + 1) rest (behind n x.position.level.copy text rest e))
+  reached_is n (text ∷ rest) e =
+      λ i s. go (nat_lt x.position.level.dots (dots_of s.given.language text)) (dots_of s.given.language text == x.position.level.dots) (reached_is (n + 1) rest (behind n x.position.level.copy text rest e)) i s
     where
-      go : (more same : Bool) → ◌≡◌ {A = Act Completion} (lines_reached x (n + 1) rest) (reached x.position.level.dots (n + 1) rest >>= line_reached x)
-          → ◌≡◌ {A = Act Completion} (cond more (charge >> lines_reached x (n + 1) rest) (cond same (charge >> line_entered x n text) (give Go_on)))
-          (cond more (charge >> reached x.position.level.dots (n + 1) rest) (give (cond same (Some n) None)) >>= line_reached x)
+      go : (more same : Bool) → ◌≡◌ {A = Act Completion} (lines_reached x (n + 1) rest) (reached x.position.level.dots (n + 1) rest >>= then_reached x)
+          → ◌≡◌ {A = Act Completion} (cond more (charge >> lines_reached x (n + 1) rest) (cond same (charge >> line_reached x n text) (give Go_on)))
+          (cond more (charge >> reached x.position.level.dots (n + 1) rest) (give (cond same (Some n) None)) >>= then_reached x)
       go true same then_is =
           ap (λ (q : Act Completion). charge >> q) then_is
-          ∙ sym (assoc charge (λ _. reached x.position.level.dots (n + 1) rest) (line_reached x))
-      go false true then_is = ap (λ (t : Text). charge >> line_entered x n t) (sym (there n x.position.level.copy text rest e))
+          ∙ sym (assoc charge (λ _. reached x.position.level.dots (n + 1) rest) (then_reached x))
+      go false true then_is = ap (λ (t : Text). charge >> line_reached x n t) (sym (there n x.position.level.copy text rest e))
       go false false then_is = refl
 
-  next_is : (next : Option ℕ) → ◌≡◌ {A = Act Completion} (lines_from x next) (next_reached x.position.level.dots x.position.level.copy next >>= line_reached x)
+  next_is : (next : Option ℕ) → ◌≡◌ {A = Act Completion} (lines_from x next) (next_reached x.position.level.dots x.position.level.copy next >>= then_reached x)
   next_is None = refl
   next_is (Some n) = reached_is n (drop n x.position.level.copy) refl
 
 -- the same, with how the level closes
 abbrev pub then_closed : Context → Closing → Option ℕ → Act Completion
 then_closed x c None = closed c Go_on
-then_closed x c (Some n) = entering x c n (get_or x.position.level.copy n [])
+then_closed x c (Some n) = reaching x c n (get_or x.position.level.copy n [])
 
 module _ (a : Text) (n : ℕ) (p : Position) (c : Closing) where
-  entered_is : (found : Option ℕ) → ◌≡◌ {A = Act Completion} (line_reached (context a n p) found >>= closed c) (then_closed (context a n p) c found)
+  entered_is : (found : Option ℕ) → ◌≡◌ {A = Act Completion} (then_reached (context a n p) found >>= closed c) (then_closed (context a n p) c found)
   entered_is None = refl
-  entered_is (Some k) = assoc charge (λ _. line_entered (context a n p) k (get_or p.level.copy k [])) (closed c)
+  entered_is (Some k) = assoc charge (λ _. line_reached (context a n p) k (get_or p.level.copy k [])) (closed c)
 
   pub lines_are : ◌≡◌ {A = Act Completion} (frame a n (Levels p c) Go_on) (next_reached p.level.dots p.level.copy p.level.next >>= then_closed (context a n p) c)
   lines_are =
       ap (λ (q : Act Completion). q >>= closed c) (next_is (context a n p) p.level.next)
-      ∙ assoc (next_reached p.level.dots p.level.copy p.level.next) (line_reached (context a n p)) (closed c)
+      ∙ assoc (next_reached p.level.dots p.level.copy p.level.next) (then_reached (context a n p)) (closed c)
       ∙ (λ i. next_reached p.level.dots p.level.copy p.level.next >>= (λ found. entered_is found i))
 
 -- ---- a line that DO leads to
 
 -- one that stands
-stands_as : (dots n : ℕ) (lines : List Text) → has_dots dots (slice_get lines n) ≡ true
-    → (n < length lines) × (drop n lines ≡ get_or lines n [] ∷ drop (n + 1) lines) × ((dots_of (get_or lines n []) == dots) ≡ true)
-stands_as dots n [] e = absurd cc
-stands_as dots zero (x ∷ lines) e = (omega arith, refl, e)
-stands_as dots (suc n) (x ∷ lines) e =
-    let more = stands_as dots n lines e in
+stands_as : (l dots n : ℕ) (lines : List Text) → has_dots l dots (slice_get lines n) ≡ true
+    → (n < length lines) × (drop n lines ≡ get_or lines n [] ∷ drop (n + 1) lines) × (slice_get lines n ≡ Some (get_or lines n []))
+stands_as l dots n [] e = absurd cc
+stands_as l dots zero (x ∷ lines) e = (omega arith, refl, refl)
+stands_as l dots (suc n) (x ∷ lines) e =
+    let more = stands_as l dots n lines e in
     let less = more.0 in
     let one : suc n + 1 ≡ suc (n + 1) = omega arith in
     (omega (arith, less), more.1 ∙ ap (λ k. get_or lines n [] ∷ drop k (x ∷ lines)) (sym one), more.2)
 
-pub is_within : (dots n : ℕ) (lines : List Text) → has_dots dots (slice_get lines n) ≡ true → n < length lines
-is_within dots n lines e = let all = stands_as dots n lines e in all.0
+pub is_within : (l dots n : ℕ) (lines : List Text) → has_dots l dots (slice_get lines n) ≡ true → n < length lines
+is_within l dots n lines e = let all = stands_as l dots n lines e in all.0
 
-not_more : (m n : ℕ) → (n == m) ≡ true → nat_lt m n ≡ false
-not_more m n e = let same = eqb-true n m e in le-ltb m n (omega (arith, same))
-
-pub target_entered : (a : Text) (n : ℕ) (p : Position) (c : Closing) (k : ℕ) → p.level.next ≡ Some k → has_dots p.level.dots (slice_get p.level.copy k) ≡ true
-    → ◌≡◌ {A = Act Completion} (frame a n (Levels p c) Go_on) (entering (context a n p) c k (get_or p.level.copy k []))
-target_entered a n p c k next stands =
-    let all = stands_as p.level.dots k p.level.copy stands in
+pub target_entered : (a : Text) (n : ℕ) (p : Position) (c : Closing) (l dots k : ℕ) → p.level.next ≡ Some k → has_dots l dots (slice_get p.level.copy k) ≡ true
+    → ◌≡◌ {A = Act Completion} (lines_called (context a n p) >>= closed c) (entering (context a n p) c k (get_or p.level.copy k []))
+target_entered a n p c l dots k next stands =
+    let all = stands_as l dots k p.level.copy stands in
     let text = get_or p.level.copy k [] in
-    let same = all.2 in
-    rw (next, all.1, not_more p.level.dots (dots_of text) same, same) (assoc charge (λ _. line_entered (context a n p) k text) (closed c))
+    rw (next, all.1) (assoc charge (λ _. line_entered (context a n p) k text) (closed c))
+
+-- whether a line has a formal list
+pub listed : {A : Type 0} (o : Option A) → true ≡ is_some o → is_none o ≡ false
+listed None e = absurd cc
+listed (Some x) e = refl
+
+pub unlisted : {A : Type 0} (o : Option A) → false ≡ is_some o → is_none o ≡ true
+unlisted None e = refl
+unlisted (Some x) e = absurd cc
 
 -- ---- a line after its step
 
 module _ (p : Position) (c : Closing) (k : ℕ) (text : Text) where
   abbrev step_spent : Text → ℕ → Act Completion
-  step_spent a n = line_entered (context a n p) k text >>= closed c
+  step_spent a n = line_then (context a n p) c k text
+
+  -- one that no DO names has no formal list
+  abbrev without_list : Act (Unit {0})
+  without_list = in_language (λ l. unless spec.M11 (is_none (formals_of l text)))
+
+  reach_is : (a : Text) (n : ℕ) → ◌≡◌ {A = Act Completion} (line_reached (context a n p) k text >>= closed c) (without_list >> step_spent a n)
+  reach_is a n = assoc without_list (λ _. line_entered (context a n p) k text) (closed c)
 
   abbrev line_read : Text → ℕ → RoutineLineTree → Act Completion
   line_read a n l = (context a n p).texts.enter (at_next p (k + 1)) (commands_in l.body) >>= closed c
@@ -139,54 +154,85 @@ module _ {S : Type 0} {g : Ghosts S} where
   -- ---- lines that are passed over
 
   module _ (dots k : ℕ) (lines : List Text) (x : Text) (less : k < length lines) (is : x ≡ get_or lines k x) where
-    -- a line with more dots
-    pub passes_line : dots < dots_of x → {X : Type 0} {f : X → Unit {0}} {u : X} {old mid new : Parts S} {r : Result (Option ℕ) Code} → DoesAt g (λ a n. charge) f old (Ok u) mid
-        → DoesAt g (λ a n. reached dots (k + 1) (drop (k + 1) lines)) (λ (found : Option ℕ). found) mid r new → DoesAt g (λ a n. reached dots k (drop k lines)) (λ (found : Option ℕ). found) old r new
-    passes_line more d then_does = rw (next_item lines k x less is, lt-ltb dots (dots_of x) more) (at_then (λ a n _. reached dots (k + 1) (drop (k + 1) lines)) d then_does)
-
-    pub passing_failed : dots < dots_of x → {X : Type 0} {f : X → Unit {0}} {old new : Parts S} {e : Code} {r : Result (Option ℕ) Code} → DoesAt g (λ a n. charge) f old (Err e) new → IsErr r × IsErrAnd r (λ x. x ≡ e)
+    -- in the language of the line
+    from_line : {old new : Parts S} {r : Result (Option ℕ) Code}
+        → DoesAt g (λ a n. cond (nat_lt dots (dots_of (standing_of old.eval).given.language x)) (charge >> reached dots (k + 1) (drop (k + 1) lines)) (give (cond (dots_of (standing_of old.eval).given.language x == dots) (Some k) None))) (λ (found : Option ℕ). found) old r new
         → DoesAt g (λ a n. reached dots k (drop k lines)) (λ (found : Option ℕ). found) old r new
-    passing_failed more d h = rw (next_item lines k x less is, lt-ltb dots (dots_of x) more) (at_stopped (λ a n _. reached dots (k + 1) (drop (k + 1) lines)) d h)
+    from_line d = rw (next_item lines k x less is) (at_in (λ l. cond (nat_lt dots (dots_of l x)) (charge >> reached dots (k + 1) (drop (k + 1) lines)) (give (cond (dots_of l x == dots) (Some k) None))) d)
+
+    -- a line with more dots
+    pub passes_line : {X : Type 0} {f : X → Unit {0}} {u : X} {old mid new : Parts S} {r : Result (Option ℕ) Code} → dots < dots_of (standing_of old.eval).given.language x → DoesAt g (λ a n. charge) f old (Ok u) mid
+        → DoesAt g (λ a n. reached dots (k + 1) (drop (k + 1) lines)) (λ (found : Option ℕ). found) mid r new → DoesAt g (λ a n. reached dots k (drop k lines)) (λ (found : Option ℕ). found) old r new
+    passes_line {old = old} more d then_does = from_line (rw (lt-ltb dots (dots_of (standing_of old.eval).given.language x) more) (at_then (λ a n _. reached dots (k + 1) (drop (k + 1) lines)) d then_does))
+
+    pub passing_failed : {X : Type 0} {f : X → Unit {0}} {old new : Parts S} {e : Code} {r : Result (Option ℕ) Code} → dots < dots_of (standing_of old.eval).given.language x → DoesAt g (λ a n. charge) f old (Err e) new → IsErr r × IsErrAnd r (λ x. x ≡ e)
+        → DoesAt g (λ a n. reached dots k (drop k lines)) (λ (found : Option ℕ). found) old r new
+    passing_failed {old = old} more d h = from_line (rw (lt-ltb dots (dots_of (standing_of old.eval).given.language x) more) (at_stopped (λ a n _. reached dots (k + 1) (drop (k + 1) lines)) d h))
 
     -- one with as many or fewer
-    pub stops_at : dots_of x ≤ dots → {parts : Parts S} → DoesAt g (λ a n. reached dots k (drop k lines)) (λ (found : Option ℕ). found) parts (Ok (cond (dots_of x == dots) (Some k) None)) parts
-    stops_at few = rw (next_item lines k x less is, le-ltb dots (dots_of x) few) (at_gives (cond (dots_of x == dots) (Some k) None) (λ found. found) (cond (dots_of x == dots) (Some k) None) refl)
+    pub stops_at : {parts : Parts S} → dots_of (standing_of parts.eval).given.language x ≤ dots
+        → DoesAt g (λ a n. reached dots k (drop k lines)) (λ (found : Option ℕ). found) parts (Ok (cond (dots_of (standing_of parts.eval).given.language x == dots) (Some k) None)) parts
+    stops_at {parts = parts} few =
+        let dots_here = dots_of (standing_of parts.eval).given.language x in
+        from_line (rw (le-ltb dots dots_here few) (at_gives (cond (dots_here == dots) (Some k) None) (λ found. found) (cond (dots_here == dots) (Some k) None) refl))
 
   -- ---- a line that is entered
 
   module _ (p : Position) (c : Closing) (k : ℕ) (text : Text) where
-    module _ {X : Type 0} {f : X → Unit {0}} {u : X} {fs : List View} {old mid : Parts S} (d : DoesAt g (λ a n. charge) f old (Ok u) mid) (less : mid.eval.steps < old.eval.steps) where
-      -- out of memory after its step
-      pub step_lost : {fs' : List View} (r : Result completions.Completion Code) → IsErr r × IsErrAnd r (λ x. x ≡ Zmem) → Runs g (λ a n. entering (context a n p) c k text) fs old r fs' mid
-      step_lost r h = runs_then (λ a n _. step_spent p c k text a n) d (runs_wanting (λ a n. step_spent p c k text a n) r h)
+    -- after its step: it has no tree
+    pub line_refused : {Y : Type 0} {view : Y → RoutineLineTree} {e : Code} {parts : Parts S} {fs fs' : List View} {r : Result completions.Completion Code}
+        → Yields fault_of (give_some Zsyntax (routine_line_in (standing_of parts.eval).given.language text)) view (Err e) → IsErr r × IsErrAnd r (λ x. x ≡ e)
+        → Runs g (λ a n. step_spent p c k text a (suc n)) fs parts r fs' parts
+    line_refused y h = runs_as (λ a n. read_is p c k text a (suc n)) (runs_stopped (λ a n. line_read p c k text a (suc n)) (at_read Zsyntax (λ l. routine_line_in l text) y) h)
 
-      -- it has no tree
-      pub line_refused : {Y : Type 0} {view : Y → RoutineLineTree} {e : Code} {fs' : List View} {r : Result completions.Completion Code} → Yields fault_of (give_some Zsyntax (routine_line_in (standing_of mid.eval).given.language text)) view (Err e) → IsErr r × IsErrAnd r (λ x. x ≡ e)
-          → Runs g (λ a n. entering (context a n p) c k text) fs old r fs' mid
-      line_refused y h = runs_then (λ a n _. step_spent p c k text a n) d (runs_as (λ a n. read_is p c k text a n) (runs_stopped (λ a n. line_read p c k text a n) (at_read Zsyntax (λ l. routine_line_in l text) y) h))
+    pub line_runs : {Y : Type 0} {view : Y → RoutineLineTree} {l : Y} {parts : Parts S} {fs : List View} → Yields fault_of (give_some Zsyntax (routine_line_in (standing_of parts.eval).given.language text)) view (Ok l)
+        → Runs g (λ a n. step_spent p c k text a (suc n)) fs parts (Ok completion.GoOn) (on_body (at_next p (k + 1)) c (view l).body fs) parts
+    line_runs {view = view} {l = l} y =
+        runs_as (λ a n. read_is p c k text a (suc n)) (runs_then (λ a n. line_read p c k text a (suc n)) (at_read Zsyntax (λ l. routine_line_in l text) y) (body_runs (at_next p (k + 1)) c (view l).body))
 
-      pub line_runs : {Y : Type 0} {view : Y → RoutineLineTree} {l : Y} → Yields fault_of (give_some Zsyntax (routine_line_in (standing_of mid.eval).given.language text)) view (Ok l)
-          → Runs g (λ a n. entering (context a n p) c k text) fs old (Ok completion.GoOn) (on_body (at_next p (k + 1)) c (view l).body fs) mid
-      line_runs {view = view} {l = l} y =
-          runs_spent (λ a n _. step_spent p c k text a n) d less
-          (runs_as (λ a n. read_is p c k text a (suc n)) (runs_then (λ a n. line_read p c k text a (suc n)) (at_read Zsyntax (λ l. routine_line_in l text) y) (body_runs (at_next p (k + 1)) c (view l).body)))
+    -- its step is spent, and then it is read
+    pub line_begins : {X : Type 0} {f : X → Unit {0}} {u : X} {fs fs' : List View} {old mid new : Parts S} {r : Result completions.Completion Code} → DoesAt g (λ a n. charge) f old (Ok u) mid → mid.eval.steps < old.eval.steps
+        → Runs g (λ a n. step_spent p c k text a (suc n)) fs mid r fs' new → Runs g (λ a n. entering (context a n p) c k text) fs old r fs' new
+    line_begins d less runs = runs_spent (λ a n _. step_spent p c k text a n) d less runs
+
+    -- one that no DO names: it has a formal list, or none
+    pub line_listed : {X : Type 0} {f : X → Unit {0}} {u : X} {fs fs' : List View} {old mid : Parts S} → DoesAt g (λ a n. charge) f old (Ok u) mid → is_none (formals_of (standing_of mid.eval).given.language text) ≡ false
+        → Runs g (λ a n. reaching (context a n p) c k text) fs old (Err M11) fs' mid
+    line_listed {mid = mid} d has =
+        let refused : DoesAt g (λ a n. without_list p c k text) (λ (u : Unit {0}). u) mid (Err M11) mid =
+        at_in (λ l. unless spec.M11 (is_none (formals_of l text))) (rw has (at_yielded (record { ends = λ s. refl }))) in
+        runs_then (λ a n _. line_reached (context a n p) k text >>= closed c) d
+        (runs_as (λ a n. reach_is p c k text a n)
+        (runs_stopped (λ a n _. step_spent p c k text a n) refused (refl, refl)))
+
+    pub line_unlisted : {X : Type 0} {f : X → Unit {0}} {u : X} {fs fs' : List View} {old mid new : Parts S} {r : Result completions.Completion Code} → DoesAt g (λ a n. charge) f old (Ok u) mid → mid.eval.steps < old.eval.steps
+        → is_none (formals_of (standing_of mid.eval).given.language text) ≡ true → Runs g (λ a n. step_spent p c k text a (suc n)) fs mid r fs' new → Runs g (λ a n. reaching (context a n p) c k text) fs old r fs' new
+    line_unlisted {mid = mid} d less none runs =
+        let passed : DoesAt g (λ a n. without_list p c k text) (λ (u : Unit {0}). u) mid (Ok tt) mid =
+        at_in (λ l. unless spec.M11 (is_none (formals_of l text))) (rw none (at_gives tt (λ (u : Unit {0}). u) tt refl)) in
+        runs_spent (λ a n _. line_reached (context a n p) k text >>= closed c) d less
+        (runs_as (λ a n. reach_is p c k text a (suc n))
+        (runs_then (λ a n _. step_spent p c k text a (suc n)) passed runs))
 
   -- ---- levels that are opened
 
-  module _ (p : Position) (d : Depth) (is : d ≡ record { levels = p.depth.levels + 1; indirections = p.depth.indirections }) {fs fs' : List View} {old new : Parts S} {r : Result completions.Completion Code} where
-    pub lines_opened : (l : Level) (c : Closing) → Runs g (λ a n. frame a n (Levels (record { depth = d; level = l }) c) Go_on) fs old r fs' new
-        → Runs g (λ a n. lines_next (context a n (deeper p l)) >>= closed c) fs old r fs' new
-    lines_opened l c k = subst (λ (d : Depth). Runs g (λ a n. frame a n (Levels (record { depth = d; level = l }) c) Go_on) fs old r fs' new) is k
+  module _ (p : Position) (d : Depth) (is : d ≡ level_deeper p.depth) {fs fs' : List View} {old new : Parts S} {r : Result completions.Completion Code} where
+    -- the lines of a block
+    pub lines_opened_as : (l m : Level) → m ≡ l → (b : Bool) → Runs g (λ a n. frame a n (Levels (record { depth = d; level = m }) (restores b)) Go_on) fs old r fs' new
+        → Runs g (λ a n. lines_next (context a n (deeper (restores b) p l)) >>= closed (restores b)) fs old r fs' new
+    lines_opened_as l m same b k =
+        let at : Position → Type 0 = λ q. Runs g (λ a n. frame a n (Levels q (restores b)) Go_on) fs old r fs' new in
+        subst at (λ i. record { depth = is i; level = same i }) k
 
-    -- by another name of its level
-    pub lines_opened_as : (l m : Level) → m ≡ l → (c : Closing) → Runs g (λ a n. frame a n (Levels (record { depth = d; level = m }) c) Go_on) fs old r fs' new
-        → Runs g (λ a n. lines_next (context a n (deeper p l)) >>= closed c) fs old r fs' new
-    lines_opened_as l m same c k = lines_opened l c (subst (λ (m : Level). Runs g (λ a n. frame a n (Levels (record { depth = d; level = m }) c) Go_on) fs old r fs' new) same k)
+    -- the lines that a DO names
+    pub lines_opened : (l : Level) → Runs g (λ a n. lines_called (context a n (record { depth = d; level = l })) >>= closed leaves) fs old r fs' new
+        → Runs g (λ a n. lines_called (context a n (deeper leaves p l)) >>= closed leaves) fs old r fs' new
+    lines_opened l k = subst (λ (d : Depth). Runs g (λ a n. lines_called (context a n (record { depth = d; level = l })) >>= closed leaves) fs old r fs' new) is k
 
-  pub text_opened : (p : Position) (d : Depth) → d ≡ record { levels = p.depth.levels + 1; indirections = p.depth.indirections } → {fs : List View} {parts : Parts S} (cs : List CommandTree)
-      → Runs g (λ a n. (texts a (suc n)).enter (deeper p (text_position d p).level) cs >>= closed leaves) fs parts (Ok completion.GoOn) (Rests (text_position d p) cs ∷ Levels (text_position d p) leaves ∷ fs) parts
+  pub text_opened : (p : Position) (d : Depth) → d ≡ level_deeper p.depth → {fs : List View} {parts : Parts S} (cs : List CommandTree)
+      → Runs g (λ a n. (texts a (suc n)).enter (deeper leaves p (text_position d p).level) cs >>= closed leaves) fs parts (Ok completion.GoOn) (Rests (text_position d p) cs ∷ Levels (text_position d p) leaves ∷ fs) parts
   text_opened p d is {fs = fs} {parts = parts} cs =
-      let there = deeper p (text_position d p).level in
+      let there = deeper leaves p (text_position d p).level in
       subst (λ (d : Depth). Runs g (λ a n. (texts a (suc n)).enter there cs >>= closed leaves) fs parts (Ok completion.GoOn) (Rests (text_position d p) cs ∷ Levels (text_position d p) leaves ∷ fs) parts) (sym is)
       (text_runs there leaves cs)
 

@@ -4,8 +4,11 @@ pub mod Calls
 pub mod Lines
 pub mod Loops
 pub mod Indexes
+pub mod Here
+pub mod Closings
 pub mod LevelRuns
 pub mod ArgumentRuns
 pub mod FrontRuns
 pub mod Texts
+pub mod UncalledTexts
 pub mod ExecLaws

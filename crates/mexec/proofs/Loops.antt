@@ -10,6 +10,8 @@ use Rattle.mmeaning.specs.Frames as frames
 use Rattle.mtree.specs.declared.tree.Parameter.{Parameter}
 use Rattle.mcommand.specs.ForParameters.{start_and_increment, begun_within, started}
 use Rattle.mexec.specs.declared.completion.Completion.TheVariants as completion
+use Rattle.mgrammar.specs.CallsIn.{has_call_parameter}
+use Rattle.mexec.proofs.Here.{started_here}
 use Rattle.mexec.proofs.Calls.{runs_then, runs_stopped, runs_as, runs_spent, runs_frame, runs_completion}
 
 -- ---- acts
@@ -104,12 +106,14 @@ turning_of_none t e = turning_of t [] [] e ∙ (λ i. record { index = []; cours
 
 -- ---- calls
 
-module _ {S : Type 0} {g : Ghosts S} (d : Position) (index : Text) (body : List CommandTree) (ps : List Parameter) (k : ℕ) (p : Parameter) (less : k < length ps) (is : p ≡ get_or ps k p) {fs fs' : List View} where
+module _ {S : Type 0} {g : Ghosts S} (d : Position) (index : Text) (body : List CommandTree) (ps : List Parameter) (k : ℕ) (p : Parameter) (less : k < length ps) (is : p ≡ get_or ps k p) (quiet : has_call_parameter (parameter_tree p) ≡ false) {fs fs' : List View} where
   from_parameter : {old new : Parts S} {r : Result Completion Code} → Runs g (λ a n. started (inside a n d.depth) index (parameter_tree p) >>= begun (context a n d) index body (map parameter_tree (drop (k + 1) ps))) fs old r fs' new
       → Runs g (λ a n. next_parameter (context a n d) index body (map parameter_tree (drop k ps))) fs old r fs' new
   from_parameter {old = old} {new = new} {r = r} runs =
       subst (λ (xs : List Parameter). Runs g (λ a n. next_parameter (context a n d) index body (map parameter_tree xs)) fs old r fs' new) (sym (next_item ps k p less is))
-      (runs_as (λ a n. next_is (context a n d) index body (parameter_tree p) (map parameter_tree (drop (k + 1) ps))) runs)
+      (runs_as (λ a n.
+      next_is (context a n d) index body (parameter_tree p) (map parameter_tree (drop (k + 1) ps))
+      ∙ (λ i. started_here d index (parameter_tree p) quiet a n i >>= begun (context a n d) index body (map parameter_tree (drop (k + 1) ps)))) runs)
 
   -- a parameter is begun, and then the turns go on
   pub parameter_runs : {X : Type 0} {view : X → Option Course} {o : X} {old mid new : Parts S} {r : Result Completion Code} → DoesAt g (λ a n. started (inside a n d.depth) index (parameter_tree p)) view old (Ok o) mid

@@ -1,29 +1,40 @@
 -- SPDX-License-Identifier: Apache-2.0
 -- Lines and texts that are entered, as the code does it: the place of a line first, then its step, then its commands.
-use Rattle.std.specs.Prelude.{ℕ, ◌+◌, cond, nat_lt, ◌==◌, List, [], ◌∷◌, drop, Option, Some, None}
+use Rattle.std.specs.Prelude.{ℕ, ◌+◌, false, cond, nat_lt, ◌==◌, List, [], ◌∷◌, drop, Option, Some, None}
+use Rattle.mspec.specs.Scopes.{Binding}
 use Rattle.mspec.specs.Code.{Zsyntax}
-use Rattle.mspec.specs.Act.{Text, Act, ◌>>=◌, ◌>>◌, give, read_so, charge}
-use Rattle.mgrammar.specs.Grammar.{LineTree}
+use Rattle.mspec.specs.Act.{Text, Act, level_begun, ◌>>=◌, ◌>>◌, give, read_so, in_language, charge}
+use Rattle.mgrammar.specs.Grammar.{ActualsTree, LineTree}
 use Rattle.mgrammar.specs.Languages.{line_in}
 use Rattle.mgrammar.specs.RoutineLine.{BodyTree, short, spaced_out, dots_of}
 use Rattle.mmeaning.specs.Expression.{Depth}
 use Rattle.mmeaning.specs.Levels.{Position, Target, Closing, leaves, commands_of}
-use Rattle.mmeaning.specs.LineMeaning.{Completion, Context, line_entered, closed, in_level}
+use Rattle.mmeaning.specs.Parameters.{formals_of_target, formals_for}
+use Rattle.mmeaning.specs.LineMeaning.{Completion, Context, line_entered, line_reached, closed, in_level}
 use Rattle.mmeaning.specs.Frames.{View, Rests, Levels}
 
 -- the place of the line that is entered, if these are the lines from a place on; none if the level ends
 abbrev pub reached : ℕ → ℕ → List Text → Act (Option ℕ)
 reached dots n [] = give None
-reached dots n (text ∷ rest) = cond (nat_lt dots (dots_of text)) (charge >> reached dots (n + 1) rest) (give (cond (dots_of text == dots) (Some n) None))
+reached dots n (text ∷ rest) =
+    in_language (λ l. cond (nat_lt dots (dots_of l text)) (charge >> reached dots (n + 1) rest) (give (cond (dots_of l text == dots) (Some n) None)))
 
 -- from the line that comes next on
 abbrev pub next_reached : ℕ → List Text → Option ℕ → Act (Option ℕ)
 next_reached dots copy None = give None
 next_reached dots copy (Some n) = reached dots n (drop n copy)
 
--- a line is entered, and then its level closes or goes on
+-- a line does what it does, once its step is spent, and then its level closes or goes on
+abbrev pub line_then : Context → Closing → ℕ → Text → Act Completion
+line_then x c n text = line_entered x n text >>= closed c
+
+-- the line that a DO names is entered
 abbrev pub entering : Context → Closing → ℕ → Text → Act Completion
-entering x c n text = charge >> (line_entered x n text >>= closed c)
+entering x c n text = charge >> line_then x c n text
+
+-- one that no DO names is
+abbrev pub reaching : Context → Closing → ℕ → Text → Act Completion
+reaching x c n text = charge >> (line_reached x n text >>= closed c)
 
 -- the same level, with another line coming next
 abbrev pub at_next : Position → ℕ → Position
@@ -32,6 +43,16 @@ at_next p n = record p { level = record p.level { next = Some n } }
 -- and where a GOTO leads
 abbrev pub at_target : Position → Target → Position
 at_target p t = record p { level = record p.level { copy = t.copy; next = Some t.line } }
+
+-- one level deeper, of which no value is wanted
+abbrev pub level_deeper : Depth → Depth
+level_deeper d = record { levels = d.levels + 1; indirections = d.indirections; wants_value = false }
+
+-- the formal parameters of the line that a DO names, for what its actuals hand over
+abbrev pub formals_handed : Target → ActualsTree → List Binding → Act (Option (List (Text × Binding)))
+formals_handed t xs bs = do
+  names ← formals_of_target t
+  formals_for xs names bs
 
 -- the same level, at this depth
 abbrev pub so_deep : Depth → Position → Position
@@ -43,7 +64,7 @@ text_position depth p = record { depth = depth; level = record { copy = p.level.
 
 -- once its tree is known
 abbrev pub tree_entered : Context → LineTree → Act Completion
-tree_entered x l = in_level x (record { copy = x.position.level.copy; next = None; dots = 0 }) leaves (λ y. y.texts.enter y.position (commands_of l))
+tree_entered x l = in_level x (record { copy = x.position.level.copy; next = None; dots = 0 }) leaves level_begun (λ y. y.texts.enter y.position (commands_of l))
 
 -- a text of XECUTE is read and entered
 abbrev pub text_entered : Context → Text → Act Completion

@@ -40,7 +40,7 @@ completion_of completion.GoOn = meaning.Go_on
 completion_of completion.Skips = meaning.Skips
 completion_of completion.Quits = meaning.Quits
 completion_of (completion.Goes t) = meaning.Goes (target_view t)
-completion_of completion.Halts = meaning.Halts
+completion_of (completion.Returns v) = meaning.Returns v
 
 abbrev pub level_of : level.Level → levels.Level
 level_of l = record { copy = l.copy.value.items; next = l.next; dots = l.dots }
@@ -52,6 +52,7 @@ abbrev pub closing_of : Closing → levels.Closing
 closing_of closing.Stays = levels.stays
 closing_of closing.Leaves = levels.leaves
 closing_of (closing.Restores test) = levels.restores test
+closing_of (closing.Answers test) = levels.answers test
 
 -- a command that is done goes on with what is next
 abbrev pub went : Result (Unit {0}) Code → Result Completion Code

@@ -1,10 +1,11 @@
 -- SPDX-License-Identifier: Apache-2.0
 -- How far arguments, a command and a line are done before a frame is needed, and what is then left of them.
 use Rattle.std.specs.Prelude.{◌≡◌, ℕ, cond, List, [], ◌∷◌, Option, None, Some, Result, Ok, Err, true, map, drop}
-use Rattle.mspec.specs.Act.{Text, Act, ◌>>=◌, ◌>>◌, give, charge}
+use Rattle.mspec.specs.Act.{Text, Act, ◌>>=◌, ◌>>◌, give, fail, charge}
+use Rattle.mspec.specs.Code.{M16}
 use Rattle.mgrammar.specs.Grammar.{KeywordTree, for_word, do_word, ParameterTree, ArgTree, loop, CommandTree}
 use Rattle.mmeaning.specs.LineMeaning as meaning
-use Rattle.mmeaning.specs.LineMeaning.{Go_on, Skips, Quits, Goes, Halts, Context, inside_of, holds, after, bare, commands, next_parameter, turns_forever, doing_block, Turning, after_course}
+use Rattle.mmeaning.specs.LineMeaning.{Go_on, Skips, Quits, Goes, Returns, Context, inside_of, holds, after, bare, commands, next_parameter, turns_forever, doing_block, Turning, after_course}
 use Rattle.mtree.specs.Tree.{arg_tree, parameter_tree}
 use Rattle.mtree.specs.declared.tree.Arg.{Arg}
 use Rattle.mtree.specs.declared.tree.Line.{Line}
@@ -15,7 +16,7 @@ use Rattle.mexec.specs.declared.completion.Progress.TheVariants as progress
 use Rattle.mexec.specs.declared.front.Stop as the_stop
 use Rattle.mexec.specs.declared.front.Stop.TheVariants as stop
 use Rattle.mexec.specs.Progress.{Progress, over, stops, behind, progress_of}
-use Rattle.mexec.specs.Arguments.{Entrance, started, entered_then, start_of, entrance_of}
+use Rattle.mexec.specs.Arguments.{Entrance, IsUncalled, started, entered_then, start_of, entrance_of}
 use Rattle.mexec.specs.Frames.{commands_from}
 use Rattle.mexec.specs.Loops.{loop_in, is_loop, args_before}
 
@@ -85,13 +86,13 @@ line_left x (stops st) rest = resumed x st rest
 
 -- ---- a turn of a FOR
 
--- what it ends the FOR with, unless the FOR goes on with its course
-abbrev pub turn_ends : meaning.Completion → Option meaning.Completion
-turn_ends Go_on = None
-turn_ends Skips = None
-turn_ends Quits = Some Skips
-turn_ends (Goes t) = Some (Goes t)
-turn_ends Halts = Some Halts
+-- what it ends the FOR with, unless the FOR goes on with its course; no value is wanted of it
+abbrev pub turn_ends : meaning.Completion → Act (Option meaning.Completion)
+turn_ends Go_on = give None
+turn_ends Skips = give None
+turn_ends Quits = give (Some Skips)
+turn_ends (Goes t) = give (Some (Goes t))
+turn_ends (Returns v) = fail M16
 
 abbrev pub turn_left : Context → Turning → Option meaning.Completion → Act meaning.Completion
 turn_left x t None = after_course x t t.course
@@ -115,11 +116,12 @@ outcome_of args = progress_of (stop_of args)
 abbrev pub front_of : Line → the_progress.Progress the_stop.Stop × ℕ → Progress Stop × List CommandTree
 front_of l w = (outcome_of (args_before l w.1) w.0, commands_from l w.1)
 
--- what a stop says of the arguments of its command
+-- what a stop says of the arguments of its command, in which no function is called
 abbrev pub StopsIn : List Arg → the_stop.Stop → Type 0
+StopsIn args (stop.Argument e at) = IsUncalled e
 StopsIn args (stop.Loop index parameters) = (loop_in args ≡ (index.now, parameters.now)) × (is_loop args ≡ true)
 StopsIn args stop.Turns = args ≡ []
-StopsIn args st = Unit {0}
+StopsIn args stop.Block = Unit {0}
 
 -- arguments as an outcome
 abbrev pub at_begun : the_progress.Progress entrances.Entrance → ℕ → the_progress.Progress the_stop.Stop

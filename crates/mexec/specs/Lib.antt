@@ -1,5 +1,6 @@
 -- SPDX-License-Identifier: Apache-2.0
 pub mod Loops
+pub mod Uncalled
 pub mod Frames
 pub mod Falls
 pub mod Entering

@@ -1,13 +1,15 @@
 // SPDX-License-Identifier: Apache-2.0
 // The arguments of a command, one after another.
-ghost use Rattle.std.specs.Prelude.{◌≡◌, map, drop};
+ghost use Rattle.std.specs.Prelude.{◌≡◌, false, map, drop, IfOk};
+ghost use Rattle.std.specs.List.{list_any};
+ghost use Rattle.mgrammar.specs.CallsIn.{has_call, has_call_arg, has_call_optional};
 ghost use Rattle.mmeaning.specs.LineMeaning as meaning;
 ghost use Rattle.mexec.specs.Words.{DoesAt, arg_tree, condition_tree, context, depth_of, entry_tree, expr_tree, inside};
 ghost use Rattle.mexec.specs.Falls.{Falls};
 ghost use Rattle.mexec.specs.Frames.{Runs, completion_of, went, source_args, source_position, position_of, stack};
-ghost use Rattle.mexec.specs.Progress.{ends};
+ghost use Rattle.mexec.specs.Progress.{IfStops, ends};
 ghost use Rattle.mexec.specs.Fronts.{args_started, begun_of};
-ghost use Rattle.mexec.specs.Arguments.{started, start_of, where_applies, entrance_of, entered_then};
+ghost use Rattle.mexec.specs.Arguments.{IsUncalled, started, start_of, where_applies, entrance_of, entered_then};
 
 use crate::completion::{Completion, Progress, over, went_on, where_true};
 use crate::entering::{doing, executing};
@@ -18,13 +20,13 @@ use crate::source::Source;
 use mcommand::Parts;
 use mnodes::NodeStore;
 use moperator::Code;
-use mtree::{Arg, Entry, Expr, Keyword, Primary};
+use mtree::{Arg, Called, Entry, Expr, Keyword, Primary};
 use std::alloc::Global;
 
-// What an argument enters: the lines from one on; a text; or the arguments that the value of an operand gives.
+// What an argument enters: the lines from the one that is called on; a text; or the arguments that the value of an operand gives.
 #[derive(Drop)]
 pub(crate) enum Entrance<'t> {
-    Lines(&'t Entry),
+    Lines(&'t Called),
     Text(&'t Expr),
     Indirect(Keyword, &'t Primary),
 }
@@ -58,6 +60,7 @@ fn going<S: NodeStore>(
     entry: &Entry,
     condition: &Option<Box<Expr>>,
 ) -> Result<Completion, Code>
+    requires { has_call_optional (condition_tree condition.now) ≡ false }
     ensures { DoesAt S.NodeStore (λ a n. meaning.where_holds (context a n (position_of position.now)) (condition_tree condition.now) (meaning.going (context a n (position_of position.now)) (entry_tree entry.now))) completion_of parts.old result parts.new }
 {
     parts.eval.depth = position.depth;
@@ -77,6 +80,7 @@ fn tested<S: NodeStore>(
     position: &Position,
     e: &Expr,
 ) -> Result<Completion, Code>
+    requires { has_call (expr_tree e.now) ≡ false }
     ensures { DoesAt S.NodeStore (λ a n. meaning.testing (inside a n (depth_of position.now.depth)) (expr_tree e.now)) completion_of parts.old result parts.new }
 {
     parts.eval.depth = position.depth;
@@ -84,14 +88,31 @@ fn tested<S: NodeStore>(
     Ok(where_true(is_true))
 }
 
-// What an argument of any command but FOR does, up to where it enters something.
+// QUIT with a value, which goes on until somebody takes it.
+fn returning<S: NodeStore>(
+    alloc: Global,
+    parts: &mut Parts<S>,
+    position: &Position,
+    e: &Expr,
+) -> Result<Completion, Code>
+    requires { has_call (expr_tree e.now) ≡ false }
+    ensures { DoesAt S.NodeStore (λ a n. meaning.returning (inside a n (depth_of position.now.depth)) (expr_tree e.now)) completion_of parts.old result parts.new }
+{
+    parts.eval.depth = position.depth;
+    let value = parts.eval.eval(alloc, e)?;
+    Ok(Completion::Returns(value))
+}
+
+// What an argument of any command but FOR does, up to where it enters something. No function is called in it.
 fn argument<'t, S: NodeStore>(
     alloc: Global,
     parts: &mut Parts<S>,
     position: &Position,
     arg: &'t Arg,
 ) -> Result<Progress<Entrance<'t>>, Code>
-    ensures { DoesAt S.NodeStore (λ a n. started (context a n (position_of position.now)) (arg_tree arg.now)) start_of parts.old result parts.new }
+    requires { has_call_arg (arg_tree arg.now) ≡ false }
+    ensures enters { IfOk result (λ progress. IfStops progress IsUncalled) }
+    ensures does { DoesAt S.NodeStore (λ a n. started (context a n (position_of position.now)) (arg_tree arg.now)) start_of parts.old result parts.new }
 {
     parts.eval.depth = position.depth;
     match arg {
@@ -108,13 +129,14 @@ fn argument<'t, S: NodeStore>(
         Arg::NewOthers(names) => done(parts.eval.hide_others(alloc, names)),
         Arg::Tested(e) => over(tested(alloc, parts, position, e)),
         Arg::Loop(_, _) => done(Ok(())),
-        Arg::DoOne(entry, condition) => {
-            enters(parts.holds(alloc, condition), Entrance::Lines(entry))
+        Arg::DoOne(called, condition) => {
+            enters(parts.holds(alloc, condition), Entrance::Lines(called))
         }
         Arg::GoTo(entry, condition) => over(going(alloc, parts, position, entry, condition)),
         Arg::Executed(e, condition) => enters(parts.holds(alloc, condition), Entrance::Text(e)),
         Arg::Lock(kind, names, timeout) => done(parts.locking(alloc, *kind, names, timeout)),
         Arg::HangFor(seconds) => done(parts.hanging(alloc, seconds)),
+        Arg::Returned(e) => over(returning(alloc, parts, position, e)),
         Arg::Indirect(keyword, operand) => {
             Ok(Progress::Stops(Entrance::Indirect(*keyword, operand)))
         }
@@ -129,7 +151,9 @@ pub(crate) fn arguments_begun<'t, S: NodeStore>(
     args: &'t [Arg],
     from: usize,
 ) -> Result<(Progress<Entrance<'t>>, usize), Code>
-    ensures { DoesAt S.NodeStore (λ a n. args_started (context a n (position_of position.now)) (map arg_tree (drop from args.now))) (begun_of args.now) parts.old result parts.new }
+    requires { list_any has_call_arg (map arg_tree args.now) ≡ false }
+    ensures enters { IfOk result (λ begun. IfStops begun.0 IsUncalled) }
+    ensures does { DoesAt S.NodeStore (λ a n. args_started (context a n (position_of position.now)) (map arg_tree (drop from args.now))) (begun_of args.now) parts.old result parts.new }
 {
     let mut at = from;
     while at < args.len() {
@@ -153,13 +177,14 @@ pub(crate) fn enter_argument<S: NodeStore>(
     argument: usize,
     scratch: &mut Scratch,
 ) -> Result<Completion, Code>
+    requires { IsUncalled entrance }
     ensures falls { Falls parts.old scratch.old result parts.new scratch.new }
     ensures does { Runs S.NodeStore (λ a n. entered_then (context a n (position_of (source_position source.entry))) (entrance_of entrance.entry) (map arg_tree (drop argument (source_args source.entry)))) (stack scratch.old.frames.items) parts.old result (stack scratch.new.frames.items) parts.new }
 {
     source.leave(argument, scratch)?;
     let position = source.position();
     match entrance {
-        Entrance::Lines(entry) => doing(alloc, parts, position, entry, scratch),
+        Entrance::Lines(called) => doing(alloc, parts, position, called, scratch),
         Entrance::Text(e) => executing(alloc, parts, position, e, scratch),
         Entrance::Indirect(keyword, operand) => {
             giving(alloc, parts, position, keyword, operand, scratch)

@@ -7,16 +7,17 @@ ghost use Rattle.mexec.specs.Progress.{ends};
 
 use mcommand::Target;
 use moperator::Code;
+use mvalue::Value;
 
-// How a line goes on: with what is next, after the rest of the line, out of its turn or its level, with another line, or not at
-// all.
+// How a line goes on: with what is next, after the rest of the line, out of its turn or its level, with another line, or out of its
+// level with a value.
 #[derive(Drop)]
 pub(crate) enum Completion {
     GoOn,
     Skips,
     Quits,
     Goes(Target),
-    Halts,
+    Returns(Value),
 }
 
 // How far something is done: to its end, with its completion, or up to where it stops.

@@ -97,7 +97,7 @@ pub(crate) fn next_command<S: NodeStore>(
     match outcome {
         Progress::Over(completion) => Ok(completion),
         Progress::Stops(stop) => {
-            let behind = Continuation { at, ..rest.copy()? };
+            let behind = rest.copy_from(at)?;
             go_on(alloc, parts, stop, &behind, scratch)
         }
     }

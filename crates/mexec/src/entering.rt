@@ -1,34 +1,40 @@
 // SPDX-License-Identifier: Apache-2.0
 // What opens a level: DO with an argument and without one, and XECUTE.
-ghost use Rattle.std.specs.Prelude.{◌≡◌, ◌≤◌, ◌+◌, ◌*◌, suc, ◌∷◌, length, IfOk, OnOk};
+ghost use Rattle.std.specs.Prelude.{◌≡◌, ◌≤◌, ◌<◌, ◌+◌, ◌*◌, suc, false, ◌∷◌, length, map, option_map, IfOk, OnOk};
+ghost use Rattle.mspec.specs.Act.{with_locals};
+ghost use Rattle.mgrammar.specs.CallsIn.{has_call, has_call_actuals, has_call_line};
 ghost use Rattle.mmeaning.specs.Levels.{a_level_free, leaves};
+ghost use Rattle.mmeaning.specs.Parameters.{with_formals};
 ghost use Rattle.mmeaning.specs.LineMeaning as meaning;
 ghost use Rattle.mmeaning.specs.LineMeaning.{context};
 ghost use Rattle.mmeaning.specs.Frames.{Rests, Levels};
-ghost use Rattle.mtree.specs.Tree.{entry_tree, expr_tree};
+ghost use Rattle.mlocal.specs.Bindings.{binding_of, bindings_of};
+ghost use Rattle.mtree.specs.Tree.{called_tree, expr_tree, line_tree};
 ghost use Rattle.meval.specs.Evaluates.{depth_of};
 ghost use Rattle.mcommand.specs.Does.{DoesAt};
+ghost use Rattle.mcommand.specs.Targets.{target_view};
 ghost use Rattle.mexec.specs.Falls.{Falls, FallsFurther};
 ghost use Rattle.mexec.specs.Frames.{Runs, stack, position_of, commands_from};
-ghost use Rattle.mexec.specs.Entering.{text_entered, text_position};
+ghost use Rattle.mexec.specs.Entering.{formals_handed, level_deeper, text_entered, text_position};
 
 use crate::completion::Completion;
 use crate::frames::{Closing, Level, Position};
 use crate::levels::{enter_line, leave_commands, lines_next};
 use crate::reading_trees::read_line;
 use crate::scratch::Scratch;
-use mcommand::Parts;
+use mcommand::{Parts, Target, formals_for};
 use meval::Depth;
+use mlocal::Binding;
 use mnodes::NodeStore;
-use mnum::Bytes7;
+use mnum::{Bytes7, Name};
 use moperator::Code;
-use mtree::{Entry, Expr, Line};
+use mtree::{Called, Expr, Line};
 use std::alloc::{AllocError, Global};
 use std::rc::Rc;
 
-// One more level, if one is free.
+// One more level, of which no value is wanted, if one is free.
 fn one_deeper<S: NodeStore>(parts: &mut Parts<S>, depth: Depth) -> Result<Depth, Code>
-    ensures deeper { IfOk result (λ there. depth_of there ≡ record { levels = (depth_of depth).levels + 1; indirections = (depth_of depth).indirections }) }
+    ensures deeper { IfOk result (λ there. depth_of there ≡ level_deeper (depth_of depth)) }
     ensures does { DoesAt S.NodeStore (λ a n. a_level_free (depth_of depth)) (λ there. tt) parts.old result parts.new }
 {
     parts.eval.depth = depth;
@@ -36,23 +42,58 @@ fn one_deeper<S: NodeStore>(parts: &mut Parts<S>, depth: Depth) -> Result<Depth,
     Ok(Depth {
         levels: depth.levels + 1,
         indirections: depth.indirections,
+        wants_value: false,
     })
 }
 
-// DO with an argument: the lines from the one that it names on. The first of them is entered, which costs a step.
+// Opens a level with the formal parameters of a line, if it has a formal list.
+fn open_with<S: NodeStore>(
+    parts: &mut Parts<S>,
+    formals: Option<Vec<(Name, Binding)>>,
+) -> Result<(), Code>
+    ensures { DoesAt S.NodeStore (λ a n. with_locals (with_formals (option_map (λ formals. bindings_of formals.items) formals))) (λ u. u) parts.old result parts.new }
+{
+    match formals {
+        None => parts.eval.open_level(),
+        Some(formals) => parts.eval.open_bound_level(formals),
+    }
+}
+
+// The formal parameters of the line that a DO names, for what its actuals hand over.
+fn formals_of_target<S: NodeStore>(
+    alloc: Global,
+    parts: &mut Parts<S>,
+    called: &Called,
+    target: &Target,
+    bindings: Vec<Binding>,
+) -> Result<Option<Vec<(Name, Binding)>>, Code>
+    requires { target.now.line < length target.now.copy.value.items }
+    ensures { DoesAt S.NodeStore (λ a n. formals_handed (target_view target.now) (called_tree called.now).1 (map binding_of bindings.items)) (option_map (λ formals. bindings_of formals.items)) parts.old result parts.new }
+{
+    let language = parts.eval.language();
+    let line = target.copy[target.line].as_bytes();
+    formals_for(alloc, language, &called.actuals, line, bindings)
+}
+
+// DO with an argument: what its actuals hand over, and then the lines from the one that it names on. The first of them is entered, which
+// costs a step.
 pub(crate) fn doing<S: NodeStore>(
     alloc: Global,
     parts: &mut Parts<S>,
     position: &Position,
-    entry: &Entry,
+    called: &Called,
     scratch: &mut Scratch,
 ) -> Result<Completion, Code>
+    requires { has_call_actuals (called_tree called.now).1 ≡ false }
     ensures falls { FallsFurther parts.old scratch.old result parts.new scratch.new }
-    ensures does { Runs S.NodeStore (λ a n. meaning.doing (context a n (position_of position.now)) (entry_tree entry.now)) (stack scratch.old.frames.items) parts.old result (stack scratch.new.frames.items) parts.new }
+    ensures does { Runs S.NodeStore (λ a n. meaning.doing (context a n (position_of position.now)) (called_tree called.now).0 (called_tree called.now).1) (stack scratch.old.frames.items) parts.old result (stack scratch.new.frames.items) parts.new }
 {
+    parts.eval.depth = position.depth;
+    let bindings = parts.handed_over(alloc, &called.actuals)?;
     let depth = one_deeper(parts, position.depth)?;
-    let target = parts.target(alloc, &position.level.copy, 0, entry)?;
-    parts.eval.open_level()?;
+    let target = parts.target(alloc, &position.level.copy, 0, &called.entry)?;
+    let formals = formals_of_target(alloc, parts, called, &target, bindings)?;
+    open_with(parts, formals)?;
     let line = target.line;
     let level = Level {
         copy: target.copy,
@@ -94,6 +135,7 @@ fn leave_text(
     line: Rc<Line>,
     scratch: &mut Scratch,
 ) -> Result<(), AllocError>
+    requires { has_call_line (line_tree line.value) ≡ false }
     ensures frames { OnOk result (stack scratch.new.frames.items ≡ Rests (text_position (depth_of depth) (position_of position.now)) (commands_from line.value 0) ∷ Levels (text_position (depth_of depth) (position_of position.now)) leaves ∷ stack scratch.old.frames.items) }
     ensures most { OnOk result (length scratch.new.frames.items ≤ length scratch.old.frames.items + 2) }
 {
@@ -115,7 +157,7 @@ fn enter_text<S: NodeStore>(
     text: &Bytes7,
     scratch: &mut Scratch,
 ) -> Result<Completion, Code>
-    requires { depth_of depth ≡ record { levels = (depth_of position.now.depth).levels + 1; indirections = (depth_of position.now.depth).indirections } }
+    requires { depth_of depth ≡ level_deeper (depth_of position.now.depth) }
     ensures falls { IfOk result (λ _. 6 * parts.new.eval.steps + length scratch.new.frames.items ≤ 6 * parts.old.eval.steps + length scratch.old.frames.items + 2) }
     ensures does { Runs S.NodeStore (λ a n. text_entered (context a (suc n) (position_of position.now)) text.now) (stack scratch.old.frames.items) parts.old result (stack scratch.new.frames.items) parts.new }
 {
@@ -134,6 +176,7 @@ pub(crate) fn executing<S: NodeStore>(
     e: &Expr,
     scratch: &mut Scratch,
 ) -> Result<Completion, Code>
+    requires { has_call (expr_tree e.now) ≡ false }
     ensures falls { FallsFurther parts.old scratch.old result parts.new scratch.new }
     ensures does { Runs S.NodeStore (λ a n. meaning.executing (context a n (position_of position.now)) (expr_tree e.now)) (stack scratch.old.frames.items) parts.old result (stack scratch.new.frames.items) parts.new }
 {

@@ -1,6 +1,9 @@
 // SPDX-License-Identifier: Apache-2.0
 // What is still to be done of a line: frames, the innermost on top.
-ghost use Rattle.std.specs.Prelude.{◌≡◌, ◌≤◌, true, IfOk};
+ghost use Rattle.std.specs.Prelude.{◌≡◌, ◌≤◌, true, false, map, IfOk};
+ghost use Rattle.std.specs.List.{list_any};
+ghost use Rattle.mgrammar.specs.CallsIn.{has_call_arg, has_call_line};
+ghost use Rattle.mtree.specs.Tree.{arg_tree, line_tree};
 ghost use Rattle.mexec.specs.Loops.{has_course};
 
 use mcommand::Course;
@@ -42,20 +45,23 @@ impl Drop for Position {
     }
 }
 
-// How a level closes: not at all, as the outermost one does; its scope goes; or its scope goes and $TEST is again what it was.
+// How a level closes: not at all, as the outermost one does; its scope goes; its scope goes and $TEST is again what it was; or, of a
+// function, that too, and there is a value.
 #[derive(Clone, Copy)]
 pub(crate) enum Closing {
     Stays,
     Leaves,
     Restores(bool),
+    Answers(bool),
 }
 
-// The rest of a line: its commands from a place on.
+// The rest of a line, in which no function is called: its commands from a place on.
 #[derive(Drop)]
 pub(crate) struct Continuation {
     pub(crate) position: Rc<Position>,
     pub(crate) line: Rc<Line>,
     pub(crate) at: usize,
+    ghost uncalled: { has_call_line (line_tree line.value) ≡ false },
 }
 
 impl Continuation {
@@ -65,10 +71,19 @@ impl Continuation {
         ensures line { IfOk result (λ rest. rest.line.value ≡ self.now.line.value) }
         ensures at { IfOk result (λ rest. rest.at ≡ self.now.at) }
     {
+        self.copy_from(self.at)
+    }
+
+    // The commands of the same line from another place on.
+    pub(crate) fn copy_from(&self, at: usize) -> Result<Continuation, AllocError>
+        ensures position { IfOk result (λ rest. rest.position.value ≡ self.now.position.value) }
+        ensures line { IfOk result (λ rest. rest.line.value ≡ self.now.line.value) }
+        ensures at { IfOk result (λ rest. rest.at ≡ at) }
+    {
         Ok(Continuation {
             position: self.position.clone()?,
             line: self.line.clone()?,
-            at: self.at,
+            at,
         })
     }
 }
@@ -89,10 +104,11 @@ impl Drop for PendingArguments {
     }
 }
 
-// Arguments that a text gave, and where they are done. Frames share them.
+// Arguments that a text gave, in which no function is called, and where they are done. Frames share them.
 pub(crate) struct IndirectArguments {
     pub(crate) position: Position,
     pub(crate) args: Vec<Arg>,
+    ghost uncalled: { list_any has_call_arg (map arg_tree args.items) ≡ false },
 }
 
 // Written out, so that dropping it is one call, which is proved once.

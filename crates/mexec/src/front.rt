@@ -1,10 +1,13 @@
 // SPDX-License-Identifier: Apache-2.0
 // The commands of a line, one after another, as far as they need no frame.
-ghost use Rattle.std.specs.Prelude.{◌≡◌, ◌<◌, [], map, IfOk};
+ghost use Rattle.std.specs.Prelude.{◌≡◌, ◌<◌, [], false, map, IfOk};
+ghost use Rattle.std.specs.List.{list_any};
+ghost use Rattle.mgrammar.specs.CallsIn.{has_call_arg, has_call_line};
 ghost use Rattle.mmeaning.specs.LineMeaning as meaning;
-ghost use Rattle.mexec.specs.Words.{DoesAt, arg_tree, command_tree, context, keyword_tree};
+ghost use Rattle.mexec.specs.Words.{DoesAt, arg_tree, command_tree, context, keyword_tree, line_tree};
 ghost use Rattle.mexec.specs.Frames.{commands_from, position_of};
 ghost use Rattle.mexec.specs.Loops.{args_before};
+ghost use Rattle.mexec.specs.Uncalled.{has_call_command};
 ghost use Rattle.mexec.specs.Fronts as fronts;
 ghost use Rattle.mexec.specs.Progress.{IfStops};
 ghost use Rattle.mexec.specs.Fronts.{StopsIn, command_started, effect_started, front_of, outcome_of, stops_at, word_started};
@@ -72,9 +75,9 @@ fn bare<'t, S: NodeStore>(
             parts.release();
             over(Ok(Completion::GoOn))
         }
-        Keyword::Halt => over(Ok(Completion::Halts)),
+        Keyword::Halt => Err(Code::Halting),
         Keyword::Hang => over(Ok(Completion::GoOn)),
-        Keyword::HaltOrHang => over(Ok(Completion::Halts)),
+        Keyword::HaltOrHang => Err(Code::Halting),
     }
 }
 
@@ -86,6 +89,7 @@ fn effect<'t, S: NodeStore>(
     keyword: Keyword,
     args: &'t [Arg],
 ) -> Result<Progress<Stop<'t>>, Code>
+    requires { list_any has_call_arg (map arg_tree args.now) ≡ false }
     ensures stops { IfOk result (λ outcome. IfStops outcome (StopsIn args.now)) }
     ensures does { DoesAt S.NodeStore (λ a n. effect_started (context a n (position_of position.now)) (keyword_tree keyword) (map arg_tree args.now)) (outcome_of args.now) parts.old result parts.new }
 {
@@ -107,6 +111,7 @@ fn command<'t, S: NodeStore>(
     position: &Position,
     command: &'t Command,
 ) -> Result<Progress<Stop<'t>>, Code>
+    requires { has_call_command (command_tree command.now) ≡ false }
     ensures stops { IfOk result (λ outcome. IfStops outcome (StopsIn command.now.args.items)) }
     ensures does { DoesAt S.NodeStore (λ a n. command_started (context a n (position_of position.now)) (command_tree command.now)) (outcome_of command.now.args.items) parts.old result parts.new }
 {
@@ -127,6 +132,7 @@ pub(crate) fn front<'t, S: NodeStore>(
     line: &'t Line,
     from: usize,
 ) -> Result<(Progress<Stop<'t>>, usize), Code>
+    requires { has_call_line (line_tree line.now) ≡ false }
     ensures spent { IfOk result (λ x. IfStops x.0 (λ _. parts.new.eval.steps < parts.old.eval.steps)) }
     ensures stops { IfOk result (λ x. IfStops x.0 (StopsIn (args_before line.now x.1))) }
     ensures does { DoesAt S.NodeStore (λ a n. fronts.front (context a n (position_of position.now)) (commands_from line.now from)) (front_of line.now) parts.old result parts.new }

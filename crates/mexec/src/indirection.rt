@@ -1,6 +1,8 @@
 // SPDX-License-Identifier: Apache-2.0
 // Argument indirection: arguments that the text of an operand's value gives.
-ghost use Rattle.std.specs.Prelude.{◌≡◌, ◌≤◌, ◌+◌, ◌∷◌, map, length, IfOk, OnOk};
+ghost use Rattle.std.specs.Prelude.{◌≡◌, ◌≤◌, ◌+◌, ◌∷◌, false, map, length, IfOk, OnOk};
+ghost use Rattle.std.specs.List.{list_any};
+ghost use Rattle.mgrammar.specs.CallsIn.{has_call_arg, has_call_primary};
 ghost use Rattle.mexec.specs.Words.{Lists, Yields, an_indirection_free, arg_tree, context, depth_of, fault_of, form_of, indirected, keyword_tree, primary_tree};
 ghost use Rattle.mmeaning.specs.LineMeaning as meaning;
 ghost use Rattle.mexec.specs.Falls.{FallsFurther};
@@ -38,7 +40,8 @@ fn leave_given(
     args: Vec<Arg>,
     scratch: &mut Scratch,
 ) -> Result<(), AllocError>
-    requires { position.now.level.dots ≤ depth.levels }
+    requires deep { position.now.level.dots ≤ depth.levels }
+    requires uncalled { list_any has_call_arg (map arg_tree args.items) ≡ false }
     ensures frames { OnOk result (stack scratch.new.frames.items ≡ Lists (so_deep (depth_of depth) (position_of position.now)) (map arg_tree args.items) ∷ stack scratch.old.frames.items) }
     ensures most { OnOk result (length scratch.new.frames.items ≤ length scratch.old.frames.items + 1) }
 {
@@ -63,6 +66,7 @@ pub(crate) fn giving<S: NodeStore>(
     operand: &Primary,
     scratch: &mut Scratch,
 ) -> Result<Completion, Code>
+    requires { has_call_primary (primary_tree operand.now) ≡ false }
     ensures falls { FallsFurther parts.old scratch.old result parts.new scratch.new }
     ensures does { Runs S.NodeStore (λ a n. meaning.given (context a n (position_of position.now)) (form_of (keyword_tree keyword)) (primary_tree operand.now)) (stack scratch.old.frames.items) parts.old result (stack scratch.new.frames.items) parts.new }
 {

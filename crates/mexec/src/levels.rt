@@ -1,16 +1,18 @@
 // SPDX-License-Identifier: Apache-2.0
 // The lines of a level, one after another, until it closes.
-ghost use Rattle.std.specs.Prelude.{◌≡◌, ◌≤◌, ◌<◌, ◌+◌, cond, Ok, Some, None, [], ◌∷◌, get_or, drop, length, IfOk, IfSome, OnOk};
+ghost use Rattle.std.specs.Prelude.{◌≡◌, ◌≤◌, ◌<◌, ◌+◌, ◌*◌, suc, false, cond, Ok, Some, None, [], ◌∷◌, get_or, drop, length, IfOk, IfSome, OnOk};
+ghost use Rattle.mgrammar.specs.CallsIn.{has_call_line};
 ghost use Rattle.mmeaning.specs.Levels as levels;
 ghost use Rattle.mmeaning.specs.LineMeaning as meaning;
 ghost use Rattle.mmeaning.specs.Frames.{frame, Levels, Rests};
 ghost use Rattle.mmeaning.specs.LineMeaning.{context, Go_on};
-ghost use Rattle.mtree.specs.Tree.{body_tree};
+ghost use Rattle.mtree.specs.Tree.{body_tree, line_tree};
 ghost use Rattle.mcommand.specs.Targets.{target_view};
 ghost use Rattle.mcommand.specs.Does.{DoesAt};
 ghost use Rattle.mexec.specs.Falls.{Falls, FallsFurther};
 ghost use Rattle.mexec.specs.Frames.{Runs, stack, completion_of, position_of, closing_of, commands_from};
-ghost use Rattle.mexec.specs.Entering.{reached as first_reached, next_reached, entering, at_next, at_target, on_body};
+ghost use Rattle.mexec.specs.Entering.{reached as first_reached, next_reached, line_then, entering, reaching, at_next, at_target, on_body};
+ghost use Rattle.mexec.specs.Uncalled.{has_call_body};
 
 use crate::completion::Completion;
 use crate::frames::{Closing, Continuation, Frame, Level, Position};
@@ -20,10 +22,20 @@ use mcommand::{Parts, Target};
 use mnodes::NodeStore;
 use mnum::Bytes7;
 use moperator::Code;
-use mparse::dots_of;
+use mparse::{dots_of, has_formal_list};
 use mtree::{Body, Line};
 use std::alloc::{AllocError, Global};
 use std::rc::Rc;
+
+// Whether a value is wanted of a level that closes so.
+fn wants_value(closing: Closing) -> bool
+    ensures { result ≡ levels.wants (closing_of closing) }
+{
+    match closing {
+        Closing::Answers(_) => true,
+        _ => false,
+    }
+}
 
 // Closes a level.
 fn close<S: NodeStore>(parts: &mut Parts<S>, closing: Closing)
@@ -32,23 +44,36 @@ fn close<S: NodeStore>(parts: &mut Parts<S>, closing: Closing)
     match closing {
         Closing::Stays => {}
         Closing::Leaves => parts.eval.close_level(),
-        Closing::Restores(test) => {
+        Closing::Restores(test) | Closing::Answers(test) => {
             parts.eval.close_level();
             parts.eval.set_test(test);
         }
     }
 }
 
-// Closes a level that is done; what is below goes on with this completion.
-fn ended<S: NodeStore>(
+// Closes a level that is done; what is below goes on with this completion. A value is wanted of a function's level alone, which cannot
+// do without.
+fn closed<S: NodeStore>(
     parts: &mut Parts<S>,
     closing: Closing,
     completion: Completion,
 ) -> Result<Completion, Code>
     ensures { DoesAt S.NodeStore (λ a n. meaning.closed (closing_of closing) (completion_of completion)) completion_of parts.old result parts.new }
 {
-    close(parts, closing);
-    Ok(completion)
+    match completion {
+        Completion::Returns(value) => if wants_value(closing) {
+            close(parts, closing);
+            Ok(Completion::Returns(value))
+        } else {
+            Err(Code::M16)
+        },
+        other => if wants_value(closing) {
+            Err(Code::M17)
+        } else {
+            close(parts, closing);
+            Ok(other)
+        },
+    }
 }
 
 // A place, if this is so.
@@ -69,9 +94,10 @@ fn reached<S: NodeStore>(
     ensures within { IfOk result (λ found. IfSome found (λ at. at < length lines.now)) }
     ensures does { DoesAt S.NodeStore (λ a n. first_reached dots from (drop from lines.now)) (λ found. found) parts.old result parts.new }
 {
+    let language = parts.eval.language();
     let mut at = from;
     while at < lines.len() {
-        let line_dots = dots_of(lines[at].as_bytes());
+        let line_dots = dots_of(language, lines[at].as_bytes());
         if line_dots <= dots {
             return Ok(place_where(line_dots == dots, at));
         }
@@ -113,6 +139,7 @@ pub(crate) fn leave_commands(
     line: Rc<Line>,
     scratch: &mut Scratch,
 ) -> Result<(), AllocError>
+    requires { has_call_line (line_tree line.value) ≡ false }
     ensures frames { OnOk result (stack scratch.new.frames.items ≡ Rests (position_of position.value) (commands_from line.value 0) ∷ Levels (position_of position.value) (closing_of closing) ∷ stack scratch.old.frames.items) }
     ensures most { OnOk result (length scratch.new.frames.items ≤ length scratch.old.frames.items + 2) }
 {
@@ -135,6 +162,7 @@ fn enter_body(
     body: &Body,
     scratch: &mut Scratch,
 ) -> Result<(), AllocError>
+    requires { has_call_body (body_tree body.now) ≡ false }
     ensures frames { OnOk result (stack scratch.new.frames.items ≡ on_body (at_next (position_of position.now) next) (closing_of closing) (body_tree body.now) (stack scratch.old.frames.items)) }
     ensures most { OnOk result (length scratch.new.frames.items ≤ length scratch.old.frames.items + 2) }
 {
@@ -151,7 +179,27 @@ fn enter_body(
     }
 }
 
-// Enters a line of a level, which costs a step. It is read when it is reached.
+// Enters a line of a level, whose step is spent. It is read when it is reached.
+fn read_and_enter<S: NodeStore>(
+    alloc: Global,
+    parts: &mut Parts<S>,
+    position: &Position,
+    closing: Closing,
+    at: usize,
+    scratch: &mut Scratch,
+) -> Result<Completion, Code>
+    requires { at < length position.now.level.copy.value.items }
+    ensures falls { IfOk result (λ _. 6 * parts.new.eval.steps + length scratch.new.frames.items ≤ 6 * parts.old.eval.steps + length scratch.old.frames.items + 2) }
+    ensures does { Runs S.NodeStore (λ a n. line_then (context a (suc n) (position_of position.now)) (closing_of closing) at (get_or position.now.level.copy.value.items at [])) (stack scratch.old.frames.items) parts.old result (stack scratch.new.frames.items) parts.new }
+{
+    let text = position.level.copy[at].as_bytes();
+    let language = parts.eval.language();
+    let line = read_routine_line(alloc, &mut scratch.trees, language, text)?;
+    enter_body(alloc, position, at + 1, closing, &line.body, scratch)?;
+    Ok(Completion::GoOn)
+}
+
+// Enters the line that a DO names, which costs a step.
 pub(crate) fn enter_line<S: NodeStore>(
     alloc: Global,
     parts: &mut Parts<S>,
@@ -165,11 +213,27 @@ pub(crate) fn enter_line<S: NodeStore>(
     ensures does { Runs S.NodeStore (λ a n. entering (context a n (position_of position.now)) (closing_of closing) at (get_or position.now.level.copy.value.items at [])) (stack scratch.old.frames.items) parts.old result (stack scratch.new.frames.items) parts.new }
 {
     parts.eval.charge()?;
-    let text = position.level.copy[at].as_bytes();
-    let language = parts.eval.language();
-    let line = read_routine_line(alloc, &mut scratch.trees, language, text)?;
-    enter_body(alloc, position, at + 1, closing, &line.body, scratch)?;
-    Ok(Completion::GoOn)
+    read_and_enter(alloc, parts, position, closing, at, scratch)
+}
+
+// Enters a line that no DO names, which costs a step. It has no formal list.
+fn reach_line<S: NodeStore>(
+    alloc: Global,
+    parts: &mut Parts<S>,
+    position: &Position,
+    closing: Closing,
+    at: usize,
+    scratch: &mut Scratch,
+) -> Result<Completion, Code>
+    requires { at < length position.now.level.copy.value.items }
+    ensures falls { FallsFurther parts.old scratch.old result parts.new scratch.new }
+    ensures does { Runs S.NodeStore (λ a n. reaching (context a n (position_of position.now)) (closing_of closing) at (get_or position.now.level.copy.value.items at [])) (stack scratch.old.frames.items) parts.old result (stack scratch.new.frames.items) parts.new }
+{
+    parts.eval.charge()?;
+    if has_formal_list(parts.eval.language(), position.level.copy[at].as_bytes()) {
+        return Err(Code::M11);
+    }
+    read_and_enter(alloc, parts, position, closing, at, scratch)
 }
 
 // Goes to the line that comes next in a level, or closes it.
@@ -184,8 +248,8 @@ pub(crate) fn lines_next<S: NodeStore>(
     ensures does { Runs S.NodeStore (λ a n. frame a n (Levels (position_of position.now) (closing_of closing)) Go_on) (stack scratch.old.frames.items) parts.old result (stack scratch.new.frames.items) parts.new }
 {
     match next_line(parts, &position.level)? {
-        None => ended(parts, closing, Completion::GoOn),
-        Some(at) => enter_line(alloc, parts, position, closing, at, scratch),
+        None => closed(parts, closing, Completion::GoOn),
+        Some(at) => reach_line(alloc, parts, position, closing, at, scratch),
     }
 }
 
@@ -227,8 +291,8 @@ pub(crate) fn after_level<S: NodeStore>(
     match completion {
         Completion::GoOn => lines_next(alloc, parts, position, closing, scratch),
         Completion::Skips => lines_next(alloc, parts, position, closing, scratch),
-        Completion::Quits => ended(parts, closing, Completion::GoOn),
+        Completion::Quits => closed(parts, closing, Completion::GoOn),
         Completion::Goes(target) => go_to(alloc, parts, position, closing, target, scratch),
-        Completion::Halts => ended(parts, closing, Completion::Halts),
+        Completion::Returns(value) => closed(parts, closing, Completion::Returns(value)),
     }
 }

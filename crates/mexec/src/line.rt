@@ -1,6 +1,7 @@
 // SPDX-License-Identifier: Apache-2.0
 // A line, from its first command to its end.
-ghost use Rattle.std.specs.Prelude.{◌≡◌, [], ◌∷◌, IfOk, OnOk};
+ghost use Rattle.std.specs.Prelude.{◌≡◌, [], ◌∷◌, false, IfOk, OnOk};
+ghost use Rattle.mgrammar.specs.CallsIn.{has_call_line};
 ghost use Rattle.mexec.specs.Words.{DoesAt, Levels, commands_of, frame, line_tree, stays};
 ghost use Rattle.mmeaning.specs.LineMeaning as meaning;
 ghost use Rattle.mexec.specs.Falls.{Falls};
@@ -57,6 +58,7 @@ fn run_frame<S: NodeStore>(
 
 // Begins a line: nothing but its level is put on the frames, and all its commands are still left.
 fn begin(line: Rc<Line>, scratch: &mut Scratch) -> Result<Continuation, AllocError>
+    requires { has_call_line (line_tree line.value) ≡ false }
     ensures frames { OnOk result (stack scratch.new.frames.items ≡ Levels meaning.top_level stays ∷ []) }
     ensures position { IfOk result (λ rest. position_of rest.position.value ≡ meaning.top_level) }
     ensures line { IfOk result (λ rest. rest.line.value ≡ line.value) }
@@ -73,13 +75,14 @@ fn begin(line: Rc<Line>, scratch: &mut Scratch) -> Result<Continuation, AllocErr
     })
 }
 
-// A line, from its first command to its end.
+// A line in which no function is called, from its first command to its end.
 pub(crate) fn run_line<S: NodeStore>(
     alloc: Global,
     parts: &mut Parts<S>,
     line: Rc<Line>,
     scratch: &mut Scratch,
 ) -> Result<Completion, Code>
+    requires { has_call_line (line_tree line.value) ≡ false }
     ensures { DoesAt S.NodeStore (λ a n. meaning.run_within a n (commands_of (line_tree line.value))) completion_of parts.old result parts.new }
 {
     let first = begin(line, scratch)?;

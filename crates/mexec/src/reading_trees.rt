@@ -1,6 +1,9 @@
 // SPDX-License-Identifier: Apache-2.0
-// Texts by their trees, in a language.
-ghost use Rattle.std.specs.Prelude.{map};
+// Texts by their trees, in a language. Those of the first two call no function.
+ghost use Rattle.std.specs.Prelude.{◌≡◌, ◌≤◌, false, map, IfOk};
+ghost use Rattle.std.specs.List.{list_any};
+ghost use Rattle.mgrammar.specs.CallsIn.{has_call_arg, has_call_line};
+ghost use Rattle.mexec.specs.Uncalled.{has_call_body};
 ghost use Rattle.mexec.specs.Words.{Yields, Zsyntax, arg_tree, args_in, fault_of, form_of, give_some, keyword_tree, line_in, line_tree, routine_line_in, routine_line_tree};
 
 use mcache::Trees;
@@ -17,7 +20,9 @@ pub(crate) fn read_line(
     language: u32,
     text: &[u8],
 ) -> Result<Rc<Line>, Code>
-    ensures { Yields fault_of (give_some Zsyntax (line_in language text.now)) (λ line. line_tree line.value) result }
+    requires { language ≤ 1 }
+    ensures uncalled { IfOk result (λ line. has_call_line (line_tree line.value) ≡ false) }
+    ensures does { Yields fault_of (give_some Zsyntax (line_in language text.now)) (λ line. line_tree line.value) result }
 {
     match trees.line(alloc, language, text) {
         Ok(line) => Ok(line),
@@ -33,7 +38,9 @@ pub(crate) fn read_routine_line(
     language: u32,
     text: &[u8],
 ) -> Result<Rc<RoutineLine>, Code>
-    ensures { Yields fault_of (give_some Zsyntax (routine_line_in language text.now)) (λ line. routine_line_tree line.value) result }
+    requires { language ≤ 1 }
+    ensures uncalled { IfOk result (λ line. has_call_body (routine_line_tree line.value).body ≡ false) }
+    ensures does { Yields fault_of (give_some Zsyntax (routine_line_in language text.now)) (λ line. routine_line_tree line.value) result }
 {
     match trees.routine_line(alloc, language, text) {
         Ok(line) => Ok(line),
@@ -50,7 +57,9 @@ pub(crate) fn read_arguments(
     keyword: Keyword,
     text: &[u8],
 ) -> Result<Vec<Arg>, Code>
-    ensures { Yields fault_of (give_some Zsyntax (args_in (form_of (keyword_tree keyword)) language text.now)) (λ args. map arg_tree args.items) result }
+    requires { language ≤ 1 }
+    ensures uncalled { IfOk result (λ args. list_any has_call_arg (map arg_tree args.items) ≡ false) }
+    ensures does { Yields fault_of (give_some Zsyntax (args_in (form_of (keyword_tree keyword)) language text.now)) (λ args. map arg_tree args.items) result }
 {
     match parse_args(alloc, keyword, text) {
         Ok(args) => if since_args(&args) > language {

@@ -1,14 +1,11 @@
 // SPDX-License-Identifier: Apache-2.0
 // A text, carried out.
 ghost use Rattle.std.specs.Prelude.{◌≡◌, ◌≢◌, IsTrue};
-ghost use Rattle.mmeaning.specs.Transition as meaning;
 ghost use Rattle.mgrammar.specs.Languages.{line_in};
 ghost use Rattle.meval.specs.Evaluates.{standing_of};
 ghost use Rattle.moperator.specs.declared.code.Code.TheVariants.{Zstore};
-ghost use Rattle.mexec.specs.Frames.{completion_of};
-ghost use Rattle.mexec.specs.Runs.{RunsText, ending_of};
+ghost use Rattle.mexec.specs.Runs.{RunsText, ended_by};
 
-use crate::completion::Completion;
 use crate::line::run_line;
 use crate::scratch::Scratch;
 use mcommand::Parts;
@@ -28,13 +25,13 @@ pub enum Ended {
     Fault(Code),
 }
 
-// How a line that gives a completion ends.
-fn ending(completion: Completion) -> Ended
-    ensures { ending_of result ≡ meaning.ending_of (completion_of completion) }
+// How a line that fails with a code ends: HALT is one that no reply shows.
+fn ending(code: Code) -> Ended
+    ensures { result ≡ ended_by code }
 {
-    match completion {
-        Completion::Halts => Ended::Halt,
-        _ => Ended::Done,
+    match code {
+        Code::Halting => Ended::Halt,
+        _ => Ended::Fault(code),
     }
 }
 
@@ -55,8 +52,8 @@ pub fn run_text<S: NodeStore>(
         Err(ParseFault::Syntax) => Ended::Fault(Code::Zsyntax),
         Err(ParseFault::Memory) => Ended::Fault(Code::Zmem),
         Ok(line) => match run_line(alloc, parts, line, scratch) {
-            Err(code) => Ended::Fault(code),
-            Ok(completion) => ending(completion),
+            Err(code) => ending(code),
+            Ok(_) => Ended::Done,
         },
     }
 }

@@ -40,6 +40,7 @@ impl TopLevel {
         let depth = Depth {
             levels: 0,
             indirections: 0,
+            wants_value: false,
         };
         let level = Level {
             copy: Rc::new(alloc, Vec::new(alloc))?,

@@ -7,6 +7,8 @@ ghost use Rattle.mtree.specs.Tree.{parameter_tree};
 ghost use Rattle.mcommand.specs.Does.{DoesAt};
 ghost use Rattle.mcommand.specs.ForParameters.{course_view, advanced};
 ghost use Rattle.mmeaning.specs.Frames.{Turns};
+ghost use Rattle.mmeaning.specs.Yields.{Yields};
+ghost use Rattle.moperator.specs.Codes.{fault_of};
 ghost use Rattle.mexec.specs.Fronts as fronts;
 ghost use Rattle.mexec.specs.Falls.{Falls};
 ghost use Rattle.mexec.specs.Frames.{Runs, commands_from, turning, stack, completion_of, position_of};
@@ -14,7 +16,7 @@ ghost use Rattle.mexec.specs.Loops.{has_index, loop_before as the_loop_before};
 
 use crate::completion::{Completion, Progress};
 use crate::continuation::go_on;
-use crate::frames::{Continuation, ForLoop, Frame};
+use crate::frames::{ForLoop, Frame};
 use crate::front::front;
 use crate::scratch::Scratch;
 use crate::source::args_before;
@@ -117,16 +119,17 @@ fn goes_on<S: NodeStore>(parts: &mut Parts<S>, turns: &ForLoop) -> Result<bool, 
     }
 }
 
-// What a turn ends its FOR with, unless the FOR goes on with its course: QUIT ends it, and the rest of its line was its body.
-fn turn_ends(completion: Completion) -> Option<Completion>
-    ensures { option_map completion_of result ≡ fronts.turn_ends (completion_of completion) }
+// What a turn ends its FOR with, unless the FOR goes on with its course: QUIT ends it, and the rest of its line was its body. No value is
+// wanted of a turn.
+fn turn_ends(completion: Completion) -> Result<Option<Completion>, Code>
+    ensures { Yields fault_of (fronts.turn_ends (completion_of completion)) (option_map completion_of) result }
 {
     match completion {
-        Completion::GoOn => None,
-        Completion::Skips => None,
-        Completion::Quits => Some(Completion::Skips),
-        Completion::Goes(target) => Some(Completion::Goes(target)),
-        Completion::Halts => Some(Completion::Halts),
+        Completion::GoOn => Ok(None),
+        Completion::Skips => Ok(None),
+        Completion::Quits => Ok(Some(Completion::Skips)),
+        Completion::Goes(target) => Ok(Some(Completion::Goes(target))),
+        Completion::Returns(_) => Err(Code::M16),
     }
 }
 
@@ -158,12 +161,12 @@ fn after_course<S: NodeStore>(
         parts.eval.charge()?;
         let (outcome, at) = front(alloc, parts, &body.position, &body.line, body.at)?;
         match outcome {
-            Progress::Over(completion) => match turn_ends(completion) {
+            Progress::Over(completion) => match turn_ends(completion)? {
                 None => {}
                 Some(completion) => return Ok(completion),
             },
             Progress::Stops(stop) => {
-                let behind = Continuation { at, ..body.copy()? };
+                let behind = body.copy_from(at)?;
                 leave_turns(turns, scratch)?;
                 return go_on(alloc, parts, stop, &behind, scratch);
             }
@@ -182,7 +185,7 @@ pub(crate) fn after_turn<S: NodeStore>(
     ensures falls { Falls parts.old scratch.old result parts.new scratch.new }
     ensures does { Runs S.NodeStore (λ a n. meaning.after_turn (context a n (position_of turns.value.body.position.value)) (turning turns.value) (completion_of completion)) (stack scratch.old.frames.items) parts.old result (stack scratch.new.frames.items) parts.new }
 {
-    match turn_ends(completion) {
+    match turn_ends(completion)? {
         None => after_course(alloc, parts, turns, scratch),
         Some(completion) => Ok(completion),
     }

@@ -23,7 +23,7 @@ pub fn push_ending(out: &mut Vec<u8>, ending: Ended) -> Result<(), AllocError>
     Ok(())
 }
 
-// A code as a reply shows it.
+// A code as a reply shows it; none shows that of HALT.
 fn code_name(code: Code) -> &'static [u8]
     ensures { result.now ≡ fault_text (fault_of code) }
 {
@@ -35,9 +35,14 @@ fn code_name(code: Code) -> &'static [u8]
         Code::M7 => b"M7",
         Code::M9 => b"M9",
         Code::M10 => b"M10",
+        Code::M11 => b"M11",
         Code::M13 => b"M13",
         Code::M15 => b"M15",
+        Code::M16 => b"M16",
+        Code::M17 => b"M17",
+        Code::M20 => b"M20",
         Code::M28 => b"M28",
+        Code::M58 => b"M58",
         Code::M94 => b"M94",
         Code::Zlong => b"ZLONG",
         Code::Zsyntax => b"ZSYNTAX",
@@ -54,5 +59,6 @@ fn code_name(code: Code) -> &'static [u8]
         Code::Zterm => b"ZTERM",
         Code::Zmem => b"ZMEM",
         Code::Zstore => b"ZSTORE",
+        Code::Halting => b"",
     }
 }

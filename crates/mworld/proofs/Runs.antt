@@ -1,6 +1,6 @@
 -- SPDX-License-Identifier: Apache-2.0
 -- A line's transition, from the run of its text.
-use Rattle.mworld.proofs.WorldWords.{DoubtsOver, Doubts-same, is_kept_by, ◌≡◌, ℕ, [], true, false, Vec, Global, refl, sym, ap, subst, ◌∙◌, nat_cmp, FinMap, get, insert, remove, Own, Lost, Memory, Store, Settings, name_at, steps_at, Act, State, Gives, Fails, level_begun, Shared, Event, World, Transition, FailedTransition, lost, TransitionBy, normal, begun, kept, ended, settled, session_or_new, text_run, is_failure, is_lost, Ending, Finished, Halted, Faulted, act, AreFit, fault_of, Code, Session, session_of, RunsText, EndsBy, GaveEnding, ending_of, reply_of, shared, Passes, cursor_of}
+use Rattle.mworld.proofs.WorldWords.{DoubtsOver, Doubts-same, is_kept_by, ◌≡◌, ℕ, [], true, false, Vec, Global, refl, sym, ap, subst, ◌∙◌, nat_cmp, FinMap, get, insert, remove, Own, Lost, Memory, Store, Settings, name_at, steps_at, Act, State, Gives, Fails, level_begun, Shared, Event, World, Transition, FailedTransition, lost, TransitionBy, normal, begun, kept, ended, settled, session_or_new, text_run, is_failure, is_lost, Ending, Finished, Halted, Faulted, act, AreFit, fault_of, Code, Session, session_of, RunsText, EndsBy, is_halt, ending_of, reply_of, shared, Passes, cursor_of, Bool, cond}
 use Rattle.mspec.specs.Code as spec
 use Rattle.mspec.specs.Plan.{perform, cut_short}
 use Rattle.mspec.specs.LockConflict.{Locks, released}
@@ -10,7 +10,7 @@ use Rattle.mgrammar.specs.Languages.{line_in}
 use Rattle.mmeaning.specs.LineMeaning.{Completion}
 use Rattle.mmeaning.specs.Transition as transition
 use Rattle.mmeaning.specs.Transition.{Account}
-use Rattle.mmeaning.specs.Calls.{Standing, Here, IsCut, FailedBy, ops_of, point}
+use Rattle.mmeaning.specs.Calls.{Standing, Here, Gave, IsCut, FailedBy, ops_of, point}
 use Rattle.mspec.proofs.Plans.{cut_whole}
 use Rattle.mmeaning.specs.TransitionLaws.{PlanKeepsOthersLocks}
 use Rattle.misolation.specs.PlanLaws.{Actor, KeepsFit}
@@ -30,24 +30,34 @@ use Rattle.mworld.proofs.Checks.{let_through}
 
 -- ---- a run that is not lost
 
--- a completion that ends a line so
-gave_by : (b : Standing) (terminal : ℕ) (world : World) (p : Act Completion) (h : Here) (ending : Ending) (h' : Here) → GaveEnding b p h ending h'
-    → ended terminal world (perform (ops_of b) (p h.0) h.1) ≡ (record { out = h'.0.out; ending = ending }, settled terminal world ending h'.0 h'.1)
-gave_by b terminal world p h ending h' d =
-    let gave : perform (ops_of b) (p h.0) h.1 ≡ (Gives d.0 h'.0, h'.1) = d.2 in
-    ap (ended terminal world) gave ∙ ap (λ (x : Ending). (record { out = h'.0.out; ending = x }, settled terminal world x h'.0 h'.1)) d.1
+-- a completion ends a line
+gave_by : (b : Standing) (terminal : ℕ) (world : World) (p : Act Completion) (h : Here) (h' : Here) → (s : Completion) × Gave b p h s h'
+    → ended terminal world (perform (ops_of b) (p h.0) h.1) ≡ (record { out = h'.0.out; ending = Finished }, settled terminal world Finished h'.0 h'.1)
+gave_by b terminal world p h h' d =
+    let gave : perform (ops_of b) (p h.0) h.1 ≡ (Gives d.0 h'.0, h'.1) = d.1 in
+    ap (ended terminal world) gave
 
--- a fault that is no loss is the line's own code
-failed_by : (b : Standing) (steady : Type 0) (terminal : ℕ) (world : World) (p : Act Completion) (h : Here) (fault : spec.Fault) (h' : Here) → FailedBy b steady p h fault h' → is_lost fault ≡ false
+-- so does the code of HALT
+halted_by : (b : Standing) (steady : Type 0) (terminal : ℕ) (world : World) (p : Act Completion) (h : Here) (h' : Here) → FailedBy b steady p h (Own spec.Halting) h'
+    → ended terminal world (perform (ops_of b) (p h.0) h.1) ≡ (record { out = h'.0.out; ending = Halted }, settled terminal world Halted h'.0 h'.1)
+halted_by b steady terminal world p h h' d =
+    let failed : perform (ops_of b) (p h.0) h.1 ≡ (Fails spec.Halting h'.0, h'.1) = d in
+    ap (ended terminal world) failed
+
+-- a fault that is neither that nor a loss is the line's own code
+failed_by : (b : Standing) (steady : Type 0) (terminal : ℕ) (world : World) (p : Act Completion) (h : Here) (fault : spec.Fault) (h' : Here) → FailedBy b steady p h fault h' → is_halt fault ≡ false → is_lost fault ≡ false
     → ended terminal world (perform (ops_of b) (p h.0) h.1) ≡ (record { out = h'.0.out; ending = Faulted fault }, settled terminal world (Faulted fault) h'.0 h'.1)
-failed_by b steady terminal world p h (Own c) h' d fine = let failed : perform (ops_of b) (p h.0) h.1 ≡ (Fails c h'.0, h'.1) = d in ap (ended terminal world) failed
-failed_by b steady terminal world p h (Lost loss) h' d fine = cc
+failed_by b steady terminal world p h (Own c) h' d shown fine =
+    let failed : perform (ops_of b) (p h.0) h.1 ≡ (Fails c h'.0, h'.1) = d in
+    let ends : Bool → Ending = λ halts. cond halts Halted (Faulted (Own c)) in
+    ap (ended terminal world) failed ∙ ap (λ halts. (record { out = h'.0.out; ending = ends halts }, settled terminal world (ends halts) h'.0 h'.1)) shown
+failed_by b steady terminal world p h (Lost loss) h' d shown fine = cc
 
 ended_by : (b : Standing) (steady : Type 0) (terminal : ℕ) (world : World) (p : Act Completion) (h : Here) (ending : Ended) (h' : Here) → EndsBy b steady p h ending h' → is_failure (ending_of ending) ≡ false
     → ended terminal world (perform (ops_of b) (p h.0) h.1) ≡ (record { out = h'.0.out; ending = ending_of ending }, settled terminal world (ending_of ending) h'.0 h'.1)
-ended_by b steady terminal world p h Done h' d fine = gave_by b terminal world p h Finished h' d
-ended_by b steady terminal world p h Halt h' d fine = gave_by b terminal world p h Halted h' d
-ended_by b steady terminal world p h (Fault c) h' d fine = failed_by b steady terminal world p h (fault_of c) h' d fine
+ended_by b steady terminal world p h Done h' d fine = gave_by b terminal world p h h' d
+ended_by b steady terminal world p h Halt h' d fine = halted_by b steady terminal world p h h' d
+ended_by b steady terminal world p h (Fault c) h' d fine = failed_by b steady terminal world p h (fault_of c) h' d.1 d.0 fine
 
 -- ---- a run that is lost
 
@@ -65,9 +75,9 @@ is_cut_by b steady p h (Lost Memory) h' d = d
 is_cut_by b steady p h (Lost Store) h' d = d.1
 
 is_cut : (b : Standing) (steady : Type 0) (p : Act Completion) (h : Here) (ending : Ended) (h' : Here) → EndsBy b steady p h ending h' → IsCut b p h h'
-is_cut b steady p h Done h' d = cut_all b p h d.0 h' d.2
-is_cut b steady p h Halt h' d = cut_all b p h d.0 h' d.2
-is_cut b steady p h (Fault c) h' d = is_cut_by b steady p h (fault_of c) h' d
+is_cut b steady p h Done h' d = cut_all b p h d.0 h' d.1
+is_cut b steady p h Halt h' d = is_cut_by b steady p h (Own spec.Halting) h' d
+is_cut b steady p h (Fault c) h' d = is_cut_by b steady p h (fault_of c) h' d.1
 
 -- ---- steps
 
@@ -186,7 +196,7 @@ not_run {g = g} {settings = settings} {terminal = terminal} {place = place} {tex
       subst (λ (ending : Ended). EndsBy (standing_at settings terminal place) (IsSteady g store') (text_run (name_at settings place) (line_in (language_at settings place) text))
       (point (level_begun session.locals) session.naked session.test (cursor_of session.cursor) [] (steps_at settings place) (given_at settings terminal place) (shared g store locks)) ending
       (point session'.locals session'.naked session'.test (cursor_of session'.cursor) reply.out.items 0 (given_at settings terminal place) (shared g store' locks')))
-      (sym is) (0, λ i. shared g (sym same i) (sym unlocked i));
+      (sym is) (refl, (0, λ i. shared g (sym same i) (sym unlocked i)));
 }
 
 -- what a line leaves that is not lost and does not halt

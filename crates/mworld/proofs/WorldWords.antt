@@ -11,7 +11,7 @@ pub use Rattle.mworld.proofs.Doubted.{Doubts-on}
 pub use Rattle.mnodes.proofs.Doubting.{Doubts-same, Doubts-then, undoubted}
 pub use Rattle.mnodes.specs.Doubt.{Doubts}
 pub use Rattle.mnodes.specs.Over.{DoubtsOver}
-pub use Rattle.mexec.specs.Runs.{is_kept_by, EndsBy, GaveEnding, RunsText, ending_of}
+pub use Rattle.mexec.specs.Runs.{is_kept_by, EndsBy, RunsText, ending_of, is_halt}
 pub use Rattle.misolation.proofs.RunsTold.{equally_told, history_on, tells_on, told_apart}
 pub use Rattle.misolation.specs.Cut.{AreFit, is_inside, is_member, part}
 pub use Rattle.misolation.specs.Telling.{Tells, Told, told_by, told_to}

@@ -58,6 +58,7 @@ pub(crate) fn run_over<S: NodeStore>(
             depth: Depth {
                 levels: 0,
                 indirections: 0,
+                wants_value: false,
             },
         },
         locks,

@@ -22,3 +22,12 @@ returns-in-Indirect-clause-does g c =
     let s = c.args.source in
     let does = rw (c.position-position.ensures, c.in_ok-leave.ensures.frames) at c.giving.ensures.does in
     rw c.in-Indirect.is (runs_listing (position_of (source_position s)) (map arg_tree (drop c.args.argument (source_args s))) does)
+
+pub doing-requires : goal.doing-requires
+doing-requires g c = rw c.in-Lines.is at c.requires
+
+pub executing-requires : goal.executing-requires
+executing-requires g c = rw c.in-Text.is at c.requires
+
+pub giving-requires : goal.giving-requires
+giving-requires g c = rw c.in-Indirect.is at c.requires

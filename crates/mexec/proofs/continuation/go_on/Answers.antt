@@ -40,3 +40,6 @@ pub returns-in-Block-clause-does : goal.returns-in-Block-clause-does
 returns-in-Block-clause-does g c =
     let does = rw (c.in_ok-leave.ensures.frames, c.deref.ensures) at c.doing_block.ensures.does in
     rw c.in-Block.is (runs_resting (position_of c.args.behind.now.position.value) (rest_tree c.args.behind.now) does)
+
+pub enter_argument-requires : goal.enter_argument-requires
+enter_argument-requires g c = rw c.in-Argument.is at c.requires

@@ -14,16 +14,16 @@ returns-in-Over-clause-does g c =
     let does = rw (c.deref.ensures, c.deref-2.ensures, c.in-Over.is) at c.in_ok-outcome.ensures.does in
     front_runs (position_of r.position.value) r.line.value r.at does (runs_completion c.in-Over.completion)
 
-pub returns-in_err-copy-in-Stops-clause-does : goal.returns-in_err-copy-in-Stops-clause-does
-returns-in_err-copy-in-Stops-clause-does g c =
+pub returns-in_err-behind-in-Stops-clause-does : goal.returns-in_err-behind-in-Stops-clause-does
+returns-in_err-behind-in-Stops-clause-does g c =
     let r = c.args.rest in
     let does = rw (c.deref.ensures, c.deref-2.ensures) at c.in_ok-outcome.ensures.does in
-    front_runs (position_of r.position.value) r.line.value r.at does (runs_wanting _ _ c.from_residual-in_err-copy-in-Stops.ensures)
+    front_runs (position_of r.position.value) r.line.value r.at does (runs_wanting _ _ c.from_residual-in_err-behind-in-Stops.ensures)
 
 pub go_on-requires : goal.go_on-requires
 go_on-requires g c =
     let stops = rw (c.deref-2.ensures, c.in-Stops.is) at c.in_ok-outcome.ensures.stops in
-    rw c.in_ok-copy-in-Stops.ensures.line stops
+    rw (c.in_ok-behind-in-Stops.ensures.line, c.in_ok-behind-in-Stops.ensures.at) stops
 
 pub returns-clause-falls : goal.returns-clause-falls
 returns-clause-falls g c =
@@ -34,5 +34,8 @@ pub returns-clause-does : goal.returns-clause-does
 returns-clause-does g c =
     let r = c.args.rest in
     let does = rw (c.deref.ensures, c.deref-2.ensures, c.in-Stops.is) at c.in_ok-outcome.ensures.does in
-    let goes = rw (c.in_ok-copy-in-Stops.ensures.position, c.in_ok-copy-in-Stops.ensures.line) at c.go_on.ensures.does in
+    let goes = rw (c.in_ok-behind-in-Stops.ensures.position, c.in_ok-behind-in-Stops.ensures.line, c.in_ok-behind-in-Stops.ensures.at) at c.go_on.ensures.does in
     front_runs (position_of r.position.value) r.line.value r.at does goes
+
+pub front-requires : goal.front-requires
+front-requires g c = rw c.deref-2.ensures c.args.rest.uncalled

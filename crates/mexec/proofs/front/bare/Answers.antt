@@ -1,5 +1,5 @@
 -- SPDX-License-Identifier: Apache-2.0
-use Rattle.mexec.proofs.ExecLaws.{Ok, [], not, refl, give, ask, with_locals, killed_except, newed_except, at_evaluated, does_evaluated, completion_of, stops, at_turns, at_block, outcome_of, stop_of, at_then, at_gives, goes_on, gives_over}
+use Rattle.mexec.proofs.ExecLaws.{Ok, [], not, refl, ask, with_locals, killed_except, newed_except, at_evaluated, does_evaluated, completion_of, stops, at_turns, at_block, outcome_of, stop_of, at_then, at_gives, goes_on, gives_over, give, over, at_failed, at_yielded}
 use Rattle.mspec.specs.Plan.{Release}
 use Rattle.mmeaning.specs.LineMeaning as meaning
 use Rattle.mexec.specs.declared.completion.Completion.TheVariants as completion
@@ -28,3 +28,9 @@ returns-in-Else-clause-does g c p =
 
 pub returns-in-Lock-clause-does : goal.returns-in-Lock-clause-does
 returns-in-Lock-clause-does g c p = rw (c.in-Lock.is, c.over-in-Lock.ensures) (gives_over (stop_of []) (Ok completion.GoOn) (goes_on (λ i. ask Release) c.args.parts.now.eval.depth (Ok tt) c.release.ensures.does))
+
+pub returns-in-Halt-clause-does : goal.returns-in-Halt-clause-does
+returns-in-Halt-clause-does g c p = rw c.in-Halt.is (at_failed (λ a n s. give (over s)) {f = completion_of} (at_yielded (record { ends = λ s. refl })))
+
+pub returns-in-HaltOrHang-clause-does : goal.returns-in-HaltOrHang-clause-does
+returns-in-HaltOrHang-clause-does g c p = rw c.in-HaltOrHang.is (at_failed (λ a n s. give (over s)) {f = completion_of} (at_yielded (record { ends = λ s. refl })))

@@ -35,13 +35,13 @@ returns-in-Loop-clause-does g c =
     rw some.1 (at_gives (stops (at_loop c.in-Loop.index (map parameter_tree c.in-Loop.parameters.items))) _ _ (ap (λ ps. stops (at_loop c.in-Loop.index (map parameter_tree ps))) c.as_slice.ensures.value))
 
 pub returns-in_default-clause-stops : goal.returns-in_default-clause-stops
-returns-in_default-clause-stops g c = rw c.stopped.ensures (begun_stops c.args.args.now c.arguments_begun.result)
+returns-in_default-clause-stops g c = rw c.stopped.ensures (begun_stops c.args.args.now c.arguments_begun.result c.arguments_begun.ensures.enters)
 
 pub returns-in_default-clause-does : goal.returns-in_default-clause-does
 returns-in_default-clause-does g c =
     let first = rw c.in-Some.is at c.first.ensures.value in
     let some = first_some c.args.args.now c.in-Some.first.now (sym first) in
-    let does = rw some.1 at c.arguments_begun.ensures in
+    let does = rw some.1 at c.arguments_begun.ensures.does in
     rw (c.stopped.ensures, some.1)
     (at_as (λ a n. other_started (context a n (position_of c.args.position.now)) (keyword_tree c.args.keyword) c.in-Some.first.now (map arg_tree some.0) c.in_default.not-Loop)
     (gives_stop (c.in-Some.first.now ∷ some.0) c.arguments_begun.result does))

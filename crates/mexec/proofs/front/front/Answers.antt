@@ -1,5 +1,7 @@
 -- SPDX-License-Identifier: Apache-2.0
-use Rattle.mexec.proofs.ExecLaws.{[], ◌+◌, ◌<◌, ◌≤◌, length, refl, arith, none_left, context, commands_from, completion_of, position_of, over, stops, front, front_of, stop_of, at_gives, at_as, at_plain, command_begins, command_stopped, charge_stopped, passes_next, args_there}
+use Rattle.mexec.proofs.ExecLaws.{[], ◌+◌, ◌<◌, ◌≤◌, length, refl, arith, none_left, context, commands_from, completion_of, position_of, over, stops, front, front_of, stop_of, at_gives, at_as, at_plain, command_begins, command_stopped, charge_stopped, passes_next, args_there, one_uncalled}
+use Rattle.mgrammar.specs.CallsIn.{has_call_spaced}
+use Rattle.mtree.specs.Tree.{spaced_tree}
 use Rattle.mmeaning.specs.LineMeaning as meaning
 use Rattle.mexec.specs.declared.completion.Completion.TheVariants as completion
 use Rattle.mexec.specs.declared.completion.Progress.TheVariants as progress
@@ -86,3 +88,10 @@ returns-in-Stops-clause-does g c =
     c.loop-at.invariant.leads _ _
     (command_begins (position_of c.args.position.now) l c.loop-at.at x less c.index.ensures (at_plain c.in_ok-charge.ensures.does) does
     (at_gives (stops (stop_of x.command.args.items st), commands_from l (c.loop-at.at + 1)) (front_of l) (progress.Stops st, c.loop-at.at + 1) (rw there refl)))
+
+pub command-requires : goal.command-requires
+command-requires g c =
+    let v = c.args.line.now.commands in
+    let test = rw c.len.ensures at c.loop-at-test.true in
+    let less : c.loop-at.at < length v.items = omega (arith, test, v.ok) in
+    one_uncalled has_call_spaced spaced_tree v.items c.loop-at.at c.index.result.now less c.index.ensures c.requires

@@ -9,10 +9,10 @@ pub returns-in-Skips-clause-does : goal.returns-in-Skips-clause-does
 returns-in-Skips-clause-does g c = rw c.in-Skips.is c.lines_next-in-Skips.ensures.does
 
 pub returns-in-Quits-clause-does : goal.returns-in-Quits-clause-does
-returns-in-Quits-clause-does g c = rw c.in-Quits.is (runs_done c.ended.result c.ended.ensures)
+returns-in-Quits-clause-does g c = rw c.in-Quits.is (runs_done c.closed.result c.closed.ensures)
 
 pub returns-in-Goes-clause-does : goal.returns-in-Goes-clause-does
 returns-in-Goes-clause-does g c = rw c.in-Goes.is c.go_to.ensures.does
 
-pub returns-in-Halts-clause-does : goal.returns-in-Halts-clause-does
-returns-in-Halts-clause-does g c = rw c.in-Halts.is (runs_done c.ended-in-Halts.result c.ended-in-Halts.ensures)
+pub returns-in-Returns-clause-does : goal.returns-in-Returns-clause-does
+returns-in-Returns-clause-does g c = rw c.in-Returns.is (runs_done c.closed-in-Returns.result c.closed-in-Returns.ensures)

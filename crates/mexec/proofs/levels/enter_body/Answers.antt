@@ -9,3 +9,8 @@ pub returns-in_ok-line-in-Spaced-clause-frames : goal.returns-in_ok-line-in-Spac
 returns-in_ok-line-in-Spaced-clause-frames c =
     let frames = rw (c.in_ok-line-in-Spaced.ensures.cases, c.in_ok-there.ensures.ok, c.in_ok-coming_next.ensures) at c.leave_commands.ensures.frames in
     rw c.in-Spaced.is frames
+
+pub leave_commands-requires : goal.leave_commands-requires
+leave_commands-requires c =
+    let quiet = rw c.in-Spaced.is at c.requires in
+    rw c.in_ok-line-in-Spaced.ensures.cases quiet

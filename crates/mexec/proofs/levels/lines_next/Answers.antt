@@ -13,11 +13,11 @@ returns-in-None-clause-does g c =
     let p = position_of c.args.position.now in
     let closing = closing_of c.args.closing in
     let found = rw c.in-None.is at c.in_ok-next_line.ensures.does in
-    runs_as (λ a n. lines_are a n p closing) (runs_then (λ a n. then_closed (context a n p) closing) found (runs_done c.ended.result c.ended.ensures))
+    runs_as (λ a n. lines_are a n p closing) (runs_then (λ a n. then_closed (context a n p) closing) found (runs_done c.closed.result c.closed.ensures))
 
 pub returns-in-Some-clause-does : goal.returns-in-Some-clause-does
 returns-in-Some-clause-does g c =
     let p = position_of c.args.position.now in
     let closing = closing_of c.args.closing in
     let found = rw c.in-Some.is at c.in_ok-next_line.ensures.does in
-    runs_as (λ a n. lines_are a n p closing) (runs_then (λ a n. then_closed (context a n p) closing) found c.enter_line.ensures.does)
+    runs_as (λ a n. lines_are a n p closing) (runs_then (λ a n. then_closed (context a n p) closing) found c.reach_line.ensures.does)

@@ -1,5 +1,5 @@
 -- SPDX-License-Identifier: Apache-2.0
-use Rattle.mexec.proofs.ExecLaws.{refl, arith, context, completion_of, position_of, turning, runs_completion, runs_wanting, runs_as, at_plain, course_runs, not_gone_on, turn_charge_failed, falls_within, turn_goes_on, turn_is_over, turn_runs, turn_stopped, turn_over}
+use Rattle.mexec.proofs.ExecLaws.{refl, arith, context, completion_of, position_of, turning, runs_completion, runs_wanting, runs_as, at_plain, course_runs, not_gone_on, turn_charge_failed, falls_within, after_turn_is, turn_left, runs_then, runs_stopped, at_yielded, turn_runs, turn_stopped, turn_over}
 use Rattle.mexec.proofs.turns.after_course.Goals as goal
 
 pub turns-init : goal.turns-init
@@ -55,14 +55,15 @@ turns-preserved g c =
     let done = c.in_ok-outcome.ensures.does.keeps.eval.fewer in
     let gone = rw (c.deref-in-turns.ensures, c.if-not-goes_on.false) at c.in_ok-goes_on.ensures in
     let body = rw (c.deref-in-turns-2.ensures, c.deref-in-turns-3.ensures, c.in_ok-body.ensures.position, c.in_ok-body.ensures.line, c.in_ok-body.ensures.at, c.deref.ensures, c.in-Over.is) at c.in_ok-outcome.ensures.does in
-    let ends = rw c.in-None.is at c.turn_ends.ensures in
+    let ends = rw c.in-None.is at c.in_ok-turn_ends-in-Over.ensures in
     record {
       fewer = omega (arith, before, fewer, spent, done);
       scratch = c.turns.invariant.scratch;
       leads = λ r fs p k.
           c.turns.invariant.leads r fs p
           (turn_over c.args.turns.value gone (at_plain c.in_ok-charge.ensures.does) c.in_ok-charge.ensures.spent body
-          (runs_as (λ a n. turn_goes_on (context a n (position_of c.args.turns.value.body.position.value)) (turning c.args.turns.value) (completion_of c.in-Over.completion) ends) k));
+          (runs_as (λ a n. after_turn_is (context a n (position_of c.args.turns.value.body.position.value)) (turning c.args.turns.value) (completion_of c.in-Over.completion))
+          (runs_then (λ a n. turn_left (context a n (position_of c.args.turns.value.body.position.value)) (turning c.args.turns.value)) (at_yielded ends) k)));
     }
 
 pub returns-in-Some-clause-falls : goal.returns-in-Some-clause-falls
@@ -78,17 +79,18 @@ returns-in-Some-clause-does g c =
     let t = c.args.turns.value in
     let gone = rw (c.deref-in-turns.ensures, c.if-not-goes_on.false) at c.in_ok-goes_on.ensures in
     let body = rw (c.deref-in-turns-2.ensures, c.deref-in-turns-3.ensures, c.in_ok-body.ensures.position, c.in_ok-body.ensures.line, c.in_ok-body.ensures.at, c.deref.ensures, c.in-Over.is) at c.in_ok-outcome.ensures.does in
-    let ends = rw c.in-Some.is at c.turn_ends.ensures in
+    let ends = rw c.in-Some.is at c.in_ok-turn_ends-in-Over.ensures in
     rw c.turns.invariant.scratch
     (c.turns.invariant.leads _ _ _
     (turn_over t gone (at_plain c.in_ok-charge.ensures.does) c.in_ok-charge.ensures.spent body
-    (runs_as (λ a n. turn_is_over (context a n (position_of t.body.position.value)) (turning t) (completion_of c.in-Over.completion) (completion_of c.in-Some.completion) ends) (runs_completion c.in-Some.completion))))
+    (runs_as (λ a n. after_turn_is (context a n (position_of t.body.position.value)) (turning t) (completion_of c.in-Over.completion))
+    (runs_then (λ a n. turn_left (context a n (position_of t.body.position.value)) (turning t)) (at_yielded ends) (runs_completion c.in-Some.completion)))))
 
-pub returns-in_err-copy-in-Stops-clause-does : goal.returns-in_err-copy-in-Stops-clause-does
-returns-in_err-copy-in-Stops-clause-does g c =
+pub returns-in_err-behind-in-Stops-clause-does : goal.returns-in_err-behind-in-Stops-clause-does
+returns-in_err-behind-in-Stops-clause-does g c =
     let gone = rw (c.deref-in-turns.ensures, c.if-not-goes_on.false) at c.in_ok-goes_on.ensures in
     let body = rw (c.deref-in-turns-2.ensures, c.deref-in-turns-3.ensures, c.in_ok-body.ensures.position, c.in_ok-body.ensures.line, c.in_ok-body.ensures.at, c.deref.ensures) at c.in_ok-outcome.ensures.does in
-    c.turns.invariant.leads _ _ _ (turn_runs c.args.turns.value gone (at_plain c.in_ok-charge.ensures.does) c.in_ok-charge.ensures.spent body (runs_wanting _ _ c.from_residual-in_err-copy-in-Stops.ensures))
+    c.turns.invariant.leads _ _ _ (turn_runs c.args.turns.value gone (at_plain c.in_ok-charge.ensures.does) c.in_ok-charge.ensures.spent body (runs_wanting _ _ c.from_residual-in_err-behind-in-Stops.ensures))
 
 pub returns-in_err-leave_turns-in-Stops-clause-does : goal.returns-in_err-leave_turns-in-Stops-clause-does
 returns-in_err-leave_turns-in-Stops-clause-does g c =
@@ -99,11 +101,25 @@ returns-in_err-leave_turns-in-Stops-clause-does g c =
 pub go_on-requires : goal.go_on-requires
 go_on-requires g c =
     let stops = rw (c.deref-in-turns-3.ensures, c.in-Stops.is) at c.in_ok-outcome.ensures.stops in
-    rw c.in_ok-copy-in-Stops.ensures.line stops
+    rw (c.in_ok-behind-in-Stops.ensures.line, c.in_ok-behind-in-Stops.ensures.at) stops
 
 pub returns-in-Stops-clause-does : goal.returns-in-Stops-clause-does
 returns-in-Stops-clause-does g c =
     let gone = rw (c.deref-in-turns.ensures, c.if-not-goes_on.false) at c.in_ok-goes_on.ensures in
     let body = rw (c.deref-in-turns-2.ensures, c.deref-in-turns-3.ensures, c.in_ok-body.ensures.position, c.in_ok-body.ensures.line, c.in_ok-body.ensures.at, c.deref.ensures, c.in-Stops.is) at c.in_ok-outcome.ensures.does in
-    let does = rw (c.in_ok-copy-in-Stops.ensures.position, c.in_ok-copy-in-Stops.ensures.line, c.in_ok-body.ensures.position, c.in_ok-body.ensures.line, c.deref.ensures, c.in_ok-leave_turns-in-Stops.ensures.frames, c.turns.invariant.scratch) at c.go_on.ensures.does in
+    let does = rw (c.in_ok-behind-in-Stops.ensures.position, c.in_ok-behind-in-Stops.ensures.line, c.in_ok-behind-in-Stops.ensures.at, c.in_ok-body.ensures.position, c.in_ok-body.ensures.line, c.deref.ensures, c.in_ok-leave_turns-in-Stops.ensures.frames, c.turns.invariant.scratch) at c.go_on.ensures.does in
     c.turns.invariant.leads _ _ _ (turn_runs c.args.turns.value gone (at_plain c.in_ok-charge.ensures.does) c.in_ok-charge.ensures.spent body does)
+
+pub returns-in_err-turn_ends-in-Over-clause-does : goal.returns-in_err-turn_ends-in-Over-clause-does
+returns-in_err-turn_ends-in-Over-clause-does g c =
+    let t = c.args.turns.value in
+    let gone = rw (c.deref-in-turns.ensures, c.if-not-goes_on.false) at c.in_ok-goes_on.ensures in
+    let body = rw (c.deref-in-turns-2.ensures, c.deref-in-turns-3.ensures, c.in_ok-body.ensures.position, c.in_ok-body.ensures.line, c.in_ok-body.ensures.at, c.deref.ensures, c.in-Over.is) at c.in_ok-outcome.ensures.does in
+    rw c.turns.invariant.scratch
+    (c.turns.invariant.leads _ _ _
+    (turn_over t gone (at_plain c.in_ok-charge.ensures.does) c.in_ok-charge.ensures.spent body
+    (runs_as (λ a n. after_turn_is (context a n (position_of t.body.position.value)) (turning t) (completion_of c.in-Over.completion))
+    (runs_stopped (λ a n. turn_left (context a n (position_of t.body.position.value)) (turning t)) (at_yielded c.in_err-turn_ends-in-Over.ensures) c.from_residual-in_err-turn_ends-in-Over.ensures))))
+
+pub front-requires : goal.front-requires
+front-requires g c = rw (c.deref-in-turns-3.ensures, c.in_ok-body.ensures.line, c.deref.ensures) c.args.turns.value.body.uncalled

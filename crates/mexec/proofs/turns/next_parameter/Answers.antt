@@ -1,5 +1,5 @@
 -- SPDX-License-Identifier: Apache-2.0
-use Rattle.mexec.proofs.ExecLaws.{◌+◌, ◌≤◌, length, refl, arith, none_left, at_done, ForLoop, commands_from, position_of, runs_completion, runs_wanting, any_course, falls_failed, falls_within, parameter_runs, parameter_stopped, begun_runs}
+use Rattle.mexec.proofs.ExecLaws.{◌+◌, ◌≤◌, length, refl, arith, none_left, at_done, ForLoop, commands_from, position_of, runs_completion, runs_wanting, any_course, falls_failed, falls_within, parameter_runs, parameter_stopped, begun_runs, parameter_uncalled}
 use Rattle.mexec.specs.declared.completion.Completion.TheVariants as completion
 use Rattle.mexec.proofs.turns.next_parameter.Goals as goal
 
@@ -20,7 +20,7 @@ loop-next-preserved g c =
       scratch = c.loop-next.invariant.scratch;
       leads = λ r fs p k.
           c.loop-next.invariant.leads r fs p
-          (parameter_runs (position_of t.body.position.value) c.args.index.now (commands_from t.body.line.value t.body.at) c.args.parameters.now c.loop-next.next c.index-parameters-next.result c.loop-next-test.true c.index-parameters-next.is (at_done d does) k);
+          (parameter_runs (position_of t.body.position.value) c.args.index.now (commands_from t.body.line.value t.body.at) c.args.parameters.now c.loop-next.next c.index-parameters-next.result c.loop-next-test.true c.index-parameters-next.is (parameter_uncalled t c.args.index.now c.args.parameters.now c.requires.found c.loop-next.next c.index-parameters-next.result c.loop-next-test.true c.index-parameters-next.is) (at_done d does) k);
     }
 
 pub returns-in_err-start_parameter-clause-falls : goal.returns-in_err-start_parameter-clause-falls
@@ -33,7 +33,7 @@ returns-in_err-start_parameter-clause-does g c =
     let does = rw c.deref.ensures at c.in_err-start_parameter.ensures in
     rw c.loop-next.invariant.scratch
     (c.loop-next.invariant.leads _ _ _
-    (parameter_stopped (position_of t.body.position.value) c.args.index.now (commands_from t.body.line.value t.body.at) c.args.parameters.now c.loop-next.next c.index-parameters-next.result c.loop-next-test.true c.index-parameters-next.is (at_done d does) c.from_residual.ensures))
+    (parameter_stopped (position_of t.body.position.value) c.args.index.now (commands_from t.body.line.value t.body.at) c.args.parameters.now c.loop-next.next c.index-parameters-next.result c.loop-next-test.true c.index-parameters-next.is (parameter_uncalled t c.args.index.now c.args.parameters.now c.requires.found c.loop-next.next c.index-parameters-next.result c.loop-next-test.true c.index-parameters-next.is) (at_done d does) c.from_residual.ensures))
 
 pub returns-in-Some-clause-falls : goal.returns-in-Some-clause-falls
 returns-in-Some-clause-falls g c =
@@ -48,7 +48,7 @@ returns-in_err-turns-in-Some-clause-does g c =
     let d = t.body.position.value.depth in
     let does = rw (c.in-Some.is, c.deref.ensures) at c.in_ok-start_parameter.ensures in
     c.loop-next.invariant.leads _ _ _
-    (parameter_runs (position_of t.body.position.value) c.args.index.now (commands_from t.body.line.value t.body.at) c.args.parameters.now c.loop-next.next c.index-parameters-next.result c.loop-next-test.true c.index-parameters-next.is (at_done d does)
+    (parameter_runs (position_of t.body.position.value) c.args.index.now (commands_from t.body.line.value t.body.at) c.args.parameters.now c.loop-next.next c.index-parameters-next.result c.loop-next-test.true c.index-parameters-next.is (parameter_uncalled t c.args.index.now c.args.parameters.now c.requires.found c.loop-next.next c.index-parameters-next.result c.loop-next-test.true c.index-parameters-next.is) (at_done d does)
     (runs_wanting _ _ c.from_residual-in_err-turns-in-Some.ensures))
 
 pub returns-in-Some-clause-does : goal.returns-in-Some-clause-does
@@ -59,7 +59,7 @@ returns-in-Some-clause-does g c =
     let does = rw (c.in-Some.is, c.deref.ensures) at c.in_ok-start_parameter.ensures in
     let begun = rw (c.in_ok-turns-in-Some.ensures.ok, c.loop-next.invariant.scratch) at c.begin_turn.ensures.does in
     c.loop-next.invariant.leads _ _ _
-    (parameter_runs (position_of t.body.position.value) c.args.index.now (commands_from t.body.line.value t.body.at) c.args.parameters.now c.loop-next.next c.index-parameters-next.result c.loop-next-test.true c.index-parameters-next.is (at_done d does)
+    (parameter_runs (position_of t.body.position.value) c.args.index.now (commands_from t.body.line.value t.body.at) c.args.parameters.now c.loop-next.next c.index-parameters-next.result c.loop-next-test.true c.index-parameters-next.is (parameter_uncalled t c.args.index.now c.args.parameters.now c.requires.found c.loop-next.next c.index-parameters-next.result c.loop-next-test.true c.index-parameters-next.is) (at_done d does)
     (begun_runs turn c.args.index.now c.args.parameters.now c.requires.found begun))
 
 pub returns-clause-falls : goal.returns-clause-falls

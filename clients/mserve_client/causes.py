@@ -45,6 +45,8 @@ def _dollar(words: str, name: str, advice: str, example: str) -> Cause:
 
 
 _ENTRY = r"(?:D|DO|G|GOTO)(?::\S+)? "
+_DO, _GOTO = r"(?:D|DO)(?::\S+)? ", r"(?:G|GOTO)(?::\S+)? "
+_QUIT = r"(?:Q|QUIT)(?::\S+)? "
 _SET = r"(?:S|SET)(?::\S+)? "
 _NEW = r"(?:N|NEW)(?::\S+)? "
 _WRITE = r"(?:W|WRITE)(?::\S+)? "
@@ -56,6 +58,8 @@ _COMMANDS = [
     Cause("a SET without its word", "Write S before it: S A=1.", "A=1", "command", r"\^?[A-Z%][A-Z0-9]*(?:\(\S*\))?="),
     Cause("two spaces follow a command without arguments", "Write a second space, if another command comes after it.", "D W 1", "", r"\S", "", _BARE,
           "argument"),
+    Cause("two spaces follow a command without arguments", "Write a second space, if another command comes after it.", "Q W 1", "command", r"\S", "",
+          rf"{_QUIT}[A-Z]+ ", "argument"),
     _word("R|READ", "READ", "Nothing is asked for: the caller sets the variable before it runs the line: S NAME=\"Ada\" D ADD.", 'R "Name: ",X'),
     _word("O|OPEN|U|USE|C|CLOSE", "a command of devices",
           "There are no devices: WRITE goes into the reply, and files are the client's: mroutine, mglobal.", "U 0"),
@@ -77,11 +81,12 @@ _COMMANDS = [
     Cause("no command begins here", "A command is a word, as SET or S; between two commands stands one space.", "W 1  ,2", "command", r"\S"),
 ]
 _WORDS = [
-    Cause("QUIT with a value", "SET a variable, then QUIT: S RESULT=X Q. The caller reads RESULT.", "Q N", "gap", rf"[A-Z]+ *(?:;|{END})", " ",
-          "(?:Q|QUIT)(?::\\S+)? "),
+    Cause("several values of QUIT", "At language 1 it takes one: set variables before: S A=1,B=2 Q.", "Q A,B", "", "[A-Z0-9]*,", rf"{_QUIT}[^()]*", _QUIT),
+    _later(1, Cause("QUIT with a value", "SET a variable, then QUIT: S RESULT=X Q. The caller reads RESULT.", "Q N", "gap", rf"[A-Z]+ *(?:;|{END})", " ",
+                    _QUIT)),
     Cause("two spaces follow a command without arguments", "Write a second space, if another command comes after it.", "E W 1", "gap", "", " ", reads="here",
           back=1),
-    Cause("QUIT with a value", "SET a variable, then QUIT: S RESULT=X Q. The caller reads RESULT.", "Q X+1", "gap", r"\S", " ", "(?:Q|QUIT)(?::\\S+)? "),
+    _later(1, Cause("QUIT with a value", "SET a variable, then QUIT: S RESULT=X Q. The caller reads RESULT.", "Q X+1", "gap", r"\S", " ", _QUIT)),
     Cause("a condition on IF, ELSE or FOR", "Put the condition into the IF, or on the commands after it.", "I:X=1 Y W 1", "", ":", "",
           "(?:I|IF|E|ELSE|F|FOR):"),
     Cause("an argument where none is taken", "Two spaces follow, if another command comes after it.", "E 5", "gap", r"\S", " "),
@@ -93,7 +98,9 @@ _WORDS = [
 ]
 _ARGUMENTS = [
     Cause("an offset from a label", "Give that line a label of its own.", "D A+1^R", "", r"\+", "", _ENTRY),
-    Cause("parameters", "SET variables before the DO, and NEW them in the caller: N A,B S A=1,B=2 D ADD^R.", "D ADD^R(1,2)", "", r"\(", "[A-Z0-9%]", _ENTRY),
+    _later(1, Cause("parameters", "SET variables before the DO, and NEW them in the caller: N A,B S A=1,B=2 D ADD^R.", "D ADD^R(1,2)", "", r"\(",
+                    "[A-Z0-9%]", _DO)),
+    Cause("parameters of GOTO", "SET variables before it; at language 1 DO takes them: D ADD^R(1,2) Q.", "G ADD^R(1,2)", "", r"\(", "[A-Z0-9%]", _GOTO),
     Cause("indirection of a label or a routine alone", 'Put the whole entry into the text: S E="A^R" D @E.', "D A^@R", "name", "@", r"\^", _ENTRY),
     Cause("indirection of a label or a routine alone", 'Put the whole entry into the text: S E="A^R" D @E.', "D @A^R", "", r"\^", r"@\S+", _ENTRY),
     Cause("a condition after an @ alone", "Put it on the command: D:X @A.", "D @A:X", "", ":", r"@\S+", _ENTRY),
@@ -137,9 +144,10 @@ _VALUES = [
     _later(1, _dollar(r"(?:I|IO|J|JOB|P|PRINCIPAL|S|STORAGE)(?![A-Z(])", "$IO, $JOB, $PRINCIPAL or $STORAGE",
                       "the client knows its terminal's number, and a text has at most 4,095 characters.", "S ^TMP($J)=1")),
     _later(1, _dollar(r"[XY](?![A-Z(])", "$X or $Y", "count what is written: S N=N+$L(A) W A.", "I $Y>60 W !")),
-    _dollar(r"(?:ST|STACK|V|VIEW|INCREMENT|D|DEVICE|K|KEY|SY|SYSTEM|EC|ECODE|ES|ESTACK|ET|ETRAP|TL|TLEVEL|TR|TRESTART|Q|QUIT)(?![A-Z(])|"
+    _later(1, _dollar(r"(?:Q|QUIT)(?![A-Z(])", "$QUIT", "leave it out: QUIT takes no value.", "Q:$Q 1 Q")),
+    _dollar(r"(?:ST|STACK|V|VIEW|INCREMENT|D|DEVICE|K|KEY|SY|SYSTEM|EC|ECODE|ES|ESTACK|ET|ETRAP|TL|TLEVEL|TR|TRESTART)(?![A-Z(])|"
             r"(?:ST|STACK|V|VIEW|I|INCREMENT)\(", "a special variable or function that is not there",
-            "There is $TEST, and at language 1 $IO, $JOB, $PRINCIPAL, $STORAGE, $X and $Y; $INCREMENT(X) is S X=$G(X)+1.", "S X=$I(^N)"),
+            "There is $TEST, and at language 1 $IO, $JOB, $PRINCIPAL, $QUIT, $STORAGE, $X and $Y; $INCREMENT(X) is S X=$G(X)+1.", "S X=$I(^N)"),
     _dollar("[A-Z]+", "a function that is not there", 'docs/LANGUAGE.md, "Functions", has all of them.', "W $FOO(1)"),
     _later(1, Cause("$JUSTIFY with three arguments", "round first: $J(X*100+.5\\1/100,8), for X from 0 on.", "W $J(X,8,2)", "close $JUSTIFY", ",")),
     Cause("more arguments than the function takes", 'docs/LANGUAGE.md, "Functions", has what each takes.', "W $L(1,2,3)", "close $", ","),
@@ -171,7 +179,8 @@ _AFTER = [
     Cause("a ) without its (", "Each ( has its ).", "W 1)", "", r"\)"),
     Cause("a block in braces", "Use DO without arguments and lines with one dot more.", "I A{W 1}", "", r"[{}]"),
     Cause("a condition where none is taken", "It stands after the command's word: W:A 1.", "W 1:A", "", ":"),
-    Cause("a bracket where none is taken", "Subscripts stand after a name, and arguments after a function's word.", 'W "A"(1)', "", r"\("),
+    Cause("a bracket where none is taken", "Subscripts stand after a name, and arguments after a function's word; .X hands over a name alone.",
+          'W "A"(1)', "", r"\("),
     Cause("a point outside of a number", "A point has digits after it: 1.5, .5; A.B is no name.", "W A.B", "", r"\."),
     Cause("no operator between two operands", 'Write the operator, as _ for joining texts: W "a"_"b".', 'W "a"A', "operator"),
     Cause("not in the language", "", "K A+1"),

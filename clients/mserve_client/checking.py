@@ -27,7 +27,8 @@ _TIMEOUT = re.compile(r".*:(.*)", re.DOTALL)
 # What is wrong before the first command of a line, with its parts in the braces.
 OVER_127 = "the character {} is over 127: values and lines are ASCII, comments too"
 LONG_LABEL = "the label {} has {} characters"
-PARAMETERS = "the label {} has parameters"
+PARAMETERS = f"the label {{}} has parameters, which need language {grammar.PARAMETERS_SINCE} of the account's settings"
+NO_FORMALS = "after the label {} stands no formal list"
 NO_BEGIN = "the line begins with {}"
 LONG_LINE = "the line has {} characters, too many to check"
 CUT = "Cut it in two: {} after label and dots can be checked."
@@ -90,7 +91,7 @@ def check(connection: Connected, lines: list[SourceLine], number: int | None = N
     plain = [line.rest if line.rest.isascii() else "" for line in lines]
     for place, accepted in enumerate(accepted_rests(connection, plain)):
         line = lines[place]
-        finding = _of_form(line) or _refused(line, accepted if number == own else None, number)
+        finding = _of_form(line, number) or _refused(line, accepted if number == own else None, number)
         found += [replace(one, line=place + 1) for one in ([finding] if finding is not None else _locks(line, number))]
     return found
 
@@ -128,18 +129,20 @@ def _long_answer(connection: Connected, rest: str) -> str | None:
             connection.send(f"K {local}")
 
 
-def _of_form(line: SourceLine) -> Finding | None:
-    """What is wrong with a line before its first command, or with its characters."""
+def _of_form(line: SourceLine, number: int) -> Finding | None:
+    """What is wrong with a line before its first command in a language, or with its characters."""
     if (over := language.OVER_PLACE.search(line.text)) is not None:
         return Finding(0, over.start() + 1, OVER_127.format(repr(over[0])), language.OVER.advice,
                        cause=language.OVER.name)
     if len(line.label) > keys.MAX_NAME:
         return Finding(0, 1, LONG_LABEL.format(line.label, len(line.label)), language.NO_LABEL, cause=f"a label of more than {keys.MAX_NAME} characters")
-    if line.label and not line.level and line.rest.startswith("("):
-        return Finding(0, len(line.label) + 1, PARAMETERS.format(line.label), language.LABEL_PARAMETERS,
-                       cause="a label with parameters")
+    has_brackets = bool(line.label) and (line.formals or not line.level and line.rest.startswith("("))
+    if has_brackets and number < grammar.PARAMETERS_SINCE:
+        return Finding(0, len(line.label) + 1, PARAMETERS.format(line.label), language.LABEL_PARAMETERS, cause=language.PARAMETERS)
+    if has_brackets and not is_formal_list(line.formals):
+        return Finding(0, len(line.label) + 1, NO_FORMALS.format(line.label), language.FORMALS, cause="brackets after a label that are no formal list")
     if not line.level and line.rest and not line.rest.startswith(";"):
-        return Finding(0, len(line.label) + 1, NO_BEGIN.format(repr((line.label + line.rest)[:20])), language.NO_LABEL,
+        return Finding(0, before(line) + 1, NO_BEGIN.format(repr((line.label + line.formals + line.rest)[:20])), language.NO_LABEL,
                        cause="what begins the line is no label")
     if len(line.rest) > LONGEST_REST:
         return Finding(0, 1, LONG_LINE.format(f"{len(line.text):,}"), CUT.format(f"{LONGEST_REST:,}"), cause="a line that is too long")
@@ -158,9 +161,15 @@ def _refused(line: SourceLine, accepted: bool | None, number: int) -> Finding | 
                    cause=found.name)
 
 
+def is_formal_list(text: str) -> bool:
+    """Whether what stands in brackets after a label is a formal list: names, each once, or none."""
+    names = text[1:-1].split(",")
+    return text == "()" or bool(text) and all(map(keys.is_name, names)) and len(set(names)) == len(names)
+
+
 def before(line: SourceLine) -> int:
     """How many characters stand before a line's first command."""
-    return len(line.label) + len(line.level)
+    return len(line.label) + len(line.formals) + len(line.level)
 
 
 def _locks(line: SourceLine, number: int) -> Iterator[Finding]:

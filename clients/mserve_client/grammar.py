@@ -31,9 +31,10 @@ OF_VALUES = {"A ASCII": (1, 2), "C CHAR": (1, 255), "E EXTRACT": (1, 3), "F FIND
 # Those that a later language has, or has with other counts.
 OF_VALUES_SINCE = {1: {"FN FNUMBER": (2, 3), "J JUSTIFY": (2, 3), "RE REVERSE": (1, 1)}}
 # The special variables, and those that a later language has.
-SPECIALS, SPECIALS_SINCE = ["T TEST"], {1: ["I IO", "J JOB", "P PRINCIPAL", "S STORAGE", "X", "Y"]}
-# The language that has HANG, whose letter is that of HALT too.
+SPECIALS, SPECIALS_SINCE = ["T TEST"], {1: ["I IO", "J JOB", "P PRINCIPAL", "Q QUIT", "S STORAGE", "X", "Y"]}
+# The language that has HANG, whose letter is that of HALT too; and the one that has formal lists, actuals of DO, and values of QUIT.
 HANG_SINCE = 1
+PARAMETERS_SINCE = 1
 # The functions that SET may assign to: how many values at least and at most after the variable.
 TARGETS = {"P PIECE": (1, 2)}
 TARGETS_SINCE = {1: {"P PIECE": (1, 3), "E EXTRACT": (0, 2)}}
@@ -134,8 +135,8 @@ CONDITION = all_of(text(":"), rule("expression"))
 OPERAND = all_of(text("@"), inner("primary"))
 OPERATOR = r"[+\-*/\\#_=<>&!\[]|\]\]?|'(?:[=<>&!\[]|\]\]?)"
 COUNT = r"(?:[0-9]{1,4}(?![0-9.])|[0-9]{0,4}\.[0-9]{0,4}(?![0-9]))"
-ENTRY = all_of(mark("entry", any_of(all_of(text(r"\^"), text(NAME, "name")),
-                                    all_of(text(NAME, "entry"), perhaps(all_of(text(r"\^", "more"), text(NAME, "name")))))), rule("condition"))
+ENTRY = mark("entry", any_of(all_of(text(r"\^"), text(NAME, "name")),
+                             all_of(text(NAME, "entry"), perhaps(all_of(text(r"\^", "more"), text(NAME, "name"))))))
 
 
 def expression(operator: str) -> Step:
@@ -165,6 +166,20 @@ def halts(language: int) -> list[Step]:
     return [command("H", seconds, True), command("HALT", None, True), command("HANG", seconds, False)]
 
 
+def entering(language: int) -> list[Step]:
+    """DO, whose entry may have actuals from language 1 on, and QUIT, which then may have a value."""
+    has_parameters = language >= PARAMETERS_SINCE
+    handed = [perhaps(bracketed(inner("actual")))] if has_parameters else []
+    return [command("D DO", listed(any_of(all_of(ENTRY, *handed, rule("condition")), OPERAND)), True),
+            command("Q QUIT", rule("expression") if has_parameters else None, True)]
+
+
+def actual() -> dict[str, Step]:
+    """What is handed over: the name of a local variable, or an operand whose value is one; a value; nothing."""
+    name = any_of(text(NAME, "name"), OPERAND)
+    return {"actual": any_of(all_of(text(r"\.(?![0-9])"), name), rule("expression"), text("(?=[,)])"))}
+
+
 def target(words: str, least: int, most: int) -> Step:
     """A function of a variable that SET assigns to, with this many values after the variable."""
     further: list[Step] = []
@@ -192,8 +207,10 @@ def rules(language: int) -> dict[str, Step]:
     """The rules of a language."""
     column = all_of(text(r"\?"), rule("expression"))
     formats = [all_of(text("[!#]+"), perhaps(column)), column, all_of(text(r"\*"), rule("expression"))] if language >= 1 else [text("!+")]
-    return {**SHARED, "command": any_of(*COMMANDS, *halts(language)), "expression": expression(OPERATOR if language < 1 else rf"\*\*|{OPERATOR}"),
-            "target": targets(language), "written": any_of(*formats, rule("expression")), "atom": atom(language),
+    return {**SHARED, **(actual() if language >= PARAMETERS_SINCE else {}),
+            "command": any_of(*COMMANDS, *entering(language), *halts(language)),
+            "expression": expression(OPERATOR if language < 1 else rf"\*\*|{OPERATOR}"), "target": targets(language),
+            "written": any_of(*formats, rule("expression")), "atom": atom(language),
             "pattern": any_of(OPERAND, rule("atoms")) if language else rule("atoms"),
             "dollar": any_of(
                 *[text(rf"\${either(words)}(?![A-Za-z(])", "operand") for words in specials(language)],
@@ -208,15 +225,13 @@ COMMANDS = [
     command("S SET", listed(rule("assignment")), False),
     command("W WRITE", listed(rule("written")), False),
     command("I IF", listed(rule("expression")), True, False),
-    command("Q QUIT", None, True),
-    command("D DO", listed(any_of(ENTRY, OPERAND)), True),
     command("F FOR", all_of(text(NAME, "name"), text("=", "equals"), listed(rule("parameter"))), True, False),
     command("K KILL", listed(any_of(bracketed(text(NAME, "name")), rule("variable"))), True),
     command("N NEW", listed(any_of(bracketed(text(NAME, "name")), text(NAME, "name"), OPERAND)), True),
     command("E ELSE", None, True, False),
     command("X XECUTE", listed(all_of(rule("expression"), rule("condition"))), False),
     command("L LOCK", listed(mark("lock", rule("locked"))), True),
-    command("G GOTO", listed(any_of(ENTRY, OPERAND)), False)]
+    command("G GOTO", listed(any_of(all_of(ENTRY, rule("condition")), OPERAND)), False)]
 # The rules that all languages have alike.
 SHARED: dict[str, Step] = {
     "line": all_of(text(" *"), ["many", rule("command")], text(f"(?:;[\\x00-\\x7f]*)?{END}", "command")),

@@ -11,11 +11,13 @@ from dataclasses import dataclass
 from functools import cache
 
 from .causes import CAUSES, END, Cause
-from .grammar import LANGUAGES, Outcome, Reader
+from .grammar import LANGUAGES, PARAMETERS_SINCE, Outcome, Reader
 
 PROFILE, NEWEST = 0, max(LANGUAGES)
 NO_LABEL = "a label begins with a letter or %, and has at most 31 letters and digits; a line without one begins with a space"
-LABEL_PARAMETERS = "a label takes no parameters: the caller SETs the variables, and the line begins with LABEL and a space"
+PARAMETERS = f"a label with parameters, which needs language {PARAMETERS_SINCE} of the account's settings"
+LABEL_PARAMETERS = "Without it: the caller SETs the variables, and the line begins with LABEL and a space."
+FORMALS = "A formal list is names with commas between, each once, right after the label: LABEL(A,B)."
 OVER = Cause("a character over 127", "Values and lines are ASCII, comments too: write another character.", "")
 STRING = re.compile(r'"(?:[^"]|"")*"?')
 OVER_PLACE = re.compile(r"[^\x00-\x7f]")

@@ -11,7 +11,7 @@ from . import escape, keys
 from .wire import ClientError
 
 SUFFIX = ".m"
-HEAD = re.compile(r"([A-Za-z%][A-Za-z0-9]*)?([ \t][ \t.]*)?(.*)", re.ASCII | re.DOTALL)
+HEAD = re.compile(r"(?:([A-Za-z%][A-Za-z0-9]*)(\([A-Za-z0-9%,]*\))?)?([ \t][ \t.]*)?(.*)", re.ASCII | re.DOTALL)
 # A string or a comment, whose tabs are its own; or a tab, which M reads as a space.
 TAB = re.compile(r'("(?:[^"]|"")*"?|;.*)|\t', re.DOTALL)
 
@@ -22,16 +22,18 @@ class BadFile(ClientError):
 
 @dataclass(frozen=True, slots=True)
 class SourceLine:
-    """A line of a routine: its label or nothing, the spaces and dots after it, and the rest, which is a line of M."""
+    """A line of a routine: its label or nothing, what stands in brackets right after it and may be a formal list, the spaces and dots after
+    both, and the rest, which is a line of M."""
 
     label: str
+    formals: str
     level: str
     rest: str
 
     @property
     def text(self) -> str:
         """The line as the routine has it."""
-        return self.label + self.level + self.rest
+        return self.label + self.formals + self.level + self.rest
 
 
 @dataclass(frozen=True, slots=True)
@@ -51,8 +53,8 @@ def source_line(text: str) -> SourceLine:
     """A line of a file cut into its parts. Tabs become spaces, but for those of strings and comments."""
     found = HEAD.fullmatch(text)
     assert found is not None, "each part may be empty"
-    label, level, rest = found.groups(default="")
-    return SourceLine(label, level.replace("\t", " "), TAB.sub(lambda found: found[1] or " ", rest))
+    label, formals, level, rest = found.groups(default="")
+    return SourceLine(label, formals, level.replace("\t", " "), TAB.sub(lambda found: found[1] or " ", rest))
 
 
 def routine_name(path: str) -> str:

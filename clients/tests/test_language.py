@@ -27,6 +27,8 @@ ROOM = 255 - len(GUARD)
 AT_ONCE = 2000
 # A terminal of an account with each language.
 TERMINALS = {0: ALICE, 1: CAROL}
+FORMALS = "brackets after a label that are no formal list"
+NEEDS = ", which needs language 1 of the account's settings"
 each_language = pytest.mark.parametrize("number", LANGUAGES)
 
 
@@ -107,19 +109,20 @@ def test_new_line_of_a_language(number: int) -> None:
 
 
 @pytest.mark.parametrize(("line", "marked", "name"), [
-    ("W 1 2", "W 1^ 2", "two expressions need a comma, or two commands one space"), ("D F(1)", "D F^(1)", "parameters"),
+    ("W 1 2", "W 1^ 2", "two expressions need a comma, or two commands one space"), ("D F(1)", "D F^(1)", f"parameters{NEEDS}"),
     ("W $$F(1)", "W ^$$F(1)", "an extrinsic function"), ('write "hello', 'write ^"hello', "a string without its closing quote"),
     ("foo", "^foo", "no command has this name"), ("W $HOROLOG", "W ^$HOROLOG", "$HOROLOG"), ("MERGE A=B", "^MERGE A=B", "MERGE"),
     ("ZWRITE", "^ZWRITE", "a Z command"), ("S X=1 R X", "S X=1 ^R X", "READ"), ("D LAB^", "D LAB^^", "a name is missing"),
     ("K ^A(1", "K ^A(1^", "a ) is missing"), ('Q:X="" W X', 'Q:X=""^ W X', "two spaces follow a command without arguments"),
-    ('F I=1:1:3 Q:I=2 W "x"', 'F I=1:1:3 Q:I=2^ W "x"', "two spaces follow a command without arguments"), ("Q X", "Q ^X", "QUIT with a value"),
+    ('F I=1:1:3 Q:I=2 W "x"', 'F I=1:1:3 Q:I=2^ W "x"', "two spaces follow a command without arguments"), ("Q X", "Q ^X", f"QUIT with a value{NEEDS}"),
     ('s yy=$zd($h,"YEAR")', 's yy=^$zd($h,"YEAR")', "a $Z function or variable"), ("S A=1,B=$F($ZV,1)", "S A=1,B=$F(^$ZV,1)", "a $Z function or variable"),
     ('set x=$translate($zconvert(x,"U"),"L")', 'set x=$translate(^$zconvert(x,"U"),"L")', "a $Z function or variable"),
     ("S A=$H,$X=0", "S A=^$H,$X=0", "$HOROLOG"), ("S A=1,$X=0", "S A=1,^$X=0", "SET of a special variable"),
     ("I A(1, 2)=3", "I A(1,^ 2)=3", "a space within an argument"), ("W 1 W", "W 1 W^", "an argument is missing"),
     ('W "a b $$" W $$X', 'W "a b $$" W ^$$X', "an extrinsic function"), ("S X=1\tW X", "S X=1^\tW X", "a tab"),
-    ("W Müller", "W M^üller", "a character over 127"), ("B=2", "^B=2", "a SET without its word"), ("W 1  Q 5", "W 1  Q ^5", "QUIT with a value"),
-    ("F I=1:1 Q:I>3  H 5", "F I=1:1 Q:I>3  H ^5", "HANG, which needs language 1 of the account's settings"),
+    ("W Müller", "W M^üller", "a character over 127"), ("B=2", "^B=2", "a SET without its word"), ("W 1  Q 5", "W 1  Q ^5", f"QUIT with a value{NEEDS}"),
+    ("F I=1:1 Q:I>3  H 5", "F I=1:1 Q:I>3  H ^5", f"HANG{NEEDS}"), ("G F(1)", "G F^(1)", "parameters of GOTO"),
+    ("Q A,B", "Q ^A,B", "several values of QUIT"), ("W $Q", "W ^$Q", f"$QUIT{NEEDS}"),
 ])
 def test_place_and_cause(line: str, marked: str, name: str) -> None:
     """The place is that of the fault, which the second text has marked by a ^ of its own."""
@@ -147,18 +150,24 @@ def test_language_of_an_account(server: Server) -> None:
 
 
 @pytest.mark.parametrize(("line", "names"), [
-    ("W 1", [None, None]), ("W $RE(A)", ["$REVERSE, which needs language 1 of the account's settings", None]),
-    ("W $RE(A) R X", ["$REVERSE, which needs language 1 of the account's settings", "READ"]),
-    ("W $RE(A,1)", ["$REVERSE, which needs language 1 of the account's settings", "more arguments than the function takes"]),
-    ("W $J(A,8,2)", ["$JUSTIFY with three arguments, which needs language 1 of the account's settings", None]),
-    ("W $J(1,2,3,4)", ["$JUSTIFY with three arguments, which needs language 1 of the account's settings", "more arguments than the function takes"]),
-    ("H 5", ["HANG, which needs language 1 of the account's settings", None]),
+    ("W 1", [None, None]), ("W $RE(A)", [f"$REVERSE{NEEDS}", None]),
+    ("W $RE(A) R X", [f"$REVERSE{NEEDS}", "READ"]),
+    ("W $RE(A,1)", [f"$REVERSE{NEEDS}", "more arguments than the function takes"]),
+    ("W $J(A,8,2)", [f"$JUSTIFY with three arguments{NEEDS}", None]),
+    ("W $J(1,2,3,4)", [f"$JUSTIFY with three arguments{NEEDS}", "more arguments than the function takes"]),
+    ("H 5", [f"HANG{NEEDS}", None]),
     ("HALT 5", ["an argument where none is taken", "an argument where none is taken"]),
-    ("W $J", ["$IO, $JOB, $PRINCIPAL or $STORAGE, which needs language 1 of the account's settings", None]),
-    ("W $Y", ["$X or $Y, which needs language 1 of the account's settings", None]),
-    ("W A,?5", ["WRITE ?n, which needs language 1 of the account's settings", None]),
-    ("W !?5,", ["WRITE ?n, which needs language 1 of the account's settings", "an operand is missing"]),
-    ("R X", ["READ", "READ"]), ("W $re(", ["$REVERSE, which needs language 1 of the account's settings", "an operand is missing"]),
+    ("W $J", [f"$IO, $JOB, $PRINCIPAL or $STORAGE{NEEDS}", None]),
+    ("W $Y", [f"$X or $Y{NEEDS}", None]),
+    ("W A,?5", [f"WRITE ?n{NEEDS}", None]),
+    ("W !?5,", [f"WRITE ?n{NEEDS}", "an operand is missing"]),
+    ("D F(1,.X):C", [f"parameters{NEEDS}", None]), ("D F(.^X)", [f"parameters{NEEDS}", "a name is missing"]),
+    ("D F(.X(1))", [f"parameters{NEEDS}", "a bracket where none is taken"]), ("D F(1", [f"parameters{NEEDS}", "a ) is missing"]),
+    ("G F(1)", ["parameters of GOTO", "parameters of GOTO"]), ("Q X+1", [f"QUIT with a value{NEEDS}", None]),
+    ("Q A,B", ["several values of QUIT", "several values of QUIT"]), ("Q $QUIT", [f"QUIT with a value{NEEDS}", None]),
+    ("W $Q", [f"$QUIT{NEEDS}", None]), ("W $$F(.X)", ["an extrinsic function", "an extrinsic function"]),
+    ("D F($$G(1))", [f"parameters{NEEDS}", "an extrinsic function"]), ("Q W 1", ["two spaces follow a command without arguments"] * 2),
+    ("R X", ["READ", "READ"]), ("W $re(", [f"$REVERSE{NEEDS}", "an operand is missing"]),
 ])
 def test_cause_by_the_language_of_the_account(server: Server, line: str, names: list[str | None]) -> None:
     """What is said of a line that the server has refused, and of a routine's line."""
@@ -180,6 +189,21 @@ def test_language_of_a_check(server: Server, command: Command, tmp_path: Path) -
     assert "invalid choice: 2" in command("mroutine", server.port, 1, "check", "--language", "2", "A.m").told
     assert command("mroutine", server.port, ALICE, "load", "--check", "A.m").told.endswith("nothing was loaded\n")
     assert command("mroutine", server.port, CAROL, "load", "--check", "A.m").output == "A: 2 lines from A.m\n"
+
+
+@pytest.mark.parametrize(("line", "column", "cause"), [
+    ("A(B,C) S X=B Q", None, None), ("A()", None, None), ("A(B);x", None, None), ("A(%)\t. Q", None, None), ("A(B,B) Q", 2, FORMALS), ("A(B,) Q", 2, FORMALS),
+    ("A(1) Q", 2, FORMALS), ("A(" + "B" * 32 + ") Q", 2, FORMALS), ("A(B", 2, FORMALS), ("A(.B) Q", 2, FORMALS),
+    ("A(B)Q", 5, "what begins the line is no label"),
+    ("A(B) W $$A(1)", 8, "an extrinsic function"), ("A (B) Q", 3, "a value without a command"), ("(B) Q", 1, "what begins the line is no label"),
+])
+def test_formal_lists(server: Server, line: str, column: int | None, cause: str | None) -> None:
+    """At language 1 those that are none are found, with their place. At language 0 all are, but what has no label before it."""
+    for number, terminal in TERMINALS.items():
+        with server.connection(terminal) as connection:
+            found = [(finding.column, finding.cause) for finding in check(connection, [source_line(line)])]
+            wanted = [] if cause is None else [(column, cause)]
+            assert found == (wanted if number or line[1] != "(" else [(2, language.PARAMETERS)])
 
 
 def source(name: str, *lines: str) -> Source:

@@ -21,13 +21,14 @@ def nodes(server: Server, terminal: int = ALICE) -> dict[tuple[str, ...], str]:
 
 
 @pytest.mark.parametrize(("text", "parts"), [
-    ("\tS X=1", ("", " ", "S X=1")), ("LABEL\tS X=1", ("LABEL", " ", "S X=1")), ("LABEL \t\t; note\there", ("LABEL", "   ", "; note\there")),
-    ("\t.\t. S X=1\tY", ("", " . . ", "S X=1 Y")), ("", ("", "", "")), ("%A1", ("%A1", "", "")), (";x", ("", "", ";x")), ("A;x", ("A", "", ";x")),
-    ("A(B) Q", ("A", "", "(B) Q")), ("1 Q", ("", "", "1 Q")), ('\tW "\t"', ("", " ", 'W "\t"')),
-    ("A\tQ:B\t\tW \"a\t\"\"\t\",1\t; to\tday \"\t", ("A", " ", "Q:B  W \"a\t\"\"\t\",1 ; to\tday \"\t")), ("A(B,C)\tQ", ("A", "", "(B,C) Q")),
-    ('\tW "open\t;\t', ("", " ", 'W "open\t;\t')),
+    ("\tS X=1", ("", "", " ", "S X=1")), ("LABEL\tS X=1", ("LABEL", "", " ", "S X=1")), ("LABEL \t\t; note\there", ("LABEL", "", "   ", "; note\there")),
+    ("\t.\t. S X=1\tY", ("", "", " . . ", "S X=1 Y")), ("", ("", "", "", "")), ("%A1", ("%A1", "", "", "")), (";x", ("", "", "", ";x")),
+    ("A;x", ("A", "", "", ";x")), ("A(B) Q", ("A", "(B)", " ", "Q")), ("1 Q", ("", "", "", "1 Q")), ('\tW "\t"', ("", "", " ", 'W "\t"')),
+    ("A\tQ:B\t\tW \"a\t\"\"\t\",1\t; to\tday \"\t", ("A", "", " ", "Q:B  W \"a\t\"\"\t\",1 ; to\tday \"\t")), ("A(B,C)\tQ", ("A", "(B,C)", " ", "Q")),
+    ('\tW "open\t;\t', ("", "", " ", 'W "open\t;\t')), ("A();x", ("A", "()", "", ";x")), ("A(,B)\t. Q", ("A", "(,B)", " . ", "Q")),
+    ("A (B) Q", ("A", "", " ", "(B) Q")), ("(B) Q", ("", "", "", "(B) Q")), ("A(B", ("A", "", "", "(B")), ("A(B-1) Q", ("A", "", "", "(B-1) Q")),
 ])
-def test_parts_of_a_line(text: str, parts: tuple[str, str, str]) -> None:
+def test_parts_of_a_line(text: str, parts: tuple[str, str, str, str]) -> None:
     assert source_line(text) == SourceLine(*parts)
 
 
@@ -206,9 +207,9 @@ def test_check_of_files(server: Server, command: Command, tmp_path: Path) -> Non
     (tmp_path / "GOOD.m").write_text("GOOD\t; it is\n\tI A=1 D\n\t. W 1\n\tE  W 2\n\n;\n")
     ran = command("mroutine", server.port, 1, "check", "BAD.m", "GOOD.m")
     assert ran.output.splitlines() == [
-        "BAD.m:1:4: the label BAD has parameters", f"    {language.LABEL_PARAMETERS}",
+        "BAD.m:1:4: the label BAD has parameters, which need language 1 of the account's settings", f"    {language.LABEL_PARAMETERS}",
         "BAD.m:2:10: not in the language: S X=$$ADD^R(A): an extrinsic function", f"    {advice('an extrinsic function')}",
-        "BAD.m:3:6: not in the language: Q X+1: QUIT with a value", f"    {advice('QUIT with a value')}",
+        f"BAD.m:3:6: not in the language: Q X+1: {VALUE}", f"    {advice(VALUE)}",
         "BAD.m:5:1: the line begins with '1 Q'", f"    {language.NO_LABEL}",
         "BAD.m:6:16: not in the language: R X: READ", f"    {advice('READ')}",
         "2 files, 12 lines: 5 lines not in the language"]
@@ -217,6 +218,9 @@ def test_check_of_files(server: Server, command: Command, tmp_path: Path) -> Non
     assert (ran.output, ran.status) == ("1 file, 6 lines: all in the language\n", 0)
     ran = command("mroutine", server.port, 1, "load", "--check", "BAD.m", "GOOD.m")
     assert ran.status == 1 and "nothing was loaded" in ran.told and nodes(server) == {}
+
+
+VALUE = "QUIT with a value, which needs language 1 of the account's settings"
 
 
 def advice(name: str) -> str:

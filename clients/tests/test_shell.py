@@ -282,7 +282,7 @@ def test_server_that_goes_away(own_server: Server) -> None:
 def test_fault_is_shown_with_its_place(server: Server, tmp_path: Path) -> None:
     with terminal(server, tmp_path) as shell:
         shell.answers("W 1 2", "     ^ ZSYNTAX: two expressions need a comma, or two commands one space")
-        shell.answers("D F(1)", "     ^ ZSYNTAX: parameters")
+        shell.answers("D F(1)", "     ^ ZSYNTAX: parameters, which needs language 1 of the account's settings")
         shell.wait("SET variables before the DO")
         shell.answers("W Müller", "     ^ ZCHAR: a character over 127")
 

@@ -4,7 +4,8 @@
  * A line's label and dots are taken off, and the rest is sent after `Q  `: the server reads it whole, and stops at the Q. A
  * rest that is too long for that is put together in a local variable that the session does not have, and run by XECUTE,
  * after `Q  ` too; then that local is killed. Each call wants a terminal that its caller has alone (`Terminal.alone`). */
-import { FAULTS, GUARD, LABEL_PARAMETERS, LONGEST_LINE, LONGEST_NAME, LONGEST_TEXT, NEW_LINES, NO_LABEL, OVER, PATTERNS } from "./codes.js";
+import { FAULTS, FORMALS, GUARD, LABEL_PARAMETERS, LONGEST_LINE, LONGEST_NAME, LONGEST_TEXT, NEW_LINES, NO_LABEL, OVER, PARAMETERS_SINCE,
+         PATTERNS } from "./codes.js";
 import { fault, inWords } from "./language.js";
 import { setLines } from "./mtext.js";
 import { textOf } from "./routines.js";
@@ -13,6 +14,7 @@ import { askedAll, withLocal } from "./walk.js";
 
 const LONGEST_REST = LONGEST_TEXT - GUARD.length;
 const OVER_PLACE = new RegExp(PATTERNS.over);
+const NAME = new RegExp(`^(?:${PATTERNS.name})$`);
 
 /** What is wrong, with its parts in place of the braces. */
 function filled(text, ...parts) {
@@ -25,7 +27,7 @@ export async function check(terminal, lines) {
   const accepted = await acceptedRests(terminal, lines.map((line) => (OVER_PLACE.test(line.rest) ? "" : line.rest)));
   const found = [];
   for (const [number, line] of lines.entries()) {
-    const finding = faultOfForm(line) ?? (accepted[number] ? null : refused(line, language));
+    const finding = faultOfForm(line, language) ?? (accepted[number] ? null : refused(line, language));
     if (finding) {
       found.push({ line: number + 1, ...finding });
     }
@@ -81,9 +83,15 @@ async function longAnswer(terminal, rest) {
   });
 }
 
-/** What is wrong with a line before its first command, or null. */
-function faultOfForm(line) {
-  const { label, level, rest } = line;
+/** Whether what stands in brackets after a label is a formal list: names, each once, or none. */
+function isFormalList(text) {
+  const names = text.slice(1, -1).split(",");
+  return text === "()" || (text !== "" && names.every((name) => NAME.test(name)) && new Set(names).size === names.length);
+}
+
+/** What is wrong with a line before its first command in a language, or null. */
+function faultOfForm(line, language) {
+  const { label, formals, level, rest } = line;
   const over = OVER_PLACE.exec(textOf(line));
   if (over) {
     const character = String.fromCodePoint(textOf(line).codePointAt(over.index));
@@ -92,11 +100,15 @@ function faultOfForm(line) {
   if (label.length > LONGEST_NAME) {
     return { column: 1, message: filled(FAULTS.label, label, label.length), advice: NO_LABEL };
   }
-  if (label && !level && rest.startsWith("(")) {
+  const hasBrackets = label && (formals || (!level && rest.startsWith("(")));
+  if (hasBrackets && language < PARAMETERS_SINCE) {
     return { column: label.length + 1, message: filled(FAULTS.parameters, label), advice: LABEL_PARAMETERS };
   }
+  if (hasBrackets && !isFormalList(formals)) {
+    return { column: label.length + 1, message: filled(FAULTS.formals, label), advice: FORMALS };
+  }
   if (!level && rest && !rest.startsWith(";")) {
-    return { column: label.length + 1, message: filled(FAULTS.begin, `'${(label + rest).slice(0, 20)}'`), advice: NO_LABEL };
+    return { column: before(line) + 1, message: filled(FAULTS.begin, `'${(label + formals + rest).slice(0, 20)}'`), advice: NO_LABEL };
   }
   if (rest.length > LONGEST_REST) {
     const count = textOf(line).length.toLocaleString("en");
@@ -105,10 +117,15 @@ function faultOfForm(line) {
   return null;
 }
 
+/** How many characters stand before a line's first command. */
+function before(line) {
+  return line.label.length + line.formals.length + line.level.length;
+}
+
 /** Why a line is not in the account's language. */
 function refused(line, language) {
   const found = fault(line.rest, language);
-  const column = line.label.length + line.level.length + 1;
+  const column = before(line) + 1;
   if (found === null) {
     return { column, message: `not in the language: ${line.rest.slice(0, 60)}`, advice: "The server refuses it." };
   }

@@ -24,10 +24,11 @@ export class BadText extends Trouble {
   }
 }
 
-/** A line of a routine cut into label, level (spaces and dots) and rest. Tabs become spaces, but for those of strings and comments. */
+/** A line of a routine cut into label, what may be its formal list, level (spaces and dots) and rest. Tabs become spaces, but for those of strings
+ * and comments. */
 export function sourceLine(text) {
-  const [, label = "", level = "", rest] = HEAD.exec(text);
-  return { label, level: level.replaceAll("\t", " "), rest: rest.replace(TAB, (_, kept) => kept ?? " ") };
+  const [, label = "", formals = "", level = "", rest] = HEAD.exec(text);
+  return { label, formals, level: level.replaceAll("\t", " "), rest: rest.replace(TAB, (_, kept) => kept ?? " ") };
 }
 
 /** The lines that a text in the editor has, cut into their parts. BadText if it has a character over 127 or a line that is too long. */
@@ -50,7 +51,7 @@ export function sourceLines(text) {
 
 /** A cut line as the routine has it. */
 export function textOf(line) {
-  return line.label + line.level + line.rest;
+  return line.label + line.formals + line.level + line.rest;
 }
 
 /** Whether a node of ^ROUTINE is a line of a routine. */

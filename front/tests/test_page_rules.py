@@ -109,7 +109,7 @@ def test_codes_in_words(browser: Browser) -> None:
 def test_parts_of_a_line(browser: Browser, cases: dict[str, list]) -> None:
     texts, parts = zip(*cases["test_parts_of_a_line"])
     given = browser.module("const { sourceLine } = await import('/page/routines.js'); return given[0].map(sourceLine);", list(texts))
-    assert [[line["label"], line["level"], line["rest"]] for line in given] == list(parts)
+    assert [[line["label"], line["formals"], line["level"], line["rest"]] for line in given] == list(parts)
 
 
 CHECK = """const [{ check }, { sourceLine }] = [await import("/page/checking.js"), await import("/page/routines.js")];
@@ -170,10 +170,12 @@ FAULT = """const [{ faultOf }, { languageOf }] = [await import("/page/language.j
 def test_language_of_the_account(request: pytest.FixtureRequest, number: int) -> None:
     """Lines are checked by it, and the cause of one that was refused is the one of the account's language."""
     own, asked = (request.getfixturevalue(name) for name in (("browser", "connection"), ("later_browser", "later_connection"))[number])
-    taken, refused = ["W $RE(A)", "S $E(A,2)=1,$P(A,1,2,3)=B", "W !?5,$X,?$Y"], [
-        "W ?5!", "W !?", "S $P(A,1,2,3,4)=1", "W $RE(A) R X", "W $RE(A,1)", "W $re(", "R X"]
+    taken, refused = ["W $RE(A)", "S $E(A,2)=1,$P(A,1,2,3)=B", "W !?5,$X,?$Y", "D F(1,.X,):$Q Q:A B"], [
+        "W ?5!", "W !?", "S $P(A,1,2,3,4)=1", "W $RE(A) R X", "W $RE(A,1)", "W $re(", "R X", "D F(.1X)", "D F(1", "G F(1)", "Q A,B"]
     assert own.module(CHECK, [f" {text}" for text in taken + refused]) == [checked(asked, f" {text}") for text in taken + refused]
     assert [checked(asked, f" {text}") == [] for text in taken] == [number == 1] * len(taken)
+    lists = ["A(B,C) Q", "A()", "A(B,B) Q", "A(B,) Q", "A(1) Q", "A(B", "A(B)Q", "A(B) W $$A(1)", "A(B)\t. S X=B W $H", "(B) Q", "A (B) Q"]
+    assert own.module(CHECK, lists) == [checked(asked, text) for text in lists]
     refused += taken * (number == 0)
     assert own.module(FAULT, refused) == [as_told(fault_of(asked, text)) for text in refused]
 
@@ -182,7 +184,7 @@ def test_check_runs_nothing_and_leaves_the_session(browser: Browser) -> None:
     long = "S ^X=1 " * 50 + "K  "
     browser.module(CHECK, [" S ^X=1 K", f" {long}", " H", f" {long} W $$X"])
     rest = browser.module("""await window.own.line("S A=1,%m=2,%m1(1)=3 I 1"); const { check } = await import("/page/checking.js");
-                             await window.own.alone((own) => check(own, [{ label: "", level: " ", rest: "S ^X=1 K  H" }]));
+                             await window.own.alone((own) => check(own, [{ label: "", formals: "", level: " ", rest: "S ^X=1 K  H" }]));
                              return (await window.own.line("W A,$T,$D(^X),%m,%m1(1),$D(%m2)")).rest;""")
     assert rest == "110230"
 

@@ -155,6 +155,19 @@ class Draw:
         name = self.drawn.choice(["R^R", "P^R", "^R", "G^G", "H^G", "^G"])
         return joined([name, ":", self.expression(2)]) if self.drawn.randrange(3) == 0 else (name, name)
 
+    def entry_of_do(self) -> Pair:
+        """An argument of DO, which in language 1 may hand something over."""
+        if not self.language or self.drawn.randrange(3):
+            return self.entry()
+        label, actuals = self.drawn.choice(["A^C", "K^C", "N^C", "G^C"]), [self.actual() for _ in range(self.drawn.choice([0, 1, 2, 2]))]
+        return joined([label, "(", joined(actuals, ","), ")", *([":", self.expression(2)] if self.drawn.randrange(3) == 0 else [])])
+
+    def actual(self) -> Pair:
+        """What is handed over: a value, a name, or nothing."""
+        name = self.drawn.choice(["A", "B", "C", "N"])
+        return self.drawn.choice([lambda: self.expression(1), lambda: ("." + name, "." + name), lambda: ("." + name, ".@" + self.operand(name)),
+                                  lambda: ("", "")])()
+
     def text_to_run(self) -> Pair:
         """An argument of XECUTE."""
         plain, other = self.command(inner=True)
@@ -175,7 +188,7 @@ class Draw:
         if form == 5:
             return joined([self.word(["K", "KILL"]), " ", self.arguments(self.some(lambda: self.reference(2)))])
         if form == 6:
-            return joined([self.word(["D", "DO"]), " ", self.arguments(self.some(self.entry))])
+            return joined([self.word(["D", "DO"]), " ", self.arguments(self.some(self.entry_of_do))])
         if form == 7:
             names = self.drawn.sample(["A", "B", "C"], self.drawn.randint(1, 2))
             return joined([self.word(["N", "NEW"]), " ", self.arguments([(name, name) for name in names])])

@@ -54,6 +54,9 @@ TEXTS = [
     'W !?{i},$X,",",$Y,$RE({v})', 'S ^{g}({i})=$X_","_$Y_$RE({v}) W ^{g}({i})', 'W #,?{v},*{v}+40,$RE("{g}"),!#', 'X "W ?{i},$RE({v})" W $X',
     'W ^|"{o}"|{g}($X),$RE({v})',
     'W $FN($RE({v}_1234),",T",2)', 'S ^{g}({i})=$FN($RE({v})*7777,"P,") W ^{g}({i})',
+    'S ^ROUTINE("P",1)="A(X,Y) S X=$G(X)_{v},^{g}({i})=X W X,$QUIT Q"', 'S ^ROUTINE("P",2)="B(X) K X S X=$G(^{g}({i})) D A(.X) Q"',
+    'D A^P(.A,$RE({v})) W A', 'D B^P(.A),A^P($RE({v}),.A) W $G(A)', 'D A^P(^|"{o}"|{g}({i}),$RE({v}))', 'W {v} Q $RE({v})',
+    'S A="A" D A^P(.@A,$RE({v})),B^P(.A):A>1 W A',
     'S $E(^{g}({i}),2,3)=$RE({v}) W ^{g}({i})', 'S $P(^|"{o}"|{g}({i}),",",2,3)=$RE({v})', 'S $E(^|"{o}"|{g}({i}),0)=$RE({v}) W $D(^({i}))',
 ]
 # What a line has that is in language 1 alone: where it is reached, language 0 ends by ZSYNTAX.

@@ -10,11 +10,13 @@ from random import Random
 
 import against_gtm
 import pytest
-from against_gtm import Difference, Reply, alike, differences, faults_of_drawn, faults_of_examples, faults_of_rows, first_fault
-from drawn_forms import BEGIN, FORMS, SHOW, session
+from against_gtm import Difference, Reply, alike, compared, differences, faults_of_drawn, faults_of_examples, faults_of_rows, first_fault
+from drawn_forms import BEGIN, FORMS, PARAMETERS, SHOW, session, session_of
 from gtm import gtm_folder
 from running import OF_LANGUAGE
 
+# Sessions that have 2,500 lines with actuals.
+HANDED = 500
 needs_gtm = pytest.mark.skipif(gtm_folder() is None and not os.environ.get("CI"), reason="GT.M is not there: apt-get install fis-gtm")
 
 
@@ -26,6 +28,16 @@ def test_drawn_lines(count: int, language: int) -> None:
     lines, faults = faults_of_drawn(differences(), sessions * count, 68, language)
     assert [fault.told() for fault in faults] == []
     assert lines >= least * count
+
+
+@needs_gtm
+@pytest.mark.long
+def test_drawn_lines_that_hand_something_over(count: int) -> None:
+    """2,500 lines with actuals, and `--count` times as many; between them what GT.M wants (drawn_calls.READY, AGAIN)."""
+    drawn, known = Random(71), differences()
+    lines, faults = compared([session_of(drawn, PARAMETERS) for _ in range(HANDED * count)], known)
+    assert [fault.told() for fault in faults] == []
+    assert lines >= 7000 * count
 
 
 @needs_gtm

@@ -3,9 +3,9 @@
 has exactly one reply, from the terminal that it names, and the replies are the same if the input comes in pieces of 1, 2 and 7 bytes.
 
 What is changed: a bracket too many, a byte over 127 or under 32, a name of 32 characters, 41 brackets or operands of `@` one within the other,
-256 levels, a count of 10^19, groups of patterns as deep, with counts from 0 to 9999 and reversed ones, a character left out, doubled or in place
-of another, a cut, and the terminal. Of one long line every cut is tried. Half of the lines have forms of language 1, and all are played by
-language 0 and by language 1."""
+256 levels, a count of 10^19, groups of patterns as deep, with counts from 0 to 9999 and reversed ones, actuals and formal lists that are too many,
+too deep or none, a character left out, doubled or in place of another, a cut, and the terminal. Of one long line every cut is tried. Half of the
+lines have forms of language 1, and all are played by language 0 and by language 1."""
 from __future__ import annotations
 
 import re
@@ -33,6 +33,11 @@ BIG = "1" + 19 * "0"
 def groups(count: str, depth: int, last: str) -> str:
     """A pattern with groups one within the other, each with this count."""
     return depth * f"{count}(" + last + depth * ")"
+
+
+def labelled(text: str, line: str) -> str:
+    """A line that stores this one as the first of routine R, and runs another."""
+    return f"S ^ROUTINE({quoted('R')},1)={quoted(text)} {line}"
 
 
 # What stands in place of a line, or of a part of it.
@@ -68,6 +73,27 @@ NESTED = [
     'S P="," F I=1:1:9 S P=P_"200"" ""," W:I=9 $J(1,200)?@(".(.E"_P_".E)")', 'S A="1(1N" W 1?@A', f"W 1?{groups('1', 40, '1N')}?{groups('1', 40, '1N')}",
     "W $I(1)", "W $J(1", "S $IO=1", "K $J", "W " + 40 * "-" + "$S", "W @$J", "W $STORAGEX",
     f"H {BIG}", "H -1,.5,A", "HANG", "H  H 1", "F  H $S", "H @A", 'S A="H @A" X A', "HANG:$J 1:1", f"H {BIG}E{BIG}", "HALT 1", f'W $G(@"A($RE({BIG}))")',
+    "D R^R(" + 40 * "(" + "1" + 40 * ")" + ")", "D R^R(" + 39 * "(" + "1" + 39 * ")" + ")", "D R^R(.@" + 39 * "@" + "A)", "D R^R(.@" + 40 * "@" + "A)",
+    "D R^R(" + 200 * "," + ")", "D R^R(" + 60 * ".A," + ".A)", "D R^R(" + 99 * "(", "D R^R(" + 99 * ".@", "D R^R(.A(1))", "D R^R(.^A)", "D R^R(..A)",
+    "D R^R(.)",
+    "D R^R(.1A)", f"D R^R({BIG})", f"D R^R(.{BIG},.@{BIG})", f"D R^R(.A{BIG}{BIG})", "D R^R(A:1)", "D R^R((.A))", "D R^R(.A)(.B)", "D R^R()()", "D (A)", "D ()",
+    "D ^(A)", "G R^R(1)", "G R^R()", "Q 1,2", "Q " + 41 * "(" + "1" + 41 * ")", "Q @" + 41 * "@" + "A", "Q:", "Q .A", f"Q {BIG}", "Q:1 Q", "F  Q 1",
+    "F  D R^R(.A)",
+    'X "Q 1"', "W $QUIT(1)", "S $Q=1", "N $QUIT", "K $Q", "W " + 60 * "-" + "$Q", "W $QUITX", "W $$R^R(1)", "D R^R($$R)", "W $$", "S A=$$(1)",
+    'S A="$$R^R" W @A',
+    labelled("R(A) D R^R(A)", "D R^R(1)"), labelled("R(A) D R^R(.A)", "D R^R(.A)"), labelled("R(A,B) D R^R(.B,.A)", "S A=1 D R^R(.A,.A) W A"),
+    labelled("R(A) D R^R(A_A)", 'D R^R("x")'), labelled("R(A) N A D R^R(.A)", "D R^R(.A)"), labelled("R(A) N  D R^R(.A)", "D R^R(.A)"),
+    labelled("R(A) X " + quoted("D R^R(.A)"), "D R^R(.A)"), labelled("R(A) F  D R^R(.A)", "D R^R(.A)"), labelled("R(A) K  D R^R(.A)", "D R^R(.A)"),
+    labelled("R(A) G R", "D R^R(.A)"), labelled("R() D  Q", "F  D R^R()"), labelled("R(A) Q A", "D R^R(1)"), labelled("R(A) H", "D R^R(.A)"),
+    labelled("R(A) S A=A+1 D:A<250 R^R(.A)", "S A=0 D R^R(.A) W A"), labelled("R(A) S B=A+1 D:B<250 R^R(B)", "D R^R(0) W $D(B)"),
+    labelled("R(A) S A(A)=1 K A(A-5) S A=A+1 D R^R(.A)", "S A=0 D R^R(.A)"), labelled("R(A,A) Q", "D R^R(1)"), labelled("R(A,A) Q", "D R^R"),
+    labelled("R(", "D R^R(1)"), labelled("R(A", "D R^R(1)"), labelled("R(A) ", "D R^R(1)"), labelled("R(A)Q", "D R^R(1)"), labelled("R(1) Q", "D R^R(1)"),
+    labelled("R(A,) Q", "D R^R(1)"), labelled("R(,A) Q", "D R^R(1)"), labelled("R(%,%A) Q", "D R^R(.%,.%A,.%B)"), labelled("R (A) Q", "D R^R(1)"),
+    labelled("R(" + 31 * "A" + ") Q", "D R^R(.A)"), labelled("R(" + 32 * "A" + ") Q", "D R^R(.A)"), labelled("R(A);x", "D R^R(.A)"),
+    labelled("R(A) . Q", "D R^R(.A)"),
+    labelled("R(" + ",".join(f"A{number}" for number in range(25)) + ") Q", "D R^R(" + 24 * ".A," + ".A)"), labelled("(A) Q", "D ^R(1)"),
+    labelled("R(A) Q", "D ^R(1,2)"),
+    labelled("R(.A) Q", "D R^R(.A)"), labelled("R(A:B) Q", "D R^R(.A)"), labelled("R()() Q", "D R^R()"), labelled("R(A)(B) Q", "D R^R(1)"),
     f'W $O(A({BIG}),{BIG})', f"W {BIG}E{BIG}", f"W .{BIG}", "S B=\"x\" F  S B=B_B", 'W $J("",200)?.E.E.E.E1"x"', 'K  K ^A,^B N  L', "H", "Q", "G", "D",
 ]
 # One with forms of language 0, and the same with forms of language 1 in it.
@@ -76,7 +102,8 @@ LONG = (
     'I $D(B) D P^R,@"R^R":I K (A,B) L +(^A,B):0 N I W $O(^A("")),$TR("ab","a","b"),$E("abc",2),$G(^|"ALICE"|A(1)),$C(65),A?1.N ; end'
 )
 LONGS = {0: LONG, 1: LONG.replace('$TR("ab","a","b")', "$RE($J(1.5,6,2))").replace('"no"', '$FN(I,",")').replace("I $D(B)", "H 1,$S I $J").replace(
-    "-$L", "2**$L").replace("$P(C,\",\",2)", "$P(C,9,2,3)").replace("A?1.N", 'A?@"1.N"').replace('$E("abc",2),', "").replace(',! X', ",!?$X X")}
+    "-$L", "2**$L").replace("$P(C,\",\",2)", "$P(C,9,2,3)").replace("A?1.N", 'A?@"1.N"').replace('$E("abc",2),', "").replace(',! X', ",!?$X X").replace(
+    'D P^R,@"R^R":I', "D P^R(.I,,A):I")}
 each_language = pytest.mark.parametrize("language", OF_LANGUAGE)
 
 
@@ -147,6 +174,19 @@ def with_groups(drawn: Random, text: str) -> str:
     return drawn.choice([f"W {value}?{pattern}", f"W {value}'?{pattern} {text}", f"S P={quoted(pattern)} W {value}?@P", f"F  W {value}?{pattern}"])
 
 
+def with_actuals(drawn: Random, text: str) -> str:
+    """A routine's line whose formal list may be none, and a DO that hands over more or less than it has, as deep as nobody writes."""
+    names = drawn.choice([["A"], ["A", "B"], ["B", "A", "C"], ["A", "A"], [""], ["A", ""], ["1"], [32 * "A"], []])
+    rest = drawn.choice(["S A=$G(A)_1 Q", "K A Q", "N A S A=1 Q", "K (A) Q", "D R^R(.A)", 'X "D R^R(.B,.A)"',
+                         "Q $G(A)", "Q:$D(A)>9 A", "G R", "F B=1:1:3 D R^R(.B)"])
+    given = drawn.choice([".A", ".B", "A", "1", "", ".@C", '.@"A"', ".A(1)", ".", ".^A", "$$R^R",
+                          39 * "(" + "1" + 39 * ")", 41 * "(" + "1" + 41 * ")", ".@" + 40 * "@" + "A"])
+    handed = ",".join(drawn.choice([given, ".A", "A", ""]) for _ in range(drawn.choice([0, 1, 1, 2, 3, 20])))
+    line = drawn.choice([f"D R^R({handed})", f"D R^R({handed}) {text}", f"F I=1:1:3 D R^R({handed}):I=2",
+                         f"X {quoted(f'D R^R({handed})')} Q A", f"D R^R({handed}"])
+    return labelled(f"R({','.join(names)}){drawn.choice([' ', ' ', ' ', ' . ', '', ';'])}{rest}", line)
+
+
 def with_rest(drawn: Random, text: str) -> str:
     """One that is too long, or that just is not."""
     return text + " ;" + drawn.randint(0, LONGEST) * "x"
@@ -158,7 +198,7 @@ def right(drawn: Random, text: str) -> str:
 
 
 CHANGES = [right, with_bracket, with_byte, with_long_name, with_one_left_out, with_one_doubled, with_another, with_count, cut, nested, with_groups,
-           with_rest]
+           with_actuals, with_rest]
 TERMINALS = ["1"] * 30 + ["2", "9999", "10000", "0", "01", "", "x", "-1", "1\t"]
 
 

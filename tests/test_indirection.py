@@ -23,6 +23,8 @@ TRIES = 20
 ROUTINES = [
     'S ^ROUTINE("R",1)="R S N=$G(N)+1 Q",^ROUTINE("R",2)="P S N=$G(N)+10 I N>20 Q",^ROUTINE("R",3)=" S N=N+100"',
     'S ^ROUTINE("G",1)="G W ""g"" Q",^ROUTINE("G",2)="H W ""h"",$G(I) Q"',
+    'S ^ROUTINE("C",1)="A(A,X) S A=$G(A)_1,N=$G(N)+1 Q",^ROUTINE("C",2)="K(B,A) K B S A=3 Q",^ROUTINE("C",3)="N(C) N A S C=$G(C)_2,A=5 Q"',
+    'S ^ROUTINE("C",4)="G(A,B) F N=1:1:2 G H:N=2",^ROUTINE("C",5)=" Q",^ROUTINE("C",6)="H S B=$G(A) Q"',
     'S ^ROUTINE("DUMP",1)="DUMP W $T,""|"",$G(N),""|"",$G(I),""|"",$G(A),""|"",$G(B),""|"",$G(C),""|"",$G(^A),""|"",$G(^B),""|"""',
     'S ^ROUTINE("DUMP",2)=" N X S X="""" F  S X=$O(A(X)) Q:X=""""  W X,""="",$G(A(X)),"":"",$D(A(X)),"";"""',
     'S ^ROUTINE("DUMP",3)=" S X="""" F  S X=$O(B(X)) Q:X=""""  W X,""="",$G(B(X)),"":"",$D(B(X)),"";"""',

@@ -49,6 +49,14 @@ SHARED_LINES = [
     ('2 H', '2.'),
     ('2 W $X,$Y', '2-00\n2.'),
     ('3 W $X,$Y S $P(^X,",",2,3)="x" W ^X', '3-20,x\n3.'),
+    ('1 S ^|"BOB"|ROUTINE("F",1)="F(A,B) S B=A_$QUIT Q",^X="D F^F(7,.Y) W Y"', '1.'),
+    ('1 X ^X', '1!ZSYNTAX'),
+    ('2 X ^|"ALICE"|X', '2-70\n2.'),
+    ('2 S ^|"ALICE"|ROUTINE("F",1)="F(A) W 1 Q",^|"ALICE"|ROUTINE("F",2)="G W 2 Q A" D F^F(,.^X)', '2!ZSYNTAX'),
+    ('2 S ^|"ALICE"|ROUTINE("F",1)="F(A) W 1 Q",^|"ALICE"|ROUTINE("F",2)="G W 2 Q A"', '2.'),
+    ('1 D F^F', '1!M13'),
+    ('1 D ^F', '1!ZSYNTAX'),
+    ('1 D G^F', '1!ZSYNTAX'),
 ]
 
 

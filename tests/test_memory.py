@@ -51,7 +51,7 @@ APART = [(block, name) for block in SEVERAL for name, terminals in accounts_of(S
 STEPS, REOPENED, CONNECTIONS = ([block for block in blocks() if block.kind == kind] for kind in ("steps", "reopened", "connections"))
 # Blocks with more requests than can be refused in a short time.
 LONG = {"six hundred subscripts and three hundred names of locals, read and walked both ways", "texts of 4,095 characters", "levels and indirections together",
-        "the code of a level comes before those of its text, and behind that of the operand", "256 levels and no more", "a routine of many lines",
+        "the code of a level comes before those of its text, and behind that of the operand", "256 levels and no more", "256 levels", "a routine of many lines",
         "locals and the naked indicator go with the world, and globals stay"}
 # The lines of a connection, and the replies to its first lines: none, one, and so on.
 STREAM = b"".join(line for line, _ in COUNTED)

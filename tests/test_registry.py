@@ -1,9 +1,9 @@
 # SPDX-License-Identifier: Apache-2.0
-"""The registry of examples/: routines with parameters and functions, which are coming. The second interpreter and GT.M answer its session alike, as
-replies.txt has it: the text of each line, and its code on a line of its own if it ends by one.
+"""The registry of examples/: routines with parameters and functions, of which functions are coming. The second interpreter and GT.M answer its
+session alike, as replies.txt has it: the text of each line, and its code on a line of its own if it ends by one.
 
 GT.M takes the routines as they are. Here their tabs become spaces, as a loader makes of them. The program is asked for what it refuses alone: it does
-not have the forms."""
+not have functions."""
 from __future__ import annotations
 
 import os
@@ -55,12 +55,12 @@ def test_gtm_answers_as_shipped(tmp_path: Path) -> None:
     assert answers == by_second_interpreter()
 
 
-def test_functions_and_parameters_alone_are_in_the_way() -> None:
+def test_functions_alone_are_in_the_way() -> None:
     """Of the lines that the program refuses by language 1; no other form is missing."""
     tool = [sys.executable, Path(TOP, "tools", "coverage.py"), REGISTRY / "routines", "--language", str(max(OF_LANGUAGE))]
     told = subprocess.run(tool, capture_output=True, text=True, check=True, timeout=120).stdout
     causes = {row.split(" | ")[0] for row in told.partition("| first cause | lines | routines |\n|---|---|---|\n")[2].strip().split("\n")}
-    assert causes == {"| a label with parameters", "| an extrinsic function", "| parameters", "| QUIT with a value"}
+    assert causes == {"| an extrinsic function"}
 
 
 def test_it_is_a_program_of_functions() -> None:

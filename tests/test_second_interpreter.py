@@ -8,12 +8,15 @@ from random import Random
 import pytest
 from against_gtm import replies
 from blocks import SERVED, Block, blocks
-from drawn_forms import ROUTINES, quoted, session
+from drawn_forms import PARAMETERS as FORMS, ROUTINES, quoted, session, session_of
 from second_interpreter.world import World, deep
 from support import ACCOUNT, content, replies as program_replies
+from test_coming import CALLED, PARAMETERS
 
 # A session of this many lines each; some 2,000 lines.
 SESSIONS = 120
+# Sessions of a stream, of five lines each, that hand something over.
+HANDED = 50
 PLAYED = [block for block in blocks() if block.kind in SERVED]
 
 
@@ -56,3 +59,25 @@ def test_drawn_sessions_beside_the_program(count: int, language: int, forms: int
         assert len(list(replies(programs.decode("ascii")))) == len(lines)
         for line, one, other in zip(lines, replies(ours.decode("ascii")), replies(programs.decode("ascii")), strict=True):
             assert (line, one) == (line, other)
+
+
+@pytest.mark.long
+@pytest.mark.parametrize("steps", [2000, 60])
+def test_drawn_lines_that_hand_something_over(count: int, steps: int, written: Callable[[str], str]) -> None:
+    """1,250 lines with actuals, and `--count` times as many, by each allowance of steps: the lesser one ends half of them."""
+    drawn, settings = Random(steps), written(f"{ACCOUNT.format(1, steps)}language = 1\n")
+    for _ in range(5 * count):
+        given = stream([*stored(ROUTINES), *(line for _ in range(HANDED) for line in session_of(drawn, FORMS))])
+        ours, programs = (list(replies(one.decode("ascii"))) for one in (interpreted(given, settings), program_replies(given, settings=settings)))
+        for line, one, other in zip(given.decode("ascii").splitlines(), ours, programs, strict=True):
+            assert (line, one) == (line, other)
+
+
+@pytest.mark.parametrize("language", [0, 1])
+def test_lines_with_actuals_beside_the_program(language: int, written: Callable[[str], str]) -> None:
+    """Each line that hands something over, after the same beginning. With the profile most are no lines."""
+    settings = written(f"{ACCOUNT.format(1, 100_000)}language = {language}\n")
+    lines = [*stored(CALLED), *(line for one in PARAMETERS for line in ("K  K ^A W !", one))]
+    ours, programs = interpreted(stream(lines), settings), program_replies(stream(lines), settings=settings)
+    for line, one, other in zip(lines, replies(ours.decode("ascii")), replies(programs.decode("ascii")), strict=True):
+        assert (line, one) == (line, other)

@@ -31,8 +31,8 @@ from mserve_client.routine_files import SourceLine, file_lines, source_line  # n
 from mserve_client.wire import Connection  # noqa: E402
 
 TERMINAL = 1
-# What a line has that is a label and a comment alone: nothing, or the parameters of the label.
-NO_CODE = re.compile(r"(?:\([A-Za-z0-9%,]*\))?[ \t]*(?:;.*)?", re.DOTALL)
+# What a line has after its label that is a label and a comment alone.
+NO_CODE = re.compile(r"[ \t]*(?:;.*)?", re.DOTALL)
 
 
 @dataclass(frozen=True, slots=True)

@@ -21,8 +21,8 @@ HEAD = ("// SPDX-License-Identifier: Apache-2.0\n"
 
 PATTERNS = {"name": keys.NAME, "number": keys.NUMBER, "reference": mtext.REFERENCE, "line": routine_files.HEAD, "tab": routine_files.TAB,
             "string": language.STRING, "over": language.OVER_PLACE, "command": language.HEAD}
-FAULTS = {"over": checking.OVER_127, "label": checking.LONG_LABEL, "parameters": checking.PARAMETERS, "begin": checking.NO_BEGIN,
-          "line": checking.LONG_LINE, "cut": checking.CUT}
+FAULTS = {"over": checking.OVER_127, "label": checking.LONG_LABEL, "parameters": checking.PARAMETERS, "formals": checking.NO_FORMALS,
+          "begin": checking.NO_BEGIN, "line": checking.LONG_LINE, "cut": checking.CUT}
 
 
 def pattern_of(pattern: re.Pattern[str]) -> str:
@@ -46,6 +46,8 @@ def exported() -> dict[str, tuple[str, object]]:
         "OVER": ("What is said of a character over 127.", {"name": language.OVER.name, "advice": language.OVER.advice}),
         "NO_LABEL": ("What is said of a line that begins with no label and no space.", language.NO_LABEL),
         "LABEL_PARAMETERS": ("What is said of a label with parameters.", language.LABEL_PARAMETERS),
+        "FORMALS": ("What is said of brackets after a label that are no formal list.", language.FORMALS),
+        "PARAMETERS_SINCE": ("The language that has formal lists.", grammar.PARAMETERS_SINCE),
         "LONGEST_LINE": ("How many characters a line has at most.", wire.LONGEST_LINE),
         "LONGEST_TEXT": ("How many characters a text has at most.", keys.MAX_TEXT),
         "LONGEST_SUBSCRIPT": ("How many characters a subscript has at most.", keys.MAX_SUBSCRIPT),

@@ -86,8 +86,8 @@ class Machine(Places):
                 return completion
         return QUITS
 
-    def opened(self, level: Level, bound: list[tuple[str, Tree]], start: int | None, commands: tuple = ()) -> tuple:
-        """Runs commands, or lines from one on, in a new level; how it ends."""
+    def opened(self, level: Level, bound: list[tuple[str, Tree]], start: int | None, commands: tuple = (), is_entered: bool = False) -> tuple:
+        """Runs commands, or lines from one on, in a new level; how it ends. The first line of a block has no formal list."""
         outer, wanted = self.level, self.wants_value
         self.level, self.wants_value = level, level.wants_value
         self.stack.append(level)
@@ -95,7 +95,7 @@ class Machine(Places):
         self.session.locals.enter()
         try:
             self.session.locals.bind(bound)
-            return self.finish(self.in_level(self.commands(commands) if start is None else self.lines(start, is_entered=True)))
+            return self.finish(self.in_level(self.commands(commands) if start is None else self.lines(start, is_entered)))
         except Stop as stop:
             self.tell_places(stop)
             raise
@@ -119,7 +119,7 @@ class Machine(Places):
             raise Stop("M58")
         handed = [*(actuals or []), *[None] * len(formals or [])]
         bound = [(name, tree or Tree()) for name, tree in zip(formals or [], handed)]
-        return self.opened(Level(lines, name, at, 0, wants_value), bound, at)
+        return self.opened(Level(lines, name, at, 0, wants_value), bound, at, is_entered=True)
 
     def handed(self, actual: tuple) -> Tree | None:
         """What an actual hands over: a new variable with a value, one of the caller, or nothing."""

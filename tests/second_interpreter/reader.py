@@ -49,9 +49,10 @@ def label_of(text: str, language: int) -> str:
 
 
 def formals_of(text: str, language: int) -> tuple[list[str] | None, str]:
-    """The names of a line's formal list, or None, and what stands after it and the label. What is no list stays there, as one with two equal names."""
-    rest = text[len(label_of(text, language)):]
-    found = FORMALS.match(rest) if has(language, "parameters") else None
+    """The names of the formal list after a line's label, or None, and what stands after both. What is no list stays there, as one with two equal names."""
+    label = label_of(text, language)
+    rest = text[len(label):]
+    found = FORMALS.match(rest) if label and has(language, "parameters") else None
     if not found:
         return None, rest
     names = found[1].split(",") if found[1] else []
@@ -315,10 +316,9 @@ class Reader:
         return "line", label, offset, self.routine() if self.takes("^") else None
 
     def actuals(self) -> list[Tree]:
-        """What is handed over: values, names, nothing."""
-        if self.takes(")"):
-            return []
-        return self.bracketed(self.actual)
+        """What is handed over: values, names, nothing. One that is missing, alone in its brackets, is none."""
+        found = self.bracketed(self.actual)
+        return [] if found == [("missing",)] else found
 
     def actual(self) -> Tree:
         if self.next() in (",", ")"):

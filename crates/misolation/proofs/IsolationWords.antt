@@ -32,7 +32,7 @@ unfoldable pub use Rattle.mgrammar.specs.Languages.{line_in}
 pub use Rattle.mmeaning.proofs.Histories.{history_is_normal, normal_never_fails, normal_transitions_are_history}
 pub use Rattle.mmeaning.specs.History.{History, NoneFailed, answered, opening, replies, world_after}
 pub use Rattle.mmeaning.specs.LineMeaning.{Completion}
-pub use Rattle.mmeaning.specs.Shared.{Shared, act, guarded, may_lock, may_read, may_write, took}
+pub use Rattle.mmeaning.specs.Shared.{Shared, act, guarded, may_call, may_lock, may_read, may_write, took}
 pub use Rattle.mmeaning.specs.Transition.{Ending, Event, FailedTransition, Faulted, Finished, Halted, Reply, Session, Transition, TransitionBy, World, at_account, at_tree, checked, ended, is_ascii, is_failure, is_too_long, kept, lost, new_session, normal, plan_of, reply_of, session_or_new, settled, state_of}
 pub use Rattle.misolation.specs.Agreement.{Agree, Run}
 pub use Rattle.misolation.specs.Alike.{AlikeSettings, AlikeTransitions, AlikeWorlds, AllowsAll, SameEntries}

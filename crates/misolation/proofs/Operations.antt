@@ -1,6 +1,6 @@
 -- SPDX-License-Identifier: Apache-2.0
 -- The two laws, operation by operation.
-use Rattle.misolation.proofs.IsolationWords.{◌≡◌, Bool, true, false, not, List, Option, Some, None, refl, sym, ap, ◌∙◌, bytes_decides, and_parts, retain_keys, list_all, Node, text_eq, significant_digits, Read, Write, Settings, LockName, Locks, taken, given_back, released, Op, May, Value, Status, Neighbour, Routine, Put, Kill, Take, Give_back, Release, cut_drops, node_cmp_total, node_cmp_exact, by_test, Accounts, IsClosed, is_member, is_inside, cut_settings, cut_locks, cut_shared, IsFit, AreFit, option_map, is_node_within, Shared, guarded, may_read, may_write, may_lock, took, Actor, ops_of, cut_ops, InsideOperations, OutsideOperations}
+use Rattle.misolation.proofs.IsolationWords.{◌≡◌, Bool, true, false, not, List, [], Option, Some, None, refl, sym, ap, ◌∙◌, bytes_decides, and_parts, retain_keys, list_all, routines_of, Node, text_eq, significant_digits, Read, Write, Settings, LockName, Locks, taken, given_back, released, Op, May, Value, Status, Neighbour, Routine, Put, Kill, Take, Give_back, Release, cut_drops, node_cmp_total, node_cmp_exact, by_test, Accounts, IsClosed, is_member, is_inside, cut_settings, cut_locks, cut_shared, IsFit, AreFit, option_map, is_node_within, Shared, guarded, may_call, may_read, may_write, may_lock, took, Actor, ops_of, cut_ops, InsideOperations, OutsideOperations}
 use Rattle.misolation.proofs.CutMaps.{cut_cut, cut_absorbs, cut_insert}
 use Rattle.misolation.proofs.Access.{giver_inside, written_outside, may_cut, lock_cut}
 use Rattle.misolation.proofs.FittingLocks.{taken_fits, given_back_fits, released_fits}
@@ -22,7 +22,8 @@ operation_fits b (May owner name mode) w fit = fit
 operation_fits b (Value n) w fit = guarded_fits b.settings (may_read b.settings b.account.name n) _ w _ fit (λ _. fit)
 operation_fits b (Status n) w fit = guarded_fits b.settings (may_read b.settings b.account.name n) _ w _ fit (λ _. fit)
 operation_fits b (Neighbour direction n) w fit = guarded_fits b.settings (may_read b.settings b.account.name n) _ w _ fit (λ _. fit)
-operation_fits b (Routine name) w fit = fit
+operation_fits b (Routine None name) w fit = fit
+operation_fits b (Routine (Some owner) name) w fit = guarded_fits b.settings (may_call b.settings b.account.name owner) _ w _ fit (λ _. fit)
 operation_fits b (Put n t) w fit = guarded_fits b.settings (may_write b.settings b.account.name n) _ w _ fit (λ _. fit)
 operation_fits b (Kill n) w fit = guarded_fits b.settings (may_write b.settings b.account.name n) _ w _ fit (λ _. fit)
 operation_fits b (Take names) w fit =
@@ -73,7 +74,11 @@ module _ (s : Accounts) (b : Actor) (closed : IsClosed b.settings s) where
   alike_operation m (Neighbour direction n) w fit =
       alike_guarded _ _ None w _ _ (may_cut s b.settings closed b.account.name n.account n.name Read m)
       (λ y. record { answer = order_cut s w.globals direction n (giver_inside s b.settings closed b.account.name n.account n.name Read m y); shared = refl })
-  alike_operation m (Routine name) w fit = record { answer = lines_cut s w.globals b.account.name name m; shared = refl }
+  alike_operation m (Routine None name) w fit = record { answer = lines_cut s w.globals b.account.name name m; shared = refl }
+  alike_operation m (Routine (Some owner) name) w fit =
+      let of_owner = routines_of owner in
+      alike_guarded _ _ [] w _ _ (may_cut s b.settings closed b.account.name of_owner.account of_owner.name Read m)
+      (λ y. record { answer = lines_cut s w.globals owner name (giver_inside s b.settings closed b.account.name of_owner.account of_owner.name Read m y); shared = refl })
   alike_operation m (Put n t) w fit =
       alike_guarded _ _ tt w _ _ (may_cut s b.settings closed b.account.name n.account n.name Write m)
       (λ y. record {
@@ -144,7 +149,8 @@ module _ (s : Accounts) (b : Actor) (closed : IsClosed b.settings s) where
   left_operation m (Value n) w = left_guarded (may_read b.settings b.account.name n) _ w _ (λ _. refl)
   left_operation m (Status n) w = left_guarded (may_read b.settings b.account.name n) _ w _ (λ _. refl)
   left_operation m (Neighbour direction n) w = left_guarded (may_read b.settings b.account.name n) _ w _ (λ _. refl)
-  left_operation m (Routine name) w = refl
+  left_operation m (Routine None name) w = refl
+  left_operation m (Routine (Some owner) name) w = left_guarded (may_call b.settings b.account.name owner) _ w _ (λ _. refl)
   left_operation m (Put n t) w = left_guarded (may_write b.settings b.account.name n) _ w _ (λ y i. record {
     globals = cut_drops (node_cmp_total significant_digits) (node_cmp_exact significant_digits) w.globals (λ k. s k.account) n t (outsiders m n y) i;
     locks = cut_locks s b.settings w.locks;

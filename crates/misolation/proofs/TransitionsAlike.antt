@@ -1,6 +1,6 @@
 -- SPDX-License-Identifier: Apache-2.0
 -- What a normal transition cannot tell apart.
-use Rattle.misolation.proofs.IsolationWords.{◌≡◌, ℕ, Bool, true, false, cond, List, [], ◌∷◌, Option, Some, None, refl, sym, ap, ◌∙◌, subst, get, insert, remove, get-insert, get-remove, nat_cmp, eq_by_cmp, list_all, nat_cmp_total, Text, text_eq, Account, Settings, Read, Write, LockName, taken, Op, May, Value, Status, Neighbour, Routine, Put, Kill, Take, Give_back, Release, Ops, perform, State, Outcome, line_in, Completion, Shared, act, guarded, may_lock, took, answered, world_after, status, order_at, without_subtree, Session, session_or_new, World, Event, Reply, Ending, Finished, Halted, Faulted, kept, plan_of, reply_of, state_of, settled, ended, is_too_long, is_ascii, at_tree, checked, at_account, normal, AlikeSettings, AlikeWorlds, AlikeTransitions, TransitionsByAllowed, TransitionsBySessions}
+use Rattle.misolation.proofs.IsolationWords.{◌≡◌, ℕ, Bool, true, false, cond, List, [], ◌∷◌, Option, Some, None, refl, sym, ap, ◌∙◌, subst, get, insert, remove, get-insert, get-remove, nat_cmp, eq_by_cmp, list_all, nat_cmp_total, Text, text_eq, Account, Settings, Read, Write, LockName, taken, Op, May, Value, Status, Neighbour, Routine, Put, Kill, Take, Give_back, Release, Ops, perform, State, Outcome, line_in, Completion, Shared, act, guarded, may_lock, took, answered, world_after, status, order_at, lines_of, routines_of, without_subtree, Session, session_or_new, World, Event, Reply, Ending, Finished, Halted, Faulted, kept, plan_of, reply_of, state_of, settled, ended, is_too_long, is_ascii, at_tree, checked, at_account, normal, AlikeSettings, AlikeWorlds, AlikeTransitions, TransitionsByAllowed, TransitionsBySessions}
 
 -- ---- settings that allow the same
 
@@ -13,7 +13,8 @@ module _ (one two : Settings) (alike : AlikeSettings one two) where
   same_operation terminal me (Value n) w = ap (λ b. guarded b None w (get w.globals n, w)) (alike.allowed me n.account n.name Read)
   same_operation terminal me (Status n) w = ap (λ b. guarded b (false, false) w (status w.globals n, w)) (alike.allowed me n.account n.name Read)
   same_operation terminal me (Neighbour direction n) w = ap (λ b. guarded b None w (order_at w.globals direction n, w)) (alike.allowed me n.account n.name Read)
-  same_operation terminal me (Routine name) w = refl
+  same_operation terminal me (Routine None name) w = refl
+  same_operation terminal me (Routine (Some owner) name) w = ap (λ b. guarded b [] w (lines_of w.globals owner name, w)) (alike.allowed me owner (routines_of owner).name Read)
   same_operation terminal me (Put n t) w = ap (λ b. guarded b tt w (tt, record w { globals = insert w.globals n t })) (alike.allowed me n.account n.name Write)
   same_operation terminal me (Kill n) w = ap (λ b. guarded b tt w (tt, record w { globals = without_subtree w.globals n })) (alike.allowed me n.account n.name Write)
   same_operation terminal me (Take names) w = ap (λ (p : LockName → Bool). guarded (list_all p names) false w (took w (taken w.locks terminal names))) (λ i n. same_lock me n i)

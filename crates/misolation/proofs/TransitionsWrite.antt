@@ -1,6 +1,6 @@
 -- SPDX-License-Identifier: Apache-2.0
 -- What plans and transitions leave of globals, by their writes.
-use Rattle.misolation.proofs.IsolationWords.{◌≡◌, ℕ, zero, suc, Bool, true, false, List, [], ◌∷◌, ◌++◌, Option, Some, None, refl, sym, ap, ◌∙◌, append_assoc, not, ◌||◌, if◌then◌else◌, get, insert, list_all, Text, Node, Account, Settings, State, Outcome, Locks, taken, line_in, Completion, session_or_new, World, Event, Reply, Ending, Halted, reply_of, state_of, settled, plan_of, is_too_long, is_ascii, checked, at_account, FailedTransition, is_failure, TransitionBy, append-nil, Globals, without_subtree, Op, Value, Status, Neighbour, Put, Kill, Take, Plan, Done, Ask, Ops, perform, cut_short, Shared, act, guarded, may_read, may_write, may_lock, took, Exchange, exchanges, GlobalWrite, Puts, Kills, written_by, written, write_of, writes, line_writes, writes_by, TransitionWrites, TransitionsWrite}
+use Rattle.misolation.proofs.IsolationWords.{◌≡◌, ℕ, zero, suc, Bool, true, false, List, [], ◌∷◌, ◌++◌, Option, Some, None, refl, sym, ap, ◌∙◌, append_assoc, not, ◌||◌, if◌then◌else◌, get, insert, list_all, Text, Node, Account, Settings, State, Outcome, Locks, taken, line_in, Completion, session_or_new, World, Event, Reply, Ending, Halted, reply_of, state_of, settled, plan_of, is_too_long, is_ascii, checked, at_account, FailedTransition, is_failure, TransitionBy, append-nil, Globals, without_subtree, Op, Value, Status, Neighbour, Routine, Put, Kill, Take, Plan, Done, Ask, Ops, perform, cut_short, Shared, act, guarded, may_call, may_read, may_write, may_lock, took, Exchange, exchanges, GlobalWrite, Puts, Kills, written_by, written, write_of, writes, line_writes, writes_by, TransitionWrites, TransitionsWrite}
 
 -- writes one after another
 written-append : (xs ys : List GlobalWrite) (globals : Globals) → written (xs ++ ys) globals ≡ written ys (written xs globals)
@@ -35,6 +35,8 @@ module _ (settings : Settings) (terminal : ℕ) (me : Text) where
   operation_writes (Value n) w = kept_by (may_read settings me n) _ w _ refl
   operation_writes (Status n) w = kept_by (may_read settings me n) _ w _ refl
   operation_writes (Neighbour direction n) w = kept_by (may_read settings me n) _ w _ refl
+  operation_writes (Routine None name) w = refl
+  operation_writes (Routine (Some owner) name) w = kept_by (may_call settings me owner) _ w _ refl
   operation_writes (Put n t) w = put_by (may_write settings me n) n t w
   operation_writes (Kill n) w = killed_by (may_write settings me n) n w
   operation_writes (Take names) w = kept_by (list_all (may_lock settings me) names) _ w _ (kept_taken w (taken w.locks terminal names))

@@ -63,7 +63,7 @@ IsPermitted count n = (count.least ≤ n) × IsAtMost count.most n
 
 -- ---- patterns
 
--- what an atom repeats: members of classes, each of any of them; a string; or texts that pass a test, each whichever, which of a group
+-- what an atom repeats: members of classes, each of any of them; a string; or texts that pass a test, each by itself, which of a group
 -- in brackets is that one of its patterns matches
 pub data Repeated : Type 0 where
   members : List PatternCode → Repeated

@@ -10,13 +10,14 @@ use Rattle.mspec.specs.Trees.{Direction}
 use Rattle.mspec.specs.Access.{Mode}
 use Rattle.mspec.specs.LockConflict.{LockName}
 
--- the operations. The lines of a routine of one's own account are one operation, since a loop that costs no steps has no end of its own.
+-- the operations. The lines of a routine, of one's own account or of the owner's, are one operation, since a loop that costs no steps has
+-- no end of its own.
 pub data Op : Type 0 where
   May : (owner name : Text) → Mode → Op
   Value : Node → Op
   Status : Node → Op
   Neighbour : Direction → Node → Op
-  Routine : (name : Text) → Op
+  Routine : (owner : Option Text) → (name : Text) → Op
   Put : Node → Text → Op
   Kill : Node → Op
   Take : List LockName → Op
@@ -30,7 +31,7 @@ Answer (May owner name mode) = Bool
 Answer (Value node) = Option Text
 Answer (Status node) = Bool × Bool
 Answer (Neighbour direction node) = Option Text
-Answer (Routine name) = List Text
+Answer (Routine owner name) = List Text
 Answer (Put node text) = Unit {0}
 Answer (Kill node) = Unit {0}
 Answer (Take names) = Bool

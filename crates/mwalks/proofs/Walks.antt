@@ -10,13 +10,14 @@ use Rattle.std.specs.Ordering.{is_lt}
 use Rattle.std.specs.Prelude.{codes, if◌then◌else◌, option_and_then}
 use Rattle.mspec.proofs.NodeOrders.{text_cmp_total}
 use Rattle.mspec.specs.Access.{Settings, Read, lets}
-use Rattle.mspec.specs.Globals.{Globals, order_at}
+use Rattle.mspec.specs.Globals.{Globals, lines_of, order_at}
 use Rattle.mspec.specs.Node.{Node, Text}
 use Rattle.mspec.specs.NodeOrder.{canonical_value, text_cmp}
 use Rattle.mspec.specs.Number.{significant_digits}
 use Rattle.mspec.specs.Plan.{Plan, Done, Ask, Value, Neighbour, Ops, then_plan, perform}
 use Rattle.mspec.specs.Trees.{Forward, is_before, text_eq}
-use Rattle.mmeaning.specs.Shared.{Shared, act, guarded, may_read}
+use Rattle.mmeaning.specs.Shared.{Shared, act, guarded, may_call}
+use Rattle.mnodes.specs.Held.{AreHeld}
 use Rattle.mkey.specs.Under.{child_under, passes}
 use Rattle.mglobal.specs.Lines.{line_at, line_in, lines_behind, routine_at}
 use Rattle.mglobal.proofs.LineWalks.{all_lines, no_more, next_line, next_behind, less}
@@ -35,9 +36,9 @@ before_on x y z e f = ap is_lt ((text_cmp_total significant_digits).trans x y z 
 not_before : (x : Text) → is_before x x ≡ false
 not_before x = ap is_lt (tied_itself (text_cmp_total significant_digits) x)
 
-module _ (me name : Text) where
+module _ (owner name : Text) where
   abbrev child : Node → Option Text
-  child = child_under (routine_at me name)
+  child = child_under (routine_at owner name)
 
   abbrev test : Text → Node → Bool
   test x m = passes (is_before x) (child m)
@@ -79,53 +80,75 @@ module _ (me name : Text) where
 
 -- ---- the walk
 
-module _ (settings : Settings) (terminal : ℕ) (me name : Text) (w : Shared) where
+-- an account may call its own routines
+own_called : (settings : Settings) (me : Text) → may_call settings me me ≡ true
+own_called settings me = yes (text_eq me me) ((bytes_decides me me).1 refl) (list_any (lets me me (codes "ROUTINE") Read) settings.grants)
+  where
+    yes : (b : Bool) → b ≡ true → (d : Bool) → (b || d) ≡ true
+    yes b e d = grind arith
+
+module _ (settings : Settings) (terminal : ℕ) (me owner name : Text) (w : Shared) (called : may_call settings me owner ≡ true) where
   abbrev g : Globals
   g = w.globals
 
   abbrev ops : Ops Shared
   ops = act settings terminal me
 
-  -- an account may read its own
-  own : (x : Text) → may_read settings me (line_at me name x) ≡ true
-  own x = yes (text_eq me me) ((bytes_decides me me).1 refl) (list_any (lets me me (codes "ROUTINE") Read) settings.grants)
-    where
-      yes : (b : Bool) → b ≡ true → (d : Bool) → (b || d) ≡ true
-      yes b e d = grind arith
+  next_is : (x : Text) → act settings terminal me (Neighbour Forward (line_at owner name x)) w ≡ (order_at g Forward (line_at owner name x), w)
+  next_is x = ap (λ b. guarded b None w (order_at g Forward (line_at owner name x), w)) called
 
-  next_is : (x : Text) → act settings terminal me (Neighbour Forward (line_at me name x)) w ≡ (order_at g Forward (line_at me name x), w)
-  next_is x = ap (λ b. guarded b None w (order_at g Forward (line_at me name x), w)) (own x)
+  text_is : (x : Text) → act settings terminal me (Value (line_at owner name x)) w ≡ (get g (line_at owner name x), w)
+  text_is x = ap (λ b. guarded b None w (get g (line_at owner name x), w)) called
 
-  text_is : (x : Text) → act settings terminal me (Value (line_at me name x)) w ≡ (get g (line_at me name x), w)
-  text_is x = ap (λ b. guarded b None w (get g (line_at me name x), w)) (own x)
-
-  line_is : (c : Text) → perform ops (line me name c) w ≡ (line_in g me name c, w)
+  line_is : (c : Text) → perform ops (line owner name c) w ≡ (line_in g owner name c, w)
   line_is c = by_number (is_some (canonical_value significant_digits c))
     where
-      by_number : (b : Bool) → perform ops (if b then Ask (Value (line_at me name c)) (λ text. Done (option_to_list text)) else Done []) w ≡ ((if b then option_to_list (get g (line_at me name c)) else []), w)
+      by_number : (b : Bool) → perform ops (if b then Ask (Value (line_at owner name c)) (λ text. Done (option_to_list text)) else Done []) w ≡ ((if b then option_to_list (get g (line_at owner name c)) else []), w)
       by_number true = ap (λ (p : Option Text × Shared). (option_to_list p.0, p.1)) (text_is c)
       by_number false = refl
 
-  asked : (x : Text) → order_at g Forward (line_at me name x) ≡ first me name x (entries g)
-  asked x = order_is (line_at me name x) Forward g
+  asked : (x : Text) → order_at g Forward (line_at owner name x) ≡ first owner name x (entries g)
+  asked x = order_is (line_at owner name x) Forward g
 
-  walked : (most : ℕ) (x : Text) → left me name x (entries g) < most → perform ops (walk me name most x) w ≡ (lines_behind g me name x, w)
+  walked : (most : ℕ) (x : Text) → left owner name x (entries g) < most → perform ops (walk owner name most x) w ≡ (lines_behind g owner name x, w)
   walked zero x few = absurd (omega (arith, few))
-  walked (suc most) x few = ap (λ (p : Option Text × Shared). perform ops (onward me name (walk me name most) p.0) p.1) (next_is x) ∙ by_next (order_at g Forward (line_at me name x)) refl (walked most)
+  walked (suc most) x few = ap (λ (p : Option Text × Shared). perform ops (onward owner name (walk owner name most) p.0) p.1) (next_is x) ∙ by_next (order_at g Forward (line_at owner name x)) refl (walked most)
     where
-      by_next : (o : Option Text) → o ≡ order_at g Forward (line_at me name x) → ((c : Text) → left me name c (entries g) < most → perform ops (walk me name most c) w ≡ (lines_behind g me name c, w)) → perform ops (onward me name (walk me name most) o) w ≡ (lines_behind g me name x, w)
-      by_next None is on = ap (λ l. (l, w)) (sym (no_more me name g x is))
+      by_next : (o : Option Text) → o ≡ order_at g Forward (line_at owner name x) → ((c : Text) → left owner name c (entries g) < most → perform ops (walk owner name most c) w ≡ (lines_behind g owner name c, w)) → perform ops (onward owner name (walk owner name most) o) w ≡ (lines_behind g owner name x, w)
+      by_next None is on = ap (λ l. (l, w)) (sym (no_more owner name g x is))
       by_next (Some c) is on =
-          let fewer = fewer_left me name x c (next_behind me name g x c is) (entries g) (sym (asked x) ∙ sym is) in
+          let fewer = fewer_left owner name x c (next_behind owner name g x c is) (entries g) (sym (asked x) ∙ sym is) in
           let rest = on c (omega (arith, fewer, few)) in
-          then_performed ops (line me name c) (λ texts. then_plan (walk me name most c) (λ rest. Done (texts ++ rest))) w
-          ∙ ap (λ (p : List Text × Shared). perform ops (then_plan (walk me name most c) (λ rest. Done (p.0 ++ rest))) p.1) (line_is c)
-          ∙ then_performed ops (walk me name most c) (λ rest. Done (line_in g me name c ++ rest)) w
-          ∙ ap (λ (p : List Text × Shared). (line_in g me name c ++ p.0, p.1)) rest
-          ∙ ap (λ l. (l, w)) (sym (next_line me name g x c is))
+          then_performed ops (line owner name c) (λ texts. then_plan (walk owner name most c) (λ rest. Done (texts ++ rest))) w
+          ∙ ap (λ (p : List Text × Shared). perform ops (then_plan (walk owner name most c) (λ rest. Done (p.0 ++ rest))) p.1) (line_is c)
+          ∙ then_performed ops (walk owner name most c) (λ rest. Done (line_in g owner name c ++ rest)) w
+          ∙ ap (λ (p : List Text × Shared). (line_in g owner name c ++ p.0, p.1)) rest
+          ∙ ap (λ l. (l, w)) (sym (next_line owner name g x c is))
+
+-- enough steps for the walk over the owner's nodes
+abbrev enough_for : Globals → Text → Text → ℕ
+enough_for g owner name = suc (left owner name [] (entries g))
+
+open_walk : (settings : Settings) (terminal : ℕ) (me owner name : Text) (w : Shared) → AreHeld w.globals → may_call settings me owner ≡ true
+    → (most : ℕ) → enough_for w.globals owner name ≤ most → perform (act settings terminal me) (walk owner name most []) w ≡ (lines_of w.globals owner name, w)
+open_walk settings terminal me owner name w held called most enough =
+    walked settings terminal me owner name w called most [] (omega (arith, enough)) ∙ ap (λ l. (l, w)) (all_lines owner name w.globals held)
+
+-- a walk over what may not be read ends at its first step
+shut_walk : (settings : Settings) (terminal : ℕ) (me owner name : Text) (w : Shared) → may_call settings me owner ≡ false → (most : ℕ)
+    → enough_for w.globals owner name ≤ most → perform (act settings terminal me) (walk owner name most []) w ≡ ([], w)
+shut_walk settings terminal me owner name w shut zero enough = absurd (omega (arith, enough))
+shut_walk settings terminal me owner name w shut (suc most) enough =
+    let refused : (Option Text × Shared) → List Text × Shared = λ p. perform (act settings terminal me) (onward owner name (walk owner name most) p.0) p.1 in
+    ap (λ b. refused (guarded b None w (order_at w.globals Forward (line_at owner name []), w))) shut
+
+shared_walk : (settings : Settings) (terminal : ℕ) (me owner name : Text) (w : Shared) → AreHeld w.globals → (b : Bool) → may_call settings me owner ≡ b
+    → (most : ℕ) → enough_for w.globals owner name ≤ most → perform (act settings terminal me) (walk owner name most []) w ≡ guarded b [] w (lines_of w.globals owner name, w)
+shared_walk settings terminal me owner name w held true is most enough = open_walk settings terminal me owner name w held is most enough
+shared_walk settings terminal me owner name w held false is most enough = shut_walk settings terminal me owner name w is most enough
 
 pub routine_is_a_walk : RoutineIsAWalk
-routine_is_a_walk settings terminal me name w held = (
-  suc (left me name [] (entries w.globals)),
-  λ most enough. walked settings terminal me name w most [] (omega (arith, enough)) ∙ ap (λ l. (l, w)) (all_lines me name w.globals held),
-)
+routine_is_a_walk settings terminal me None name w held =
+    (enough_for w.globals me name, open_walk settings terminal me me name w held (own_called settings me))
+routine_is_a_walk settings terminal me (Some owner) name w held =
+    (enough_for w.globals owner name, shared_walk settings terminal me owner name w held (may_call settings me owner) refl)

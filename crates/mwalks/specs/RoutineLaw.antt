@@ -1,6 +1,6 @@
 -- SPDX-License-Identifier: Apache-2.0
 -- The lines of a routine, by the operations that ask for one node: what `Routine` answers is made of `Neighbour` and `Value`.
-use Rattle.std.specs.Prelude.{◌≡◌, ◌≤◌, ◌++◌, ℕ, zero, suc, List, [], Option, Some, None, is_some, if◌then◌else◌}
+use Rattle.std.specs.Prelude.{◌≡◌, ◌≤◌, ◌++◌, ℕ, zero, suc, List, [], Option, Some, None, is_some, unwrap_or, if◌then◌else◌}
 use Rattle.std.specs.Option.{option_to_list}
 use Rattle.mspec.specs.Access.{Settings}
 use Rattle.mspec.specs.Node.{Text}
@@ -14,19 +14,22 @@ use Rattle.mglobal.specs.Lines.{line_at}
 
 -- the text of the line at a place, if the place is a number and the node has a text
 abbrev pub line : Text → Text → Text → Plan (List Text)
-line me name place = if is_some (canonical_value significant_digits place) then Ask (Value (line_at me name place)) (λ text. Done (option_to_list text)) else Done []
+line owner name place =
+    if is_some (canonical_value significant_digits place) then Ask (Value (line_at owner name place)) (λ text. Done (option_to_list text)) else Done []
 
 -- that line, and then more from there; nothing if there is no place
 abbrev pub onward : Text → Text → (Text → Plan (List Text)) → Option Text → Plan (List Text)
-onward me name more None = Done []
-onward me name more (Some place) = then_plan (line me name place) (λ texts. then_plan (more place) (λ rest. Done (texts ++ rest)))
+onward owner name more None = Done []
+onward owner name more (Some place) = then_plan (line owner name place) (λ texts. then_plan (more place) (λ rest. Done (texts ++ rest)))
 
 -- from a place on, at each step the next one by $ORDER; at most so many steps
 abbrev pub walk : Text → Text → ℕ → Text → Plan (List Text)
-walk me name zero place = Done []
-walk me name (suc most) place = Ask (Neighbour Forward (line_at me name place)) (onward me name (walk me name most))
+walk owner name zero place = Done []
+walk owner name (suc most) place = Ask (Neighbour Forward (line_at owner name place)) (onward owner name (walk owner name most))
 
--- in a world whose globals a store may hold, `Routine` does what the walk does that has steps enough
+-- In a world whose globals a store may hold, `Routine` does what the walk over the owner's nodes does that has steps enough: also where the
+-- owner doesn't let the account read them.
 abbrev pub RoutineIsAWalk : Type 0
-RoutineIsAWalk = (settings : Settings) (terminal : ℕ) (me name : Text) (w : Shared) → AreHeld w.globals
-    → (steps : ℕ) × ((most : ℕ) → steps ≤ most → perform (act settings terminal me) (walk me name most []) w ≡ act settings terminal me (Routine name) w)
+RoutineIsAWalk = (settings : Settings) (terminal : ℕ) (me : Text) (owner : Option Text) (name : Text) (w : Shared) → AreHeld w.globals
+    → (steps : ℕ) × ((most : ℕ) → steps ≤ most
+    → perform (act settings terminal me) (walk (unwrap_or owner me) name most []) w ≡ act settings terminal me (Routine owner name) w)

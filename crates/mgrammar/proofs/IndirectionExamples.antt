@@ -1,8 +1,8 @@
 -- SPDX-License-Identifier: Apache-2.0
 -- Indirection on examples, as proved equations: texts with their trees, and texts that have none.
-use Rattle.mgrammar.proofs.GrammarWords.{◌≡◌, ℕ, zero, suc, ◌≢◌, List, [], ◌∷◌, ◌++◌, Some, None, refl, rules, codes, plus, add, apply, expr, no_tails, tail, operand, PrimaryTree, number, text, reference, bracket, ReferenceTree, local, naked, indirect, no_exprs, exprs, variable, one, several, at_label_in, set_argument, kill_argument, new_argument, if_argument, write_argument, do_argument, goto_argument, xecute_argument, assign, formats, shown, kill_one, do_one, no_actuals, executed, indirect_args, set_word, kill_word, new_word, if_word, write_word, do_word, goto_word, execute_word, line_at, ref_at, args_of, replicate}
+use Rattle.mgrammar.proofs.GrammarWords.{◌≡◌, ℕ, zero, suc, ◌≢◌, List, [], ◌∷◌, ◌++◌, Some, None, refl, rules, codes, plus, add, apply, expr, no_tails, tail, operand, PrimaryTree, number, text, reference, bracket, ReferenceTree, local, naked, indirect, no_exprs, exprs, variable, one, several, set_argument, kill_argument, new_argument, if_argument, write_argument, do_argument, goto_argument, xecute_argument, assign, formats, shown, kill_one, do_one, no_actuals, executed, indirect_args, set_word, kill_word, new_word, if_word, write_word, do_word, goto_word, execute_word, line_at, ref_at, args_of, replicate}
 use Rattle.mgrammar.proofs.Computing.{reads}
-use Rattle.mgrammar.proofs.ShortTrees.{IsRead, HaveNone, only, named, of_one}
+use Rattle.mgrammar.proofs.ShortTrees.{IsRead, HaveNone, only, own_label, named, of_one}
 
 -- ---- short forms
 
@@ -77,7 +77,7 @@ record Read : Type 0 where
   no_references : (ref_at [] ≡ None) × (ref_at (codes "B C") ≡ None) × (ref_at (codes " B") ≡ None) × (ref_at (codes "B,C") ≡ None) × (ref_at (codes "1") ≡ None) × (ref_at (codes "B ") ≡ None)
   argument_lists : (args_of write_argument (codes "1,!!,@A") ≡ Some (shown (only (number (codes "1"))) ∷ formats (codes "!!") None ∷ indirect_args write_argument a ∷ []))
       × (args_of set_argument (codes "B=4,@A") ≡ Some (assign (one (variable (named (codes "B")))) (only (number (codes "4"))) ∷ indirect_args set_argument a ∷ []))
-      × (args_of do_argument (codes "U^T:1") ≡ Some (do_one (at_label_in (codes "U") (codes "T")) no_actuals (Some (only (number (codes "1")))) ∷ []))
+      × (args_of do_argument (codes "U^T:1") ≡ Some (do_one (own_label (codes "U") (codes "T")) no_actuals (Some (only (number (codes "1")))) ∷ []))
   no_argument_lists : (args_of write_argument [] ≡ None) × (args_of write_argument (codes "1 1") ≡ None) × (args_of write_argument (codes "1,") ≡ None) × (args_of kill_argument (codes "1") ≡ None) × (args_of set_argument (codes "B") ≡ None) × (args_of do_argument (codes " A") ≡ None)
 
 all_read : Read

@@ -1,11 +1,11 @@
 -- SPDX-License-Identifier: Apache-2.0
 -- Languages on examples, as proved equations: which of them has a text, wherever in it the form stands that is not of all.
-use Rattle.mgrammar.proofs.GrammarWords.{◌≡◌, ℕ, List, [], ◌∷◌, Some, None, Bool, true, false, map, rules, codes, text, call, expr, exprs, no_exprs, tail, no_tails, reference, matches_indirect, matches_not_indirect, extrinsic, at_label_in, actuals, name_actual, value_actual, no_actuals, number, coded, formats, shown, set_argument, write_word}
+use Rattle.mgrammar.proofs.GrammarWords.{◌≡◌, ℕ, List, [], ◌∷◌, Some, None, Bool, true, false, map, rules, codes, text, call, expr, exprs, no_exprs, tail, no_tails, reference, matches_indirect, matches_not_indirect, extrinsic, EntryTree, at_label_in, at_routine, shared_routine, do_one, go_to, do_word, goto_word, actuals, name_actual, value_actual, no_actuals, number, coded, formats, shown, set_argument, write_word}
 use Rattle.std.specs.Prelude.{is_some}
 use Rattle.mgrammar.specs.Languages.{line_in, routine_line_in, ref_in, args_in}
 use Rattle.mgrammar.specs.IndirectTexts.{pattern_of}
 use Rattle.mgrammar.proofs.Computing.{reads_in}
-use Rattle.mgrammar.proofs.ShortTrees.{only, plain, the_one, named, of_one}
+use Rattle.mgrammar.proofs.ShortTrees.{only, plain, the_one, own_label, named, of_one}
 
 -- the tree of a text, by its first language and by later ones
 record IsRead : Type 0 where
@@ -53,11 +53,32 @@ record IsMatched : Type 0 where
 
 -- and of a call
 record IsCalled : Type 0 where
-  called : line_in 2 (codes "W $$F^R(.A,1)") ≡ Some (of_one write_word (codes "W") (shown (only (extrinsic (at_label_in (codes "F") (codes "R")) (actuals (name_actual (codes "A")) (actuals (value_actual the_one) no_actuals)))) ∷ []))
+  called : line_in 2 (codes "W $$F^R(.A,1)")
+      ≡ Some (of_one write_word (codes "W") (
+      shown (only (extrinsic (own_label (codes "F") (codes "R")) (actuals (name_actual (codes "A")) (actuals (value_actual the_one) no_actuals)))) ∷ []))
 
 is_called : IsCalled
 unfolding reads_in
 is_called = search rules
+
+-- of routines of another account, of which a quote is doubled within the account's text
+abbrev shared_label : EntryTree
+shared_label = at_label_in (codes "L") (shared_routine (codes "LIB") (codes "R"))
+
+record AreShared : Type 0 where
+  done : line_in 1 (codes "D L^|\"LIB\"|R(1)") ≡ Some (of_one do_word (codes "D") (do_one shared_label (actuals (value_actual the_one) no_actuals) None ∷ []))
+  never_earlier : line_in 0 (codes "D L^|\"LIB\"|R") ≡ None
+  first_line : line_in 1 (codes "D ^|\"LIB\"|R")
+      ≡ Some (of_one do_word (codes "D") (do_one (at_routine (shared_routine (codes "LIB") (codes "R"))) no_actuals None ∷ []))
+  left_for : line_in 1 (codes "G L^|\"LIB\"|R:1") ≡ Some (of_one goto_word (codes "G") (go_to shared_label (Some the_one) ∷ []))
+  quotes : line_in 1 (codes "G ^|\"A\"\"B\"|R")
+      ≡ Some (of_one goto_word (codes "G") (go_to (at_routine (shared_routine (codes "A\"B") (codes "R"))) None ∷ []))
+  called : line_in 2 (codes "W $$L^|\"LIB\"|R(.A)")
+      ≡ Some (of_one write_word (codes "W") (shown (only (extrinsic shared_label (actuals (name_actual (codes "A")) no_actuals))) ∷ []))
+
+are_shared : AreShared
+unfolding reads_in
+are_shared = search rules
 
 is_matched : IsMatched
 unfolding reads_in
@@ -96,6 +117,15 @@ record Languages : Type 0 where
   calls : AreOfTwo has_line (
       codes "W $$A" ∷ codes "W $$A()" ∷ codes "W $$A^R(1)" ∷ codes "W $$^R(.B,,C)" ∷ codes "S A=-$$A(1)+$$B" ∷ codes "W A($$B(1))" ∷ codes "D A($$B,.C)" ∷ codes "Q $$A($$A(1))" ∷
       codes "I $$A" ∷ codes "W @$$A(1)" ∷ codes "W 1?@$$A" ∷ codes "S @A@($$B)=1" ∷ codes "D A:$$B(1)" ∷ codes "W $S($$A:$$B)" ∷ codes "W $L($$A)" ∷ [])
+  -- routines of another account, whose environment is a string
+  shared : AreOfOne has_line (
+      codes "D L^|\"LIB\"|R(X)" ∷ codes "D ^|\"LIB\"|R" ∷ codes "G L^|\"LIB\"|R" ∷ codes "G ^|\"LIB\"|R:A" ∷
+      codes "D A,^|\"\"|R:A,B" ∷ codes "D ^|\"A\"\"B\"|R" ∷ codes "G:A ^|\"1 2\"|%R" ∷ [])
+  shared_calls : AreOfTwo has_line (codes "W $$L^|\"LIB\"|R(X)" ∷ codes "W $$^|\"LIB\"|R" ∷ codes "D L^|\"LIB\"|R($$^|\"LIB\"|R)" ∷ [])
+  no_shared : AreOfNone has_line (
+      codes "D ^|LIB|R" ∷ codes "G L^|A|R" ∷ codes "D ^||R" ∷ codes "D ^|\"LIB\"R" ∷ codes "D ^|\"LIB|R" ∷ codes "D ^|\"LIB\"|" ∷
+      codes "G ^|\"A\"_\"B\"|R" ∷ codes "D |\"LIB\"|R" ∷
+      codes "D L|\"LIB\"|^R" ∷ codes "D ^|\"LIB\"|1" ∷ codes "D ^|\"LIB\"|R|" ∷ codes "D ^|(\"LIB\")|R" ∷ codes "D ^| \"LIB\"|R" ∷ codes "W $$^|LIB|R" ∷ [])
   no_calls : AreOfNone has_line (
       codes "W $$" ∷ codes "W $$1" ∷ codes "W $$$A" ∷ codes "W $$A^" ∷ codes "W $$A^R^S" ∷ codes "S $$A=1" ∷ codes "W $$A(1" ∷ codes "W $$A(1)(2)" ∷ codes "W $$A(.B(1))" ∷ codes "W $ $A" ∷
       codes "W $$@A" ∷ codes "K $$A" ∷ codes "D $$A" ∷ [])

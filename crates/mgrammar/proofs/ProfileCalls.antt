@@ -4,7 +4,7 @@ use Rattle.std.specs.Prelude.{max}
 use Rattle.mgrammar.proofs.GrammarWords.{◌≡◌, ◌≤◌, ℕ, Bool, false, List, [], ◌∷◌, length, Option, Some, None, refl, arith, ◌||◌, list_any, ExprTree, expr, TailsTree, no_tails, tail, TailTree, apply, matches, matches_not, raise, matches_indirect, matches_not_indirect, OperandTree, operand, PrimaryTree, number, text, special, reference, bracket, call, select, refer, extrinsic, ReferenceTree, local, global, naked, indirect, extended, ExprsTree, no_exprs, exprs, ChoicesTree, no_choices, choice, ActualTree, missing_actual, value_actual, name_actual, indirect_actual, ActualsTree, no_actuals, actuals, LineTree, TargetTree, variable, part, DestinationTree, one, several, ParameterTree, once, onward, until, LockedTree, lock_one, lock_several, ArgTree, assign, formats, coded, shown, kill_one, kill_others, new_one, new_others, tested, loop, do_one, go_to, executed, locked, hang_for, returned, indirect_args, SpacedTree, exprs_count}
 use Rattle.mgrammar.specs.Commands.{since_keyword}
 use Rattle.mgrammar.specs.Functions.{since_function, since_values, since_part}
-use Rattle.mgrammar.specs.Languages.{since_all, since_optional, since_expr, since_tails, since_tail, since_operand, since_primary, since_reference, since_exprs, since_choices, since_actual, since_actuals, since_target, since_destination, since_parameter, since_locked, since_arg, since_args, since_spaced, since_line}
+use Rattle.mgrammar.specs.Languages.{since_all, since_optional, since_expr, since_tails, since_tail, since_operand, since_primary, since_reference, since_exprs, since_choices, since_entry, since_actual, since_actuals, since_target, since_destination, since_parameter, since_locked, since_arg, since_args, since_spaced, since_line}
 use Rattle.mgrammar.specs.CallsIn.{has_call, has_call_tails, has_call_tail, has_call_operand, has_call_primary, has_call_reference, has_call_exprs, has_call_choices, has_call_actual, has_call_actuals, has_call_optional, has_call_target, has_call_destination, has_call_parameter, has_call_locked, has_call_arg, has_call_spaced, has_call_line}
 use Rattle.mgrammar.specs.GrammarLaws.{ProfileHasNoCall}
 
@@ -47,7 +47,7 @@ mutual
   primary_none (refer word r more) h =
       let z = both (since_reference r) (since_exprs more) (both (since_function word) (max (since_reference r) (since_exprs more)) h).1 in
       no (has_call_reference r) (has_call_exprs more) (reference_none r z.0) (exprs_none more z.1)
-  primary_none (extrinsic e xs) h = absurd (later (since_actuals xs) h)
+  primary_none (extrinsic e xs) h = absurd (later (max (since_entry e) (since_actuals xs)) h)
 
   reference_none : (r : ReferenceTree) → since_reference r ≤ 1 → has_call_reference r ≡ false
   reference_none (local name subscripts) h = exprs_none subscripts h
@@ -127,9 +127,9 @@ arg_none (new_others names) h = refl
 arg_none (tested e) h = expr_none e h
 arg_none (loop index parameters) h = all_none since_parameter has_call_parameter parameter_none parameters h
 arg_none (do_one entry xs c) h =
-    let z = both (since_actuals xs) (since_optional since_expr c) h in
-    no (has_call_actuals xs) (has_call_optional c) (actuals_none xs z.0) (optional_none c z.1)
-arg_none (go_to entry c) h = optional_none c h
+    let z = both (max (since_entry entry) (since_actuals xs)) (since_optional since_expr c) h in
+    no (has_call_actuals xs) (has_call_optional c) (actuals_none xs (both (since_entry entry) (since_actuals xs) z.0).1) (optional_none c z.1)
+arg_none (go_to entry c) h = optional_none c (both (since_entry entry) (since_optional since_expr c) h).1
 arg_none (executed e c) h = let z = both (since_expr e) (since_optional since_expr c) h in no (has_call e) (has_call_optional c) (expr_none e z.0) (optional_none c z.1)
 arg_none (locked k names t) h = let z = both (since_locked names) (since_optional since_expr t) h in no (has_call_locked names) (has_call_optional t) (locked_none names z.0) (optional_none t z.1)
 arg_none (hang_for e) h = expr_none e h

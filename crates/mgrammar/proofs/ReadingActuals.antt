@@ -1,12 +1,63 @@
 -- SPDX-License-Identifier: Apache-2.0
 -- What is read of an entry and of a list of actuals is spelled so, and what is spelled so is read.
-use Rattle.mgrammar.proofs.GrammarWords.{◌≡◌, ℕ, Bool, false, true, eqb, List, [], ◌∷◌, ◌++◌, Option, Some, None, inl, inr, refl, sym, ap, subst, ◌∙◌, append_assoc, eqb-true, arith, nat_tests, is_name_start, is_name_rest, IsName, EntryTree, at_label, at_label_in, at_routine, ActualTree, ActualsTree, no_actuals, actuals, actuals_of, spell_entry, spell_actual, spell_actuals, spell_called, spell_list, spell_more, WellEntry, WellActuals, WellCalled, WellList, ◌>>=◌, name_at, past, list_at, entry_by, entry_at, is_actual_end, Readers, actuals_with, called_with}
+use Rattle.mgrammar.proofs.GrammarWords.{◌≡◌, ℕ, Bool, false, true, eqb, List, [], ◌∷◌, ◌++◌, Option, Some, None, inl, inr, refl, sym, ap, subst, ◌∙◌, append_assoc, eqb-true, arith, nat_tests, is_name_start, is_name_rest, IsName, RoutineTree, own_routine, shared_routine, EntryTree, at_label, at_label_in, at_routine, ActualTree, ActualsTree, no_actuals, actuals, actuals_of, quoted, spell_string, spell_routine, spell_entry, spell_actual, spell_actuals, spell_called, spell_list, spell_more, AllAre, is_character, WellRoutine, WellEntry, WellActuals, WellCalled, WellList, ◌>>=◌, name_at, text_from, past, list_at, routine_by, routine_at, shared_at, entry_by, entry_at, is_actual_end, Readers, actuals_with, called_with}
 use Rattle.mgrammar.specs.Reading.{label_by}
-use Rattle.mgrammar.proofs.ReadingBasics.{IsRead, Takes, Again, Stops, Stops-weaker, Begins, Begins-append, goes_on, bind_some, chosen, some_is, past_takes, not_past, name_takes, name_again}
+use Rattle.mgrammar.proofs.ReadingBasics.{IsRead, Takes, Again, Stops, Stops-weaker, Begins, Begins-append, goes_on, bind_some, chosen, some_is, past_takes, not_past, name_takes, name_again, text_takes, text_again}
 use Rattle.mgrammar.proofs.ReadingOperators.{is_operator}
 use Rattle.mgrammar.proofs.ReadingLists.{joined, joined_by, enclosed, list_takes, list_again}
 use Rattle.mgrammar.proofs.ReadingReferences.{Ends, is_open, name_or_open, named, name_in_front}
 use Rattle.mgrammar.proofs.ReadingTrees.{WellHanded, actuals_list, actuals_back, more_actuals-list, actuals_well, actuals_inner}
+
+-- ---- routines
+
+-- the text of one of another account, with what follows it
+shared_text : (account name rest : List ℕ) → (124 ∷ (spell_string account ++ 124 ∷ name)) ++ rest ≡ 124 ∷ 34 ∷ (quoted account ++ 34 ∷ 124 ∷ (name ++ rest))
+shared_text account name rest = simp append_assoc
+
+-- and from its parts
+shared_cells : (cs inside t u v account name rest : List ℕ) → cs ≡ 124 ∷ inside → inside ≡ 34 ∷ t → t ≡ quoted account ++ 34 ∷ u
+    → u ≡ 124 ∷ v → v ≡ name ++ rest → cs ≡ (124 ∷ (spell_string account ++ 124 ∷ name)) ++ rest
+shared_cells cs inside t u v account name rest p q s k l =
+    let whole : cs ≡ 124 ∷ 34 ∷ (quoted account ++ 34 ∷ 124 ∷ (name ++ rest)) = rw (p, q, s, k, l) refl in
+    whole ∙ sym (shared_text account name rest)
+
+shared_takes : (cs inside : List ℕ) (x : RoutineTree × List ℕ) → cs ≡ 124 ∷ inside → shared_at inside ≡ Some x → IsRead spell_routine WellRoutine cs x
+unfolding shared_at
+shared_takes cs inside x p e =
+    let q = bind_some (past 34 inside) (λ i. text_from false i >>= λ t. past 124 t.1 >>= λ v. name_at v >>= λ n. Some (shared_routine t.0 n.0, n.1)) x e in
+    let t = bind_some (text_from false q.0) (λ t. past 124 t.1 >>= λ v. name_at v >>= λ n. Some (shared_routine t.0 n.0, n.1)) x q.2 in
+    let k = bind_some (past 124 t.0.1) (λ v. name_at v >>= λ n. Some (shared_routine t.0.0 n.0, n.1)) x t.2 in
+    let n = bind_some (name_at k.0) (λ n. Some (shared_routine t.0.0 n.0, n.1)) x k.2 in
+    let account = text_takes false q.0 t.0 t.1 in
+    let name = name_takes k.0 n.0 n.1 in
+    let made : RoutineTree × List ℕ = (shared_routine t.0.0 n.0.0, n.0.1) in
+    subst (IsRead spell_routine WellRoutine cs) {x = made} (some_is made x n.2) (
+      shared_cells cs inside q.0 t.0.1 k.0 t.0.0 n.0.0 n.0.1 p (past_takes 34 inside q.0 q.1) account.0 (past_takes 124 t.0.1 k.0 k.1) name.0,
+      (account.1, name.1),
+    )
+
+routine_takes_by : (cs : List ℕ) (o : Option (List ℕ)) (x : RoutineTree × List ℕ) → past 124 cs ≡ o → routine_by cs o ≡ Some x
+    → IsRead spell_routine WellRoutine cs x
+routine_takes_by cs None x h e =
+    let n = bind_some (name_at cs) (λ n. Some (own_routine n.0, n.1)) x e in
+    subst (IsRead spell_routine WellRoutine cs) {x = (own_routine n.0.0, n.0.1)} (some_is (own_routine n.0.0, n.0.1) x n.2) (name_takes cs n.0 n.1)
+routine_takes_by cs (Some inside) x h e = shared_takes cs inside x (past_takes 124 cs inside h) e
+
+routine_takes : Takes spell_routine WellRoutine routine_at
+unfolding routine_at
+routine_takes cs x e = routine_takes_by cs (past 124 cs) x refl e
+
+shared_again : (account name rest : List ℕ) → AllAre is_character account → IsName name → Stops is_name_rest rest
+    → shared_at (34 ∷ (quoted account ++ 34 ∷ 124 ∷ (name ++ rest))) ≡ Some (shared_routine account name, rest)
+unfolding shared_at
+shared_again account name rest w v s = rw (text_again account (124 ∷ (name ++ rest)) w refl, name_again name rest v s) refl
+
+routine_again : Again spell_routine WellRoutine (Stops is_name_rest) routine_at
+unfolding routine_at
+routine_again (own_routine name) rest w s =
+    rw ((name_in_front (name ++ rest) (Begins-append is_name_start name rest (named name w))).3, name_again name rest w s) refl
+routine_again (shared_routine account name) rest w s =
+    ap (λ (y : List ℕ). routine_by y (past 124 y)) (shared_text account name rest) ∙ shared_again account name rest w.0 w.1 s
 
 -- ---- entries
 
@@ -20,9 +71,10 @@ EntryEnds rest = Stops is_name_rest rest × Stops is_caret rest
 label_takes : (cs label t : List ℕ) (o : Option (List ℕ)) (x : EntryTree × List ℕ) → cs ≡ label ++ t → IsName label → past 94 t ≡ o → label_by label t o ≡ Some x → IsRead spell_entry WellEntry cs x
 label_takes cs label t None x p w h e = subst (IsRead spell_entry WellEntry cs) {x = (at_label label, t)} (some_is (at_label label, t) x e) (p, w)
 label_takes cs label t (Some rest) x p w h e =
-    let n = bind_some (name_at rest) (λ n. Some (at_label_in label n.0, n.1)) x e in
-    let name = name_takes rest n.0 n.1 in
-    subst (IsRead spell_entry WellEntry cs) {x = (at_label_in label n.0.0, n.0.1)} (some_is (at_label_in label n.0.0, n.0.1) x n.2) (joined_by 94 cs label t rest n.0.0 n.0.1 p (past_takes 94 t rest h) name.0, (w, name.1))
+    let r = bind_some (routine_at rest) (λ r. Some (at_label_in label r.0, r.1)) x e in
+    let routine = routine_takes rest r.0 r.1 in
+    subst (IsRead spell_entry WellEntry cs) {x = (at_label_in label r.0.0, r.0.1)} (some_is (at_label_in label r.0.0, r.0.1) x r.2)
+    (joined_by 94 cs label t rest (spell_routine r.0.0) r.0.1 p (past_takes 94 t rest h) routine.0, (w, routine.1))
 
 entry_takes_by : (cs : List ℕ) (o : Option (List ℕ)) (x : EntryTree × List ℕ) → past 94 cs ≡ o → entry_by cs o ≡ Some x → IsRead spell_entry WellEntry cs x
 entry_takes_by cs None x h e =
@@ -30,9 +82,10 @@ entry_takes_by cs None x h e =
     let name = name_takes cs n.0 n.1 in
     label_takes cs n.0.0 n.0.1 (past 94 n.0.1) x name.0 name.1 refl n.2
 entry_takes_by cs (Some rest) x h e =
-    let n = bind_some (name_at rest) (λ n. Some (at_routine n.0, n.1)) x e in
-    let name = name_takes rest n.0 n.1 in
-    subst (IsRead spell_entry WellEntry cs) {x = (at_routine n.0.0, n.0.1)} (some_is (at_routine n.0.0, n.0.1) x n.2) (past_takes 94 cs rest h ∙ ap (λ (y : List ℕ). 94 ∷ y) name.0, name.1)
+    let r = bind_some (routine_at rest) (λ r. Some (at_routine r.0, r.1)) x e in
+    let routine = routine_takes rest r.0 r.1 in
+    subst (IsRead spell_entry WellEntry cs) {x = (at_routine r.0.0, r.0.1)} (some_is (at_routine r.0.0, r.0.1) x r.2)
+    (past_takes 94 cs rest h ∙ ap (λ (y : List ℕ). 94 ∷ y) routine.0, routine.1)
 
 pub entry_takes : Takes spell_entry WellEntry entry_at
 unfolding entry_at
@@ -46,11 +99,11 @@ pub entry_again : Again spell_entry WellEntry EntryEnds entry_at
 unfolding entry_at
 entry_again (at_label label) rest w s = rw (before_name label rest w, name_again label rest w s.0, not_past 94 rest s.1) refl
 entry_again (at_label_in label routine) rest w s =
-    let t : List ℕ = routine ++ rest in
+    let t : List ℕ = spell_routine routine ++ rest in
     let one : entry_by (label ++ 94 ∷ t) (past 94 (label ++ 94 ∷ t)) ≡ Some (at_label_in label routine, rest) =
-    rw (before_name label (94 ∷ t) w.0, name_again label (94 ∷ t) w.0 refl, name_again routine rest w.1 s.0) refl in
-    ap (λ (y : List ℕ). entry_by y (past 94 y)) (append_assoc label (94 ∷ routine) rest) ∙ one
-entry_again (at_routine routine) rest w s = rw (name_again routine rest w s.0) refl
+    rw (before_name label (94 ∷ t) w.0, name_again label (94 ∷ t) w.0 refl, routine_again routine rest w.1 s.0) refl in
+    ap (λ (y : List ℕ). entry_by y (past 94 y)) (append_assoc label (94 ∷ spell_routine routine) rest) ∙ one
+entry_again (at_routine routine) rest w s = rw (routine_again routine rest w s.0) refl
 
 -- ---- lists of actuals
 

@@ -1,8 +1,8 @@
 -- SPDX-License-Identifier: Apache-2.0
 -- DO, GOTO, XECUTE and the lines of routines on examples, as proved equations: texts with their trees, and texts that have none.
-use Rattle.mgrammar.proofs.GrammarWords.{◌≡◌, ℕ, List, [], ◌∷◌, Some, None, replicate, rules, codes, ExprTree, number, text, reference, actuals, missing_actual, value_actual, name_actual, indirect_actual, at_label, at_label_in, at_routine, ArgTree, shown, do_one, no_actuals, go_to, executed, KeywordTree, do_word, goto_word, execute_word, write_word, SpacedTree, LineTree, name_at, RoutineLineTree, short, spaced_out, spell_routine_line, formals_at, formals_of, label_at, label_of, dots_of, names_at, list_at, many, routine_line_at}
+use Rattle.mgrammar.proofs.GrammarWords.{◌≡◌, ℕ, List, [], ◌∷◌, Some, None, replicate, rules, codes, ExprTree, number, text, reference, actuals, missing_actual, value_actual, name_actual, indirect_actual, at_label, ArgTree, shown, do_one, no_actuals, go_to, executed, KeywordTree, do_word, goto_word, execute_word, write_word, SpacedTree, LineTree, name_at, RoutineLineTree, short, spaced_out, spell_routine_line, formals_at, formals_of, label_at, label_of, dots_of, names_at, list_at, many, routine_line_at}
 use Rattle.mgrammar.proofs.Computing.{reads}
-use Rattle.mgrammar.proofs.ShortTrees.{IsRead, HaveNone, only, the_one, named, command, conditional, of_commands, of_one}
+use Rattle.mgrammar.proofs.ShortTrees.{IsRead, HaveNone, only, the_one, own_label, own, named, command, conditional, of_commands, of_one}
 
 -- ---- short forms
 
@@ -28,12 +28,15 @@ HasNoLine t = routine_line_at t ≡ None
 record Read : Type 0 where
   -- commands
   -- each form of an entry, with a postconditional of its own or none
-  entries : IsRead (codes "D A,%1^R:1,^R") (of_commands (spaced do_word (codes "D") (do_one (at_label (codes "A")) no_actuals None ∷ do_one (at_label_in (codes "%1") (codes "R")) no_actuals (Some the_one) ∷ do_one (at_routine (codes "R")) no_actuals None ∷ []) 0 ∷ []))
+  entries : IsRead (codes "D A,%1^R:1,^R") (
+      of_commands (spaced do_word (codes "D") (
+      do_one (at_label (codes "A")) no_actuals None ∷ do_one (own_label (codes "%1") (codes "R")) no_actuals (Some the_one) ∷
+      do_one (own (codes "R")) no_actuals None ∷ []) 0 ∷ []))
   -- with actuals: a value, a name, what an operand gives, nothing
   with_actuals : IsRead (codes "D A(1,.%B,.@C,),^R():1,A(.5)") (
       of_one do_word (codes "D") (
       do_one (at_label (codes "A")) (actuals (value_actual the_one) (actuals (name_actual (codes "%B")) (actuals (indirect_actual (reference (named (codes "C")))) (actuals missing_actual no_actuals)))) None ∷
-      do_one (at_routine (codes "R")) (actuals missing_actual no_actuals) (Some the_one) ∷
+      do_one (own (codes "R")) (actuals missing_actual no_actuals) (Some the_one) ∷
       do_one (at_label (codes "A")) (actuals (value_actual (only (number (codes ".5")))) no_actuals) None ∷ []))
   -- by reference a name alone is handed over
   none_of_actuals : HaveNone (

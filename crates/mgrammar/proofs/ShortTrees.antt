@@ -1,6 +1,6 @@
 -- SPDX-License-Identifier: Apache-2.0
 -- Trees written shortly, and what examples say of texts: that they have a tree, or none.
-use Rattle.mgrammar.proofs.GrammarWords.{◌≡◌, ℕ, List, [], ◌∷◌, Some, None, map, codes, OperandTree, operand, PrimaryTree, ExprTree, expr, no_tails, number, ReferenceTree, local, no_exprs, KeywordTree, ArgTree, CommandTree, SpacedTree, LineTree, spell, line_at}
+use Rattle.mgrammar.proofs.GrammarWords.{◌≡◌, ℕ, List, [], ◌∷◌, Some, None, map, codes, OperandTree, operand, PrimaryTree, ExprTree, expr, no_tails, number, ReferenceTree, local, no_exprs, EntryTree, at_label_in, at_routine, own_routine, KeywordTree, ArgTree, CommandTree, SpacedTree, LineTree, spell, line_at}
 
 -- the text has this tree
 abbrev pub IsRead : List ℕ → LineTree → Type 0
@@ -20,6 +20,13 @@ only p = expr (plain p) no_tails
 -- the number 1
 abbrev pub the_one : ExprTree
 the_one = only (number (codes "1"))
+
+-- a label of an own routine, and the first line of one
+abbrev pub own_label : (label routine : List ℕ) → EntryTree
+own_label label routine = at_label_in label (own_routine routine)
+
+abbrev pub own : List ℕ → EntryTree
+own routine = at_routine (own_routine routine)
 
 -- a variable without subscripts
 abbrev pub named : List ℕ → ReferenceTree

@@ -74,11 +74,16 @@ abbrev pub patterns_of : List (List AtomTree) → PatternsTree
 patterns_of [] = no_patterns
 patterns_of (p ∷ rest) = more_patterns (atoms_of p) (patterns_of rest)
 
+-- `routineref`: a routine of the account's own, or, with an `environment`, which is a `strlit`, one of another account
+pub data RoutineTree : Type 0 where
+  own_routine : List ℕ → RoutineTree
+  shared_routine : (account name : List ℕ) → RoutineTree
+
 -- `entryref`: a `label`, one in a routine, or a routine's first line
 pub data EntryTree : Type 0 where
   at_label : List ℕ → EntryTree
-  at_label_in : (label routine : List ℕ) → EntryTree
-  at_routine : List ℕ → EntryTree
+  at_label_in : (label : List ℕ) (routine : RoutineTree) → EntryTree
+  at_routine : RoutineTree → EntryTree
 
 -- `expr`; `exprtail`, of which a list of steps is a run, those of `**` apart, which take steps of a line, with a `pattern` as it is written or, in pattern indirection, the operand of
 -- an `@`; `expratom` with its unary
@@ -340,10 +345,15 @@ abbrev pub spell_atoms : List AtomTree → List ℕ
 spell_atoms [] = []
 spell_atoms (a ∷ rest) = spell_atom a ++ spell_atoms rest
 
+-- after a `^`
+abbrev pub spell_routine : RoutineTree → List ℕ
+spell_routine (own_routine name) = name
+spell_routine (shared_routine account name) = 124 ∷ (spell_string account ++ 124 ∷ name)
+
 abbrev pub spell_entry : EntryTree → List ℕ
 spell_entry (at_label label) = label
-spell_entry (at_label_in label routine) = label ++ 94 ∷ routine
-spell_entry (at_routine routine) = 94 ∷ routine
+spell_entry (at_label_in label routine) = label ++ 94 ∷ spell_routine routine
+spell_entry (at_routine routine) = 94 ∷ spell_routine routine
 
 abbrev mutual
   pub spell_expr : ExprTree → List ℕ

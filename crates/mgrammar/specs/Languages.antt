@@ -5,7 +5,7 @@
 -- the rows of its words: 0 is the profile, and each later language has all that those before it have. A text whose tree needs a later
 -- language is as a text that has no tree.
 use Rattle.std.specs.Prelude.{ℕ, nat_le, max, if◌then◌else◌, List, [], ◌∷◌, length, Option, Some, None}
-use Rattle.mgrammar.specs.Grammar.{RepeatedTree, classes, copies, group, AtomTree, ExprTree, expr, TailsTree, no_tails, tail, TailTree, apply, matches, matches_not, raise, matches_indirect, matches_not_indirect, OperandTree, operand, PrimaryTree, number, text, special, reference, bracket, call, select, refer, extrinsic, ReferenceTree, local, global, naked, indirect, extended, ExprsTree, no_exprs, exprs, ChoicesTree, no_choices, choice, ActualTree, missing_actual, value_actual, name_actual, indirect_actual, ActualsTree, no_actuals, actuals}
+use Rattle.mgrammar.specs.Grammar.{RepeatedTree, classes, copies, group, AtomTree, ExprTree, expr, TailsTree, no_tails, tail, TailTree, apply, matches, matches_not, raise, matches_indirect, matches_not_indirect, OperandTree, operand, RoutineTree, own_routine, shared_routine, EntryTree, at_label, at_label_in, at_routine, PrimaryTree, number, text, special, reference, bracket, call, select, refer, extrinsic, ReferenceTree, local, global, naked, indirect, extended, ExprsTree, no_exprs, exprs, ChoicesTree, no_choices, choice, ActualTree, missing_actual, value_actual, name_actual, indirect_actual, ActualsTree, no_actuals, actuals}
 use Rattle.mgrammar.specs.Grammar.{TargetTree, variable, part, DestinationTree, one, several, ParameterTree, once, onward, until, LockedTree, lock_one, lock_several, FormTree, ArgTree, assign, formats, coded, shown, kill_one, kill_others, new_one, new_others, tested, loop, do_one, go_to, executed, locked, hang_for, returned, indirect_args, CommandTree, SpacedTree, LineTree, is_bang}
 use Rattle.mgrammar.specs.Functions.{since_function, since_values, since_part}
 use Rattle.mgrammar.specs.WellFormed.{exprs_count}
@@ -33,6 +33,15 @@ since_repeated (group ps) = 1
 
 abbrev pub since_atom : AtomTree → ℕ
 since_atom a = since_repeated a.repeated
+
+abbrev pub since_routine : RoutineTree → ℕ
+since_routine (own_routine name) = 0
+since_routine (shared_routine account name) = 1
+
+abbrev pub since_entry : EntryTree → ℕ
+since_entry (at_label label) = 0
+since_entry (at_label_in label routine) = since_routine routine
+since_entry (at_routine routine) = since_routine routine
 
 abbrev mutual
   pub since_expr : ExprTree → ℕ
@@ -62,7 +71,7 @@ abbrev mutual
   since_primary (call word args) = max (max (since_function word) (since_values word (exprs_count args))) (since_exprs args)
   since_primary (select word choices) = max (since_function word) (since_choices choices)
   since_primary (refer word r more) = max (since_function word) (max (since_reference r) (since_exprs more))
-  since_primary (extrinsic e xs) = max 2 (since_actuals xs)
+  since_primary (extrinsic e xs) = max 2 (max (since_entry e) (since_actuals xs))
 
   pub since_reference : ReferenceTree → ℕ
   since_reference (local name subscripts) = since_exprs subscripts
@@ -122,8 +131,8 @@ since_arg (new_one name) = 0
 since_arg (new_others names) = 0
 since_arg (tested e) = since_expr e
 since_arg (loop index parameters) = since_all since_parameter parameters
-since_arg (do_one entry xs c) = max (since_actuals xs) (since_optional since_expr c)
-since_arg (go_to entry c) = since_optional since_expr c
+since_arg (do_one entry xs c) = max (max (since_entry entry) (since_actuals xs)) (since_optional since_expr c)
+since_arg (go_to entry c) = max (since_entry entry) (since_optional since_expr c)
 since_arg (executed e c) = max (since_expr e) (since_optional since_expr c)
 since_arg (locked k names t) = max (since_locked names) (since_optional since_expr t)
 since_arg (hang_for e) = since_expr e

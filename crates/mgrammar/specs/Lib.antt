@@ -11,5 +11,6 @@ pub mod IndirectTexts
 pub mod RoutineLine
 pub mod Languages
 pub mod CallsIn
+pub mod ProgramsIn
 pub mod GrammarLaws
 pub mod Matching

@@ -2,21 +2,34 @@
 -- How expressions are read: references, calls with their actuals, brackets and what operators tie.
 use Rattle.std.specs.Prelude.{ℕ, zero, suc, Bool, false, ◌&&◌, ◌||◌, is_none, ◌==◌, nat_le, if◌then◌else◌, List, [], ◌∷◌, length, Option, Some, None}
 use Rattle.mspec.specs.Names.{is_letter}
-use Rattle.mgrammar.specs.Grammar.{AtomTree, ExprTree, expr, TailTree, apply, matches, matches_not, raise, matches_indirect, matches_not_indirect, tails_of, OperandTree, operand, PrimaryTree, number, text, special, reference, bracket, call, select, refer, extrinsic, ReferenceTree, local, global, naked, indirect, extended, ExprsTree, no_exprs, exprs_of, choices_of, EntryTree, at_label, at_label_in, at_routine, ActualTree, missing_actual, value_actual, name_actual, indirect_actual, ActualsTree, no_actuals, actuals_of}
+use Rattle.mgrammar.specs.Grammar.{AtomTree, ExprTree, expr, TailTree, apply, matches, matches_not, raise, matches_indirect, matches_not_indirect, tails_of, OperandTree, operand, PrimaryTree, number, text, special, reference, bracket, call, select, refer, extrinsic, ReferenceTree, local, global, naked, indirect, extended, ExprsTree, no_exprs, exprs_of, choices_of, RoutineTree, own_routine, shared_routine, EntryTree, at_label, at_label_in, at_routine, ActualTree, missing_actual, value_actual, name_actual, indirect_actual, ActualsTree, no_actuals, actuals_of}
 use Rattle.mgrammar.specs.Specials.{SpecialTree, special_of}
 use Rattle.mgrammar.specs.Functions.{FunctionTree, of_values, of_variable, of_choices, function_of, takes}
 use Rattle.mgrammar.specs.ReadingWords.{Read, ◌>>=◌, run_of, after_run, is_digit_or_point, number_at, name_at, text_from, past, many, after_comma, list_at, pattern_at, signs_of, after_signs, OperatorTree, operator_at, between, matching, matching_not, raising}
 
 -- ---- expressions
 
--- a name is read: a routine's after a `^`, and otherwise a label
+-- after a `^|`
+unfoldable pub shared_at : List ℕ → Read RoutineTree
+shared_at cs =
+    past 34 cs >>= λ inside. text_from false inside >>= λ t. past 124 t.1 >>= λ rest. name_at rest >>= λ n. Some (shared_routine t.0 n.0, n.1)
+
+-- after a `^`: a name, with an environment in front of it or none
+abbrev pub routine_by : List ℕ → Option (List ℕ) → Read RoutineTree
+routine_by cs None = name_at cs >>= λ n. Some (own_routine n.0, n.1)
+routine_by cs (Some inside) = shared_at inside
+
+unfoldable pub routine_at : List ℕ → Read RoutineTree
+routine_at cs = routine_by cs (past 124 cs)
+
+-- a label, and a routine if a `^` comes after it
 abbrev pub label_by : List ℕ → List ℕ → Option (List ℕ) → Read EntryTree
 label_by label cs None = Some (at_label label, cs)
-label_by label cs (Some rest) = name_at rest >>= λ n. Some (at_label_in label n.0, n.1)
+label_by label cs (Some rest) = routine_at rest >>= λ r. Some (at_label_in label r.0, r.1)
 
 abbrev pub entry_by : List ℕ → Option (List ℕ) → Read EntryTree
 entry_by cs None = name_at cs >>= λ n. label_by n.0 n.1 (past 94 n.1)
-entry_by cs (Some rest) = name_at rest >>= λ n. Some (at_routine n.0, n.1)
+entry_by cs (Some rest) = routine_at rest >>= λ r. Some (at_routine r.0, r.1)
 
 unfoldable pub entry_at : List ℕ → Read EntryTree
 entry_at cs = entry_by cs (past 94 cs)

@@ -1,6 +1,6 @@
 -- SPDX-License-Identifier: Apache-2.0
 -- GOTO on examples, as proved equations: a loop of six turns, each in an equation of its own.
-use Rattle.mmeaning.proofs.MeaningWords.{zero, ◌*◌, ℕ, ◌^◌, suc, ap, ◌∙◌, insert, Plan, then_plan, perform, Locals, State, Outcome, Act, on_gives, Completion, Go_on, Position, digits, canonical_value, size_text, no_locals, level_begun, value_of, assigned_to, name_at, line_in, label_at, formals_at, routine_line_in, tree_none, tree_put, tree_again, text_none, text_put, text_again, value_some, round_pos, text_1, text_2, text_3, text_4, text_8, text_16, bottom, multiply, loop, until, for_word, is, less, number, text, reference, at_label, at_label_in, shown, do_one, no_actuals, go_to, set_word, quit_word, write_word, do_word, goto_word, CommandTree, LineTree, SpacedTree, RoutineLineTree, spaced_out, reads_in, Shared, act, commands_in, home}
+use Rattle.mmeaning.proofs.MeaningWords.{zero, ◌*◌, ℕ, ◌^◌, suc, ap, ◌∙◌, insert, Plan, then_plan, perform, Locals, State, Outcome, Act, on_gives, Completion, Go_on, Position, digits, canonical_value, size_text, no_locals, level_begun, value_of, assigned_to, name_at, line_in, label_at, formals_at, routine_line_in, tree_none, tree_put, tree_again, text_none, text_put, text_again, value_some, round_pos, text_1, text_2, text_3, text_4, text_8, text_16, bottom, multiply, loop, until, for_word, is, less, number, text, reference, at_label, at_label_in, own_routine, shown, do_one, no_actuals, go_to, set_word, quit_word, write_word, do_word, goto_word, CommandTree, LineTree, SpacedTree, RoutineLineTree, spaced_out, reads_in, Shared, act, commands_in, home}
 use Rattle.mmeaning.proofs.Calls.{assoc_plan}
 use Rattle.std.specs.Prelude.{length}
 use Rattle.mmeaning.proofs.ExampleAccount.{alice, of_profile}
@@ -59,7 +59,7 @@ doubling_3_read = refl
 -- D A^G W "."
 abbrev goto_line : LineTree
 goto_line =
-    line ((command do_word 68 (do_one (at_label_in (codes "A") (codes "G")) no_actuals None ∷ []), 1) ∷ (command write_word 87 (shown (only (text (codes "."))) ∷ []), 0) ∷ [])
+    line ((command do_word 68 (do_one (at_label_in (codes "A") (own_routine (codes "G"))) no_actuals None ∷ []), 1) ∷ (command write_word 87 (shown (only (text (codes "."))) ∷ []), 0) ∷ [])
 
 goto_read : line_in 0 (codes "D A^G W \".\"") ≡ Some goto_line
 unfolding reads_in
@@ -166,7 +166,7 @@ goto_in_routine g h =
 abbrev for_line : LineTree
 for_line =
     line ((command for_word 70 (loop (codes "I") (until (only (number (codes "1"))) (only (number (codes "1"))) (only (number (codes "3"))) ∷ []) ∷ []), 1) ∷
-    (command goto_word 71 (go_to (at_label_in (codes "A") (codes "G")) None ∷ []), 0) ∷ [])
+    (command goto_word 71 (go_to (at_label_in (codes "A") (own_routine (codes "G"))) None ∷ []), 0) ∷ [])
 
 for_read : line_in 0 (codes "F I=1:1:3 G A^G") ≡ Some for_line
 unfolding reads_in

@@ -1,14 +1,14 @@
 -- SPDX-License-Identifier: Apache-2.0
 -- Argument indirection of DO and GOTO on examples, as proved equations.
-use Rattle.mmeaning.proofs.MeaningWords.{rules, at_label_in, do_argument, goto_argument, do_one, no_actuals, go_to, args_in, reads_in}
+use Rattle.mmeaning.proofs.MeaningWords.{rules, at_label_in, own_routine, do_argument, goto_argument, do_one, no_actuals, go_to, args_in, reads_in}
 use Rattle.mmeaning.proofs.Running.{◌≡◌, List, [], ◌∷◌, Some, None, refl, codes, Text, done, at_last, asked, With, runs, running}
 
 -- ---- what is read of the texts
 
 record TextsRead : Type 0 where
-  entries_t_u : args_in do_argument 0 (codes "T^T,U^T") ≡ Some (do_one (at_label_in (codes "T") (codes "T")) no_actuals None ∷ do_one (at_label_in (codes "U") (codes "T")) no_actuals None ∷ [])
-  entry_t : args_in do_argument 0 (codes "T^T") ≡ Some (do_one (at_label_in (codes "T") (codes "T")) no_actuals None ∷ [])
-  leap_u : args_in goto_argument 0 (codes "U^T") ≡ Some (go_to (at_label_in (codes "U") (codes "T")) None ∷ [])
+  entries_t_u : args_in do_argument 0 (codes "T^T,U^T") ≡ Some (do_one (at_label_in (codes "T") (own_routine (codes "T"))) no_actuals None ∷ do_one (at_label_in (codes "U") (own_routine (codes "T"))) no_actuals None ∷ [])
+  entry_t : args_in do_argument 0 (codes "T^T") ≡ Some (do_one (at_label_in (codes "T") (own_routine (codes "T"))) no_actuals None ∷ [])
+  leap_u : args_in goto_argument 0 (codes "U^T") ≡ Some (go_to (at_label_in (codes "U") (own_routine (codes "T"))) None ∷ [])
 
 texts_read : TextsRead
 unfolding reads_in

@@ -1,10 +1,11 @@
 -- SPDX-License-Identifier: Apache-2.0
 -- A function leaves $TEST as it was.
-use Rattle.mmeaning.proofs.MeaningWords.{◌≡◌, ℕ, Bool, List, Some, subst, refl, ap, ◌∙◌, Answer, Plan, Done, Ask, Ops, then_plan, perform, State, Outcome, Gives, Fails, Act, on_gives, EntryTree, ActualsTree, Completion, Go_on, Skips, Quits, Goes, Context, closed, context, answering, target, Shared, Text}
+use Rattle.mmeaning.proofs.MeaningWords.{◌≡◌, Bool, List, Some, subst, refl, ap, Answer, Plan, Done, Ask, Ops, then_plan, perform, State, Outcome, Gives, Fails, Act, on_gives, EntryTree, ActualsTree, Completion, Go_on, Skips, Quits, Goes, Context, closed, context, answering, target, Shared}
+use Rattle.mspec.specs.Scopes.{Binding}
 use Rattle.mspec.specs.Act.{with_locals}
-use Rattle.mmeaning.specs.Levels.{Position, answers, a_level_free, deeper}
-use Rattle.mmeaning.specs.Parameters.{handed_over, with_list, formals_of_target, formals_for, with_formals}
-use Rattle.mmeaning.specs.LineMeaning.{Returns, calling, inside_of, lines_called, returned_value}
+use Rattle.mmeaning.specs.Levels.{answers, a_level_free, deeper}
+use Rattle.mmeaning.specs.Parameters.{bare_list, formals_of_target, formals_for, with_formals}
+use Rattle.mmeaning.specs.LineMeaning.{Returns, at_depth, entering, answer, lines_called, returned_value}
 use Rattle.mmeaning.specs.CallLaws.{FunctionKeepsTest}
 
 -- each state that a plan may give something with is as Q says
@@ -53,15 +54,14 @@ closed_tests b Quits now = tt
 closed_tests b (Goes t) now = tt
 closed_tests b (Returns v) now = refl
 
-calling_tests : (x : Context) (e : EntryTree) (xs : ActualsTree) (b : Bool) (s : State) → AllGive (Tests b) (calling x e xs (answers b) s)
-calling_tests x e xs b s =
-    last_gives (Tests b) (handed_over (inside_of x) xs s) _ (λ bs s1.
-    last_gives (Tests b) (a_level_free x.position.depth s1) _ (λ u s2.
+entering_tests : (x : Context) (e : EntryTree) (xs : ActualsTree) (bs : List Binding) (b : Bool) (s : State) → AllGive (Tests b) (entering x e xs bs (answers b) s)
+entering_tests x e xs bs b s =
+    last_gives (Tests b) (a_level_free x.position.depth s) _ (λ u s2.
     last_gives (Tests b) (target x.position.level.copy 0 e s2) _ (λ t s3.
     last_gives (Tests b) (formals_of_target t s3) _ (λ names s4.
     last_gives (Tests b) (formals_for xs names bs s4) _ (λ formals s5.
     last_gives (Tests b) (with_locals (with_formals formals) s5) _ (λ v s6.
-    last_gives (Tests b) (lines_called (record x { position = deeper (answers b) x.position (record { copy = t.copy; next = Some t.line; dots = 0 }) }) s6) _ (λ k s7. closed_tests b k s7)))))))
+    last_gives (Tests b) (lines_called (record x { position = deeper (answers b) x.position (record { copy = t.copy; next = Some t.line; dots = 0 }) }) s6) _ (λ k s7. closed_tests b k s7))))))
 
 value_tests : (b : Bool) (s : Completion) (now : State) → Tests b now → AllGive (Tests b) (returned_value s now)
 unfolding AllGive
@@ -71,8 +71,10 @@ value_tests b Quits now h = tt
 value_tests b (Goes t) now h = tt
 value_tests b (Returns v) now h = h
 
+answer_tests : (x : Context) (e : EntryTree) (bs : List Binding) (b : Bool) (s : State) → AllGive (Tests b) (answer x e bs b s)
+answer_tests x e bs b s = first_gives (Tests b) (entering x e bare_list bs (answers b) s) returned_value (entering_tests x e bare_list bs b s) (value_tests b)
+
 pub function_keeps_test : FunctionKeepsTest
-function_keeps_test ops a n p e xs s after w left x is =
-    plan_gives (Tests s.test) ops (answering (context a n p) e xs s) x after w left
-    (first_gives (Tests s.test) (calling (context a n p) e (with_list xs) (answers s.test) s) returned_value
-    (calling_tests (context a n p) e (with_list xs) s.test s) (value_tests s.test)) is
+function_keeps_test ops a n p d e hands s after w left x is =
+    plan_gives (Tests s.test) ops (answering (context a n p) d e hands s) x after w left
+    (last_gives (Tests s.test) (hands s) _ (λ bs s1. answer_tests (at_depth (context a n p) d) e bs s.test s1)) is

@@ -23,6 +23,7 @@ pub mod BlockExamples
 pub mod GotoExamples
 pub mod LevelExamples
 pub mod StoredRoutine
+pub mod LibraryExamples
 pub mod IndirectionExamples
 pub mod IndirectionLevels
 pub mod IndirectionRoutines
@@ -36,3 +37,6 @@ pub mod FunctionExamples
 pub mod Uncalled
 pub mod UncalledArguments
 pub mod KeptTests
+pub mod ProgramSteps
+pub mod ProgramArguments
+pub mod ProgramFrames

@@ -1,7 +1,7 @@
 -- SPDX-License-Identifier: Apache-2.0
 -- Lines of a terminal, one after another, in a form that `simp` computes: a turn is opened only if its state is known, since what
 -- runs a turn holds what runs the next one, and so on for all the fuel.
-use Rattle.mmeaning.proofs.MeaningWords.{◌≡◌, ℕ, zero, suc, Bool, true, false, List, [], ◌∷◌, Option, Some, None, refl, ap, ◌∙◌, map, empty, get, insert, get-insert, nat_cmp_total, Plan, perform, Zsyntax, Zsteps, Zterm, Zline, Zchar, ReferenceTree, ExprsTree, EntryTree, ActualsTree, ArgTree, CommandTree, LineTree, line_in, opening, replies, Text, Node, Locals, Given, no_locals, assigned_to, State, Outcome, Act, ◌>>=◌, fail, Evaluated, Calls, Depth, through, finds, inside, answering, Completion, Position, top_level, Turning, Texts, Context, texts, arguments, commands, after_turn, after_level, closed, stays, commands_of, Account, Settings, Session, World, Event, Reply, plan_of, begun, session_or_new, ended, refused, is_too_long, is_ascii, checked, at_account, normal, Cursor}
+use Rattle.mmeaning.proofs.MeaningWords.{◌≡◌, ℕ, zero, suc, Bool, true, false, List, [], ◌∷◌, Option, Some, None, refl, ap, ◌∙◌, map, empty, get, insert, get-insert, nat_cmp_total, Plan, perform, Zsyntax, Zsteps, Zterm, Zline, Zchar, ReferenceTree, ExprsTree, ArgTree, CommandTree, LineTree, line_in, opening, replies, Text, Node, Locals, Given, no_locals, assigned_to, State, Outcome, Act, ◌>>=◌, fail, Evaluated, Calls, Depth, through, finds, inside, Completion, Position, top_level, Turning, Texts, Context, texts, arguments, commands, after_turn, after_level, closed, stays, commands_of, Account, Settings, Session, World, Event, Reply, plan_of, begun, session_or_new, ended, refused, is_too_long, is_ascii, checked, at_account, normal, Cursor}
 use Rattle.mmeaning.specs.Transition.{act}
 use Rattle.mmeaning.proofs.ExampleAccount.{account, settings_of}
 
@@ -176,15 +176,5 @@ pub name_found : (a : Text) (n : ℕ) (calls : Calls) (d : Depth) (r : Reference
 unfolding finds
 name_found a zero calls d r subscripts locals naked test cursor out steps given = refl
 name_found a (suc n) calls d r subscripts locals naked test cursor out steps given = refl
-
--- so is a function called
-abbrev pub answered : Text → ℕ → Position → EntryTree → ActualsTree → Act Text
-answered a zero p e xs = fail Zsteps
-answered a (suc n) p e xs = answering (at a n p) e xs
-
-pub call_opened : (a : Text) (n : ℕ) (p : Position) (e : EntryTree) (xs : ActualsTree) → Opens ((shut a n).call p e xs) (answered a n p e xs)
-unfolding shut
-call_opened a zero p e xs locals naked test cursor out steps given = refl
-call_opened a (suc n) p e xs locals naked test cursor out steps given = refl
 
 pub ruleset turns = (opened)

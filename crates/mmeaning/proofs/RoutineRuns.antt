@@ -3,7 +3,7 @@
 use Rattle.mmeaning.proofs.MeaningWords.{◌≡◌, ℕ, Bool, false, List, [], None, refl, ap, codes, empty, insert, Locks, May, Put, Kill, Routine, Plan, Ask, perform, Completion, opening, Globals, lines_of, Mode, may, Text, Node, Outcome, no_locals, assigned_to, act, Settings, Session, World, Reply, home}
 use Rattle.mmeaning.specs.Transition.{Shared}
 use Rattle.mmeaning.proofs.Calls.{assoc_plan}
-use Rattle.mmeaning.proofs.LineRuns.{opened, text_opened, list_opened, name_found, call_opened, AreAnswered, Cases, AreAnsweredEach}
+use Rattle.mmeaning.proofs.LineRuns.{opened, text_opened, list_opened, name_found, AreAnswered, Cases, AreAnsweredEach}
 use Rattle.mmeaning.proofs.ExampleAccount.{with_steps, alice_in, account}
 
 -- the lines of ALICE's routines
@@ -12,7 +12,7 @@ lines_in g name = lines_of g (codes "ALICE") name
 
 -- a routine of which the lines are known is read
 pub asked : (g : Globals) (name : Text) (lines : List Text) → lines_in g name ≡ lines → (locks : Locks) (settings : Settings) (terminal : ℕ) (k : List Text → Plan (Outcome Completion))
-    → perform (act settings terminal (codes "ALICE")) (Ask (Routine name) k) (record { globals = g; locks = locks }) ≡ perform (act settings terminal (codes "ALICE")) (k lines) (record { globals = g; locks = locks })
+    → perform (act settings terminal (codes "ALICE")) (Ask (Routine None name) k) (record { globals = g; locks = locks }) ≡ perform (act settings terminal (codes "ALICE")) (k lines) (record { globals = g; locks = locks })
 unfolding lines_in
 asked g name lines h locks settings terminal k = ap (λ xs. perform (act settings terminal (codes "ALICE")) (k xs) (record { globals = g; locks = locks })) h
 
@@ -38,7 +38,7 @@ abbrev pub holding_in : Globals → Text → Text → World
 holding_in g name x = serving_in g (record { locals = assigned_to no_locals name [] x; naked = None; test = false; cursor = home })
 
 -- A level is deep within plans one after another, where `simp` doesn't look: it brings what is done next to the front.
-pub ruleset computed_levels = (opened, text_opened, list_opened, name_found, call_opened, assoc_plan)
+pub ruleset computed_levels = (opened, text_opened, list_opened, name_found, assoc_plan)
 
 -- what lines of a terminal are answered in any store, and in one that has these lines of a routine
 abbrev pub Anywhere : List Text → List Reply → Type 0

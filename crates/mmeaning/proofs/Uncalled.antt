@@ -46,7 +46,7 @@ module _ (a : Text) (d : Depth) (find : Calls → Depth → ReferenceTree → Ex
         let n = neither (has_call_tail s) (has_call_tails rest) h in
         λ j. tail_same x s n.0 j >>= (λ y. tails_same y rest n.1 j)
 
-    tail_same : (x : Text) (s : TailTree) → has_call_tail s ≡ false → Same (λ i. tail_value i x s)
+    pub tail_same : (x : Text) (s : TailTree) → has_call_tail s ≡ false → Same (λ i. tail_value i x s)
     tail_same x (apply b o) h = λ j. operand_same o h j >>= (λ y. binary b x y)
     tail_same x (matches atoms) h = refl
     tail_same x (matches_not atoms) h = refl
@@ -54,7 +54,7 @@ module _ (a : Text) (d : Depth) (find : Calls → Depth → ReferenceTree → Ex
     tail_same x (matches_indirect p) h = λ j. primary_same p h j >>= (λ t. matches_text (with c) x t >>= (λ b. give (truth_text b)))
     tail_same x (matches_not_indirect p) h = λ j. primary_same p h j >>= (λ t. matches_text (with c) x t >>= (λ b. give (truth_text (not b))))
 
-    operand_same : (o : OperandTree) → has_call_operand o ≡ false → Same (λ i. operand_value i o)
+    pub operand_same : (o : OperandTree) → has_call_operand o ≡ false → Same (λ i. operand_value i o)
     operand_same (operand signs p) h = λ j. primary_same p h j >>= (λ x. unaries signs x)
 
     pub primary_same : (p : PrimaryTree) → has_call_primary p ≡ false → Same (λ i. primary_value i p)

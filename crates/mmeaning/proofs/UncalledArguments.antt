@@ -1,24 +1,24 @@
 -- SPDX-License-Identifier: Apache-2.0
 -- Arguments that have no call mean the same whatever functions give: what is proved of them where none is called serves a line.
-use Rattle.mmeaning.proofs.MeaningWords.{◌≡◌, ℕ, false, List, [], ◌∷◌, ◌++◌, Option, Some, None, refl, Zarg, Zchar, Text, Act, ◌>>=◌, give, give_some, ExprTree, ExprsTree, PrimaryTree, ReferenceTree, variable, one, lock_one, lock_several, Calls, Depth, Inside, LockName, inside, finds, value, evaluated, setting}
-use Rattle.std.specs.Prelude.{ℤ, ◌||◌}
+use Rattle.mmeaning.proofs.MeaningWords.{◌≡◌, ℕ, false, List, [], ◌∷◌, ◌++◌, Option, Some, None, refl, Zarg, Zchar, Text, Act, ◌>>=◌, give, give_some, ExprTree, ExprsTree, OperandTree, PrimaryTree, ReferenceTree, variable, one, lock_one, lock_several, Calls, Depth, Inside, LockName, inside, finds, value, evaluated, setting}
+use Rattle.std.specs.Prelude.{ℤ, ◌||◌, cond}
 use Rattle.std.specs.List.{list_any}
 use Rattle.mspec.specs.Act.{◌>>◌, unless, write, write_formats, set_test, cursor_is}
 use Rattle.mspec.specs.Cursor.{is_column, spaces_to}
 use Rattle.mspec.specs.Scopes.{Binding, valued, linked_to}
 use Rattle.mspec.specs.Code.{Zsyntax}
-use Rattle.mgrammar.specs.Grammar.{TargetTree, part, DestinationTree, several, LockKindTree, LockedTree, ActualTree, missing_actual, value_actual, name_actual, indirect_actual, ActualsTree, no_actuals, actuals}
+use Rattle.mgrammar.specs.Grammar.{TailTree, TargetTree, part, DestinationTree, several, LockKindTree, LockedTree, ActualTree, missing_actual, value_actual, name_actual, indirect_actual, ActualsTree, no_actuals, actuals}
 use Rattle.mgrammar.specs.Functions.{function_of}
 use Rattle.mgrammar.specs.IndirectTexts.{name_of}
-use Rattle.mgrammar.specs.CallsIn.{has_call, has_call_primary, has_call_reference, has_call_exprs, has_call_optional, has_call_target, has_call_destination, has_call_locked, has_call_actual, has_call_actuals}
+use Rattle.mgrammar.specs.CallsIn.{has_call, has_call_tail, has_call_operand, has_call_primary, has_call_reference, has_call_exprs, has_call_optional, has_call_target, has_call_destination, has_call_locked, has_call_actual, has_call_actuals}
 use Rattle.mmeaning.specs.Operators.{as_number, as_truth}
 use Rattle.mmeaning.specs.Functions.{as_whole}
 use Rattle.mmeaning.specs.Variables.{writing, resolve, kill_at, named_lock}
-use Rattle.mmeaning.specs.Expression.{an_indirection_free, primary_value, values, optional_value}
+use Rattle.mmeaning.specs.Expression.{an_indirection_free, is_bare, tail_value, operand_value, primary_value, values, optional_value}
 use Rattle.mmeaning.specs.Locking.{locking, lock_names, names_of, carried, told}
 use Rattle.mmeaning.specs.Parameters.{handed, all_handed, handed_over}
 use Rattle.mmeaning.specs.LineMeaning.{Prepared, whole, partial, prepared, all_prepared, targets, all_assigned, showing, tabbing, formatting, coded_character, coding, killing, Returns, returning, holds, where_true, testing, number_of, hanging}
-use Rattle.mmeaning.proofs.Uncalled.{neither, finds_alike, value_same, primary_same, reference_same, values_same}
+use Rattle.mmeaning.proofs.Uncalled.{neither, finds_alike, value_same, tail_same, operand_same, primary_same, reference_same, values_same}
 
 module _ (a : Text) (n : ℕ) (d : Depth) (calls : Calls) where
   -- as where no function is called
@@ -30,6 +30,12 @@ module _ (a : Text) (n : ℕ) (d : Depth) (calls : Calls) where
 
   pub primary_plain : (p : PrimaryTree) → has_call_primary p ≡ false → Plain (λ i. primary_value i p)
   primary_plain p h = primary_same a d (finds a n) (finds_alike a n) calls (inside a n d).calls p h
+
+  pub operand_plain : (o : OperandTree) → has_call_operand o ≡ false → Plain (λ i. operand_value i o)
+  operand_plain o h = operand_same a d (finds a n) (finds_alike a n) calls (inside a n d).calls o h
+
+  pub tail_plain : (x : Text) (s : TailTree) → has_call_tail s ≡ false → Plain (λ i. tail_value i x s)
+  tail_plain x s h = tail_same a d (finds a n) (finds_alike a n) calls (inside a n d).calls x s h
 
   pub reference_plain : (r : ReferenceTree) → has_call_reference r ≡ false → Plain (λ i. evaluated i r)
   reference_plain r h = reference_same a d (finds a n) (finds_alike a n) calls (inside a n d).calls r h
@@ -58,13 +64,13 @@ module _ (a : Text) (n : ℕ) (d : Depth) (calls : Calls) where
       let m = neither (has_call_reference r) (has_call_exprs more) h in
       λ j. reference_plain r m.0 j >>= (λ v. values_plain [] more m.1 j >>= (λ xs. give (partial (function_of word) v xs)))
 
-  targets_plain : (ps : List Prepared) (ts : List TargetTree) → list_any has_call_target ts ≡ false → Plain (λ i. all_prepared i ps ts)
+  pub targets_plain : (ps : List Prepared) (ts : List TargetTree) → list_any has_call_target ts ≡ false → Plain (λ i. all_prepared i ps ts)
   targets_plain ps [] h = refl
   targets_plain ps (t ∷ ts) h =
       let m = neither (has_call_target t) (list_any has_call_target ts) h in
       λ j. target_plain t m.0 j >>= (λ p. targets_plain (ps ++ p ∷ []) ts m.1 j)
 
-  in_targets : (t : DestinationTree) → has_call_destination t ≡ false → list_any has_call_target (targets t) ≡ false
+  pub in_targets : (t : DestinationTree) → has_call_destination t ≡ false → list_any has_call_target (targets t) ≡ false
   in_targets (one t) h = rw h refl
   in_targets (several ts) h = h
 
@@ -121,7 +127,7 @@ module _ (a : Text) (n : ℕ) (d : Depth) (calls : Calls) where
 
   -- ---- actuals
 
-  handed_plain : (x : ActualTree) → has_call_actual x ≡ false → Plain (λ i. handed i x)
+  pub handed_plain : (x : ActualTree) → has_call_actual x ≡ false → Plain (λ i. handed i x)
   handed_plain missing_actual h = refl
   handed_plain (value_actual e) h = λ j. value_plain e h j >>= (λ x. give (valued x))
   handed_plain (name_actual name) h = refl
@@ -134,9 +140,4 @@ module _ (a : Text) (n : ℕ) (d : Depth) (calls : Calls) where
       λ j. handed_plain x m.0 j >>= (λ b. all_handed_plain (bs ++ b ∷ []) rest m.1 j)
 
   pub handed_over_plain : (xs : ActualsTree) → has_call_actuals xs ≡ false → Plain (λ i. handed_over i xs)
-  handed_over_plain no_actuals h = refl
-  handed_over_plain (actuals missing_actual no_actuals) h = refl
-  handed_over_plain (actuals missing_actual (actuals y more)) h = all_handed_plain [] (actuals missing_actual (actuals y more)) h
-  handed_over_plain (actuals (value_actual e) rest) h = all_handed_plain [] (actuals (value_actual e) rest) h
-  handed_over_plain (actuals (name_actual name) rest) h = all_handed_plain [] (actuals (name_actual name) rest) h
-  handed_over_plain (actuals (indirect_actual p) rest) h = all_handed_plain [] (actuals (indirect_actual p) rest) h
+  handed_over_plain xs h = λ j. cond (is_bare xs) (give []) (all_handed_plain [] xs h j)

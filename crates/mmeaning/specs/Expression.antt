@@ -1,19 +1,20 @@
 -- SPDX-License-Identifier: Apache-2.0
 -- Expression meaning: the text that an expression gives, or its code.
 --
--- Restates "Expressions", "$SELECT", "Extrinsic function", the environment of "Global variable name gvn", which is an account, and what "Indirection" says of
+-- Restates "Expressions", "$SELECT", "Extrinsic function", what "Parameter passing" says of actuals, the environment of "Global variable name gvn", which is an account, and what "Indirection" says of
 -- names, subscripts and patterns, of ISO/IEC 11756:1999: operators apply from left to right, none before another, and unary operators bind to the
 -- operand after them. Both operands of an operator are evaluated, the left one first. A text that stands for an `@` names a variable,
 -- and what it has to evaluate is evaluated where it stands.
-use Rattle.std.specs.Prelude.{ℕ, zero, suc, ◌+◌, Bool, nat_lt, ◌&&◌, cond, not, List, [], ◌∷◌, ◌++◌, map, Option, Some, None}
+use Rattle.std.specs.Prelude.{ℕ, zero, suc, ◌+◌, Bool, true, false, nat_lt, ◌&&◌, cond, not, List, [], ◌∷◌, ◌++◌, Option, Some, None}
 pub use Rattle.mspec.specs.Limits.{max_levels, max_indirections}
 use Rattle.mspec.specs.Number.{significant_digits}
 use Rattle.mspec.specs.NumberText.{numeric_value}
 use Rattle.mspec.specs.Interpretations.{truth_text}
-use Rattle.mgrammar.specs.Grammar.{ExprTree, expr, TailsTree, no_tails, tail, TailTree, apply, matches, matches_not, raise, matches_indirect, matches_not_indirect, OperandTree, operand, PrimaryTree, number, text, special, reference, bracket, call, select, refer, extrinsic, EntryTree, ActualsTree, ReferenceTree, local, global, naked, indirect, extended, ExprsTree, no_exprs, exprs, ChoicesTree, no_choices, choice}
+use Rattle.mspec.specs.Scopes.{Binding, valued, linked_to, unset}
+use Rattle.mgrammar.specs.Grammar.{ExprTree, expr, TailsTree, no_tails, tail, TailTree, apply, matches, matches_not, raise, matches_indirect, matches_not_indirect, OperandTree, operand, PrimaryTree, number, text, special, reference, bracket, call, select, refer, extrinsic, EntryTree, ActualTree, missing_actual, value_actual, name_actual, indirect_actual, ActualsTree, no_actuals, actuals, ReferenceTree, local, global, naked, indirect, extended, ExprsTree, no_exprs, exprs, ChoicesTree, no_choices, choice}
 use Rattle.mgrammar.specs.Specials.{special_of}
 use Rattle.mgrammar.specs.Functions.{function_of}
-use Rattle.mgrammar.specs.IndirectTexts.{pattern_of}
+use Rattle.mgrammar.specs.IndirectTexts.{name_of, pattern_of}
 use Rattle.mgrammar.specs.Languages.{ref_in}
 use Rattle.mspec.specs.Code.{M4, Zdepth, Zsteps, Zsyntax}
 use Rattle.mspec.specs.Act.{Text, Act, ◌>>=◌, ◌>>◌, give, read_so, fail, give_some, unless, charge}
@@ -38,13 +39,18 @@ an_indirection_free d = unless Zdepth (is_indirection_free d)
 abbrev pub indirected : Depth → Depth
 indirected d = record d { levels = d.levels + 1; indirections = d.indirections + 1 }
 
--- what a function gives for its actuals, at a given depth, once the step of its primary is spent
+-- what a function gives, at a given depth, for what an act hands over to it, once the step of its primary is spent
 abbrev pub Calls : Type 0
-Calls = Depth → EntryTree → ActualsTree → Act Text
+Calls = Depth → EntryTree → Act (List Binding) → Act Text
 
 -- no function is called, as in the text of a name indirection, where only a variable is found
 abbrev pub no_calls : Calls
-no_calls d e xs = fail Zsyntax
+no_calls d e hands = fail Zsyntax
+
+-- a list of actuals that has nothing in its brackets
+abbrev pub is_bare : ActualsTree → Bool
+is_bare (actuals missing_actual no_actuals) = true
+is_bare xs = false
 
 -- where an expression stands: whose line it belongs to, how deep it is, what functions give, and what evaluates, at a given depth, the
 -- variable that a text names, which is no part of the tree, with the subscripts after it, which may call functions as the tree may, once
@@ -68,6 +74,13 @@ matches_text i x t = do
   an_indirection_free i.depth
   atoms ← give_some Zsyntax (pattern_of t)
   matching atoms x
+
+-- the variable that the text of an `@` names, by reference; the text counts as an indirection
+abbrev pub linked_by : Inside → Text → Act Binding
+linked_by i x = do
+  an_indirection_free i.depth
+  name ← give_some Zsyntax (name_of x)
+  give (linked_to name)
 
 -- A primary costs a step, before it is evaluated: a bracket and a call cost theirs before what is in them.
 abbrev mutual
@@ -126,7 +139,7 @@ abbrev mutual
     call_value word xs
   primary_value i (select word choices) = charge >> chosen i choices
   primary_value i (refer word r more) = charge >> referring (function_of word) (evaluated i r) (values i [] more)
-  primary_value i (extrinsic e xs) = charge >> i.calls i.depth e xs
+  primary_value i (extrinsic e xs) = charge >> i.calls i.depth e (cond (is_bare xs) (give []) (all_handed i [] xs))
 
   -- what a reference has to evaluate; it costs nothing by itself
   pub evaluated : Inside → ReferenceTree → Act Evaluated
@@ -161,6 +174,28 @@ abbrev mutual
     x ← value i c
     b ← as_truth x
     cond b (value i v) (chosen i rest)
+
+  -- what an actual hands over; a name costs no step, since nothing is evaluated
+  pub handed : Inside → ActualTree → Act Binding
+  handed i missing_actual = give unset
+  handed i (value_actual e) = do
+    x ← value i e
+    give (valued x)
+  handed i (name_actual name) = give (linked_to name)
+  handed i (indirect_actual p) = do
+    x ← primary_value i p
+    linked_by i x
+
+  -- from left to right, appended to those before them
+  pub all_handed : Inside → List Binding → ActualsTree → Act (List Binding)
+  all_handed i bs no_actuals = give bs
+  all_handed i bs (actuals a rest) = do
+    b ← handed i a
+    all_handed i (bs ++ b ∷ []) rest
+
+-- one that is missing, alone in its brackets, is none
+abbrev pub handed_over : Inside → ActualsTree → Act (List Binding)
+handed_over i xs = cond (is_bare xs) (give []) (all_handed i [] xs)
 
 -- if there is one
 abbrev pub optional_value : Inside → Option ExprTree → Act (Option Text)

@@ -4,21 +4,35 @@ use Rattle.std.specs.Prelude.{ℕ, ◌≤◌, List, [], ◌∷◌, Result, Ok, E
 use Rattle.mspec.specs.Code.{Fault}
 use Rattle.mspec.specs.Act.{Text, Act, ◌>>=◌, give}
 use Rattle.mgrammar.specs.Grammar.{ArgTree, CommandTree}
-use Rattle.mmeaning.specs.LineMeaning.{Completion, Position, Turning, Closing, after, arguments, commands, after_turn, after_level, closed, context}
+use Rattle.mmeaning.specs.LineMeaning.{Completion, Position, Turning, Closing, leaves, answers, after, arguments, effect, commands, after_turn, after_level, closed, entering, returned_value, text_executed, context}
+use Rattle.mmeaning.specs.Parameters.{bare_list}
+use Rattle.mmeaning.specs.Programs.{Op, Item, one_value, Ending, listed, carried, once_true, Pause, over, calls, enters, executes}
 use Rattle.mmeaning.specs.Calls.{Standing, Here, FailedBy, Follows}
 
--- the rest of a line, the rest of a command's arguments, a turn of a FOR, and a level with how it closes
+-- the rest of a line, the rest of a command's arguments, a turn of a FOR, and a level with how it closes; what is left of a program after
+-- a function; and a command after its condition, before the rest of its line
 pub data View : Type 0 where
   Rests : Position → List CommandTree → View
   Lists : Position → List ArgTree → View
   Turns : Position → Turning → View
   Levels : Position → Closing → View
+  Programs : Position → List Op → Ending → List Item → View
+  Conditions : Position → CommandTree → List CommandTree → View
 
 abbrev pub frame : Text → ℕ → View → Completion → Act Completion
 frame a n (Rests p cs) s = after s (commands (context a n p) cs)
 frame a n (Lists p args) s = after s (arguments (context a n p) args)
 frame a n (Turns p t) s = after_turn (context a n p) t s
 frame a n (Levels p c) s = after_level (context a n p) s >>= closed c
+frame a n (Programs p ops k st) s = returned_value s >>= (λ v. carried (context a n p) ops k (one_value v ∷ st))
+frame a n (Conditions p c rest) s = once_true (effect (context a n p) c.keyword c.args rest) s
+
+-- what a program does where it comes to a level, which then opens on top of what is left of the program
+abbrev pub resumed : Text → ℕ → Position → Ending → Pause → Act Completion
+resumed a n p k (over s) = give s
+resumed a n p k (calls e b bs ops st) = entering (context a n p) e bare_list bs (answers b) >>= frame a n (Programs p ops k st)
+resumed a n p k (enters e is_listed bs) = entering (context a n p) e (listed is_listed) bs leaves
+resumed a n p k (executes text) = text_executed (context a n p) text
 
 -- from the top, each with the number of texts that it may enter
 abbrev pub left : Text → List View → List ℕ → Completion → Act Completion

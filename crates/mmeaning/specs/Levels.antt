@@ -4,14 +4,17 @@
 -- Restates "Routine execution", "DO", "GOTO" and "XECUTE" of ISO/IEC 11756:1999. A level is that of a terminal's line, or one that a
 -- DO or an XECUTE opened. It keeps the lines of its routine as they were when a DO or a GOTO named it.
 use Rattle.std.specs.Prelude.{ℕ, ◌+◌, ◌==◌, nat_lt, Bool, true, false, List, [], map, position, slice_get, Option, Some, None}
+use Rattle.mspec.specs.Access.{Read}
+use Rattle.mspec.specs.Globals.{routines_of}
 use Rattle.mspec.specs.Trees.{text_eq}
 use Rattle.mspec.specs.Scopes.{without_level}
 use Rattle.mspec.specs.Code.{M13, Zdepth, Zlevel}
 use Rattle.mspec.specs.Plan.{Routine}
 use Rattle.mspec.specs.Act.{Text, Act, ◌>>=◌, ◌>>◌, give, read_so, in_language, unless, ask, with_locals, set_test}
-use Rattle.mgrammar.specs.Grammar.{EntryTree, at_label, at_label_in, at_routine, CommandTree, LineTree}
+use Rattle.mgrammar.specs.Grammar.{RoutineTree, own_routine, shared_routine, EntryTree, at_label, at_label_in, at_routine, CommandTree, LineTree}
 use Rattle.mgrammar.specs.RoutineLine.{BodyTree, short, spaced_out, label_of, dots_of}
 use Rattle.mmeaning.specs.Expression.{Depth, indirected}
+use Rattle.mmeaning.specs.Variables.{allowed}
 pub use Rattle.mmeaning.specs.Expression.{max_levels}
 
 -- the lines that labels are sought in; the place of the line that comes next; and how many dots the level's lines have. A terminal's text
@@ -40,11 +43,16 @@ pub record Target : Type 0 where
   pub copy : List Text
   pub line : ℕ
 
+-- the lines of a routine: of the account's own, or of another account's, which that one has to let it read
+abbrev pub lines_of_routine : RoutineTree → Act (List Text)
+lines_of_routine (own_routine name) = ask (Routine None name)
+lines_of_routine (shared_routine account name) = allowed Read (routines_of account) >> ask (Routine (Some account) name)
+
 -- a routine that is named is read; a label alone is sought in the level's own lines
 abbrev pub lines_of_entry : List Text → EntryTree → Act (List Text)
 lines_of_entry copy (at_label label) = give copy
-lines_of_entry copy (at_label_in label routine) = ask (Routine routine)
-lines_of_entry copy (at_routine routine) = ask (Routine routine)
+lines_of_entry copy (at_label_in label routine) = lines_of_routine routine
+lines_of_entry copy (at_routine routine) = lines_of_routine routine
 
 abbrev pub is_label : Text → Option Text → Bool
 is_label label None = false

@@ -13,6 +13,8 @@ pub mod Transition
 pub mod History
 pub mod TransitionLaws
 pub mod Calls
+pub mod Programs
 pub mod Frames
 pub mod Yields
 pub mod CallLaws
+pub mod ProgramLaws

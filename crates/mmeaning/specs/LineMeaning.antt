@@ -11,7 +11,7 @@ use Rattle.mspec.specs.NumberText.{number_text}
 use Rattle.mspec.specs.TextFunctions.{set_piece_of, has_places, set_range_of}
 pub use Rattle.mspec.specs.Cursor.{line_end}
 use Rattle.mspec.specs.Cursor.{is_column, spaces_to}
-use Rattle.mspec.specs.Scopes.{killed_except, newed, newed_except}
+use Rattle.mspec.specs.Scopes.{Binding, killed_except, newed, newed_except}
 use Rattle.mgrammar.specs.Grammar.{ExprTree, EntryTree, ActualsTree, ReferenceTree, TargetTree, variable, part, DestinationTree, one, several, ParameterTree, once, onward, until, KeywordTree, set_word, kill_word, new_word, if_word, else_word, for_word, quit_word, write_word, do_word, goto_word, execute_word, lock_word, halt_word, hang_word, halt_or_hang_word, ArgTree, assign, formats, coded, shown, kill_one, kill_others, new_one, new_others, tested, loop, do_one, go_to, executed, locked, hang_for, returned, indirect_args, FormTree, PrimaryTree, CommandTree, LineTree}
 use Rattle.mgrammar.specs.Functions.{ValueFunctionTree, FunctionTree, of_values, extract_function, piece_function, function_of}
 use Rattle.mgrammar.specs.Languages.{line_in, routine_line_in, args_in}
@@ -22,12 +22,12 @@ use Rattle.mspec.specs.Act.{Text, Act, Locals, level_begun, ◌>>=◌, ◌>>◌,
 use Rattle.mmeaning.specs.Operators.{outcome, as_number, as_truth, as_text}
 use Rattle.mmeaning.specs.Functions.{as_whole, text_at, whole_at}
 use Rattle.mmeaning.specs.Variables.{Evaluated, at_local, writing, resolve, found_at, read_or, put_at, kill_at}
-use Rattle.mmeaning.specs.Expression.{Inside, inside, an_indirection_free, primary_value, value, values, evaluated}
+use Rattle.mmeaning.specs.Expression.{Depth, Inside, inside, an_indirection_free, primary_value, value, values, evaluated}
 pub use Rattle.mmeaning.specs.Expression.{optional_value}
 use Rattle.mmeaning.specs.Locking.{locking}
 pub use Rattle.mmeaning.specs.Levels.{Level, Position, top_level, Target, Closing, stays, leaves, restores, answers}
 use Rattle.mmeaning.specs.Levels.{target, a_level_free, deeper, within_indirection, closing, commands_of, commands_in}
-use Rattle.mmeaning.specs.Parameters.{handed_over, with_list, formals_of_target, formals_for, with_formals}
+use Rattle.mmeaning.specs.Parameters.{bare_list, handed_over, formals_of_target, formals_for, with_formals}
 use Rattle.mmeaning.specs.Courses.{Course, last_turn, endless, limited, forever, is_past}
 
 -- ---- how a line goes on
@@ -56,13 +56,11 @@ pub record Turning : Type 0 where
   pub parameters : List ParameterTree
   pub body : List CommandTree
 
--- what runs commands once more, or commands or arguments of a text that is no part of the tree, or calls a function, once its step is
--- spent
+-- what runs commands once more, or commands or arguments of a text that is no part of the tree, once its step is spent
 pub record Texts : Type 0 where
   pub turn : Position → Turning → Act Completion
   pub list : Position → List ArgTree → Act Completion
   pub enter : Position → List CommandTree → Act Completion
-  pub call : Position → EntryTree → ActualsTree → Act Text
 
 pub record Context : Type 0 where
   pub account : Text
@@ -74,9 +72,9 @@ pub record Context : Type 0 where
 abbrev pub at_level : Context → Level → Context
 at_level x l = record x { position = record { depth = x.position.depth; level = l } }
 
--- an expression of a line may call functions, however deep it is in indirections
-abbrev pub inside_of : Context → Inside
-inside_of x = record (inside x.account x.fuel x.position.depth) { calls = λ d e xs. x.texts.call (record { depth = d; level = x.position.level }) e xs }
+-- and as deep
+abbrev pub at_depth : Context → Depth → Context
+at_depth x d = record x { position = record { depth = d; level = x.position.level } }
 
 -- ---- SET
 
@@ -175,14 +173,18 @@ showing i e = do
   write x
 
 -- after a `?`: spaces up to a column, unless the line is there; one that no text is as long as is refused
-abbrev pub tabbing : Inside → Option ExprTree → Act (Unit {0})
-tabbing i None = give tt
-tabbing i (Some e) = do
-  x ← value i e
+abbrev pub spaced_to : Text → Act (Unit {0})
+spaced_to x = do
   n ← as_whole x
   unless Zarg (is_column n)
   c ← cursor_is
   write (spaces_to n c.column)
+
+abbrev pub tabbing : Inside → Option ExprTree → Act (Unit {0})
+tabbing i None = give tt
+tabbing i (Some e) = do
+  x ← value i e
+  spaced_to x
 
 -- formats in front of that
 abbrev pub formatting : Inside → List ℕ → Option ExprTree → Act (Unit {0})
@@ -193,12 +195,16 @@ abbrev pub coded_character : ℤ → Option ℕ
 coded_character (pos n) = cond (nat_le n 127) (Some n) None
 coded_character (negsuc n) = None
 
-abbrev pub coding : Inside → ExprTree → Act (Unit {0})
-coding i e = do
-  x ← value i e
+abbrev pub character_written : Text → Act (Unit {0})
+character_written x = do
   n ← as_whole x
   c ← give_some Zchar (coded_character n)
   write (c ∷ [])
+
+abbrev pub coding : Inside → ExprTree → Act (Unit {0})
+coding i e = do
+  x ← value i e
+  character_written x
 
 -- ---- KILL
 
@@ -229,12 +235,146 @@ abbrev pub where_true : Bool → Completion
 where_true b = cond b Go_on Skips
 
 -- IF: each argument sets $TEST
-abbrev pub testing : Inside → ExprTree → Act Completion
-testing i e = do
-  x ← value i e
+abbrev pub truth_tested : Text → Act Completion
+truth_tested x = do
   b ← as_truth x
   set_test b
   give (where_true b)
+
+abbrev pub testing : Inside → ExprTree → Act Completion
+testing i e = do
+  x ← value i e
+  truth_tested x
+
+-- ---- lines of a routine
+
+-- the commands of a line that is entered; it is read when it is reached, and not before
+abbrev pub line_entered : Context → ℕ → Text → Act Completion
+line_entered x n text = do
+  l ← read_so Zsyntax (λ n. routine_line_in n text)
+  x.texts.enter (record { depth = x.position.depth; level = record x.position.level { next = Some (n + 1) } }) (commands_in l.body)
+
+-- one that no DO names: it has no formal list
+abbrev pub line_reached : Context → ℕ → Text → Act Completion
+line_reached x n text = do
+  in_language (λ l. unless M11 (is_none (formals_of l text)))
+  line_entered x n text
+
+-- The lines from a place on, which are these. One with more dots than the level's is passed over; one with fewer ends the level, as does
+-- the end of the lines. A line that is entered or passed over costs a step.
+abbrev pub lines_reached : Context → ℕ → List Text → Act Completion
+lines_reached x n [] = give Go_on
+lines_reached x n (text ∷ rest) =
+    in_language (λ l.
+    cond (nat_lt x.position.level.dots (dots_of l text)) (charge >> lines_reached x (n + 1) rest)
+    (cond (dots_of l text == x.position.level.dots) (charge >> line_reached x n text) (give Go_on)))
+
+abbrev pub lines_from : Context → Option ℕ → Act Completion
+lines_from x None = give Go_on
+lines_from x (Some n) = lines_reached x n (drop n x.position.level.copy)
+
+-- the line that comes next in a level, and those after it; a level that ends gives Go_on
+abbrev pub lines_next : Context → Act Completion
+lines_next x = lines_from x x.position.level.next
+
+-- the first of these lines, which a DO names, and those after it
+abbrev pub first_called : Context → ℕ → List Text → Act Completion
+first_called x n [] = give Go_on
+first_called x n (text ∷ rest) = charge >> line_entered x n text
+
+abbrev pub called_from : Context → Option ℕ → Act Completion
+called_from x None = give Go_on
+called_from x (Some n) = first_called x n (drop n x.position.level.copy)
+
+abbrev pub lines_called : Context → Act Completion
+lines_called x = called_from x x.position.level.next
+
+-- What follows a line of a level. GOTO goes on with the line that it names, in the same level.
+abbrev pub after_level : Context → Completion → Act Completion
+after_level x Go_on = lines_next x
+after_level x Skips = lines_next x
+after_level x Quits = give Go_on
+after_level x (Goes t) = lines_next (at_level x (record x.position.level { copy = t.copy; next = Some t.line }))
+after_level x (Returns v) = give (Returns v)
+
+-- ---- levels that DO, functions and XECUTE open
+
+-- a value that a level is left with is wanted of a function alone, which cannot do without
+abbrev pub closed : Closing → Completion → Act Completion
+closed (answers b) (Returns v) = closing (answers b) >> give (Returns v)
+closed (answers b) s = fail M17
+closed c (Returns v) = fail M16
+closed c s = closing c >> give s
+
+-- what is done in a level of its own, once its scope is there; the level then closes
+abbrev pub in_level : Context → Level → Closing → (Locals → Locals) → (Context → Act Completion) → Act Completion
+in_level x l c begins act = with_locals begins >> (act (record x { position = deeper c x.position l }) >>= closed c)
+
+-- the lines from the one that an entry names on, in a level with the formal parameters of that line, for what these actuals handed over
+abbrev pub entering : Context → EntryTree → ActualsTree → List Binding → Closing → Act Completion
+entering x e xs bs c = do
+  a_level_free x.position.depth
+  t ← target x.position.level.copy 0 e
+  names ← formals_of_target t
+  formals ← formals_for xs names bs
+  in_level x (record { copy = t.copy; next = Some t.line; dots = 0 }) c (with_formals formals) lines_called
+
+-- the value that a function's level is left with, which no other completion of it lacks
+abbrev pub returned_value : Completion → Act Text
+returned_value (Returns v) = give v
+returned_value s = fail M17
+
+-- a function, once its actuals are evaluated
+abbrev pub answer : Context → EntryTree → List Binding → Bool → Act Text
+answer x e bs b = do
+  s ← entering x e bare_list bs (answers b)
+  returned_value s
+
+-- a function: $TEST is afterwards what it was before its actuals, and the naked indicator is not
+abbrev pub answering : Context → Depth → EntryTree → Act (List Binding) → Act Text
+answering x d e hands = do
+  b ← test_is
+  bs ← hands
+  answer (at_depth x d) e bs b
+
+-- an expression of a line may call functions, however deep it is in indirections
+abbrev pub inside_of : Context → Inside
+inside_of x = record (inside x.account x.fuel x.position.depth) { calls = answering x }
+
+-- the actuals come first, so what they do stands even if there is no such line
+abbrev pub calling : Context → EntryTree → ActualsTree → Closing → Act Completion
+calling x e xs c = do
+  bs ← handed_over (inside_of x) xs
+  entering x e xs bs c
+
+-- DO with an argument
+abbrev pub doing : Context → EntryTree → ActualsTree → Act Completion
+doing x e xs = calling x e xs leaves
+
+-- argumentless DO: the lines after this one that have one dot more
+abbrev pub doing_block : Context → Act Completion
+doing_block x = do
+  a_level_free x.position.depth
+  b ← test_is
+  in_level x (record x.position.level { dots = x.position.level.dots + 1 }) (restores b) level_begun lines_next
+
+-- XECUTE: a text, whose labels are sought where those of its line are
+abbrev pub text_executed : Context → Text → Act Completion
+text_executed x text = do
+  a_level_free x.position.depth
+  l ← read_so Zsyntax (λ n. line_in n text)
+  in_level x (record { copy = x.position.level.copy; next = None; dots = 0 }) leaves level_begun (λ y. y.texts.enter y.position (commands_of l))
+
+abbrev pub executing : Context → ExprTree → Act Completion
+executing x e = do
+  text ← value (inside_of x) e
+  text_executed x text
+
+-- GOTO: a line with as many dots as the level
+abbrev pub going : Context → EntryTree → Act Completion
+going x e = do
+  t ← target x.position.level.copy x.position.level.dots e
+  give (Goes t)
 
 -- ---- FOR
 
@@ -307,118 +447,6 @@ after_turn x t (Returns v) = fail M16
 
 abbrev pub turns_forever : Context → List CommandTree → Act Completion
 turns_forever x body = begin_turn x (record { index = []; course = forever; parameters = []; body = body })
-
--- ---- lines of a routine
-
--- the commands of a line that is entered; it is read when it is reached, and not before
-abbrev pub line_entered : Context → ℕ → Text → Act Completion
-line_entered x n text = do
-  l ← read_so Zsyntax (λ n. routine_line_in n text)
-  x.texts.enter (record { depth = x.position.depth; level = record x.position.level { next = Some (n + 1) } }) (commands_in l.body)
-
--- one that no DO names: it has no formal list
-abbrev pub line_reached : Context → ℕ → Text → Act Completion
-line_reached x n text = do
-  in_language (λ l. unless M11 (is_none (formals_of l text)))
-  line_entered x n text
-
--- The lines from a place on, which are these. One with more dots than the level's is passed over; one with fewer ends the level, as does
--- the end of the lines. A line that is entered or passed over costs a step.
-abbrev pub lines_reached : Context → ℕ → List Text → Act Completion
-lines_reached x n [] = give Go_on
-lines_reached x n (text ∷ rest) =
-    in_language (λ l.
-    cond (nat_lt x.position.level.dots (dots_of l text)) (charge >> lines_reached x (n + 1) rest)
-    (cond (dots_of l text == x.position.level.dots) (charge >> line_reached x n text) (give Go_on)))
-
-abbrev pub lines_from : Context → Option ℕ → Act Completion
-lines_from x None = give Go_on
-lines_from x (Some n) = lines_reached x n (drop n x.position.level.copy)
-
--- the line that comes next in a level, and those after it; a level that ends gives Go_on
-abbrev pub lines_next : Context → Act Completion
-lines_next x = lines_from x x.position.level.next
-
--- the first of these lines, which a DO names, and those after it
-abbrev pub first_called : Context → ℕ → List Text → Act Completion
-first_called x n [] = give Go_on
-first_called x n (text ∷ rest) = charge >> line_entered x n text
-
-abbrev pub called_from : Context → Option ℕ → Act Completion
-called_from x None = give Go_on
-called_from x (Some n) = first_called x n (drop n x.position.level.copy)
-
-abbrev pub lines_called : Context → Act Completion
-lines_called x = called_from x x.position.level.next
-
--- What follows a line of a level. GOTO goes on with the line that it names, in the same level.
-abbrev pub after_level : Context → Completion → Act Completion
-after_level x Go_on = lines_next x
-after_level x Skips = lines_next x
-after_level x Quits = give Go_on
-after_level x (Goes t) = lines_next (at_level x (record x.position.level { copy = t.copy; next = Some t.line }))
-after_level x (Returns v) = give (Returns v)
-
--- ---- levels that DO and XECUTE open
-
--- a value that a level is left with is wanted of a function alone, which cannot do without
-abbrev pub closed : Closing → Completion → Act Completion
-closed (answers b) (Returns v) = closing (answers b) >> give (Returns v)
-closed (answers b) s = fail M17
-closed c (Returns v) = fail M16
-closed c s = closing c >> give s
-
--- what is done in a level of its own, once its scope is there; the level then closes
-abbrev pub in_level : Context → Level → Closing → (Locals → Locals) → (Context → Act Completion) → Act Completion
-in_level x l c begins act = with_locals begins >> (act (record x { position = deeper c x.position l }) >>= closed c)
-
--- the lines from the one that an entry names on, in a level with the formal parameters of that line. The actuals come first, so what they do
--- stands even if there is no such line.
-abbrev pub calling : Context → EntryTree → ActualsTree → Closing → Act Completion
-calling x e xs c = do
-  bs ← handed_over (inside_of x) xs
-  a_level_free x.position.depth
-  t ← target x.position.level.copy 0 e
-  names ← formals_of_target t
-  formals ← formals_for xs names bs
-  in_level x (record { copy = t.copy; next = Some t.line; dots = 0 }) c (with_formals formals) lines_called
-
--- DO with an argument
-abbrev pub doing : Context → EntryTree → ActualsTree → Act Completion
-doing x e xs = calling x e xs leaves
-
--- the value that a function's level is left with, which no other completion of it lacks
-abbrev pub returned_value : Completion → Act Text
-returned_value (Returns v) = give v
-returned_value s = fail M17
-
--- a function: $TEST is afterwards what it was before its actuals, and the naked indicator is not
-abbrev pub answering : Context → EntryTree → ActualsTree → Act Text
-answering x e xs = do
-  b ← test_is
-  s ← calling x e (with_list xs) (answers b)
-  returned_value s
-
--- argumentless DO: the lines after this one that have one dot more
-abbrev pub doing_block : Context → Act Completion
-doing_block x = do
-  a_level_free x.position.depth
-  b ← test_is
-  in_level x (record x.position.level { dots = x.position.level.dots + 1 }) (restores b) level_begun lines_next
-
--- XECUTE: a text, whose labels are sought where those of its line are
-abbrev pub executing : Context → ExprTree → Act Completion
-executing x e = do
-  text ← value (inside_of x) e
-  a_level_free x.position.depth
-  l ← read_so Zsyntax (λ n. line_in n text)
-  in_level x (record { copy = x.position.level.copy; next = None; dots = 0 }) leaves level_begun (λ y. y.texts.enter y.position (commands_of l))
-
--- GOTO: a line with as many dots as the level
-abbrev pub going : Context → EntryTree → Act Completion
-going x e = do
-  t ← target x.position.level.copy x.position.level.dots e
-  give (Goes t)
 
 -- ---- commands
 
@@ -506,14 +534,13 @@ commands x (c ∷ rest) = charge >> (conditional x c rest >>= (λ s. after s (co
 
 -- with at most this many texts
 abbrev pub texts : Text → ℕ → Texts
-texts a zero = record { turn = λ _ _. fail Zsteps; list = λ _ _. fail Zsteps; enter = λ _ _. fail Zsteps; call = λ _ _ _. fail Zsteps }
+texts a zero = record { turn = λ _ _. fail Zsteps; list = λ _ _. fail Zsteps; enter = λ _ _. fail Zsteps }
 texts a (suc n) =
     let at : Position → Context = λ p. record { account = a; fuel = n; position = p; texts = texts a n } in
     record {
       turn = λ p t. commands (at p) t.body >>= after_turn (at p) t;
       list = λ p args. arguments (at p) args;
       enter = λ p cs. commands (at p) cs >>= after_level (at p);
-      call = λ p e xs. answering (at p) e xs;
     }
 
 abbrev pub context : Text → ℕ → Position → Context

@@ -1,11 +1,11 @@
 -- SPDX-License-Identifier: Apache-2.0
 -- What the lines of all terminals share, and what the operations do there.
-use Rattle.std.specs.Prelude.{ℕ, Bool, true, false, Option, Some, None, cond}
+use Rattle.std.specs.Prelude.{ℕ, Bool, true, false, [], Option, Some, None, cond}
 use Rattle.std.specs.List.{list_all}
 use Rattle.std.specs.FinMap.{get, insert}
 use Rattle.mspec.specs.Node.{Text, Node}
 use Rattle.mspec.specs.Trees.{text_eq}
-use Rattle.mspec.specs.Globals.{Globals, status, order_at, lines_of, without_subtree}
+use Rattle.mspec.specs.Globals.{Globals, status, order_at, lines_of, routines_of, without_subtree}
 use Rattle.mspec.specs.LockConflict.{LockName, Locks, taken, given_back, released}
 use Rattle.mspec.specs.Access.{Settings, Read, Write, may}
 use Rattle.mspec.specs.Plan.{May, Value, Status, Neighbour, Routine, Put, Kill, Take, Give_back, Release, Ops}
@@ -21,6 +21,10 @@ may_read settings me n = may settings me n.account n.name Read
 
 abbrev pub may_write : Settings → Text → Node → Bool
 may_write settings me n = may settings me n.account n.name Write
+
+-- the routines of an owner, by whoever may read the global that holds them
+abbrev pub may_call : Settings → (me owner : Text) → Bool
+may_call settings me owner = may_read settings me (routines_of owner)
 
 -- a global's name by whoever may write it, another by its own account
 abbrev pub may_lock : Settings → Text → LockName → Bool
@@ -44,7 +48,8 @@ act settings terminal me (May owner name mode) w = (may settings me owner name m
 act settings terminal me (Value n) w = guarded (may_read settings me n) None w (get w.globals n, w)
 act settings terminal me (Status n) w = guarded (may_read settings me n) (false, false) w (status w.globals n, w)
 act settings terminal me (Neighbour direction n) w = guarded (may_read settings me n) None w (order_at w.globals direction n, w)
-act settings terminal me (Routine name) w = (lines_of w.globals me name, w)
+act settings terminal me (Routine None name) w = (lines_of w.globals me name, w)
+act settings terminal me (Routine (Some owner) name) w = guarded (may_call settings me owner) [] w (lines_of w.globals owner name, w)
 act settings terminal me (Put n t) w = guarded (may_write settings me n) tt w (tt, record w { globals = insert w.globals n t })
 act settings terminal me (Kill n) w = guarded (may_write settings me n) tt w (tt, record w { globals = without_subtree w.globals n })
 act settings terminal me (Take names) w = guarded (list_all (may_lock settings me) names) false w (took w (taken w.locks terminal names))

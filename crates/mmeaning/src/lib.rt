@@ -3,4 +3,5 @@
 #![tactic(auto)]
 
 pub mod call_laws;
+pub mod program_laws;
 pub mod transition_laws;

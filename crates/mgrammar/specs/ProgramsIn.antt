@@ -1,0 +1,58 @@
+-- SPDX-License-Identifier: Apache-2.0
+-- Whether each call of a function in a tree stands where it can be carried out a step at a time: under operators, signs and brackets, in
+-- the arguments of functions of values, and in actuals. A subscript, a function of a variable, $SELECT and an indirection are done as a
+-- whole, so none stands in them.
+use Rattle.std.specs.Prelude.{Bool, true, ◌&&◌, ◌||◌, not, Option, Some, None}
+use Rattle.mgrammar.specs.Grammar.{ExprTree, expr, TailsTree, no_tails, tail, TailTree, apply, matches, matches_not, raise, matches_indirect, matches_not_indirect}
+use Rattle.mgrammar.specs.Grammar.{OperandTree, operand, PrimaryTree, number, text, special, reference, bracket, call, select, refer, extrinsic, ExprsTree, no_exprs, exprs}
+use Rattle.mgrammar.specs.Grammar.{ActualTree, missing_actual, value_actual, name_actual, indirect_actual, ActualsTree, no_actuals, actuals}
+use Rattle.mgrammar.specs.CallsIn.{has_call_primary, has_call_reference, has_call_exprs, has_call_choices}
+
+abbrev mutual
+  pub in_steps : ExprTree → Bool
+  in_steps (expr first rest) = in_steps_operand first && in_steps_tails rest
+
+  pub in_steps_tails : TailsTree → Bool
+  in_steps_tails no_tails = true
+  in_steps_tails (tail s rest) = in_steps_tail s && in_steps_tails rest
+
+  pub in_steps_tail : TailTree → Bool
+  in_steps_tail (apply b o) = in_steps_operand o
+  in_steps_tail (matches atoms) = true
+  in_steps_tail (matches_not atoms) = true
+  in_steps_tail (raise o) = in_steps_operand o
+  in_steps_tail (matches_indirect p) = not (has_call_primary p)
+  in_steps_tail (matches_not_indirect p) = not (has_call_primary p)
+
+  pub in_steps_operand : OperandTree → Bool
+  in_steps_operand (operand signs p) = in_steps_primary p
+
+  pub in_steps_primary : PrimaryTree → Bool
+  in_steps_primary (number literal) = true
+  in_steps_primary (text t) = true
+  in_steps_primary (special word) = true
+  in_steps_primary (reference r) = not (has_call_reference r)
+  in_steps_primary (bracket e) = in_steps e
+  in_steps_primary (call word args) = in_steps_exprs args
+  in_steps_primary (select word choices) = not (has_call_choices choices)
+  in_steps_primary (refer word r more) = not (has_call_reference r || has_call_exprs more)
+  in_steps_primary (extrinsic e xs) = in_steps_actuals xs
+
+  pub in_steps_exprs : ExprsTree → Bool
+  in_steps_exprs no_exprs = true
+  in_steps_exprs (exprs e rest) = in_steps e && in_steps_exprs rest
+
+  pub in_steps_actual : ActualTree → Bool
+  in_steps_actual missing_actual = true
+  in_steps_actual (value_actual e) = in_steps e
+  in_steps_actual (name_actual name) = true
+  in_steps_actual (indirect_actual p) = in_steps_primary p
+
+  pub in_steps_actuals : ActualsTree → Bool
+  in_steps_actuals no_actuals = true
+  in_steps_actuals (actuals a rest) = in_steps_actual a && in_steps_actuals rest
+
+-- if there is one
+abbrev pub in_steps_optional : Option ExprTree → Bool
+in_steps_optional None = true
+in_steps_optional (Some e) = in_steps e

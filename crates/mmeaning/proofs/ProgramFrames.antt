@@ -1,0 +1,66 @@
+-- SPDX-License-Identifier: Apache-2.0
+-- Where programs pause, and how they go on.
+use Rattle.mmeaning.proofs.MeaningWords.{◌≡◌, ℕ, Bool, List, [], ◌∷◌, Option, Some, None, refl, sym, ◌∙◌, Text, Act, ◌>>=◌, give, EntryTree, Completion, Position, Context, context}
+use Rattle.mspec.specs.Scopes.{Binding}
+use Rattle.mmeaning.specs.Levels.{answers}
+use Rattle.mmeaning.specs.Parameters.{bare_list}
+use Rattle.mmeaning.specs.LineMeaning.{entering, returned_value, answer, effect, where_holds}
+use Rattle.mmeaning.specs.Programs.{Item, one_value, handing, Op, Call, Ending, Enter, Run, step, ended_by, going_on, carried, Pause, over, end_begun, begun_on, begun}
+use Rattle.mmeaning.specs.Frames.{Programs, frame, resumed}
+use Rattle.mmeaning.specs.ProgramLaws.{ProgramsPause, ProgramsTakeValues, ConditionsGoOn}
+use Rattle.mmeaning.proofs.Calls.{assoc, ended}
+use Rattle.mmeaning.proofs.ProgramSteps.{stepped}
+use Rattle.mmeaning.proofs.ProgramArguments.{programs_carry_conditions}
+
+module _ (a : Text) (n : ℕ) (p : Position) (k : Ending) where
+  abbrev x : Context
+  x = context a n p
+
+  abbrev Alike : Act Completion → Act Completion → Type 0
+  Alike q r = ◌≡◌ {A = Act Completion} q r
+
+  abbrev then_resumed : Act Pause → Act Completion
+  then_resumed q = q >>= resumed a n p k
+
+  -- what pauses nowhere
+  goes_over : (q : Act Completion) → Alike q (then_resumed (q >>= (λ s. give (over s))))
+  goes_over q = sym (ended q) ∙ sym (assoc q (λ s. give (over s)) (resumed a n p k))
+
+  rest_pauses : (ops : List Op) → ((st : List Item) → Alike (carried x ops k st) (then_resumed (begun x ops k st)))
+      → (r : Option (List Item)) → Alike (going_on (carried x ops k) r) (then_resumed (begun_on (begun x ops k) r))
+  rest_pauses ops h None = refl
+  rest_pauses ops h (Some st) = h st
+
+  step_pauses : (o : Op) (ops : List Op) (st : List Item) → ((st : List Item) → Alike (carried x ops k st) (then_resumed (begun x ops k st)))
+      → Alike (step x o st >>= going_on (carried x ops k)) (then_resumed (step x o st >>= begun_on (begun x ops k)))
+  step_pauses o ops st h =
+      (λ j. step x o st >>= (λ r. rest_pauses ops h r j))
+      ∙ sym (assoc (step x o st) (begun_on (begun x ops k)) (resumed a n p k))
+
+  call_pauses : (e : EntryTree) (b : Bool) (bs : List Binding) (ops : List Op) (st : List Item)
+      → Alike (carried x (Call e ∷ ops) k (handing b bs ∷ st)) (entering x e bare_list bs (answers b) >>= frame a n (Programs p ops k st))
+  call_pauses e b bs ops st =
+      stepped x k (answer x e bs b) (λ v. one_value v ∷ st) ops
+      ∙ assoc (entering x e bare_list bs (answers b)) returned_value (λ v. carried x ops k (one_value v ∷ st))
+
+end_pauses : (a : Text) (n : ℕ) (p : Position) (k : Ending) (st : List Item) → Alike a n p k (ended_by (context a n p) k st) (then_resumed a n p k (end_begun (context a n p) k st))
+end_pauses a n p (Enter e is_listed) (handing b bs ∷ st) = refl
+end_pauses a n p Run (one_value v ∷ st) = refl
+end_pauses a n p k st = goes_over a n p k (ended_by (context a n p) k st)
+
+pub all_pause : (a : Text) (n : ℕ) (p : Position) (k : Ending) (ops : List Op) (st : List Item)
+    → Alike a n p k (carried (context a n p) ops k st) (then_resumed a n p k (begun (context a n p) ops k st))
+all_pause a n p k [] st = end_pauses a n p k st
+all_pause a n p k (Call e ∷ ops) (handing b bs ∷ st) = call_pauses a n p k e b bs ops st
+all_pause a n p k (o ∷ ops) st = step_pauses a n p k o ops st (λ st. all_pause a n p k ops st)
+
+pub programs_pause : ProgramsPause
+programs_pause a n p ops k st = all_pause a n p k ops st
+
+pub programs_take_values : ProgramsTakeValues
+programs_take_values a n p ops k st v = refl
+
+pub conditions_go_on : ConditionsGoOn
+conditions_go_on a n p c rest e q is h =
+    (λ j. where_holds (context a n p) (is j) (effect (context a n p) c.keyword c.args rest))
+    ∙ programs_carry_conditions (context a n p) e q (effect (context a n p) c.keyword c.args rest) h

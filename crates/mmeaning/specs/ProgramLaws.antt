@@ -1,0 +1,50 @@
+-- SPDX-License-Identifier: Apache-2.0
+-- The laws of programs, as statements. The functions of src/ named after them carry them.
+use Rattle.std.specs.Prelude.{◌≡◌, ℕ, true, List, [], ◌∷◌, Some}
+use Rattle.mspec.specs.Act.{Text, Act, ◌>>=◌}
+use Rattle.mgrammar.specs.Grammar.{ExprTree, ArgTree, CommandTree}
+use Rattle.mgrammar.specs.ProgramsIn.{in_steps}
+use Rattle.mmeaning.specs.Expression.{value}
+use Rattle.mmeaning.specs.LineMeaning.{Completion, Returns, Position, Context, context, inside_of, where_holds, argument, conditional}
+use Rattle.mmeaning.specs.Programs.{Item, one_value, Op, Ending, Program, carried, of_value, program_of, program_of_condition, once_true, begun}
+use Rattle.mmeaning.specs.Frames.{Programs, Conditions, frame, resumed}
+
+-- an expression is evaluated by its steps, whatever comes after them, and whatever else is on the stack
+abbrev pub StepsEvaluate : Type 0
+StepsEvaluate =
+    (x : Context) (e : ExprTree) (ops : List Op) (k : Ending) (st : List Item) → in_steps e ≡ true →
+    ◌≡◌ {A = Act Completion} (carried x (of_value e ops) k st) (value (inside_of x) e >>= (λ v. carried x ops k (one_value v ∷ st)))
+
+-- an argument does what its program does
+abbrev pub ProgramsCarryArguments : Type 0
+ProgramsCarryArguments =
+    (x : Context) (a : ArgTree) (p : Program) → program_of a ≡ Some p →
+    ◌≡◌ {A = Act Completion} (argument x a) (carried x p.steps p.ending [])
+
+-- so does a condition of a command, before whatever the command does
+abbrev pub ProgramsCarryConditions : Type 0
+ProgramsCarryConditions =
+    (x : Context) (e : ExprTree) (p : Program) (q : Act Completion) → program_of_condition e ≡ Some p →
+    ◌≡◌ {A = Act Completion} (where_holds x (Some e) q) (carried x p.steps p.ending [] >>= once_true q)
+
+-- ---- frames
+
+-- A program does what it does up to the first level that it opens, and then what that level leads to: after a function, what is left of the
+-- program takes the value.
+abbrev pub ProgramsPause : Type 0
+ProgramsPause =
+    (a : Text) (n : ℕ) (p : Position) (ops : List Op) (k : Ending) (st : List Item) →
+    ◌≡◌ {A = Act Completion} (carried (context a n p) ops k st) (begun (context a n p) ops k st >>= resumed a n p k)
+
+-- what is left of a program goes on with the value that a function's level is left with
+abbrev pub ProgramsTakeValues : Type 0
+ProgramsTakeValues =
+    (a : Text) (n : ℕ) (p : Position) (ops : List Op) (k : Ending) (st : List Item) (v : Text) →
+    ◌≡◌ {A = Act Completion} (frame a n (Programs p ops k st) (Returns v)) (carried (context a n p) ops k (one_value v ∷ st))
+
+-- a command with a condition is the condition's program on top of the command
+abbrev pub ConditionsGoOn : Type 0
+ConditionsGoOn =
+    (a : Text) (n : ℕ) (p : Position) (c : CommandTree) (rest : List CommandTree) (e : ExprTree) (q : Program) →
+    c.condition ≡ Some e → program_of_condition e ≡ Some q →
+    ◌≡◌ {A = Act Completion} (conditional (context a n p) c rest) (carried (context a n p) q.steps q.ending [] >>= frame a n (Conditions p c rest))

@@ -1,0 +1,274 @@
+-- SPDX-License-Identifier: Apache-2.0
+-- Programs: an argument with a call of a function in it, as small steps over a stack.
+--
+-- What stands before a call and what comes after it are apart here, so that a function's level can open in between. A step does what the
+-- meaning of expressions and lines does at its place, and costs what that costs. What has no call is one step.
+use Rattle.std.specs.Prelude.{Bool, true, false, ◌&&◌, not, cond, List, [], ◌∷◌, ◌++◌, Option, Some, None, ℕ}
+use Rattle.mspec.specs.Scopes.{Binding, valued}
+use Rattle.mspec.specs.Code.{Zsyntax}
+use Rattle.mspec.specs.Act.{Text, Act, ◌>>=◌, ◌>>◌, give, fail, charge, write, write_formats, test_is}
+use Rattle.mgrammar.specs.Grammar.{SignTree, BinaryTree, ExprTree, expr, TailsTree, no_tails, tail, TailTree, apply, raise}
+use Rattle.mgrammar.specs.Grammar.{OperandTree, operand, PrimaryTree, bracket, call, extrinsic, ExprsTree, no_exprs, exprs}
+use Rattle.mgrammar.specs.Grammar.{EntryTree, ActualTree, value_actual, indirect_actual, ActualsTree, no_actuals, actuals, DestinationTree}
+use Rattle.mgrammar.specs.Grammar.{ArgTree, assign, formats, coded, shown, kill_one, kill_others, new_one, new_others, tested, loop, do_one, go_to, executed, locked, hang_for, returned, indirect_args}
+use Rattle.mgrammar.specs.CallsIn.{has_call, has_call_operand, has_call_primary, has_call_destination}
+use Rattle.mgrammar.specs.ProgramsIn.{in_steps, in_steps_actuals, in_steps_optional}
+use Rattle.mmeaning.specs.Operators.{as_number, as_truth, unaries, binary, raising}
+use Rattle.mmeaning.specs.Functions.{call_value}
+use Rattle.mmeaning.specs.Expression.{Inside, inside, is_bare, linked_by, tail_value, operand_value}
+use Rattle.mmeaning.specs.Parameters.{bare_list, handed}
+use Rattle.mmeaning.specs.Levels.{leaves}
+use Rattle.mmeaning.specs.LineMeaning.{Completion, Go_on, Returns, Context, Prepared, all_prepared, targets, all_assigned, spaced_to, character_written, truth_tested, where_true, entering, answer, text_executed, going}
+
+-- ---- the stack
+
+-- a value; the values of a function's arguments so far; the targets of SET; and what the actuals so far hand over, with what $TEST was
+-- before them
+pub data Item : Type 0 where
+  one_value : Text → Item
+  some_values : List Text → Item
+  made : List Prepared → Item
+  handing : Bool → List Binding → Item
+
+-- ---- steps
+
+-- An operand, what is done with a value to the left, an actual, and the targets of SET, of which none has a call in it; the step that a
+-- primary costs; signs and operators; what brings together the values of a function's arguments, and what actuals hand over; the call of
+-- a function; a condition, without which the argument ends; and formats of WRITE.
+pub data Op : Type 0 where
+  Operand : OperandTree → Op
+  Tail : TailTree → Op
+  Spend : Op
+  Sign : List SignTree → Op
+  Join : BinaryTree → Op
+  Raise : Op
+  Values : Op
+  Add : Op
+  Function : Text → Op
+  Begin : Op
+  Actual : ActualTree → Op
+  Hand : Op
+  Hand_name : Op
+  Call : EntryTree → Op
+  Where : Op
+  Formats : List ℕ → Op
+  Prepare : DestinationTree → Op
+
+-- what a command does in the end: SET; WRITE of a value, of a column and of a code; IF; a condition of a command; HANG; QUIT; XECUTE; DO,
+-- with whether a list of actuals is written; and GOTO
+pub data Ending : Type 0 where
+  Assign : Ending
+  Show : Ending
+  Tab : Ending
+  Character : Ending
+  Test : Ending
+  Hold : Ending
+  Wait : Ending
+  Return : Ending
+  Run : Ending
+  Enter : EntryTree → (is_listed : Bool) → Ending
+  Go : EntryTree → Ending
+
+pub record Program : Type 0 where
+  pub steps : List Op
+  pub ending : Ending
+
+-- where no function is called
+abbrev pub plain : Context → Inside
+plain x = inside x.account x.fuel x.position.depth
+
+-- the stack goes on with this item on top
+abbrev pub on_top : List Item → Item → Act (Option (List Item))
+on_top st i = give (Some (i ∷ st))
+
+-- the stack after a step, unless the argument ends there; no program does a step on a stack that lacks what it takes
+abbrev pub step : Context → Op → List Item → Act (Option (List Item))
+step x (Operand o) st = do
+  v ← operand_value (plain x) o
+  on_top st (one_value v)
+step x (Tail t) (one_value v ∷ st) = do
+  w ← tail_value (plain x) v t
+  on_top st (one_value w)
+step x Spend st = charge >> give (Some st)
+step x (Sign signs) (one_value v ∷ st) = do
+  w ← unaries signs v
+  on_top st (one_value w)
+step x (Join b) (one_value w ∷ one_value v ∷ st) = do
+  z ← binary b v w
+  on_top st (one_value z)
+step x Raise (one_value w ∷ one_value v ∷ st) = do
+  z ← raising v w
+  on_top st (one_value z)
+step x Values st = on_top st (some_values [])
+step x Add (one_value v ∷ some_values vs ∷ st) = on_top st (some_values (vs ++ v ∷ []))
+step x (Function word) (some_values vs ∷ st) = do
+  v ← call_value word vs
+  on_top st (one_value v)
+step x Begin st = do
+  b ← test_is
+  on_top st (handing b [])
+step x (Actual a) (handing b bs ∷ st) = do
+  h ← handed (plain x) a
+  on_top st (handing b (bs ++ h ∷ []))
+step x Hand (one_value v ∷ handing b bs ∷ st) = on_top st (handing b (bs ++ valued v ∷ []))
+step x Hand_name (one_value v ∷ handing b bs ∷ st) = do
+  h ← linked_by (plain x) v
+  on_top st (handing b (bs ++ h ∷ []))
+step x (Call e) (handing b bs ∷ st) = do
+  v ← answer x e bs b
+  on_top st (one_value v)
+step x Where (one_value v ∷ st) = do
+  b ← as_truth v
+  give (cond b (Some st) None)
+step x (Formats run) st = write_formats run >> give (Some st)
+step x (Prepare d) st = do
+  ps ← all_prepared (plain x) [] (targets d)
+  on_top st (made ps)
+step x o st = fail Zsyntax
+
+-- whether a list of actuals is written is all that the level asks of it
+abbrev pub listed : Bool → ActualsTree
+listed false = no_actuals
+listed true = bare_list
+
+abbrev pub is_list : ActualsTree → Bool
+is_list no_actuals = false
+is_list (actuals a rest) = true
+
+abbrev pub ended_by : Context → Ending → List Item → Act Completion
+ended_by x Assign (one_value v ∷ made ps ∷ st) = all_assigned v ps >> give Go_on
+ended_by x Show (one_value v ∷ st) = write v >> give Go_on
+ended_by x Tab (one_value v ∷ st) = spaced_to v >> give Go_on
+ended_by x Character (one_value v ∷ st) = character_written v >> give Go_on
+ended_by x Test (one_value v ∷ st) = truth_tested v
+ended_by x Hold (one_value v ∷ st) = do
+  b ← as_truth v
+  give (where_true b)
+ended_by x Wait (one_value v ∷ st) = as_number v >> give Go_on
+ended_by x Return (one_value v ∷ st) = give (Returns v)
+ended_by x Run (one_value v ∷ st) = text_executed x v
+ended_by x (Enter e is_listed) (handing b bs ∷ st) = entering x e (listed is_listed) bs leaves
+ended_by x (Go e) st = going x e
+ended_by x k st = fail Zsyntax
+
+-- ---- what a program does
+
+abbrev pub going_on : (List Item → Act Completion) → Option (List Item) → Act Completion
+going_on rest None = give Go_on
+going_on rest (Some st) = rest st
+
+-- what is left of a program does, on this stack
+abbrev pub carried : Context → List Op → Ending → List Item → Act Completion
+carried x [] k st = ended_by x k st
+carried x (o ∷ ops) k st = step x o st >>= going_on (carried x ops k)
+
+-- ---- what is done up to where a level opens
+
+-- how far a program comes by itself: to its end; to a call of a function, with what is left of the program and of the stack; or to the
+-- level of a DO or of an XECUTE
+pub data Pause : Type 0 where
+  over : Completion → Pause
+  calls : EntryTree → Bool → List Binding → List Op → List Item → Pause
+  enters : EntryTree → (is_listed : Bool) → List Binding → Pause
+  executes : Text → Pause
+
+abbrev pub end_begun : Context → Ending → List Item → Act Pause
+end_begun x (Enter e is_listed) (handing b bs ∷ st) = give (enters e is_listed bs)
+end_begun x Run (one_value v ∷ st) = give (executes v)
+end_begun x k st = do
+  s ← ended_by x k st
+  give (over s)
+
+abbrev pub begun_on : (List Item → Act Pause) → Option (List Item) → Act Pause
+begun_on rest None = give (over Go_on)
+begun_on rest (Some st) = rest st
+
+abbrev pub begun : Context → List Op → Ending → List Item → Act Pause
+begun x [] k st = end_begun x k st
+begun x (Call e ∷ ops) k (handing b bs ∷ st) = give (calls e b bs ops st)
+begun x (o ∷ ops) k st = step x o st >>= begun_on (begun x ops k)
+
+-- ---- the program of a tree
+
+abbrev pub signed : List SignTree → List Op → List Op
+signed [] ops = ops
+signed (s ∷ ss) ops = Sign (s ∷ ss) ∷ ops
+
+-- each before the steps that come after it
+abbrev mutual
+  pub of_value : ExprTree → List Op → List Op
+  of_value (expr first rest) ops = of_operand first (of_tails rest ops)
+
+  pub of_tails : TailsTree → List Op → List Op
+  of_tails no_tails ops = ops
+  of_tails (tail s rest) ops = of_tail s (of_tails rest ops)
+
+  pub of_tail : TailTree → List Op → List Op
+  of_tail (apply b o) ops = cond (has_call_operand o) (of_operand o (Join b ∷ ops)) (Tail (apply b o) ∷ ops)
+  of_tail (raise o) ops = cond (has_call_operand o) (of_operand o (Raise ∷ ops)) (Tail (raise o) ∷ ops)
+  of_tail s ops = Tail s ∷ ops
+
+  pub of_operand : OperandTree → List Op → List Op
+  of_operand (operand signs p) ops = cond (has_call_primary p) (of_primary p (signed signs ops)) (Operand (operand signs p) ∷ ops)
+
+  pub of_primary : PrimaryTree → List Op → List Op
+  of_primary (bracket e) ops = Spend ∷ of_value e ops
+  of_primary (call word args) ops = Spend ∷ Values ∷ of_values args (Function word ∷ ops)
+  of_primary (extrinsic e xs) ops = Spend ∷ Begin ∷ cond (is_bare xs) (Call e ∷ ops) (of_actuals xs (Call e ∷ ops))
+  of_primary p ops = Operand (operand [] p) ∷ ops
+
+  pub of_values : ExprsTree → List Op → List Op
+  of_values no_exprs ops = ops
+  of_values (exprs e rest) ops = of_value e (Add ∷ of_values rest ops)
+
+  pub of_actual : ActualTree → List Op → List Op
+  of_actual (value_actual e) ops = cond (has_call e) (of_value e (Hand ∷ ops)) (Actual (value_actual e) ∷ ops)
+  of_actual (indirect_actual p) ops = cond (has_call_primary p) (of_primary p (Hand_name ∷ ops)) (Actual (indirect_actual p) ∷ ops)
+  of_actual a ops = Actual a ∷ ops
+
+  pub of_actuals : ActualsTree → List Op → List Op
+  of_actuals no_actuals ops = ops
+  of_actuals (actuals a rest) ops = of_actual a (of_actuals rest ops)
+
+abbrev pub of_list : ActualsTree → List Op → List Op
+of_list xs ops = cond (is_bare xs) ops (of_actuals xs ops)
+
+-- if the condition holds that an argument may have
+abbrev pub of_condition : Option ExprTree → List Op → List Op
+of_condition None ops = ops
+of_condition (Some e) ops = of_value e (Where ∷ ops)
+
+abbrev pub program_if : Bool → List Op → Ending → Option Program
+program_if true ops k = Some (record { steps = ops; ending = k })
+program_if false ops k = None
+
+-- The program of an argument, if its calls stand where steps are. There is none for KILL, NEW, FOR and LOCK, nor for arguments that a text
+-- gives, nor for a target of SET with a call.
+abbrev pub program_of : ArgTree → Option Program
+program_of (assign d e) = program_if (not (has_call_destination d) && in_steps e) (Prepare d ∷ of_value e []) Assign
+program_of (formats run None) = None
+program_of (formats run (Some e)) = program_if (in_steps e) (Formats run ∷ of_value e []) Tab
+program_of (coded e) = program_if (in_steps e) (of_value e []) Character
+program_of (shown e) = program_if (in_steps e) (of_value e []) Show
+program_of (kill_one r) = None
+program_of (kill_others names) = None
+program_of (new_one name) = None
+program_of (new_others names) = None
+program_of (tested e) = program_if (in_steps e) (of_value e []) Test
+program_of (loop index parameters) = None
+program_of (do_one e xs c) = program_if (in_steps_actuals xs && in_steps_optional c) (of_condition c (Begin ∷ of_list xs [])) (Enter e (is_list xs))
+program_of (go_to e c) = program_if (in_steps_optional c) (of_condition c []) (Go e)
+program_of (executed e c) = program_if (in_steps e && in_steps_optional c) (of_condition c (of_value e [])) Run
+program_of (locked k names t) = None
+program_of (hang_for e) = program_if (in_steps e) (of_value e []) Wait
+program_of (returned e) = program_if (in_steps e) (of_value e []) Return
+program_of (indirect_args f p) = None
+
+-- that of a command's condition, which goes on if it is true
+abbrev pub program_of_condition : ExprTree → Option Program
+program_of_condition e = program_if (in_steps e) (of_value e []) Hold
+
+-- the command, after its condition
+abbrev pub once_true : Act Completion → Completion → Act Completion
+once_true p Go_on = p
+once_true p s = give Go_on

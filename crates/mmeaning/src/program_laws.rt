@@ -1,0 +1,33 @@
+// SPDX-License-Identifier: Apache-2.0
+// The laws of programs. Each function's contract is the law, and its body is empty: the code never calls them.
+ghost use Rattle.mmeaning.specs.ProgramLaws.{ConditionsGoOn, ProgramsCarryArguments, ProgramsCarryConditions, ProgramsPause, ProgramsTakeValues, StepsEvaluate};
+
+/// The steps of an expression evaluate it, whatever comes after them, and whatever else is on the stack.
+pub fn steps_evaluate()
+    ensures { StepsEvaluate }
+{}
+
+/// An argument of a command does what its program does, if it has one.
+pub fn programs_carry_arguments()
+    ensures { ProgramsCarryArguments }
+{}
+
+/// A command's condition is what its program leads to, before whatever the command does.
+pub fn programs_carry_conditions()
+    ensures { ProgramsCarryConditions }
+{}
+
+/// A program does what it does up to the first level that it opens, and then what that level leads to.
+pub fn programs_pause()
+    ensures { ProgramsPause }
+{}
+
+/// What is left of a program goes on with the value that a function's level is left with.
+pub fn programs_take_values()
+    ensures { ProgramsTakeValues }
+{}
+
+/// A command with a condition is the condition's program on top of the command.
+pub fn conditions_go_on()
+    ensures { ConditionsGoOn }
+{}

@@ -1,17 +1,43 @@
 // SPDX-License-Identifier: Apache-2.0
 // The arguments of DO, GOTO and XECUTE: what they call, where they lead or a text, each with a postconditional of its own; or an `@` with its
 // operand and nothing more.
+ghost use Rattle.mgrammar.specs.ReadingExpressions.{shared_at, routine_at};
 ghost use Rattle.mgrammar.specs.Reading.{entry_at, do_argument_at, goto_argument_at, xecute_argument_at, settled_with, operand_or};
 ghost use Rattle.mgrammar.specs.Grammar.{do_argument, goto_argument, xecute_argument};
-ghost use Rattle.mtree.specs.Tree.{entry_tree, arg_tree};
+ghost use Rattle.mtree.specs.Tree.{routine_tree, entry_tree, arg_tree};
 ghost use Rattle.mscan.specs.Gives.{Gives};
 
 use crate::control::behind_colon;
 use crate::expr::{below, called, expr};
-use mscan::{ParseFault, name, past};
+use mscan::{ParseFault, expect, name, past, text_after};
 use mspec::limits::MAX_DEPTH;
-use mtree::{Arg, Entry, Keyword};
+use mtree::{Arg, Entry, Keyword, RoutineRef, SharedRoutine};
 use std::alloc::Global;
+
+// After a `^|`: a string, the bar that closes, and the routine's name.
+#[tactic(auto, unfolding(mgrammar::specs::ReadingExpressions::shared_at))]
+fn shared(alloc: Global, bytes: &[u8]) -> Result<(RoutineRef, &[u8]), ParseFault>
+    ensures { Gives (λ x. (routine_tree x.0, x.1.now)) result (shared_at bytes.now) }
+{
+    let inside = expect(b'"', bytes)?;
+    let (account, rest) = text_after(alloc, inside)?;
+    let behind = expect(b'|', rest)?;
+    let (name, rest) = name(alloc, behind)?;
+    let routine = Box::new(alloc, SharedRoutine { account, name })?;
+    Ok((RoutineRef::Shared(routine), rest))
+}
+
+// After a `^`: a name, or one of another account.
+#[tactic(auto, unfolding(mgrammar::specs::ReadingExpressions::routine_at))]
+fn routine(alloc: Global, bytes: &[u8]) -> Result<(RoutineRef, &[u8]), ParseFault>
+    ensures { Gives (λ x. (routine_tree x.0, x.1.now)) result (routine_at bytes.now) }
+{
+    if let Some(inside) = past(b'|', bytes) {
+        return shared(alloc, inside);
+    }
+    let (name, rest) = name(alloc, bytes)?;
+    Ok((RoutineRef::Own(name), rest))
+}
 
 // A label, a label and the routine that it belongs to, or a routine alone.
 #[tactic(auto, unfolding(mgrammar::specs::Reading::entry_at))]
@@ -19,14 +45,14 @@ pub fn entry(alloc: Global, bytes: &[u8]) -> Result<(Entry, &[u8]), ParseFault>
     ensures { Gives (λ x. (entry_tree x.0, x.1.now)) result (entry_at bytes.now) }
 {
     if let Some(behind) = past(b'^', bytes) {
-        let (routine, rest) = name(alloc, behind)?;
+        let (routine, rest) = routine(alloc, behind)?;
         return Ok((Entry::Routine(routine), rest));
     }
     let (label, rest) = name(alloc, bytes)?;
     let Some(behind) = past(b'^', rest) else {
         return Ok((Entry::Label(label), rest));
     };
-    let (routine, rest) = name(alloc, behind)?;
+    let (routine, rest) = routine(alloc, behind)?;
     Ok((Entry::LabelIn(label, routine), rest))
 }
 

@@ -3,7 +3,7 @@
 pub use Rattle.mtree.specs.Functions.{value_function_tree, variable_function_tree, function_tree}
 use Rattle.std.specs.Prelude.{◌≡◌, List, Option, Box, Vec, map, option_map}
 use Rattle.mgrammar.specs.Grammar as grammar
-use Rattle.mgrammar.specs.Grammar.{SignTree, TruthTree, BinaryTree, KeywordTree, RepeatedTree, patterns_of, AtomTree, ExprTree, TailTree, tails_of, exprs_of, choices_of, OperandTree, PrimaryTree, ReferenceTree, ActualTree, ActualsTree, actuals_of, TargetTree, DestinationTree, ParameterTree, EntryTree, LockKindTree, LockedTree, ArgTree, CommandTree, SpacedTree, LineTree}
+use Rattle.mgrammar.specs.Grammar.{SignTree, TruthTree, BinaryTree, KeywordTree, RepeatedTree, patterns_of, AtomTree, ExprTree, TailTree, tails_of, exprs_of, choices_of, OperandTree, PrimaryTree, ReferenceTree, ActualTree, ActualsTree, actuals_of, TargetTree, DestinationTree, ParameterTree, RoutineTree, EntryTree, LockKindTree, LockedTree, ArgTree, CommandTree, SpacedTree, LineTree}
 use Rattle.mgrammar.specs.Specials as specials
 use Rattle.mgrammar.specs.Specials.{SpecialTree}
 use Rattle.mgrammar.specs.Commands.{form_of}
@@ -41,6 +41,9 @@ use Rattle.mtree.specs.declared.tree.Destination.{Destination}
 use Rattle.mtree.specs.declared.tree.Destination.TheVariants as destination
 use Rattle.mtree.specs.declared.tree.Parameter.{Parameter}
 use Rattle.mtree.specs.declared.tree.Parameter.TheVariants as parameter
+use Rattle.mtree.specs.declared.tree.SharedRoutine.{SharedRoutine}
+use Rattle.mtree.specs.declared.tree.RoutineRef.{RoutineRef}
+use Rattle.mtree.specs.declared.tree.RoutineRef.TheVariants as routine_ref
 use Rattle.mtree.specs.declared.tree.Entry.{Entry}
 use Rattle.mtree.specs.declared.tree.Entry.TheVariants as entry
 use Rattle.mtree.specs.declared.tree.LockKind.{LockKind}
@@ -130,10 +133,17 @@ alternative_trees = fold-Alternative RepeatedTree (List AtomTree) AtomTree repea
 abbrev pub atom_tree : Atom → AtomTree
 atom_tree = fold-Atom RepeatedTree (List AtomTree) AtomTree repeated_layer alternative_layer atom_layer
 
+abbrev pub shared_tree : SharedRoutine → RoutineTree
+shared_tree r = grammar.shared_routine r.account r.name
+
+abbrev pub routine_tree : RoutineRef → RoutineTree
+routine_tree (routine_ref.Own name) = grammar.own_routine name
+routine_tree (routine_ref.Shared r) = shared_tree r.value
+
 abbrev pub entry_tree : Entry → EntryTree
 entry_tree (entry.Label label) = grammar.at_label label
-entry_tree (entry.LabelIn label name) = grammar.at_label_in label name
-entry_tree (entry.Routine name) = grammar.at_routine name
+entry_tree (entry.LabelIn label r) = grammar.at_label_in label (routine_tree r)
+entry_tree (entry.Routine r) = grammar.at_routine (routine_tree r)
 
 -- an entry with its actuals
 abbrev pub CalledTree : Type 0

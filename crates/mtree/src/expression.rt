@@ -1,16 +1,16 @@
 // SPDX-License-Identifier: Apache-2.0
 // The text of an expression.
 ghost use Rattle.std.specs.Prelude.{◌≡◌, ◌++◌, ◌<◌, ◌∷◌, [], List, ℕ, OnOk, map};
-ghost use Rattle.mgrammar.specs.Grammar.{sign_char, spell_truth, spell_binary, spell_signs, spell_atoms, spell_expr, tails_of, exprs_of, choices_of, spell_tails, spell_tail, spell_operand, spell_primary, spell_reference, spell_subscripts, spell_attached, spell_exprs, spell_more_exprs, spell_choices, actuals_of, spell_entry, spell_actual, spell_actuals, spell_called};
-ghost use Rattle.mtree.specs.Tree.{sign_tree, truth_tree, binary_tree, atom_tree, expr_tree, tail_tree, operand_tree, primary_tree, reference_tree, referring_tree, choice_tree, entry_tree, actual_tree, called_tree};
+ghost use Rattle.mgrammar.specs.Grammar.{sign_char, spell_truth, spell_binary, spell_signs, spell_atoms, spell_expr, tails_of, exprs_of, choices_of, spell_tails, spell_tail, spell_operand, spell_primary, spell_reference, spell_subscripts, spell_attached, spell_exprs, spell_more_exprs, spell_choices, actuals_of, spell_routine, spell_entry, spell_actual, spell_actuals, spell_called};
+ghost use Rattle.mtree.specs.Tree.{sign_tree, truth_tree, binary_tree, atom_tree, expr_tree, tail_tree, operand_tree, primary_tree, reference_tree, referring_tree, choice_tree, shared_tree, routine_tree, entry_tree, actual_tree, called_tree};
 
 use crate::function_word::ValueWord;
 use crate::patterns::put_atoms;
 use crate::pieces::{put_string, put_text};
 use crate::put_list::{Listed, put_list};
 use crate::tree::{
-    Actual, Binary, Called, Choice, Entry, Expr, Operand, Primary, Reference, Referring, Sign,
-    Tail, Truth,
+    Actual, Binary, Called, Choice, Entry, Expr, Operand, Primary, Reference, Referring,
+    RoutineRef, SharedRoutine, Sign, Tail, Truth,
 };
 use mnum::Bytes7;
 use std::alloc::AllocError;
@@ -276,6 +276,25 @@ fn put_referring(out: &mut Bytes7, referring: &Referring) -> Result<(), AllocErr
     out.push(b')')
 }
 
+fn put_shared(out: &mut Bytes7, routine: &SharedRoutine) -> Result<(), AllocError>
+    ensures { OnOk result (out.new ≡ out.old ++ spell_routine (shared_tree routine.now)) }
+{
+    out.push(b'|')?;
+    put_string(out, &routine.account)?;
+    out.push(b'|')?;
+    put_text(out, routine.name.as_bytes7())
+}
+
+// After a `^`.
+fn put_routine(out: &mut Bytes7, routine: &RoutineRef) -> Result<(), AllocError>
+    ensures { OnOk result (out.new ≡ out.old ++ spell_routine (routine_tree routine.now)) }
+{
+    match routine {
+        RoutineRef::Own(name) => put_text(out, name.as_bytes7()),
+        RoutineRef::Shared(routine) => put_shared(out, routine),
+    }
+}
+
 pub fn put_entry(out: &mut Bytes7, entry: &Entry) -> Result<(), AllocError>
     ensures { OnOk result (out.new ≡ out.old ++ spell_entry (entry_tree entry.now)) }
 {
@@ -284,11 +303,11 @@ pub fn put_entry(out: &mut Bytes7, entry: &Entry) -> Result<(), AllocError>
         Entry::LabelIn(label, routine) => {
             put_text(out, label.as_bytes7())?;
             out.push(b'^')?;
-            put_text(out, routine.as_bytes7())
+            put_routine(out, routine)
         }
         Entry::Routine(routine) => {
             out.push(b'^')?;
-            put_text(out, routine.as_bytes7())
+            put_routine(out, routine)
         }
     }
 }

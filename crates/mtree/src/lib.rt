@@ -33,7 +33,7 @@ pub use since::{since_args, since_commands, since_reference, since_routine_line}
 pub use tree::{
     Actual, Alternative, Arg, Atom, Binary, Body, Called, Choice, Command, Destination, Entry,
     Expr, Keyword, Line, LockKind, Locked, Operand, Parameter, PartTarget, Primary, Reference,
-    Referring, Repeated, RoutineLine, Sign, Spaced, Tail, Target, Truth,
+    Referring, Repeated, RoutineLine, RoutineRef, SharedRoutine, Sign, Spaced, Tail, Target, Truth,
 };
 pub use words::{function_of, is_part, keyword_of, special_of};
 pub use write::{write_line, write_routine_line};

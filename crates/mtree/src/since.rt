@@ -1,14 +1,14 @@
 // SPDX-License-Identifier: Apache-2.0
 // The first language that has all forms of a tree.
-ghost use Rattle.std.specs.Prelude.{◌≡◌, map};
+ghost use Rattle.std.specs.Prelude.{◌≡◌, map, max};
 ghost use Rattle.mgrammar.specs.Grammar.{tails_of, exprs_of, choices_of, actuals_of, formats};
-ghost use Rattle.mgrammar.specs.Languages.{since_all, since_optional, since_atom, since_expr, since_tails, since_tail, since_operand, since_primary, since_reference, since_exprs, since_choices, since_actual, since_actuals, since_target, since_destination, since_parameter, since_locked, since_format, since_arg, since_args, since_command, since_spaced, since_formals, since_body, since_routine_line};
-ghost use Rattle.mtree.specs.Tree.{atom_tree, expr_tree, tail_tree, operand_tree, primary_tree, reference_tree, referring_tree, choice_tree, actual_tree, called_tree, part_tree, target_tree, destination_tree, parameter_tree, locked_tree, arg_tree, command_tree, spaced_tree, condition_tree, formals_tree, body_tree, routine_line_tree, IsBodyCounted};
+ghost use Rattle.mgrammar.specs.Languages.{since_all, since_optional, since_atom, since_expr, since_tails, since_tail, since_operand, since_primary, since_reference, since_exprs, since_choices, since_routine, since_entry, since_actual, since_actuals, since_target, since_destination, since_parameter, since_locked, since_format, since_arg, since_args, since_command, since_spaced, since_formals, since_body, since_routine_line};
+ghost use Rattle.mtree.specs.Tree.{atom_tree, expr_tree, tail_tree, operand_tree, primary_tree, reference_tree, referring_tree, choice_tree, routine_tree, entry_tree, actual_tree, called_tree, part_tree, target_tree, destination_tree, parameter_tree, locked_tree, arg_tree, command_tree, spaced_tree, condition_tree, formals_tree, body_tree, routine_line_tree, IsBodyCounted};
 
 use crate::tree::{
-    Actual, Arg, Atom, Body, Called, Choice, Command, Destination, Expr, Locked, Operand,
-    Parameter, PartTarget, Primary, Reference, Referring, Repeated, RoutineLine, Spaced, Tail,
-    Target,
+    Actual, Arg, Atom, Body, Called, Choice, Command, Destination, Entry, Expr, Locked, Operand,
+    Parameter, PartTarget, Primary, Reference, Referring, Repeated, RoutineLine, RoutineRef,
+    Spaced, Tail, Target,
 };
 use crate::words::{later, since_function, since_keyword, since_part_of, since_special};
 use mnum::Name;
@@ -180,12 +180,32 @@ fn since_actuals(actuals: &[Actual]) -> u32
     since
 }
 
-// That of the actuals of what is called.
+// A routine of another account is of language 1.
+fn since_routine(routine: &RoutineRef) -> u32
+    ensures { result ≡ since_routine (routine_tree routine.now) }
+{
+    match routine {
+        RoutineRef::Own(_) => 0,
+        RoutineRef::Shared(_) => 1,
+    }
+}
+
+fn since_entry(entry: &Entry) -> u32
+    ensures { result ≡ since_entry (entry_tree entry.now) }
+{
+    match entry {
+        Entry::Label(_) => 0,
+        Entry::LabelIn(_, routine) => since_routine(routine),
+        Entry::Routine(routine) => since_routine(routine),
+    }
+}
+
+// That of what is called, and of its actuals.
 #[cycle(since)]
 fn since_called(called: &Called) -> u32
-    ensures { result ≡ since_actuals (called_tree called.now).1 }
+    ensures { result ≡ max (since_entry (called_tree called.now).0) (since_actuals (called_tree called.now).1) }
 {
-    since_actuals(&called.actuals)
+    later(since_entry(&called.entry), since_actuals(&called.actuals))
 }
 
 fn since_condition(condition: &Option<Box<Expr>>) -> u32
@@ -325,7 +345,7 @@ fn since_arg(arg: &Arg) -> u32
         Arg::Tested(condition) => since_expr(condition),
         Arg::Loop(_, parameters) => since_parameters(parameters),
         Arg::DoOne(called, condition) => later(since_called(called), since_condition(condition)),
-        Arg::GoTo(_, condition) => since_condition(condition),
+        Arg::GoTo(entry, condition) => later(since_entry(entry), since_condition(condition)),
         Arg::Executed(text, condition) => later(since_expr(text), since_condition(condition)),
         Arg::Lock(_, names, timeout) => later(since_locked(names), since_condition(timeout)),
         Arg::HangFor(seconds) => since_expr(seconds),

@@ -230,15 +230,31 @@ pub enum Parameter {
     Until(Expr, Expr, Expr),
 }
 
+/// A routine of another account: the account's name, which is a string between the bars after the `^`, without the quotes around
+/// it, and the routine's.
+pub struct SharedRoutine {
+    pub account: Bytes7,
+    pub name: Name,
+}
+
+/// The routine after a `^`.
+#[derive(Drop)]
+pub enum RoutineRef {
+    /// One of the account's own.
+    Own(Name),
+    /// One of another account. In a box, since it is large and rare.
+    Shared(Box<SharedRoutine>),
+}
+
 /// Where DO, GOTO and functions lead.
 #[derive(Drop)]
 pub enum Entry {
     /// To a label of the level's own routine.
     Label(Name),
-    /// To a label of a routine: the label, and the routine after the `^`.
-    LabelIn(Name, Name),
+    /// To a label of a routine.
+    LabelIn(Name, RoutineRef),
     /// To the first line of a routine.
-    Routine(Name),
+    Routine(RoutineRef),
 }
 
 /// How an argument of LOCK begins.
@@ -497,6 +513,15 @@ impl Drop for PartTarget {
             word: _,
             reference: _,
             more: _,
+        } = self;
+    }
+}
+
+impl Drop for SharedRoutine {
+    fn drop(self) {
+        let SharedRoutine {
+            account: _,
+            name: _,
         } = self;
     }
 }

@@ -3,3 +3,4 @@ pub mod CharacterRuns
 pub mod Faults
 pub mod ListedNames
 pub mod NameRuns
+pub mod WithoutFormals

@@ -7,9 +7,9 @@ use Rattle.mspec.specs.Trees.{text_eq}
 use Rattle.std.proofs.lemmas.List.{length-append}
 use Rattle.mgrammar.specs.ReadingWords.{Read, ◌>>=◌, name_at, past, more_by, many, comma_by, after_comma, with_front, list_at}
 use Rattle.mgrammar.specs.Reading.{names_at}
-use Rattle.mgrammar.specs.RoutineLine.{are_distinct, unlike}
+use Rattle.mgrammar.specs.RoutineLine.{are_distinct, unlike, formals_by}
 use Rattle.mgrammar.proofs.ReadingBasics.{bind_some, some_is, past_takes, name_takes}
-use Rattle.mscan.specs.Formals.{next_name, names_by, names_after, names_in, list_of_formals}
+use Rattle.mscan.specs.Formals.{next_name, names_by, names_after, names_in}
 
 -- ---- the names that are met
 
@@ -141,56 +141,56 @@ module _ (count i : ℕ) (cs : List ℕ) where
       let k : count - i ≡ 0 = omega arith in
       rw k refl
 
--- ---- a formal list
+-- ---- a formal list, after its first bracket
 
-module _ (bytes inside : List ℕ) (opens : past 40 bytes ≡ Some inside) where
-  pub empty_list : (rest : List ℕ) → past 41 inside ≡ Some rest → list_of_formals bytes ≡ Some (names_in inside, rest)
+module _ (inside : List ℕ) where
+  pub empty_list : (rest : List ℕ) → past 41 inside ≡ Some rest → formals_by inside (past 41 inside) ≡ Some (names_in inside, rest)
   unfolding name_at
   empty_list rest h =
       let closed = past_takes 41 inside rest h in
-      rw (opens, closed) refl
+      rw closed refl
 
   module _ (begins : past 41 inside ≡ None) where
-    pub unnamed : name_at inside ≡ None → list_of_formals bytes ≡ None
+    pub unnamed : name_at inside ≡ None → formals_by inside (past 41 inside) ≡ None
     unfolding names_at list_at
-    unnamed h = rw (opens, begins, h) refl
+    unnamed h = rw (begins, h) refl
 
     module _ (first more : List ℕ) (named : name_at inside ≡ Some (first, more)) where
-      ended : (read : Read (List (List ℕ))) → many (after_comma name_at) (length more) more ≡ read → behind read ≡ None → list_of_formals bytes ≡ None
+      ended : (read : Read (List (List ℕ))) → many (after_comma name_at) (length more) more ≡ read → behind read ≡ None → formals_by inside (past 41 inside) ≡ None
       unfolding names_at list_at
-      ended None h e = rw (opens, begins, named, h) refl
+      ended None h e = rw (begins, named, h) refl
       ended (Some x) h e = absurd cc
 
-      pub unlisted : behind (many (after_comma name_at) (length more) more) ≡ None → list_of_formals bytes ≡ None
+      pub unlisted : behind (many (after_comma name_at) (length more) more) ≡ None → formals_by inside (past 41 inside) ≡ None
       unlisted e = ended (many (after_comma name_at) (length more) more) refl e
 
-      unclosed_by : (read : Read (List (List ℕ))) (after : List ℕ) → many (after_comma name_at) (length more) more ≡ read → behind read ≡ Some after → past 41 after ≡ None → list_of_formals bytes ≡ None
+      unclosed_by : (read : Read (List (List ℕ))) (after : List ℕ) → many (after_comma name_at) (length more) more ≡ read → behind read ≡ Some after → past 41 after ≡ None → formals_by inside (past 41 inside) ≡ None
       unfolding names_at list_at
       unclosed_by None after h e c = absurd cc
       unclosed_by (Some x) after h e c =
           let same : x.1 ≡ after = some_is x.1 after e in
-          rw (opens, begins, named, h, same, c) refl
+          rw (begins, named, h, same, c) refl
 
-      pub unclosed : (after : List ℕ) → behind (many (after_comma name_at) (length more) more) ≡ Some after → past 41 after ≡ None → list_of_formals bytes ≡ None
+      pub unclosed : (after : List ℕ) → behind (many (after_comma name_at) (length more) more) ≡ Some after → past 41 after ≡ None → formals_by inside (past 41 inside) ≡ None
       unclosed after e c = unclosed_by (many (after_comma name_at) (length more) more) after refl e c
 
       listed_by : (read : Read (List (List ℕ))) (after rest : List ℕ) → many (after_comma name_at) (length more) more ≡ read → behind read ≡ Some after → past 41 after ≡ Some rest
-          → list_of_formals bytes ≡ unlike (first ∷ names_after (length more) more, rest)
+          → formals_by inside (past 41 inside) ≡ unlike (first ∷ names_after (length more) more, rest)
       unfolding names_at list_at
       listed_by None after rest h e c = absurd cc
       listed_by (Some x) after rest h e c =
           let same : x.1 ≡ after = some_is x.1 after e in
           let names : names_after (length more) more ≡ x.0 = names_read (length more) more x.0 x.1 h in
-          rw (opens, begins, named, h, same, c, names) refl
+          rw (begins, named, h, same, c, names) refl
 
       listed : (after rest : List ℕ) → behind (many (after_comma name_at) (length more) more) ≡ Some after → past 41 after ≡ Some rest
-          → list_of_formals bytes ≡ unlike (first ∷ names_after (length more) more, rest)
+          → formals_by inside (past 41 inside) ≡ unlike (first ∷ names_after (length more) more, rest)
       listed after rest e c = listed_by (many (after_comma name_at) (length more) more) after rest refl e c
 
       pub taken : (after rest : List ℕ) → behind (many (after_comma name_at) (length more) more) ≡ Some after → past 41 after ≡ Some rest → are_distinct (first ∷ names_after (length more) more) ≡ true
-          → list_of_formals bytes ≡ Some (names_in inside, rest)
+          → formals_by inside (past 41 inside) ≡ Some (names_in inside, rest)
       taken after rest e c d = listed after rest e c ∙ rw (d, named) refl
 
       pub refused : (after rest : List ℕ) → behind (many (after_comma name_at) (length more) more) ≡ Some after → past 41 after ≡ Some rest → are_distinct (first ∷ names_after (length more) more) ≡ false
-          → list_of_formals bytes ≡ None
+          → formals_by inside (past 41 inside) ≡ None
       refused after rest e c d = listed after rest e c ∙ rw d refl

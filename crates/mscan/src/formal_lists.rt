@@ -4,8 +4,8 @@ ghost use Rattle.std.specs.Prelude.{◌≡◌, ◌∷◌, length, option_map, If
 ghost use Rattle.std.specs.List.{list_any};
 ghost use Rattle.mspec.specs.Names.{IsName};
 ghost use Rattle.mspec.specs.Trees.{text_eq};
-ghost use Rattle.mgrammar.specs.ReadingWords.{name_at, many, after_comma};
-ghost use Rattle.mgrammar.specs.RoutineLine.{are_distinct, listed_by};
+ghost use Rattle.mgrammar.specs.ReadingWords.{name_at, past, many, after_comma};
+ghost use Rattle.mgrammar.specs.RoutineLine.{are_distinct, formals_by, listed_by};
 ghost use Rattle.mtree.specs.Tree.{formals_tree};
 ghost use Rattle.mscan.specs.Formals.{next_name, names_after, names_in, list_of_formals};
 
@@ -74,13 +74,11 @@ fn behind_names(bytes: &[u8]) -> Option<&[u8]>
     Some(rest)
 }
 
-/// The formal list that a text begins with: what is within its brackets or begins there, and what follows the list. Takes no memory.
-pub fn formal_list(bytes: &[u8]) -> Option<(&[u8], &[u8])>
-    ensures { option_map (λ x. (names_in x.0.now, x.1.now)) result ≡ list_of_formals bytes.now }
+// The formal list whose first bracket comes before a text: the text, and what follows the list. Kept out of line, since it is rare.
+#[inline(never)]
+pub(crate) fn list_within(inside: &[u8]) -> Option<(&[u8], &[u8])>
+    ensures { option_map (λ x. (names_in x.0.now, x.1.now)) result ≡ formals_by inside.now (past 41 inside.now) }
 {
-    let Some(inside) = past(b'(', bytes) else {
-        return None;
-    };
     if let Some(rest) = past(b')', inside) {
         return Some((inside, rest));
     }
@@ -98,6 +96,13 @@ pub fn formal_list(bytes: &[u8]) -> Option<(&[u8], &[u8])>
     } else {
         None
     }
+}
+
+/// The formal list that a text begins with: what is within its brackets or begins there, and what follows the list. Takes no memory.
+pub fn formal_list(bytes: &[u8]) -> Option<(&[u8], &[u8])>
+    ensures { option_map (λ x. (names_in x.0.now, x.1.now)) result ≡ list_of_formals bytes.now }
+{
+    list_within(past(b'(', bytes)?)
 }
 
 // A name, and those that come after commas.

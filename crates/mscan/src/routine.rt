@@ -1,14 +1,14 @@
 // SPDX-License-Identifier: Apache-2.0
 // What a line of a routine begins with, its label, its formal list and its dots, found without reading what comes after them.
-ghost use Rattle.std.specs.Prelude.{◌≡◌, length, option_map, is_some, IfOk, IfSome};
+ghost use Rattle.std.specs.Prelude.{◌≡◌, true, length, option_map, is_some, IfOk, IfSome};
 ghost use Rattle.std.specs.List.{filter};
 ghost use Rattle.mspec.specs.Names.{IsName};
-ghost use Rattle.mgrammar.specs.ReadingWords.{run_of};
-ghost use Rattle.mgrammar.specs.RoutineLine.{has_formals, label_ends, label_at, label_of, formals_behind, formals_of, is_dot, is_space_or_dot, dots_of};
+ghost use Rattle.mgrammar.specs.ReadingWords.{run_of, past};
+ghost use Rattle.mgrammar.specs.RoutineLine.{has_formals, label_ends, label_at, label_of, formals_by, formals_behind, formals_of, listed_by, is_dot, is_space_or_dot, dots_of};
 ghost use Rattle.mtree.specs.Tree.{formals_tree};
 
-use crate::formal_lists::{formal_list, formals};
-use crate::runs::name_bytes;
+use crate::formal_lists::{formal_list, formals, list_within};
+use crate::runs::{name_bytes, past};
 use mnum::Name;
 use std::alloc::{AllocError, Global};
 
@@ -25,7 +25,11 @@ fn label_ends(lists: bool, bytes: &[u8]) -> bool
 {
     match bytes.first() {
         None => true,
-        Some(byte) => *byte == b' ' || *byte == b';' || (lists && *byte == b'('),
+        Some(byte) => match *byte {
+            b' ' | b';' => true,
+            b'(' => lists,
+            _ => false,
+        },
     }
 }
 
@@ -55,15 +59,36 @@ pub fn label_of(language: u32, line: &[u8]) -> Option<&[u8]>
     label(has_formals(language), line).0
 }
 
-/// Whether a routine's line of any bytes has a formal list after its label, in a language. Takes no memory.
+// Whether a routine's line of any bytes has a formal list after its label, where there are formal lists.
 #[tactic(auto, unfolding(mgrammar::specs::RoutineLine::formals_at))]
-pub fn has_formal_list(language: u32, line: &[u8]) -> bool
-    ensures { result ≡ is_some (formals_of language line.now) }
+fn has_list(line: &[u8]) -> bool
+    ensures { result ≡ is_some (formals_behind (label_at true line.now)).0 }
 {
-    match label(has_formals(language), line) {
+    match label(true, line) {
         (None, _) => false,
         (Some(_), rest) => formal_list(rest).is_some(),
     }
+}
+
+/// Whether a routine's line of any bytes has a formal list after its label, in a language. Takes no memory.
+#[tactic(auto, using(crate::proofs::WithoutFormals::no_formals))]
+pub fn has_formal_list(language: u32, line: &[u8]) -> bool
+    ensures { result ≡ is_some (formals_of language line.now) }
+{
+    // a line is not read for what its language does not have
+    has_formals(language) && has_list(line)
+}
+
+// The names of the formal list of a routine's line of any bytes, where there are formal lists, or none.
+#[tactic(auto, unfolding(mgrammar::specs::RoutineLine::formals_at))]
+fn names_of_list(alloc: Global, line: &[u8]) -> Result<Option<Vec<Name>>, AllocError>
+    ensures { IfOk result (λ names. formals_tree names ≡ (formals_behind (label_at true line.now)).0) }
+{
+    let (Some(_), rest) = label(true, line) else {
+        return Ok(None);
+    };
+    let (names, _) = formals(alloc, rest)?;
+    Ok(names)
 }
 
 /// The names of the formal list of a routine's line of any bytes, in a language, or none.
@@ -71,7 +96,7 @@ pub fn has_formal_list(language: u32, line: &[u8]) -> bool
 /// # Errors
 ///
 /// `AllocError` if it runs out of memory.
-#[tactic(auto, unfolding(mgrammar::specs::RoutineLine::formals_at))]
+#[tactic(auto, using(crate::proofs::WithoutFormals::no_formals))]
 pub fn formals_of(
     alloc: Global,
     language: u32,
@@ -79,11 +104,23 @@ pub fn formals_of(
 ) -> Result<Option<Vec<Name>>, AllocError>
     ensures { IfOk result (λ names. formals_tree names ≡ formals_of language line.now) }
 {
-    let (Some(_), rest) = label(has_formals(language), line) else {
-        return Ok(None);
-    };
-    let (names, _) = formals(alloc, rest)?;
-    Ok(names)
+    if has_formals(language) {
+        names_of_list(alloc, line)
+    } else {
+        Ok(None)
+    }
+}
+
+// What follows the formal list whose first bracket comes before a text, or this text, if no list comes after the bracket. Kept out of
+// line, since it is rare.
+#[inline(never)]
+fn behind_list<'t>(whole: &'t [u8], inside: &'t [u8]) -> &'t [u8]
+    ensures { result.now ≡ (listed_by whole.now (formals_by inside.now (past 41 inside.now))).1 }
+{
+    match list_within(inside) {
+        None => whole,
+        Some((_, behind)) => behind,
+    }
 }
 
 // What follows the label of a routine's line of any bytes and its formal list, in a language.
@@ -95,9 +132,9 @@ fn behind_formals(language: u32, line: &[u8]) -> &[u8]
     let Some(_) = label else {
         return rest;
     };
-    match formal_list(rest) {
+    match past(b'(', rest) {
         None => rest,
-        Some((_, behind)) => behind,
+        Some(inside) => behind_list(rest, inside),
     }
 }
 

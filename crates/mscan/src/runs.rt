@@ -102,8 +102,11 @@ pub fn name_bytes(bytes: &[u8]) -> Option<(&[u8], &[u8])>
     ensures is_name { IfSome result (λ x. IsName x.0.now) }
 {
     let (first, more) = bytes.split_first()?;
+    if !Class::NameStart.has(*first) {
+        return None;
+    }
     let (tail, rest) = run(Class::NameRest, more);
-    if !Class::NameStart.has(*first) || tail.len() > MAX_NAME_REST {
+    if tail.len() > MAX_NAME_REST {
         return None;
     }
     Some((&bytes[..1 + tail.len()], rest))

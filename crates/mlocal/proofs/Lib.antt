@@ -12,4 +12,5 @@ pub mod Steps
 pub mod Removals
 pub mod Bare
 pub mod Tables
+pub mod Unscoped
 pub mod LocalLaws

@@ -37,7 +37,7 @@ pub use Rattle.mspec.proofs.Sparing.{known_is}
 pub use Rattle.mspec.specs.Scopes.{Scope, Scopes, assigned, at_home, bind, bound, common, emptied, entered, formals, has, hide, hide_others, is_among, is_bare, is_name, is_other, kill_in, killed, killed_but, killed_except, known_below, leads_to, linked, newed, newed_except, on_top, outermost, passed, set_in, stays, tree_in, tree_of, ways, with_tree}
 pub use Rattle.mspec.specs.Trees.{Tree, child_of, front, has_descendants, has_value, is_before, is_below, is_empty, is_within, last, order_of, text_eq, without}
 pub use Rattle.mlocal.specs.Bindings.{binding_of, bindings_of}
-pub use Rattle.mlocal.specs.Home.{IsHome, IsUnlinkedHome, killed_up}
+pub use Rattle.mlocal.specs.Home.{AreBare, IsHome, IsUnlinkedHome, killed_up}
 pub use Rattle.mlocal.specs.declared.level.UnlinkedHome.{UnlinkedHome}
 pub use Rattle.mlocal.specs.declared.level.UnlinkedHome.TheVariants.{Below, At, ByLink}
 pub use Rattle.mlocal.specs.Own.{AreSomeSubs, with_own}

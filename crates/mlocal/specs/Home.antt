@@ -1,10 +1,14 @@
 -- SPDX-License-Identifier: Apache-2.0
 -- Scopes in a list, bottom first.
-use Rattle.std.specs.Prelude.{◌≡◌, ℕ, ◌+◌, ◌<◌, true, List, [], ◌∷◌, drop, length, slice_index_or, Option, Some, None, ⊤}
+use Rattle.std.specs.Prelude.{◌≡◌, ℕ, ◌+◌, ◌<◌, ◌≤◌, true, List, [], ◌∷◌, drop, length, slice_index_or, Option, Some, None, ⊤}
 use Rattle.mlocal.specs.declared.level.UnlinkedHome.{UnlinkedHome}
 use Rattle.mlocal.specs.declared.level.UnlinkedHome.TheVariants.{Below, At, ByLink}
 use Rattle.mspec.specs.Node.{Text}
-use Rattle.mspec.specs.Scopes.{Scope, has, emptied, known_below, stays}
+use Rattle.mspec.specs.Scopes.{Scope, entered, has, emptied, known_below, stays}
+
+-- from this place on, which may be the end, the scopes have no name and no link
+abbrev pub AreBare : ℕ → List Scope → Type 0
+AreBare place xs = (place ≤ length xs) × ((k : ℕ) (d : Scope) → place ≤ k → k < length xs → slice_index_or xs k d ≡ entered)
 
 -- the place of the scope that a name's variable belongs to, none below all of these, and the name that it has there
 abbrev pub IsHome : Text → List Scope → Option ℕ → Text → Type 0

@@ -9,7 +9,7 @@ ghost use Rattle.mkey.specs.SubsKey.{behind_below};
 ghost use Rattle.mspec.specs.Scopes.{entered, has, tree_in, with_tree, hide, hide_others, kill_in, emptied, leads_to, ways, stays, formals};
 ghost use Rattle.mspec.specs.Trees.{text_eq};
 ghost use Rattle.mlocal.specs.Bindings.{bindings_of};
-ghost use Rattle.mlocal.specs.Home.{IsHome, IsUnlinkedHome};
+ghost use Rattle.mlocal.specs.Home.{AreBare, IsHome, IsUnlinkedHome};
 
 use crate::binding::Binding;
 use crate::scope::Scope;
@@ -231,11 +231,12 @@ pub(crate) enum UnlinkedHome {
 }
 
 // Where a name's variable is if no level above it has links, as nearly all have none: each level then costs what it would if there were
-// no links at all.
-pub(crate) fn unlinked_home(levels: &[Level], name: &Name) -> UnlinkedHome
+// no links at all, and those from `scoped` on, which have no names, cost nothing.
+pub(crate) fn unlinked_home(levels: &[Level], scoped: usize, name: &Name) -> UnlinkedHome
+    requires { AreBare scoped levels.now }
     ensures { IsUnlinkedHome name.now levels.now result }
 {
-    let mut place = levels.len();
+    let mut place = scoped;
     while place > 0 {
         place -= 1;
         if levels[place].has(name) {

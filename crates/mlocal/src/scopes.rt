@@ -25,6 +25,8 @@ pub struct Locals {
     bottom: Scope,
     // the scopes of the levels, the outermost first
     levels: Vec<Level>,
+    // from this place on no level has a name: there lookups begin
+    scoped: usize,
 }
 
 // Written out, so that dropping it is one call, which is proved once.
@@ -34,6 +36,7 @@ impl Drop for Locals {
             alloc: _,
             bottom: _,
             levels: _,
+            scoped: _,
         } = self;
     }
 }
@@ -41,6 +44,7 @@ impl Drop for Locals {
 impl Model for Locals {
     ghost use Rattle.std.specs.Coded.{coded_list};
     ghost use Rattle.std.specs.Prelude.{reverse, ◌≡◌, ◌++◌, ◌∷◌, [], Some};
+    ghost use Rattle.mlocal.specs.Home.{AreBare};
     ghost use Rattle.mlocal.specs.ScopeCode.{scope_code};
     ghost use Rattle.mspec.specs.Scopes.{Scopes};
 
@@ -51,7 +55,7 @@ impl Model for Locals {
     ghost view = { λ l. reverse l.levels.items ++ l.bottom ∷ [] };
 
     // the scope at the bottom has every name
-    ghost invariant = { λ l. l.bottom.others ≡ Some [] };
+    ghost invariant = { λ l. (l.bottom.others ≡ Some []) × AreBare l.scoped l.levels.items };
 }
 
 impl Locals {
@@ -63,6 +67,7 @@ impl Locals {
             alloc,
             bottom: Scope::bottom(alloc),
             levels: Vec::new(alloc),
+            scoped: 0,
         }
     }
 
@@ -90,6 +95,7 @@ impl Locals {
     {
         let level = Level::bound(self.alloc, bindings)?;
         self.levels.push(level)?;
+        self.scoped = self.levels.len();
         Ok(())
     }
 
@@ -98,6 +104,7 @@ impl Locals {
         ensures { self.new ≡ without_level self.old }
     {
         let _closed = self.levels.pop();
+        self.scoped = self.scoped.min(self.levels.len());
     }
 
     /// Closes all levels, so that the scope at the bottom is left. Takes no memory.
@@ -106,6 +113,7 @@ impl Locals {
         ensures { self.new ≡ outermost self.old }
     {
         self.levels.clear();
+        self.scoped = 0;
     }
 
     /// The value of a variable without subscripts, if it has one. A number that was assigned is still a number. Takes no memory.
@@ -180,7 +188,7 @@ impl Locals {
             return self.set_own(name, value);
         }
         let key = SubsKey::build(self.alloc, subs)?;
-        match unlinked_home(self.levels.as_slice(), name) {
+        match unlinked_home(self.levels.as_slice(), self.scoped, name) {
             UnlinkedHome::Below => self.bottom.set(self.alloc, name, key, value),
             UnlinkedHome::At(place) => self.levels[place].set(self.alloc, name, key, value),
             UnlinkedHome::ByLink => self.set_by_link(name, key, value),
@@ -207,11 +215,13 @@ impl Locals {
     /// # Errors
     ///
     /// `AllocError` if it runs out of memory; the locals are then as they were.
+    // Inlined, so that the value goes to the table's own function by one call.
+    #[inline(always)]
     pub fn set_own(&mut self, name: &Name, value: Value) -> Result<(), AllocError>
         ensures ok { OnOk result (self.new ≡ assigned self.old name.now [] value) }
         ensures err { OnErr result (self.new ≡ self.old) }
     {
-        match unlinked_home(self.levels.as_slice(), name) {
+        match unlinked_home(self.levels.as_slice(), self.scoped, name) {
             UnlinkedHome::Below => self.bottom.set_own(self.alloc, name, value),
             UnlinkedHome::At(place) => self.levels[place].set_own(self.alloc, name, value),
             UnlinkedHome::ByLink => self.set_own_by_link(name, value),
@@ -258,6 +268,7 @@ impl Locals {
     {
         self.bottom.keep_spared(names, self.levels.as_slice());
         spare(&mut self.levels, names);
+        self.scoped = self.levels.len();
     }
 
     /// Gives the top scope these names, as variables without a text, until its level ends.
@@ -273,6 +284,7 @@ impl Locals {
         if count == 0 {
             return self.bottom.hide(self.alloc, names);
         }
+        self.scoped = count;
         self.levels[count - 1].hide(self.alloc, names)
     }
 
@@ -291,6 +303,7 @@ impl Locals {
             self.bottom.hide_others(names);
             return Ok(());
         }
+        self.scoped = count;
         self.levels[count - 1].hide_others(self.alloc, names)
     }
 
@@ -298,7 +311,7 @@ impl Locals {
     fn scope_of<'a: 'b, 'b>(&'a self, name: &'b Name) -> (&'a Scope, &'b Name)
         ensures { tree_in result.0.now result.1.now ≡ tree_of self.now name.now }
     {
-        match unlinked_home(self.levels.as_slice(), name) {
+        match unlinked_home(self.levels.as_slice(), self.scoped, name) {
             UnlinkedHome::Below => (&self.bottom, name),
             UnlinkedHome::At(place) => (self.levels[place].scope(), name),
             UnlinkedHome::ByLink => self.scope_by_link(name),

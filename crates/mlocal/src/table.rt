@@ -222,7 +222,7 @@ fn place_of(name: &Name) -> usize
 
 // The hint that a name is at this index. If there is no hint for the index, any other will do.
 fn hint_of(index: usize) -> u16 {
-    u16::try_from(index).unwrap_or(0)
+    (index % 65536) as u16
 }
 
 // Where in the map a name stands: at the hint, or else where the map finds it.

@@ -12,7 +12,7 @@ ghost use Rattle.moperator.specs.TreePatterns.{kept_repeated, pattern_of};
 
 use crate::code::Code;
 use crate::places::ends_of_atoms;
-use crate::turns::{has_group, has_reversed, turns_of};
+use crate::turns::{has_reversed, is_plain, turns_of};
 use mtext::{Ending, LentAtom, LentRepeated, first_marks, segment_end};
 use mvalue::{Kind, Value};
 use std::alloc::{AllocError, Global};
@@ -77,26 +77,39 @@ fn characters(value: &Value) -> usize
     }
 }
 
-/// How many turns the groups of a pattern take at most, of a value: the machine's greatest number if there are more.
-///
-/// # Errors
-///
-/// `M10` if the least count of any atom is above its greatest, in groups too.
-#[tactic(auto, using(crate::proofs::PatternMatches::capped_zero))]
-pub fn pattern_turns(atoms: &[mtree::Atom], value: &Value) -> Result<usize, Code>
-    ensures { MatchResult result (λ turns. (list_any atom_reversed (map atom_tree atoms.now) ≡ false) × (turns ≡ capped (turns_of (length value.now) (map atom_tree atoms.now))))
+// The turns that the groups of any pattern take at most. Not inlined, since few patterns have any.
+#[inline(never)]
+fn counted_turns(atoms: &[mtree::Atom], value: &Value) -> Result<usize, Code>
+    ensures { MatchResult result
+        (λ turns. (list_any atom_reversed (map atom_tree atoms.now) ≡ false) × (turns ≡ capped (turns_of (length value.now) (map atom_tree atoms.now))))
         (λ code. (list_any atom_reversed (map atom_tree atoms.now) ≡ true) × (code ≡ Code.M10)) }
 {
     if has_reversed(atoms) {
         return Err(Code::M10);
     }
-    if !has_group(atoms) {
-        return Ok(0);
-    }
     Ok(turns_of(atoms, characters(value)))
 }
 
-// The match of a value's text; that of a number is printed on the stack.
+/// How many turns the groups of a pattern take at most, of a value: the machine's greatest number if there are more.
+///
+/// # Errors
+///
+/// `M10` if the least count of any atom is above its greatest, in groups too.
+#[inline(always)]
+#[tactic(auto, using(crate::proofs::PatternMatches::capped_zero))]
+pub fn pattern_turns(atoms: &[mtree::Atom], value: &Value) -> Result<usize, Code>
+    ensures { MatchResult result
+        (λ turns. (list_any atom_reversed (map atom_tree atoms.now) ≡ false) × (turns ≡ capped (turns_of (length value.now) (map atom_tree atoms.now))))
+        (λ code. (list_any atom_reversed (map atom_tree atoms.now) ≡ true) × (code ≡ Code.M10)) }
+{
+    if is_plain(atoms) {
+        return Ok(0);
+    }
+    counted_turns(atoms, value)
+}
+
+// The match of a value's text; that of a number is printed on the stack. Inlined, as `matches` is, since calls are much of what a match costs.
+#[inline(always)]
 fn value_matches(alloc: Global, atoms: &[mtree::Atom], value: &Value) -> Result<bool, AllocError>
     ensures answer { IfOk result (λ answer. Decides answer (Matches (pattern_of atoms.now) value.now)) }
     ensures short { length value.now < 2 ^ 64 - 1 }
@@ -112,6 +125,7 @@ fn value_matches(alloc: Global, atoms: &[mtree::Atom], value: &Value) -> Result<
 /// # Errors
 ///
 /// `AllocError` if it runs out of memory.
+#[inline(always)]
 pub fn matches(alloc: Global, atoms: &[mtree::Atom], value: &Value) -> Result<bool, AllocError>
     requires { list_any atom_reversed (map atom_tree atoms.now) ≡ false }
     ensures { IfOk result (λ answer. answer ≡ is_match (map plain_atom (map atom_tree atoms.now)) value.now) }

@@ -1,6 +1,6 @@
 // SPDX-License-Identifier: Apache-2.0
 // What a pattern says before a text is matched: whether any of its counts is reversed, and how many turns its groups take at most.
-ghost use Rattle.std.specs.Prelude.{◌≡◌, ℕ, false, map};
+ghost use Rattle.std.specs.Prelude.{◌≡◌, ℕ, true, false, map};
 ghost use Rattle.std.specs.List.{list_any};
 ghost use Rattle.mgrammar.specs.Grammar.{patterns_of};
 ghost use Rattle.mgrammar.specs.Matching as plain;
@@ -60,16 +60,22 @@ pub fn has_reversed(atoms: &[Atom]) -> bool
 
 // ---- turns
 
-// Whether there is a group among the atoms; without one no turns are taken.
-pub fn has_group(atoms: &[Atom]) -> bool
-    ensures { result ≡ false → (n : ℕ) → plain.turns_of n (map atom_tree atoms.now) ≡ 0 }
+// Whether a pattern has no group, and no count that is reversed. Without a group no turns are taken. Nearly all patterns are plain, and this is
+// all that a match of one costs for turns.
+#[inline(always)]
+pub fn is_plain(atoms: &[Atom]) -> bool
+    ensures reversed { result ≡ true → list_any plain.atom_reversed (map atom_tree atoms.now) ≡ false }
+    ensures turns { result ≡ true → (n : ℕ) → plain.turns_of n (map atom_tree atoms.now) ≡ 0 }
 {
     for atom in atoms {
+        if atom.count.is_reversed() {
+            return false;
+        }
         if let Repeated::Group(_) = &atom.repeated {
-            return true;
+            return false;
         }
     }
-    false
+    true
 }
 
 // The turns that a count takes at most, of a text with so many characters.

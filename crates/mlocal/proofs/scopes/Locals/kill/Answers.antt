@@ -11,7 +11,7 @@ returns-in-None-clause-ok c =
     let m = c.known_name-known.result.now in
     let at = found-at n m (unwrap_or found.1 n) c.as_slice.result.now l.levels.items found.0 None c.in_ok-found.ensures c.as_slice.ensures.value c.in-None.is c.known_name-known.ensures in
     let f : Text → Scope → Scope = λ k s. kill_in k c.args.subs.now (get s.trees k) s in
-    OnOk-map c.kill.result (λ e. home-bottom f n m l.levels.items l.bottom c.kill.new.self c.self.invariant at (e ∙ ap (λ k. kill_in m k (get l.bottom.trees m) l.bottom) c.in_ok-key.ensures.key)
+    OnOk-map c.kill.result (λ e. home-bottom f n m l.levels.items l.bottom c.kill.new.self c.self.invariant.0 at (e ∙ ap (λ k. kill_in m k (get l.bottom.trees m) l.bottom) c.in_ok-key.ensures.key)
     ∙ ap (λ s. killed s n c.args.subs.now) c.self.view_is) c.kill.ensures.ok
 
 pub returns-clause-ok : goal.returns-clause-ok

@@ -3,8 +3,10 @@ use Rattle.mlocal.proofs.LocalLaws.{◌≡◌, [], ◌∷◌, ◌+◌, ◌-◌, 
 use Rattle.mlocal.proofs.scopes.Locals.new_except.Goals as goal
 
 pub invariant_of-self : goal.invariant_of-self
-invariant_of-self c =
-    ap (λ s. s.others) c.hide_others.ensures ∙ ap (λ o. Some (common c.args.names.items o)) c.self.invariant ∙ ap Some (none_common c.args.names.items)
+invariant_of-self c = (
+  ap (λ s. s.others) c.hide_others.ensures ∙ ap (λ o. Some (common c.args.names.items o)) c.self.invariant.0 ∙ ap Some (none_common c.args.names.items),
+  c.self.invariant.1,
+)
 
 pub returns-clause-ok : goal.returns-clause-ok
 returns-clause-ok c =

@@ -9,7 +9,7 @@ returns-in-None c =
     let found = c.home-found.result in
     let other = unwrap_or (option_map (λ other. other.now) found.1) n in
     let at = found-at n m other c.as_slice.result.now c.self.inside.levels.items found.0 None c.home-found.ensures c.as_slice.ensures.value c.in-None.is c.known_as-known.ensures in
-    sym (tree-bottom n m c.self.inside.levels.items c.self.inside.bottom c.self.invariant at) ∙ ap (λ s. tree_of s n) c.self.view_is
+    sym (tree-bottom n m c.self.inside.levels.items c.self.inside.bottom c.self.invariant.0 at) ∙ ap (λ s. tree_of s n) c.self.view_is
 
 pub returns-in-Some : goal.returns-in-Some
 returns-in-Some c =

@@ -6,7 +6,7 @@ pub returns-in-Below : goal.returns-in-Below
 returns-in-Below c =
     let n = c.args.name.now in
     let at = unlinked-found n c.as_slice.result.now c.self.inside.levels.items c.unlinked_home.result Below c.unlinked_home.ensures c.as_slice.ensures.value c.in-Below.is in
-    sym (tree-bottom n n c.self.inside.levels.items c.self.inside.bottom c.self.invariant at) ∙ ap (λ s. tree_of s n) c.self.view_is
+    sym (tree-bottom n n c.self.inside.levels.items c.self.inside.bottom c.self.invariant.0 at) ∙ ap (λ s. tree_of s n) c.self.view_is
 
 pub returns-in-At : goal.returns-in-At
 returns-in-At c =

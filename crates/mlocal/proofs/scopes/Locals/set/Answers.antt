@@ -8,7 +8,7 @@ returns-in-Below-clause-ok c =
     let l = c.self.inside in
     let at = unlinked-found n c.as_slice.result.now l.levels.items c.unlinked_home.result Below c.unlinked_home.ensures c.as_slice.ensures.value c.in-Below.is in
     let f : Text → Scope → Scope = λ k. set_in k c.args.subs.now c.args.value in
-    OnOk-map c.set.result (λ e. home-bottom f n n l.levels.items l.bottom c.set.new.self c.self.invariant at (e ∙ ap (λ k. with_tree n (insert (tree_in l.bottom n) k c.args.value) l.bottom) c.in_ok-key.ensures.key)
+    OnOk-map c.set.result (λ e. home-bottom f n n l.levels.items l.bottom c.set.new.self c.self.invariant.0 at (e ∙ ap (λ k. with_tree n (insert (tree_in l.bottom n) k c.args.value) l.bottom) c.in_ok-key.ensures.key)
     ∙ ap (λ s. assigned s n c.args.subs.now c.args.value) c.self.view_is) c.set.ensures.ok
 
 pub returns-in-At-clause-ok : goal.returns-in-At-clause-ok

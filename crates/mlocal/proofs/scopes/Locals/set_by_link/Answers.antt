@@ -10,7 +10,7 @@ returns-in-None-clause-ok c =
     let m = c.known_name-known.result.now in
     let at = found-at n m (unwrap_or found.1 n) c.as_slice.result.now l.levels.items found.0 None c.in_ok-found.ensures c.as_slice.ensures.value c.in-None.is c.known_name-known.ensures in
     let f : Text → Scope → Scope = λ k. set_in k c.args.key c.args.value in
-    OnOk-map c.set.result (λ e. home-bottom f n m l.levels.items l.bottom c.set.new.self c.self.invariant at e
+    OnOk-map c.set.result (λ e. home-bottom f n m l.levels.items l.bottom c.set.new.self c.self.invariant.0 at e
     ∙ ap (λ s. assigned s n c.args.key c.args.value) c.self.view_is) c.set.ensures.ok
 
 pub returns-clause-ok : goal.returns-clause-ok

@@ -8,7 +8,7 @@ returns-in-Below-clause-ok c =
     let l = c.self.inside in
     let at = unlinked-found n c.as_slice.result.now l.levels.items c.unlinked_home.result Below c.unlinked_home.ensures c.as_slice.ensures.value c.in-Below.is in
     let f : Text → Scope → Scope = λ k. set_in k [] c.args.value in
-    OnOk-map c.set_own.result (λ e. home-bottom f n n l.levels.items l.bottom c.set_own.new.self c.self.invariant at e
+    OnOk-map c.set_own.result (λ e. home-bottom f n n l.levels.items l.bottom c.set_own.new.self c.self.invariant.0 at e
     ∙ ap (λ s. assigned s n [] c.args.value) c.self.view_is) c.set_own.ensures.ok
 
 pub returns-in-At-clause-ok : goal.returns-in-At-clause-ok

@@ -69,7 +69,8 @@ impl<'a, S: NodeStore> Parts<'a, S> {
         }
     }
 
-    // What actuals hand over, from left to right.
+    // What actuals hand over, from left to right. Kept out of line, so that a DO without actuals is short.
+    #[inline(never)]
     fn all_handed(&mut self, alloc: Global, actuals: &[Actual]) -> Result<Vec<Binding>, Code>
         ensures { Does S.NodeStore (λ i. meaning.all_handed i [] (actuals_of (map actual_tree actuals.now))) (λ bindings. map binding_of bindings.items) self.old result self.new }
     {
@@ -91,6 +92,9 @@ impl<'a, S: NodeStore> Parts<'a, S> {
     pub fn handed_over(&mut self, alloc: Global, actuals: &[Actual]) -> Result<Vec<Binding>, Code>
         ensures { Does S.NodeStore (λ i. meaning.handed_over i (actuals_of (map actual_tree actuals.now))) (λ bindings. map binding_of bindings.items) self.old result self.new }
     {
+        if actuals.is_empty() {
+            return Ok(Vec::new(alloc));
+        }
         if is_bare(actuals) {
             return Ok(Vec::new(alloc));
         }

@@ -12,7 +12,7 @@ ghost use Rattle.mlocal.specs.Bindings.{binding_of, bindings_of};
 use mlocal::Binding;
 use mnum::Name;
 use moperator::Code;
-use mscan::formals_of;
+use mscan::{formals_of, has_formal_list};
 use mtree::Actual;
 use std::alloc::{AllocError, Global};
 
@@ -33,12 +33,9 @@ fn paired(
     Ok(formals)
 }
 
-/// The formal parameters of a line in a language, each with what its actual hands over; none if the line has no formal list.
-///
-/// # Errors
-///
-/// `M20` if there are actuals, but no formal list; `M58` if there are more actuals than formal parameters; `Zmem` if memory runs out.
-pub fn formals_for(
+// The same as `formals_for`, for a line that may have a formal list. Kept out of line, so that a line without one is entered at once.
+#[inline(never)]
+fn formals_listed(
     alloc: Global,
     language: u32,
     actuals: &[Actual],
@@ -59,5 +56,29 @@ pub fn formals_for(
             let formals = paired(alloc, names, bindings)?;
             Ok(Some(formals))
         },
+    }
+}
+
+/// The formal parameters of a line in a language, each with what its actual hands over; none if the line has no formal list.
+///
+/// # Errors
+///
+/// `M20` if there are actuals, but no formal list; `M58` if there are more actuals than formal parameters; `Zmem` if memory runs out.
+#[inline(always)]
+pub fn formals_for(
+    alloc: Global,
+    language: u32,
+    actuals: &[Actual],
+    line: &[u8],
+    bindings: Vec<Binding>,
+) -> Result<Option<Vec<(Name, Binding)>>, Code>
+    ensures { Yields fault_of (meaning.formals_for (actuals_of (map actual_tree actuals.now)) (formals_of language line.now) (map binding_of bindings.items)) (option_map (λ formals. bindings_of formals.items)) result }
+{
+    if has_formal_list(language, line) {
+        formals_listed(alloc, language, actuals, line, bindings)
+    } else if actuals.is_empty() {
+        Ok(None)
+    } else {
+        Err(Code::M20)
     }
 }

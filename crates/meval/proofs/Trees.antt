@@ -4,6 +4,7 @@ use Rattle.meval.proofs.EvalWords.{Doubts-same, ◌≡◌, ℕ, ◌+◌, ◌<◌
 use Rattle.std.proofs.Math.ListN.{drop_of_length-le}
 use Rattle.mspec.proofs.ListPlaces.{next_item}
 use Rattle.mspec.specs.Code as spec
+use Rattle.mmeaning.specs.Expression.{handed_over}
 use Rattle.moperator.specs.declared.code.Code.TheVariants as code
 use Rattle.meval.proofs.Calls.{evaluates_then, evaluates_failed, evaluates_gives, evaluates_fails, keeps_itself}
 use Rattle.meval.proofs.TreeViews.{choice_is}
@@ -23,10 +24,10 @@ module _ {S : Type 0} {g : Ghosts S} where
   charge_failed (call word args) e d = evaluates_failed (λ i _. values i [] args >>= call_value word) d
   charge_failed (select word choices) e d = evaluates_failed (λ i _. chosen i choices) d
   charge_failed (refer word r more) e d = evaluates_failed (λ i _. referring (function_of word) (evaluated i r) (values i [] more)) d
-  charge_failed (extrinsic e' xs) e d = evaluates_failed (λ i _. i.calls i.depth e' xs) d
+  charge_failed (extrinsic e' xs) e d = evaluates_failed (λ i _. i.calls i.depth e' (handed_over i xs)) d
 
   -- no function is called
-  pub uncalled : {e : Eval S} (entry : EntryTree) (xs : ActualsTree) → Evaluates g (λ i. i.calls i.depth entry xs) itself e (Err code.Zsyntax) e
+  pub uncalled : {e : Eval S} (entry : EntryTree) (xs : ActualsTree) → Evaluates g (λ i. i.calls i.depth entry (handed_over i xs)) itself e (Err code.Zsyntax) e
   uncalled {e = e} entry xs =
       let fails : Evaluates g (λ i. fail spec.Zsyntax) itself e (Err code.Zsyntax) e = evaluates_fails itself spec.Zsyntax code.Zsyntax refl in
       record { at = fails.at; doubt = fails.doubt; keeps = fails.keeps; depth = fails.depth }

@@ -1,31 +1,22 @@
 -- SPDX-License-Identifier: Apache-2.0
-use Rattle.mcommand.proofs.CommandLaws.{◌≡◌, Some, length, map, arith, refl, sym, ap}
+use Rattle.mcommand.proofs.CommandLaws.{◌≡◌, None, length, map, arith, refl, sym, ◌∙◌}
 use Rattle.mcommand.proofs.CommandWords.{◌<◌}
 use Rattle.std.proofs.lemmas.Bool.Decides.{nat_tests}
-use Rattle.mgrammar.specs.Grammar.{actuals_of}
+use Rattle.mlock.proofs.Levels.{absent_from}
 use Rattle.mtree.specs.Tree.{actual_tree}
+use Rattle.mgrammar.specs.RoutineLine.{formals_of}
 use Rattle.mlocal.specs.Bindings.{binding_of}
-use Rattle.mcommand.proofs.LevelFormals.{none_there, list_missing, too_many_for, enough_for}
+use Rattle.mcommand.proofs.LevelFormals.{none_there, list_missing}
 use Rattle.mcommand.proofs.formals.formals_for.Goals as goal
 
 pub returns-then-is_empty : goal.returns-then-is_empty
 returns-then-is_empty c =
+    let unlisted : formals_of c.args.language c.args.line.now ≡ None = absent_from _ (sym c.has_formal_list.ensures ∙ c.if-has_formal_list.false) in
     let none : length c.args.actuals.now ≡ 0 = grind (arith, nat_tests, c.is_empty.ensures, c.if-is_empty.true) in
-    rw (sym c.in_ok-formals_of.ensures, c.in-None.is)
-    (none_there c.args.actuals.now actual_tree (map binding_of c.args.bindings.items) _ none refl)
-
-pub returns-in-None : goal.returns-in-None
-returns-in-None c =
-    let some : 0 < length c.args.actuals.now = grind (arith, nat_tests, c.is_empty.ensures, c.if-is_empty.false) in
-    rw (sym c.in_ok-formals_of.ensures, c.in-None.is)
-    (list_missing c.args.actuals.now actual_tree (map binding_of c.args.bindings.items) (λ none. omega (arith, some, none)))
-
-pub returns-then-len : goal.returns-then-len
-returns-then-len c =
-    rw (sym c.in_ok-formals_of.ensures, c.in-Some.is)
-    (too_many_for (actuals_of (map actual_tree c.args.actuals.now)) c.in-Some.names.items c.args.bindings.items binding_of (omega arith))
+    rw unlisted (none_there c.args.actuals.now actual_tree (map binding_of c.args.bindings.items) _ none refl)
 
 pub returns : goal.returns
 returns c =
-    rw (sym c.in_ok-formals_of.ensures, c.in-Some.is)
-    (enough_for (actuals_of (map actual_tree c.args.actuals.now)) c.in-Some.names.items c.args.bindings.items binding_of _ (omega arith) (ap Some c.in_ok-formals-in-Some.ensures))
+    let unlisted : formals_of c.args.language c.args.line.now ≡ None = absent_from _ (sym c.has_formal_list.ensures ∙ c.if-has_formal_list.false) in
+    let some : 0 < length c.args.actuals.now = grind (arith, nat_tests, c.is_empty.ensures, c.if-is_empty.false) in
+    rw unlisted (list_missing c.args.actuals.now actual_tree (map binding_of c.args.bindings.items) (λ none. omega (arith, some, none)))

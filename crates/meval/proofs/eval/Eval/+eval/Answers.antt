@@ -9,6 +9,7 @@ use Rattle.meval.specs.Acts.{matches_read}
 use Rattle.meval.proofs.Indirections.{deep_fails, free_then}
 use Rattle.mspec.specs.Act.{Text}
 use Rattle.mtree.specs.Functions.{variable_function_tree}
+use Rattle.mtree.specs.Tree.{called_tree}
 use Rattle.meval.specs.AtHand.{at_hand_tree}
 use Rattle.mvalue.specs.Texts.{kind_text}
 use Rattle.meval.proofs.eval.Eval.+eval.Goals as goal
@@ -83,7 +84,9 @@ primary-returns-in-Refer-clause-does g t c =
     rw (c.in-Refer.is, refer_is c.in-Refer.referring, referring_is c.in-Refer.referring.value) (evaluates_then _ c.in_ok-charge.ensures.does k)
 
 pub primary-returns-in-Extrinsic-clause-does : goal.primary-returns-in-Extrinsic-clause-does
-primary-returns-in-Extrinsic-clause-does g t c = rw (c.in-Extrinsic.is, extrinsic_is c.in-Extrinsic.field-0) (evaluates_then _ c.in_ok-charge.ensures.does (uncalled _ _))
+primary-returns-in-Extrinsic-clause-does g t c =
+    let called = called_tree c.in-Extrinsic.field-0.value in
+    rw (c.in-Extrinsic.is, extrinsic_is c.in-Extrinsic.field-0) (evaluates_then _ c.in_ok-charge.ensures.does (uncalled called.0 called.1))
 
 -- ---- variables and functions of values
 

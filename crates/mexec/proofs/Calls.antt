@@ -1,6 +1,6 @@
 -- SPDX-License-Identifier: Apache-2.0
 -- How the calls of this crate are put together.
-use Rattle.mexec.proofs.ExecWords.{Doubts-same, Doubts-then, undoubted, ◌≡◌, ℕ, zero, suc, ◌≤◌, ◌<◌, ◌+◌, ◌++◌, List, [], ◌∷◌, Result, Ok, Err, length, drop, get_or, refl, sym, ◌∙◌, subst, arith, drop_more, IsErr, IsErrAnd, Text, Act, ◌>>=◌, ◌>>◌, give, set_test, ExprTree, ArgTree, CommandTree, as_truth, Inside, inside, inside_of, context, value, Go_on, after, Standing, Here, Did, View, Rests, Lists, left, frame, Enough, MovedOn, residual_is, did_then, did_failed, did_gives, then_follows, then_failed, assoc, ended, Ghosts, fault_of, Code, Zmem, standing_of, depth_of, Parts, Does, DoesAt, KeepsLoans, here_of, Runs, view, stack, stacked, resting, completion_of, position_of, went, listing, at_done, keeps_at_depth, keeps_itself, keeps_on, Completion}
+use Rattle.mexec.proofs.ExecWords.{Doubts-same, Doubts-then, undoubted, ◌≡◌, ℕ, zero, suc, ◌≤◌, ◌<◌, ◌+◌, ◌++◌, List, [], ◌∷◌, Result, Ok, Err, length, drop, get_or, refl, sym, ◌∙◌, subst, arith, drop_more, IsErr, IsErrAnd, Text, Act, ◌>>=◌, ◌>>◌, give, set_test, ExprTree, ArgTree, CommandTree, as_truth, Inside, inside, inside_of, context, value, Go_on, after, Standing, Here, Did, View, Rests, Lists, left, frame, Enough, MovedOn, residual_is, did_then, did_failed, did_gives, did_lost, then_follows, then_failed, assoc, ended, Ghosts, fault_of, Code, Zmem, standing_of, depth_of, Parts, Does, DoesAt, KeepsLoans, here_of, Runs, view, stack, stacked, resting, completion_of, position_of, went, listing, at_done, keeps_at_depth, keeps_itself, keeps_on, Completion}
 use Rattle.mmeaning.specs.LineMeaning as meaning
 use Rattle.mnodes.specs.Steady.{IsSteady}
 use Rattle.mmeaning.proofs.Moves.{on_then, on_failed, on_lost, on_completion, on_frame, on_top, enough}
@@ -41,6 +41,14 @@ at_gives a f x same = record {
   doubt = Doubts-same _;
   keeps = keeps_itself _;
 }
+
+-- out of memory, if the call returns by a `?`
+pub at_wanting : {S A X : Type 0} {g : Ghosts S} {parts : Parts S} (p : Text → ℕ → Act A) (f : X → A) (r : Result X Code) → IsErr r × IsErrAnd r (λ x. x ≡ Zmem) → DoesAt g p f parts r parts
+at_wanting {g = g} {parts = parts} p f r h = subst (λ r. DoesAt g p f parts r parts) (sym (residual_is r Zmem h)) (record {
+  at = λ sure. did_lost (p (standing_of parts.eval).account) f Zmem tt refl (omega arith);
+  doubt = Doubts-same _;
+  keeps = keeps_itself _;
+})
 
 -- a call at a depth of its own, which goes on with what is next
 module _ {S : Type 0} {g : Ghosts S} (p : Inside → Act (Unit {0})) (depth : Depth) {old new : Parts S} where

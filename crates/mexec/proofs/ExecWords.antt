@@ -12,7 +12,7 @@ pub use Rattle.mgrammar.specs.Commands.{form_of}
 pub use Rattle.mgrammar.specs.Grammar.{ArgTree, CommandTree, ExprTree, FormTree, KeywordTree, LineTree, ParameterTree, PrimaryTree, do_one, do_word, executed, for_word, indirect_args, loop, once, onward, until}
 pub use Rattle.mgrammar.specs.Languages.{args_in, line_in, routine_line_in}
 pub use Rattle.mgrammar.specs.RoutineLine.{BodyTree, RoutineLineTree, dots_of, formals_of, short, spaced_out}
-pub use Rattle.mmeaning.proofs.Calls.{assoc, did_failed, did_gives, did_then, ended, failed_after, follows_itself, follows_on, residual_is, then_failed, then_follows}
+pub use Rattle.mmeaning.proofs.Calls.{assoc, did_failed, did_gives, did_lost, did_then, ended, failed_after, follows_itself, follows_on, residual_is, then_failed, then_follows}
 pub use Rattle.mmeaning.specs.Calls.{Did, FailedBy, Follows, Gave, Here, Standing}
 pub use Rattle.mmeaning.specs.Expression.{Depth, Inside, an_indirection_free, indirected, inside, primary_value, value}
 pub use Rattle.mmeaning.specs.Frames.{Enough, Levels, Lists, MovedAs, MovedOn, Rests, Turns, View, frame, left}

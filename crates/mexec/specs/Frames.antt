@@ -40,7 +40,7 @@ completion_of completion.GoOn = meaning.Go_on
 completion_of completion.Skips = meaning.Skips
 completion_of completion.Quits = meaning.Quits
 completion_of (completion.Goes t) = meaning.Goes (target_view t)
-completion_of (completion.Returns v) = meaning.Returns v
+completion_of (completion.Returns v) = meaning.Returns v.value
 
 abbrev pub level_of : level.Level → levels.Level
 level_of l = record { copy = l.copy.value.items; next = l.next; dots = l.dots }

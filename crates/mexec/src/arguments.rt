@@ -88,7 +88,8 @@ fn tested<S: NodeStore>(
     Ok(where_true(is_true))
 }
 
-// QUIT with a value, which goes on until somebody takes it.
+// QUIT with a value, which goes on until somebody takes it. Kept out of line, since it is rare.
+#[inline(never)]
 fn returning<S: NodeStore>(
     alloc: Global,
     parts: &mut Parts<S>,
@@ -100,6 +101,7 @@ fn returning<S: NodeStore>(
 {
     parts.eval.depth = position.depth;
     let value = parts.eval.eval(alloc, e)?;
+    let value = Box::new(alloc, value)?;
     Ok(Completion::Returns(value))
 }
 

@@ -17,7 +17,8 @@ pub(crate) enum Completion {
     Skips,
     Quits,
     Goes(Target),
-    Returns(Value),
+    // in a box, since it is rare and every completion is as large as the largest
+    Returns(Box<Value>),
 }
 
 // How far something is done: to its end, with its completion, or up to where it stops.

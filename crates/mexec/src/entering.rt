@@ -47,6 +47,7 @@ fn one_deeper<S: NodeStore>(parts: &mut Parts<S>, depth: Depth) -> Result<Depth,
 }
 
 // Opens a level with the formal parameters of a line, if it has a formal list.
+#[inline(always)]
 fn open_with<S: NodeStore>(
     parts: &mut Parts<S>,
     formals: Option<Vec<(Name, Binding)>>,

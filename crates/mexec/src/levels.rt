@@ -7,6 +7,7 @@ ghost use Rattle.mmeaning.specs.LineMeaning as meaning;
 ghost use Rattle.mmeaning.specs.Frames.{frame, Levels, Rests};
 ghost use Rattle.mmeaning.specs.LineMeaning.{context, Go_on};
 ghost use Rattle.mtree.specs.Tree.{body_tree, line_tree};
+ghost use Rattle.meval.specs.Evaluates.{standing_of};
 ghost use Rattle.mcommand.specs.Targets.{target_view};
 ghost use Rattle.mcommand.specs.Does.{DoesAt};
 ghost use Rattle.mexec.specs.Falls.{Falls, FallsFurther};
@@ -179,27 +180,30 @@ fn enter_body(
     }
 }
 
-// Enters a line of a level, whose step is spent. It is read when it is reached.
+// Enters a line of a level, whose step is spent, in the account's language. It is read when it is reached.
 fn read_and_enter<S: NodeStore>(
     alloc: Global,
     parts: &mut Parts<S>,
     position: &Position,
     closing: Closing,
     at: usize,
+    language: u32,
     scratch: &mut Scratch,
 ) -> Result<Completion, Code>
-    requires { at < length position.now.level.copy.value.items }
+    requires within { at < length position.now.level.copy.value.items }
+    requires language { language ≡ (standing_of parts.old.eval).given.language }
+    requires known { language ≤ 1 }
     ensures falls { IfOk result (λ _. 6 * parts.new.eval.steps + length scratch.new.frames.items ≤ 6 * parts.old.eval.steps + length scratch.old.frames.items + 2) }
     ensures does { Runs S.NodeStore (λ a n. line_then (context a (suc n) (position_of position.now)) (closing_of closing) at (get_or position.now.level.copy.value.items at [])) (stack scratch.old.frames.items) parts.old result (stack scratch.new.frames.items) parts.new }
 {
     let text = position.level.copy[at].as_bytes();
-    let language = parts.eval.language();
     let line = read_routine_line(alloc, &mut scratch.trees, language, text)?;
     enter_body(alloc, position, at + 1, closing, &line.body, scratch)?;
     Ok(Completion::GoOn)
 }
 
 // Enters the line that a DO names, which costs a step.
+#[inline(always)]
 pub(crate) fn enter_line<S: NodeStore>(
     alloc: Global,
     parts: &mut Parts<S>,
@@ -213,7 +217,8 @@ pub(crate) fn enter_line<S: NodeStore>(
     ensures does { Runs S.NodeStore (λ a n. entering (context a n (position_of position.now)) (closing_of closing) at (get_or position.now.level.copy.value.items at [])) (stack scratch.old.frames.items) parts.old result (stack scratch.new.frames.items) parts.new }
 {
     parts.eval.charge()?;
-    read_and_enter(alloc, parts, position, closing, at, scratch)
+    let language = parts.eval.language();
+    read_and_enter(alloc, parts, position, closing, at, language, scratch)
 }
 
 // Enters a line that no DO names, which costs a step. It has no formal list.
@@ -230,10 +235,11 @@ fn reach_line<S: NodeStore>(
     ensures does { Runs S.NodeStore (λ a n. reaching (context a n (position_of position.now)) (closing_of closing) at (get_or position.now.level.copy.value.items at [])) (stack scratch.old.frames.items) parts.old result (stack scratch.new.frames.items) parts.new }
 {
     parts.eval.charge()?;
-    if has_formal_list(parts.eval.language(), position.level.copy[at].as_bytes()) {
+    let language = parts.eval.language();
+    if has_formal_list(language, position.level.copy[at].as_bytes()) {
         return Err(Code::M11);
     }
-    read_and_enter(alloc, parts, position, closing, at, scratch)
+    read_and_enter(alloc, parts, position, closing, at, language, scratch)
 }
 
 // Goes to the line that comes next in a level, or closes it.

@@ -134,6 +134,7 @@ fn turn_ends(completion: Completion) -> Result<Option<Completion>, Code>
 }
 
 // Leaves the turns of a FOR on the frames.
+#[inline(always)]
 fn leave_turns(turns: Box<ForLoop>, scratch: &mut Scratch) -> Result<(), AllocError>
     ensures frames { OnOk result (stack scratch.new.frames.items ≡ Turns (position_of turns.value.body.position.value) (turning turns.value) ∷ stack scratch.old.frames.items) }
     ensures most { OnOk result (length scratch.new.frames.items ≤ length scratch.old.frames.items + 1) }

@@ -6,14 +6,14 @@ use Rattle.mexec.proofs.levels.closed.Goals as goal
 
 pub returns-then-wants_value : goal.returns-then-wants_value
 returns-then-wants_value g c =
-    let v = c.in-Returns.value in
+    let v = c.in-Returns.value.value in
     rw c.in-Returns.is
     (at_as (λ a n. value_taken (closing_of c.args.closing) v (rw c.wants_value.ensures at c.if-wants_value.true))
-    (at_then (λ a n _. give (Returns v)) c.close.ensures (at_gives (Returns v) completion_of (completion.Returns v) refl)))
+    (at_then (λ a n _. give (Returns v)) c.close.ensures (at_gives (Returns v) completion_of (completion.Returns c.in-Returns.value) refl)))
 
 pub returns-else-wants_value : goal.returns-else-wants_value
 returns-else-wants_value g c =
-    rw c.in-Returns.is (at_as (λ a n. value_refused (closing_of c.args.closing) c.in-Returns.value (rw c.wants_value.ensures at c.if-wants_value.false)) (at_yielded (record { ends = λ s. refl })))
+    rw c.in-Returns.is (at_as (λ a n. value_refused (closing_of c.args.closing) c.in-Returns.value.value (rw c.wants_value.ensures at c.if-wants_value.false)) (at_yielded (record { ends = λ s. refl })))
 
 pub returns-then-wants_value-2 : goal.returns-then-wants_value-2
 returns-then-wants_value-2 g c =

@@ -59,7 +59,7 @@ class Finding:
 
 @dataclass(frozen=True, slots=True)
 class Entry:
-    """What a DO or a GOTO names: a label or nothing, a routine or nothing, and where that stands."""
+    """What a DO or a GOTO names: a label or nothing, a routine or nothing, with its account if that is named, and where that stands."""
 
     line: int
     column: int
@@ -216,8 +216,10 @@ class Labels:
         return self._known[routine]
 
     def missing(self, source: Source, number: int) -> Iterator[Finding]:
-        """The labels and routines that a routine's DOs and GOTOs name and that are not there."""
+        """The labels and routines that a routine's DOs and GOTOs name and that are not there. Those of an account that is named are not looked for."""
         for entry in entries(source.lines, number):
+            if entry.routine.startswith("|"):
+                continue
             labels = self.of(entry.routine or source.name)
             if labels is None:
                 yield Finding(entry.line, entry.column, f"there is no routine {entry.routine}", "Neither these files nor the account have it: M13.",

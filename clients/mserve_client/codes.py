@@ -38,7 +38,7 @@ CODES = {
     "ZCHAR": Code("character over 127", "Values", "Values and lines are ASCII: write another character."),
     "ZDEPTH": Code("too many levels", "Routines, and texts that are run",
                    "At most 256 levels of DO, XECUTE and indirection, 32 of them indirections. A DO of itself without end?"),
-    "ZGRANT": Code("not granted", "Variables", "The owner's settings have to grant the global; a grant to write is needed for SET, KILL and LOCK."),
+    "ZGRANT": Code("not granted", "Variables", "The settings have to grant the global (ROUTINE for routines); SET, KILL and LOCK need a grant to write."),
     "ZLEVEL": Code("line of another level of dots", "Routines, and texts that are run",
                    "GOTO a line with as many dots as the level, and DO a line without dots."),
     "ZLINE": Code("line too long", "Codes", "A line has at most 255 characters: cut it in two, or put it into a routine."),

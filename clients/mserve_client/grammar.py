@@ -32,9 +32,11 @@ OF_VALUES = {"A ASCII": (1, 2), "C CHAR": (1, 255), "E EXTRACT": (1, 3), "F FIND
 OF_VALUES_SINCE = {1: {"FN FNUMBER": (2, 3), "J JUSTIFY": (2, 3), "RE REVERSE": (1, 1)}}
 # The special variables, and those that a later language has.
 SPECIALS, SPECIALS_SINCE = ["T TEST"], {1: ["I IO", "J JOB", "P PRINCIPAL", "Q QUIT", "S STORAGE", "X", "Y"]}
-# The language that has HANG, whose letter is that of HALT too; and the one that has formal lists, actuals of DO, and values of QUIT.
+# The language that has HANG, whose letter is that of HALT too; the one that has formal lists, actuals of DO, and values of QUIT; and the one that
+# has routines of other accounts.
 HANG_SINCE = 1
 PARAMETERS_SINCE = 1
+LIBRARIES_SINCE = 1
 # The functions that SET may assign to: how many values at least and at most after the variable.
 TARGETS = {"P PIECE": (1, 2)}
 TARGETS_SINCE = {1: {"P PIECE": (1, 3), "E EXTRACT": (0, 2)}}
@@ -135,8 +137,15 @@ CONDITION = all_of(text(":"), rule("expression"))
 OPERAND = all_of(text("@"), inner("primary"))
 OPERATOR = r"[+\-*/\\#_=<>&!\[]|\]\]?|'(?:[=<>&!\[]|\]\]?)"
 COUNT = r"(?:[0-9]{1,4}(?![0-9.])|[0-9]{0,4}\.[0-9]{0,4}(?![0-9]))"
-ENTRY = mark("entry", any_of(all_of(text(r"\^"), text(NAME, "name")),
-                             all_of(text(NAME, "entry"), perhaps(all_of(text(r"\^", "more"), text(NAME, "name"))))))
+# What stands before the name of another account's routine.
+ENVIRONMENT = r'\|"(?:[^"]|"")*"\|'
+
+
+def entry(language: int) -> Step:
+    """A label, a label with its routine, or a routine, which from language 1 on may be another account's."""
+    name = text(NAME, "name")
+    routine = any_of(all_of(text(ENVIRONMENT), name), name) if language >= LIBRARIES_SINCE else name
+    return mark("entry", any_of(all_of(text(r"\^"), routine), all_of(text(NAME, "entry"), perhaps(all_of(text(r"\^", "more"), routine)))))
 
 
 def expression(operator: str) -> Step:
@@ -167,10 +176,11 @@ def halts(language: int) -> list[Step]:
 
 
 def entering(language: int) -> list[Step]:
-    """DO, whose entry may have actuals from language 1 on, and QUIT, which then may have a value."""
+    """DO, whose entry may have actuals from language 1 on, GOTO, and QUIT, which then may have a value."""
     has_parameters = language >= PARAMETERS_SINCE
     handed = [perhaps(bracketed(inner("actual")))] if has_parameters else []
-    return [command("D DO", listed(any_of(all_of(ENTRY, *handed, rule("condition")), OPERAND)), True),
+    return [command("D DO", listed(any_of(all_of(entry(language), *handed, rule("condition")), OPERAND)), True),
+            command("G GOTO", listed(any_of(all_of(entry(language), rule("condition")), OPERAND)), False),
             command("Q QUIT", rule("expression") if has_parameters else None, True)]
 
 
@@ -230,8 +240,7 @@ COMMANDS = [
     command("N NEW", listed(any_of(bracketed(text(NAME, "name")), text(NAME, "name"), OPERAND)), True),
     command("E ELSE", None, True, False),
     command("X XECUTE", listed(all_of(rule("expression"), rule("condition"))), False),
-    command("L LOCK", listed(mark("lock", rule("locked"))), True),
-    command("G GOTO", listed(any_of(all_of(ENTRY, rule("condition")), OPERAND)), False)]
+    command("L LOCK", listed(mark("lock", rule("locked"))), True)]
 # The rules that all languages have alike.
 SHARED: dict[str, Step] = {
     "line": all_of(text(" *"), ["many", rule("command")], text(f"(?:;[\\x00-\\x7f]*)?{END}", "command")),

@@ -15,7 +15,7 @@ COMMANDS = {
     "FOR": "FOR I=1:1:10 W I       F: runs the rest of the line in turns; FOR  turns until QUIT",
     "QUIT": "QUIT:X>9               Q: ends the innermost FOR, else the DO, the XECUTE or the line; a value needs language 1",
     "WRITE": "WRITE X,!,\"text\"       W: writes into the reply; ! ends a line; of language 1 # begins a page, ?20 goes to a column, *65 is A",
-    "DO": "DO ADD^R               D: runs lines of a routine; DO ^R; DO F(X,.Y) of language 1; DO without arguments runs the dotted lines below",
+    "DO": "DO ADD^R               D: runs lines of a routine; DO ^R; of language 1 DO F(X,.Y) and DO F^|\"LIB\"|R; DO alone runs the dotted lines below",
     "GOTO": "GOTO ADD^R             G: goes on at a line of a routine",
     "XECUTE": "XECUTE \"S X=1\"         X: runs a text as a line",
     "LOCK": "LOCK +^A(1):0          L: takes names that other terminals cannot take then; LOCK -^A(1); LOCK gives all back",

@@ -13,7 +13,9 @@ PARTS = [
     "$E(A,1)", "$J(1,2)", "$C(65)", '$TR(A,"a","b")', "$G(A,1)", "$RE(A)", "$reverse(", "$RE(1,2)", "$J(1,2,3)", "$J", "$IO", "$p", "$STORAGE", "$X", "$y",
     "$X(", "?A", "!?5,", "#?", "H 1", "HANG A:", "H", "HALT", "**", "2**3", "$FN(A,1)", "$fnumber(", "$E(A,1,2)=", "S $E(A)=1", "$P(A,1,2,3)=", "$$F", "$H",
     "$", " ", "  ", ";x", "\t", "L +A:0", "!!", "W !,", "S A=", "S (A,B)=", "K (A)", "N (A)",
-    "(.A", "(.@A)", "(,.B)", "()", "D A(", "D ^R()", "Q A", "$Q", "$quit", ".A", "D A^R:A,^B", "I A=1 ", "F I=1:1:3 ", "X @A:1", "D @A", "L +(A,^B)", "(" * 39,
+    "(.A", "(.@A)", "(,.B)", "()", "D A(", "D ^R()",
+    '^|"X"|R', 'A^|"X"|R', 'D ^|"', '|"A""B"|', "|A|",
+    "Q A", "$Q", "$quit", ".A", "D A^R:A,^B", "I A=1 ", "F I=1:1:3 ", "X @A:1", "D @A", "L +(A,^B)", "(" * 39,
     "@" * 20,
 ]
 
@@ -26,6 +28,7 @@ LATER = ["W $RE(A)", 'S A=$RE("ab")_1,B=$reverse(A) Q:B=""  W $L($RE(B_$RE(A)))'
          "S ^TMP($J,$IO)=$STORAGE,$P(A,$P)=$S W $J($J,$I),$principal_$job", "H 5 HANG:B A,$J W 1 H:A .5,-A", "H:$J  HALT:$I  H @A,1 W 2",
          "D A(1,.B,,.@C,.@(D_1)),B^R(),^R(A(1),.%X):C N A Q:B A_1", 'D:$Q A($D(A),"x",.5,-.5)  Q:$QUIT  D @A(1),@A,A(,) Q $RE(A)',
          "F I=1:1:3 D A^R(I,.I,) Q:I=2  W $quit Q I**2",
+         'D A^|"LIB"|R(1,.B):C,^|"LIB"|R,^|""|%R():A G:B A^|"A ""B"""|R:A,^|"LIB"|R', 'X "D A^|""LIB""|R" D A^|"^(|"|R,@A,B G ^|"B"|R',
          "W 2**3,A**-B**(1+C)", "S A=2**B*2 I A**2>B,-A**2 S ^A(A**2)=A*B**2",
          'W $FN(A,","),$FNUMBER(A,"P",2)', 'S A=$FN(B_1,$RE("T,"),$J(1,1,0))_"x" I $FN(A,"")=A W $L($FN($FN(A,"-"),B))',
          'S $E(A)=1,$EXTRACT(^A(1),2)="b",($E(A,2,3),$e(@A,$E(A)))=B', 'S $P(A,",",2,3)=1,($P(^A,"x",1,2),B)=$P(A,",",2,3) W A']

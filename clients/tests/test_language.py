@@ -29,6 +29,7 @@ AT_ONCE = 2000
 TERMINALS = {0: ALICE, 1: CAROL}
 FORMALS = "brackets after a label that are no formal list"
 NEEDS = ", which needs language 1 of the account's settings"
+NO_ACCOUNT = "an account that is no string between two |"
 each_language = pytest.mark.parametrize("number", LANGUAGES)
 
 
@@ -123,6 +124,9 @@ def test_new_line_of_a_language(number: int) -> None:
     ("W Müller", "W M^üller", "a character over 127"), ("B=2", "^B=2", "a SET without its word"), ("W 1  Q 5", "W 1  Q ^5", f"QUIT with a value{NEEDS}"),
     ("F I=1:1 Q:I>3  H 5", "F I=1:1 Q:I>3  H ^5", f"HANG{NEEDS}"), ("G F(1)", "G F^(1)", "parameters of GOTO"),
     ("Q A,B", "Q ^A,B", "several values of QUIT"), ("W $Q", "W ^$Q", f"$QUIT{NEEDS}"),
+    ('D A,B^|"LIB"|R(1):C', 'D A,B^^|"LIB"|R(1):C', f"a routine of another account{NEEDS}"),
+    ('G ^|"B"|R', 'G ^^|"B"|R', f"a routine of another account{NEEDS}"),
+    ("D A^|B|R", "D A^^|B|R", NO_ACCOUNT), ('D ^"B"|R', 'D ^^"B"|R', NO_ACCOUNT), ('W 1 D ^|"A"_B|R', 'W 1 D ^^|"A"_B|R', NO_ACCOUNT),
 ])
 def test_place_and_cause(line: str, marked: str, name: str) -> None:
     """The place is that of the fault, which the second text has marked by a ^ of its own."""
@@ -168,6 +172,13 @@ def test_language_of_an_account(server: Server) -> None:
     ("W $Q", [f"$QUIT{NEEDS}", None]), ("W $$F(.X)", ["an extrinsic function", "an extrinsic function"]),
     ("D F($$G(1))", [f"parameters{NEEDS}", "an extrinsic function"]), ("Q W 1", ["two spaces follow a command without arguments"] * 2),
     ("R X", ["READ", "READ"]), ("W $re(", [f"$REVERSE{NEEDS}", "an operand is missing"]),
+    ('D A^|"LIB"|R(1,.X):C', [f"a routine of another account{NEEDS}", None]), ('G:X ^|"A""B"|R:X,A', [f"a routine of another account{NEEDS}", None]),
+    ("D ^|A|R", [NO_ACCOUNT, NO_ACCOUNT]), ('D A^|"LIB"R', [NO_ACCOUNT, NO_ACCOUNT]),
+    ('D ^|"LIB"|', [f"a routine of another account{NEEDS}", "a name is missing"]),
+    ('D A^|"LIB"|@R', [f"a routine of another account{NEEDS}", "indirection of a label or a routine alone"]),
+    ('G A^|"LIB"|R(1)', [f"a routine of another account{NEEDS}", "parameters of GOTO"]),
+    ('D A^|"LIB"|R+1', [f"a routine of another account{NEEDS}", "an offset from a label"]),
+    ('W $$A^|"LIB"|R(1)', ["an extrinsic function", "an extrinsic function"]),
 ])
 def test_cause_by_the_language_of_the_account(server: Server, line: str, names: list[str | None]) -> None:
     """What is said of a line that the server has refused, and of a routine's line."""
@@ -225,6 +236,14 @@ def test_labels_and_routines_that_are_not_there(server: Server) -> None:
     assert told(server, checked, source("B", "B Q", "ADD Q")) == [
         ("A", 1, 9, Kind.MISSING), ("A", 1, 23, Kind.MISSING), ("A", 1, 40, Kind.MISSING), ("A", 2, 7, Kind.MISSING), ("A", 3, 12, Kind.MISSING),
         ("A", 3, 20, Kind.MISSING), ("A", 5, 6, Kind.MISSING), ("A", 6, 4, Kind.MISSING), ("A", 6, 11, Kind.REFUSED)]
+
+
+def test_labels_of_another_accounts_routines_are_not_looked_for(server: Server) -> None:
+    """Nor is whether it has the routine: a client has no more than its own account's."""
+    checked = source("A", 'A D ONE^|"LIB"|NONE,TWO,^|"A^B"|NONE(1) G THREE^|"LIB"|A:X,FOUR', ' D ^|"LIB"|NONE,^NONE')
+    with server.connection() as connection:
+        (_, found), = findings(connection, [checked], 1)
+    assert [(one.line, one.column, one.kind) for one in found] == [(1, 21, Kind.MISSING), (1, 60, Kind.MISSING), (2, 17, Kind.MISSING)]
 
 
 @pytest.mark.parametrize(("line", "columns"), [

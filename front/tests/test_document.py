@@ -60,7 +60,7 @@ def test_the_page_has_all_that_the_document_has() -> None:
     shown = "".join(seen.texts)
     for words in ("`", "|---", "<!--", "-->", "](#"):
         assert words not in shown
-    for words in ("S A(\"\")=1", "$A[SCII](text[,place])", "D L^|\"LAB\"|R", "1(1A,1N)"):
+    for words in ("S A(\"\")=1", "$A[SCII](text[,place])", "D L^|\"LIB\"|R", "1(1A,1N)"):
         assert words in shown
 
 

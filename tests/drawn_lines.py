@@ -152,14 +152,16 @@ class Draw:
 
     def entry(self) -> Pair:
         """An argument of DO or GOTO."""
-        name = self.drawn.choice(["R^R", "P^R", "^R", "G^G", "H^G", "^G"])
+        libraries = ['P^|"ALICE"|R', '^|"ALICE"|R', 'H^|"ALICE"|G'] if self.language else []
+        name = self.drawn.choice(["R^R", "P^R", "^R", "G^G", "H^G", "^G", *libraries])
         return joined([name, ":", self.expression(2)]) if self.drawn.randrange(3) == 0 else (name, name)
 
     def entry_of_do(self) -> Pair:
         """An argument of DO, which in language 1 may hand something over."""
         if not self.language or self.drawn.randrange(3):
             return self.entry()
-        label, actuals = self.drawn.choice(["A^C", "K^C", "N^C", "G^C"]), [self.actual() for _ in range(self.drawn.choice([0, 1, 2, 2]))]
+        label = self.drawn.choice(["A^C", "K^C", "N^C", "G^C", 'A^|"ALICE"|C', 'N^|"ALICE"|C'])
+        actuals = [self.actual() for _ in range(self.drawn.choice([0, 1, 2, 2]))]
         return joined([label, "(", joined(actuals, ","), ")", *([":", self.expression(2)] if self.drawn.randrange(3) == 0 else [])])
 
     def actual(self) -> Pair:

@@ -59,8 +59,23 @@ TEXTS = [
     'S A="A" D A^P(.@A,$RE({v})),B^P(.A):A>1 W A',
     'S $E(^{g}({i}),2,3)=$RE({v}) W ^{g}({i})', 'S $P(^|"{o}"|{g}({i}),",",2,3)=$RE({v})', 'S $E(^|"{o}"|{g}({i}),0)=$RE({v}) W $D(^({i}))',
 ]
+# Lines that have routines of others run, and that store routines whose lines do so. These have DO as a whole word: in D and G a line is known that
+# does it itself.
+LIBRARY_TEXTS = [
+    *['D A^|"{o}"|R', 'D ^|"{o}"|R', 'D C^|"{o}"|L({v},.A) W A', 'D E^|"{o}"|L', 'D D^|"{o}"|L'] * 2, 'D B^|"{o}"|R W $X', 'G A^|"{o}"|R', 'G E^|"{o}"|L',
+    'D A^|"{o}"|R:1,E^|"{o}"|L:0', 'X "D E^|""{o}""|L"', 'D A^|"{o}"|P(.A,{v}) W A', 'D B^|"{o}"|P(.A),E^|"{o}"|L', 'D NO^|"{o}"|R', 'D A^|"{o}"|NONE',
+    'D E^|"no name"|L', 'D E^|""|L', 'S E="E^|""{o}""|L" D @E', 'D F^|"{o}"|L', 'D G^|"{o}"|L', 'D H^|"{o}"|L', 'D I^|"{o}"|L', 'D E^|"{o}"|L W $D(^{g}),$T',
+    'S ^ROUTINE("L",1)="C(X,Y) S Y=X,^{g}({i})=X D E W ^{g}({i}) Q"', 'S ^ROUTINE("L",2)="D DO A^R Q"', 'S ^ROUTINE("L",2)="D DO E^|""{o}""|L Q"',
+    'S ^ROUTINE("L",3)="E W ""{v}"" Q"', 'S ^ROUTINE("L",3)="E W ^{g}({i}) Q"', 'S ^|"{o}"|ROUTINE("L",3)="E W ""{v}"",$D(^{g}) Q"', 'K ^ROUTINE("L",3)',
+    'S ^ROUTINE("L",4)="F L +^{g}({i}):0 W $T Q"', 'S ^ROUTINE("L",5)="G F  S B=1"', 'K ^|"{o}"|ROUTINE("L",{i})', 'S ^ROUTINE("R",1)="A W {v} Q"',
+    'S ^ROUTINE("L",6)="H S ^|""{o}""|ROUTINE(""L"",3)=""E W {v} Q"" D E Q"', 'S ^ROUTINE("L",7)="I DO E,A^R,^|""{o}""|R Q"',
+]
+# What each account has stored before them.
+LIBRARY = r'S ^ROUTINE("L",1)="C(X,Y) S Y=X D E Q",^ROUTINE("L",3)="E W ""{v}"" Q",^ROUTINE("L",4)="F W $D(^X),$D(^Y) Q",^ROUTINE("R",1)="A W {v},$D(^X) Q"'
 # What a line has that is in language 1 alone: where it is reached, language 0 ends by ZSYNTAX.
-LATER = b"$RE("
+LATER = re.compile(rb'\$RE\(|\b[DG] \w*\^\|"')
+# What a line begins with that has a routine of an account run.
+CALLS = re.compile(rb'(\d+) [DG] \w*\^\|"([^"]*)"\|')
 
 
 class Account(NamedTuple):
@@ -96,23 +111,35 @@ class Setting:
         """The terminals of some accounts."""
         return {terminal for name in members for terminal in self.accounts[name].terminals}
 
+    def by_terminal(self) -> dict[int, str]:
+        """The account of each terminal."""
+        return {terminal: name for name, account in self.accounts.items() for terminal in account.terminals}
 
-def drawn_setting(drawn: Random) -> Setting:
-    """Three to five accounts of two terminals each, at least one of each language, and at least one grant."""
+    def may_call(self, caller: str, owner: str) -> bool:
+        """Whether an account may have the routines of an owner run."""
+        return caller == owner or any((owner, caller, "ROUTINE", mode) in self.grants for mode in ("read", "write"))
+
+
+def drawn_setting(drawn: Random, with_libraries: bool = False) -> Setting:
+    """Three to five accounts of two terminals each, at least one of each language, and at least one grant. With libraries most grants are of routines."""
     names = drawn.sample(NAMES, drawn.randint(3, 5))
     languages = drawn.sample([0, 1, *drawn.choices([0, 1], k=len(names) - 2)], len(names))
     accounts = {name: Account([2 * place + 1, 2 * place + 2], drawn.choice([60, 400, 2000]), languages[place]) for place, name in enumerate(names)}
     pairs = [(giver, taker) for giver in names for taker in names if giver != taker]
-    granted = drawn.sample(pairs, drawn.randint(1, len(names) - 1))
-    return Setting(accounts, [(giver, taker, drawn.choice(GLOBALS), drawn.choice(["read", "read", "write"])) for giver, taker in granted])
+    granted = drawn.sample(pairs, drawn.randint(1, len(names) - 1 + 2 * with_libraries))
+    given = GLOBALS + ["ROUTINE"] * 5 * with_libraries
+    return Setting(accounts, [(giver, taker, drawn.choice(given), drawn.choice(["read", "read", "write"])) for giver, taker in granted])
 
 
-def drawn_lines(drawn: Random, setting: Setting) -> list[Line]:
-    """Some lines of all terminals, in their order."""
-    return [line for line in (drawn_line(drawn, setting) for _ in range(LINES)) if line is not None]
+def drawn_lines(drawn: Random, setting: Setting, with_libraries: bool = False) -> list[Line]:
+    """Some lines of all terminals, in their order. With libraries half of them call some, which are stored first."""
+    texts = TEXTS + LIBRARY_TEXTS * 2 * with_libraries
+    first = [account.terminals[0] for account in setting.accounts.values()] if with_libraries else []
+    stored = [(terminal, f"{terminal} {LIBRARY.format(v=drawn.randint(1, 99))}\n".encode()) for terminal in first]
+    return stored + [line for line in (drawn_line(drawn, setting, texts) for _ in range(LINES)) if line is not None]
 
 
-def drawn_line(drawn: Random, setting: Setting) -> Line | None:
+def drawn_line(drawn: Random, setting: Setting, texts: list[str]) -> Line | None:
     """A line of one of all terminals or of one that nobody has; or one that is not a line of the wire; or none."""
     kind = drawn.randrange(20)
     if kind == 0:
@@ -121,7 +148,7 @@ def drawn_line(drawn: Random, setting: Setting) -> Line | None:
         return None, drawn.choice([b"\n", b"x W 1\n", b"01 W 1\n", b"1" * 300 + b"\n"])
     names = sorted(setting.accounts)
     terminal = drawn.choice(sorted(setting.terminals(set(names))) + [99])
-    text = drawn.choice(TEXTS).format(g=drawn.choice(GLOBALS), o=drawn.choice([*names, "NOBODY"]), i=drawn.randint(1, 3), v=drawn.randint(1, 99))
+    text = drawn.choice(texts).format(g=drawn.choice(GLOBALS), o=drawn.choice([*names, "NOBODY"]), i=drawn.randint(1, 3), v=drawn.randint(1, 99))
     return terminal, f"{terminal} {text}".encode() + drawn.choice([b"\n", b"\n", b"\r\n"])
 
 
@@ -129,18 +156,18 @@ Case = tuple[Setting, list[Line]]
 
 
 @st.composite
-def cases(draw: st.DrawFn) -> Case:
+def cases(draw: st.DrawFn, with_libraries: bool) -> Case:
     """Settings and lines of all their terminals, which a failure shows."""
     drawn = draw(st.randoms(use_true_random=False))
-    setting = drawn_setting(drawn)
-    lines = drawn_lines(drawn, setting)
+    setting = drawn_setting(drawn, with_libraries)
+    lines = drawn_lines(drawn, setting, with_libraries)
     note(setting.document() + "\n" + "".join(repr(line) + "\n" for _, line in lines))
     return setting, lines
 
 
-def for_cases(times: int) -> Callable[[Callable[[Case], None]], Callable[[], None]]:
+def for_cases(times: int, with_libraries: bool = False) -> Callable[[Callable[[Case], None]], Callable[[], None]]:
     """Has a function called with this many of them."""
-    return lambda check: settings(max_examples=times)(given(cases())(check))
+    return lambda check: settings(max_examples=times)(given(cases(with_libraries))(check))
 
 
 class Runs:
@@ -178,13 +205,27 @@ def told(setting: Setting, account: str, answer: list[bytes]) -> list[bytes]:
 
 def later_lines(setting: Setting, lines: list[Line], answer: list[bytes]) -> Iterator[tuple[int, bytes]]:
     """Of lines that were answered, those with a form of language 1: the account's language, and the reply."""
-    languages = {terminal: account.language for account in setting.accounts.values() for terminal in account.terminals}
+    languages = {terminal: setting.accounts[name].language for terminal, name in setting.by_terminal().items()}
+    for (terminal, line), reply in answered_lines(lines, answer):
+        if terminal in languages and LATER.search(line):
+            yield languages[terminal], reply
+
+
+def answered_lines(lines: list[Line], answer: list[bytes]) -> Iterator[tuple[Line, bytes]]:
+    """Each line that is not empty, with its reply."""
     answered = list(whole_replies(answer))
     sent = [line for line in lines if line[1].strip(b"\r\n")]
     assert len(answered) == len(sent)
-    for (terminal, line), reply in zip(sent, answered, strict=True):
-        if terminal in languages and LATER in line:
-            yield languages[terminal], reply
+    yield from zip(sent, answered, strict=True)
+
+
+def library_lines(setting: Setting, lines: list[Line], answer: list[bytes]) -> Iterator[tuple[bool, bytes]]:
+    """Of lines of language 1 that were answered, those that begin by calling a routine of an account: whether they may, and the reply."""
+    accounts = setting.by_terminal()
+    for (terminal, line), reply in answered_lines(lines, answer):
+        found = CALLS.match(line)
+        if found and terminal in accounts and setting.accounts[accounts[terminal]].language >= 1:
+            yield setting.may_call(accounts[terminal], found[2].decode()), reply
 
 
 def whole_replies(answer: list[bytes]) -> Iterator[bytes]:

@@ -94,6 +94,13 @@ NESTED = [
     labelled("R(" + ",".join(f"A{number}" for number in range(25)) + ") Q", "D R^R(" + 24 * ".A," + ".A)"), labelled("(A) Q", "D ^R(1)"),
     labelled("R(A) Q", "D ^R(1,2)"),
     labelled("R(.A) Q", "D R^R(.A)"), labelled("R(A:B) Q", "D R^R(.A)"), labelled("R()() Q", "D R^R()"), labelled("R(A)(B) Q", "D R^R(1)"),
+    'D R^|"ALICE"|R', 'G R^|"ALICE"|R', 'D R^|"NOBODY"|R', 'D ^|""|R', 'D ^|"ALICE"|', 'D ^|"ALICE"R', "D ^|ALICE|R", 'D ^|"ALICE"|(1)', "D ^||R",
+    'D ^|"A"||"A"|R', 'G ^|"ALICE"|R(1)', 'D R^|"ALICE"|@A', 'D ^|"' + 200 * "A" + '"|R', 'D ^|"' + 99 * '""' + '"|R', "D ^|" + 99 * '"', "D ^" + 99 * "|",
+    'D ^|"^|""A""|R"|R', "D ^|" + 41 * "(" + '"A"' + 41 * ")" + "|R", 'W $$R^|"ALICE"|R', 'S A="R^|""ALICE""|R" D @A', "D " + 20 * '^|"ALICE"|R,' + "R",
+    f'D R^|"ALICE"|R({BIG})', 'F  D R^|"NOBODY"|R', 'F  D:0 R^|"NOBODY"|R', 'D ^|"ALICE"|' + 31 * "R", 'D ^|"ALICE"|' + 32 * "R",
+    labelled('R D R^|"ALICE"|R', "D ^R"), labelled('R(A) D R^|"ALICE"|R(.A)', 'D R^|"ALICE"|R(.A)'), labelled('R G R^|"ALICE"|R', 'G ^|"ALICE"|R'),
+    labelled('R X "D R^|""ALICE""|R"', "D ^R"), labelled('R(A) S A=A+1 D:A<250 R^|"ALICE"|R(.A)', "S A=0 D R^R(.A) W A"),
+    labelled('R K ^|"ALICE"|ROUTINE G R', 'D ^|"ALICE"|R'),
     f'W $O(A({BIG}),{BIG})', f"W {BIG}E{BIG}", f"W .{BIG}", "S B=\"x\" F  S B=B_B", 'W $J("",200)?.E.E.E.E1"x"', 'K  K ^A,^B N  L', "H", "Q", "G", "D",
 ]
 # One with forms of language 0, and the same with forms of language 1 in it.

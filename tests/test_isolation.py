@@ -9,6 +9,9 @@ reaches another if a chain of grants leads there; a grant to write leads both wa
 In each of the settings accounts of language 0 and of language 1 share the host. A line with a form of language 1 ends by ZSYNTAX where the account
 has language 0, with nothing written before it, and by ZSYNTAX never where it has language 1.
 
+In some of them most grants are of routines, and half of the lines have routines of others run. A line that begins with one of an account that does not
+let it be read is answered ZGRANT, and nothing else.
+
 That the streams would show a leak is tested too: for some accounts the replies are others if their own lines are run alone, since they depend
 on a grant, and in some settings if all accounts have all grants.
 
@@ -19,13 +22,13 @@ from collections import Counter
 from collections.abc import Callable, Iterator
 
 import pytest
-from drawn_settings import LINES, Account, Case, Line, Runs, Setting, for_cases, later_lines, runs_over, sent_by, told
+from drawn_settings import LINES, Account, Case, Line, Runs, Setting, for_cases, later_lines, library_lines, runs_over, sent_by, told
 from running import run
 from second_interpreter.world import World, deep
 from support import Grant, accounts_of, reaching, shown_to
 
-# This many settings are drawn, of each kind of store.
-SETTINGS = {"memory": 100, "file": 200, "file, two runs": 50}
+# This many settings are drawn, of each kind of store, and of those with libraries.
+SETTINGS = {"memory": 100, "file": 200, "file, two runs": 50, "memory, libraries": 200}
 # An account of language 0 and one of language 1, who may write each other's routines and X; and one of language 1 who has no tie to them.
 TIED: list[Grant] = [(giver, taker, name, "write") for giver, taker in (("ALICE", "BOB"), ("BOB", "ALICE")) for name in ("ROUTINE", "X")]
 SHARED = Setting({"ALICE": Account([1], 2000, 0), "BOB": Account([2], 2000, 1), "CAROL": Account([3], 2000, 1)}, TIED)
@@ -57,6 +60,12 @@ SHARED_LINES = [
     ('1 D F^F', '1!M13'),
     ('1 D ^F', '1!ZSYNTAX'),
     ('1 D G^F', '1!ZSYNTAX'),
+    ('2 D S^|"ALICE"|R,F^|"ALICE"|F(5)', '2-11\n2.'),
+    ('2 D R^|"ALICE"|R W !', '2:68\n2.'),
+    ('2 D R^|"CAROL"|R', '2!ZGRANT'),
+    ('1 D S^|"ALICE"|R', '1!ZSYNTAX'),
+    ('3 D S^|"ALICE"|R', '3!ZGRANT'),
+    ('3 D ^|"CAROL"|R', '3!M13'),
 ]
 
 
@@ -66,7 +75,9 @@ def judge(runs: Runs, setting: Setting, parts: list[list[Line]]) -> Iterator[str
     def answered(cut: Setting, members: set[str]) -> list[bytes]:
         return runs.answered(cut, *(sent_by(setting, members, part) for part in parts))
     answer = runs.answered(setting, *parts)
-    yield from judged_by_language(setting, [line for part in parts for line in part], answer)
+    lines = [line for part in parts for line in part]
+    yield from judged_by_language(setting, lines, answer)
+    yield from judged_by_grants(setting, lines, answer)
     other = runs.answered(setting.with_all_grants(), *parts)
     for account in setting.accounts:
         among_all = told(setting, account, answer)
@@ -91,12 +102,22 @@ def judged_by_language(setting: Setting, lines: list[Line], answer: list[bytes])
             yield "refused by language 0" if is_refused else "taken by language 1"
 
 
+def judged_by_grants(setting: Setting, lines: list[Line], answer: list[bytes]) -> Iterator[str]:
+    """Looks at the lines that begin with a routine of another account; gives a word for each that is not granted, and for each that runs to its end."""
+    for may_call, reply in library_lines(setting, lines, answer):
+        if not may_call:
+            assert reply.endswith(b"!ZGRANT\n") and reply.count(b"\n") == 1, reply
+            yield "library not granted"
+        elif reply.endswith(b".\n"):
+            yield "library run"
+
+
 @pytest.mark.parametrize("kind", [pytest.param(kind, marks=() if kind == "memory" else pytest.mark.long) for kind in SETTINGS])
 def test_each_account_is_shown_the_same(kind: str, count: int) -> None:
     seen: Counter[str] = Counter()
-    draws = count * SETTINGS[kind]
+    draws, with_libraries = count * SETTINGS[kind], kind.endswith("libraries")
 
-    @for_cases(draws)
+    @for_cases(draws, with_libraries)
     def isolated(case: Case) -> None:
         setting, lines = case
         half = len(lines) // 2
@@ -108,7 +129,9 @@ def test_each_account_is_shown_the_same(kind: str, count: int) -> None:
     print(dict(seen))
     assert seen["reached by nobody"] > 0 and seen["tied"] > 0 and seen["open to all"] > 0
     assert seen["refused by language 0"] > draws / 2 and seen["taken by language 1"] > draws / 2
-    assert seen["accounts"] >= 3 * draws and seen["lines"] >= 0.8 * draws * LINES
+    # the first cases that are drawn are the shortest, which counts where few are
+    assert seen["accounts"] >= 3 * draws and seen["lines"] >= 0.75 * draws * LINES
+    assert min(seen["library not granted"], seen["library run"]) >= draws / 2 * with_libraries
 
 
 def test_two_languages_with_grants_share_a_host(written: Callable[[str], str]) -> None:

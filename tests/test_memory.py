@@ -27,7 +27,7 @@ from dataclasses import dataclass
 from pathlib import Path
 
 import pytest
-from blocks import ONLY, SERVED, Block, blocks, given_bytes, line_bytes, text_bytes
+from blocks import OF_SEVERAL, ONLY, SERVED, Block, blocks, given_bytes, line_bytes, text_bytes
 from running import ONE_ACCOUNT, run, run_words
 from support import COUNTED, Server, accounts_of, asked, grants_of, reaching, server, shown_to, steps_played
 
@@ -42,7 +42,7 @@ BLOCKS = [block for block in blocks() if block.kind in (*SERVED, "only")]
 # steps, and of a run over a file.
 MOST, MOST_SHOWN, MOST_STEPS, MOST_OVER_A_FILE = 5000, 250, 1000, 100
 # Those of several accounts, and one of them in which BOB locks.
-SEVERAL = [block for block in BLOCKS if block.kind in ("terminals", "accounts", "languages")]
+SEVERAL = [block for block in BLOCKS if block.kind in OF_SEVERAL]
 LOCKS = "locks between terminals"
 # Each of the former with each account that no other reaches, and that has a terminal.
 APART = [(block, name) for block in SEVERAL for name, terminals in accounts_of(SERVED[block.kind]).items()
@@ -52,7 +52,7 @@ STEPS, REOPENED, CONNECTIONS = ([block for block in blocks() if block.kind == ki
 # Blocks with more requests than can be refused in a short time.
 LONG = {"six hundred subscripts and three hundred names of locals, read and walked both ways", "texts of 4,095 characters", "levels and indirections together",
         "the code of a level comes before those of its text, and behind that of the operand", "256 levels and no more", "256 levels", "a routine of many lines",
-        "locals and the naked indicator go with the world, and globals stay"}
+        "locals and the naked indicator go with the world, and globals stay", "levels within a library count to the caller"}
 # The lines of a connection, and the replies to its first lines: none, one, and so on.
 STREAM = b"".join(line for line, _ in COUNTED)
 # What the next connection asks: which line was the last to set A.

@@ -2,14 +2,17 @@
 """The second interpreter (tests/second_interpreter), written from the rules, beside the program. What is coming is in tests/test_coming.py."""
 from __future__ import annotations
 
+import re
 from collections.abc import Callable
 from random import Random
 
 import pytest
 from against_gtm import replies
 from blocks import SERVED, Block, blocks
+from drawn_calls import actuals_of_do
 from drawn_forms import PARAMETERS as FORMS, ROUTINES, quoted, session, session_of
-from second_interpreter.world import World, deep
+from drawn_libraries import CLINIC, LIB, SHARED, Sent, beginning, session as session_of_libraries, stored as stored_by
+from second_interpreter.world import LONGEST_LINE, World, deep
 from support import ACCOUNT, content, replies as program_replies
 from test_coming import CALLED, PARAMETERS
 
@@ -17,6 +20,8 @@ from test_coming import CALLED, PARAMETERS
 SESSIONS = 120
 # Sessions of a stream, of five lines each, that hand something over.
 HANDED = 50
+# Sessions that call libraries, of some thirty lines each.
+CALLING = 40
 PLAYED = [block for block in blocks() if block.kind in SERVED]
 
 
@@ -71,6 +76,47 @@ def test_drawn_lines_that_hand_something_over(count: int, steps: int, written: C
         ours, programs = (list(replies(one.decode("ascii"))) for one in (interpreted(given, settings), program_replies(given, settings=settings)))
         for line, one, other in zip(given.decode("ascii").splitlines(), ours, programs, strict=True):
             assert (line, one) == (line, other)
+
+
+def sent(lines: list[Sent]) -> bytes:
+    """Lines of several terminals on the wire."""
+    return "".join(f"{terminal} {line}\n" for terminal, line in lines).encode("ascii")
+
+
+def by_line(lines: list[Sent], *answers: bytes) -> list[tuple]:
+    """Each line with its reply of each answer. Terminals have numbers of one digit."""
+    return list(zip(lines, *(replies(answer.decode("ascii")) for answer in answers), strict=True))
+
+
+@pytest.mark.parametrize("language", [0, 1])
+@pytest.mark.parametrize("steps", [5000, 60])
+def test_drawn_sessions_with_libraries_beside_the_program(count: int, language: int, steps: int, written: Callable[[str], str]) -> None:
+    """Lines of several accounts that have routines of one another run, and change them. With the profile most are no lines."""
+    drawn, settings = Random(steps), content(SERVED["libraries"]).decode("ascii")
+    settings = written(settings.replace("steps = 5000", f"steps = {steps}").replace("language = 1", f"language = {language}"))
+    for _ in range(count):
+        lines = [*beginning(), *(line for _ in range(CALLING) for line in session_of_libraries(drawn))]
+        for line, ours, programs in by_line(lines, interpreted(sent(lines), settings), program_replies(sent(lines), settings=settings)):
+            assert (line, ours) == (line, programs)
+
+
+def as_own(line: str) -> str:
+    """A line without the environments of its entries."""
+    return re.sub(r'\|"+LIB"+\|', "", line)
+
+
+def test_library_does_what_the_same_lines_do_as_ones_own(count: int) -> None:
+    """If two accounts have the same routines, then with an environment and without: by the second interpreter, and by the program. A variable that
+    holds an entry is another text then, so those lines are left out."""
+    drawn, settings = Random(81), SERVED["libraries"]
+    begun = [line for terminal in (LIB, CLINIC) for line in stored_by(terminal, SHARED)]
+    for _ in range(count):
+        drawn_lines = [line for _ in range(10 * CALLING) for line in actuals_of_do(drawn, lambda: drawn.choice(['|"LIB"|', '|"LIB"|', ""]))]
+        shared = [*begun, *((CLINIC, line) for line in drawn_lines if len(line) <= LONGEST_LINE and "@D" not in line)]
+        own = [(terminal, as_own(line)) for terminal, line in shared]
+        answers = interpreted(sent(shared), settings), *(program_replies(sent(lines), settings=settings) for lines in (own, shared))
+        for line, ours, without, programs in by_line(shared, *answers):
+            assert (line, ours, programs) == (line, without, without)
 
 
 @pytest.mark.parametrize("language", [0, 1])

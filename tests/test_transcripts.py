@@ -15,7 +15,7 @@ from collections.abc import Callable
 from pathlib import Path
 
 import pytest
-from blocks import ONLY, SERVED, Block, blocks, given_bytes, line_bytes, text_bytes
+from blocks import OF_SEVERAL, ONLY, SERVED, Block, blocks, given_bytes, line_bytes, text_bytes
 from running import ONE_ACCOUNT, TOP, run, run_words
 from support import accounts_of, answered_in_turn, content, read_in_time, run_in_pieces, shown_to, steps_played
 
@@ -27,7 +27,7 @@ EMPTY = (b"\n", b"\r\n")
 # The last line of a reply.
 ENDING = re.compile(r"\d+\.|(\d+|\?)!\w+")
 # Each block of several accounts, with each account of its settings.
-ONE_SHOWN = [(block, name) for block in PLAYED if block.kind in ("terminals", "accounts", "languages") for name in accounts_of(SERVED[block.kind])]
+ONE_SHOWN = [(block, name) for block in PLAYED if block.kind in OF_SEVERAL for name in accounts_of(SERVED[block.kind])]
 
 
 def each_block(*kinds: str, where: str = "") -> pytest.MarkDecorator:

@@ -14,7 +14,10 @@ SERVED = {
     "terminals": os.path.join(SETTINGS, "three_terminals.toml"),
     "accounts": os.path.join(SETTINGS, "four_accounts.toml"),
     "languages": os.path.join(SETTINGS, "two_languages.toml"),
+    "libraries": os.path.join(SETTINGS, "libraries.toml"),
 }
+# Those by settings of several accounts.
+OF_SEVERAL = [kind for kind in SERVED if kind != "lines"]
 # The settings of the blocks of which one account alone is shown its part, and that account.
 ONLY = SERVED["terminals"], "ALICE"
 ESCAPE = re.compile(r"\{(?:(\d+)\*([^}]*)|([0-9a-f]{2}))?\}")

@@ -11,7 +11,7 @@ SINCE = {
     "$INCREMENT": COMING, "$NAME": COMING, "$QLENGTH": COMING, "$QSUBSCRIPT": COMING, "$QUERY": COMING, "MERGE": COMING,
     "$TEXT": COMING, "indirection of entries": COMING, "labels of digits": COMING, "offsets of entries": COMING,
     "names of globals": COMING,
-    "parameters": 1, "special variables": 1, "values of QUIT": 1,
+    "libraries": 1, "parameters": 1, "special variables": 1, "values of QUIT": 1,
     "functions": COMING,
 }
 

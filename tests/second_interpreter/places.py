@@ -13,7 +13,8 @@ from .scopes import Tree
 
 @dataclass
 class Level:
-    """A level: the lines that it keeps and the routine that they are of, at which it is, how many dots its lines have, and whether a value is wanted.
+    """A level: the lines that it keeps and the routine that they are of, as an entry names it after its `^`; at which it is, how many dots its lines
+    have, and whether a value is wanted.
 
     For its faults: the line that was begun last and its command, or what text it runs."""
 
@@ -29,11 +30,12 @@ class Level:
 
 @dataclass
 class Entry:
-    """An entry that is evaluated: a label or nothing, how many lines after it or None, a routine or None."""
+    """An entry that is evaluated: a label or nothing, how many lines after it or None, a routine or None, and the account that it is of if that is named."""
 
     label: str
     offset: int | None
     routine: str | None
+    owner: str | None = None
 
 
 class Places(Listings):
@@ -45,6 +47,8 @@ class Places(Listings):
         """The parts of an entry, evaluated from left to right."""
         found = self.named(label, reader.label_pattern(self.account.language)) if isinstance(label, tuple) else label
         number = None if offset is None else whole(self.value(offset))
+        if isinstance(routine, tuple) and routine[0] == "of":
+            return Entry(found, number, routine[2], owner=routine[1])
         return Entry(found, number, self.named(routine, reader.NAME) if isinstance(routine, tuple) else routine)
 
     def named(self, part: tuple, pattern: re.Pattern[str]) -> str:
@@ -56,10 +60,11 @@ class Places(Listings):
         return text
 
     def seek(self, entry: Entry, dots: int) -> tuple[list[str], str, int]:
-        """The lines, their routine and the place that an entry means: M12 before its label, M13 if there is none, ZLEVEL if it has other dots."""
+        """The lines, their routine and the place that an entry means: M12 before its label, ZGRANT if another account's ROUTINE may not be read, M13 if
+        there is none, ZLEVEL if it has other dots."""
         if entry.offset is not None and entry.offset < 0:
             raise Stop("M12")
-        lines, name = self.lines_of(entry.routine)
+        lines, name = self.lines_of(entry)
         at = self.place_of(lines, entry.label)
         if at is None or at + (entry.offset or 0) >= len(lines):
             raise Stop("M13")
@@ -72,13 +77,19 @@ class Places(Listings):
         """Where the first line with a label stands, or the first line if none is given."""
         return next((place for place, text in enumerate(lines) if not label or reader.label_of(text, self.account.language) == label), None)
 
-    def lines_of(self, routine: str | None) -> tuple[list[str], str]:
-        """The lines of a routine, or those of the level, and its name."""
-        return (self.level.lines, self.level.routine) if routine is None else (self.routine(routine), routine)
+    def lines_of(self, entry: Entry) -> tuple[list[str], str]:
+        """The lines of the routine that an entry names, or those of the level, and its name, with its account if that is another. ZGRANT if that one does
+        not let it be read."""
+        if entry.routine is None:
+            return self.level.lines, self.level.routine
+        owner = self.account.name if entry.owner is None else entry.owner
+        if not self.may_read(owner, "ROUTINE"):
+            raise Stop("ZGRANT")
+        return self.routine(owner, entry.routine), entry.routine if owner == self.account.name else f'|"{owner}"|{entry.routine}'
 
-    def routine(self, name: str) -> list[str]:
-        """The lines of a routine of the account."""
-        tree = self.store.get((self.account.name, "ROUTINE")) or Tree()
+    def routine(self, owner: str, name: str) -> list[str]:
+        """The lines of a routine of an account."""
+        tree = self.store.get((owner, "ROUTINE")) or Tree()
         found = [(value(subscripts[1]), text) for subscripts, text in tree.texts.items()
                  if len(subscripts) == 2 and subscripts[0] == name and is_canonical(subscripts[1])]
         return [text for _, text in sorted(found)]
@@ -92,9 +103,9 @@ class Places(Listings):
         entry = self.entry(label, offset, routine)
         if entry.offset is not None and entry.offset < 0:
             raise Stop("M5")
-        lines, name = self.lines_of(entry.routine)
+        lines, name = self.lines_of(entry)
         if label == "" and entry.offset == 0:
-            return name if lines else ""
+            return name.rpartition("|")[2] if lines else ""
         at = self.place_of(lines, entry.label)
         # lines that no label counts from are counted from 1
         after = (1 if entry.offset is None else entry.offset) - 1 if label == "" else entry.offset or 0

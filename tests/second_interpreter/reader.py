@@ -300,7 +300,15 @@ class Reader:
         """An entry: label or empty, how many lines after the label or None, routine or None."""
         label = "" if self.next() == "^" else self.label()
         offset = self.expression() if label and may_count and self.has("offsets of entries") and self.takes("+") else None
-        return label, offset, self.routine() if self.takes("^") else None
+        if not self.takes("^"):
+            return label, offset, None
+        return label, offset, self.library() if self.has("libraries") and self.takes("|") else self.routine()
+
+    def library(self) -> Tree:
+        """A routine of an account: the account, which is a string, and the routine's name."""
+        account = self.string()
+        self.wants("|")
+        return "of", account, self.name()
 
     def entry_with_actuals(self, may_count: bool = True) -> Tree:
         """An entry with its actuals, or None. Lines that are counted take none."""
@@ -389,6 +397,10 @@ class Reader:
             self.at += len(operator)
             tree = "binary", operator, tree, self.operand()
 
+    def string(self) -> str:
+        """What a string stands for."""
+        return self.found(STRING)[1:-1].replace('""', '"')
+
     def operand(self) -> Tree:
         signs = re.compile("[-+']*").match(self.text, self.at)[0]
         self.at += len(signs)
@@ -403,7 +415,7 @@ class Reader:
             self.wants(")")
             return "bracket", tree
         if letter == '"':
-            return "text", self.found(STRING)[1:-1].replace('""', '"')
+            return "text", self.string()
         if letter.isdigit() or letter == ".":
             return "number", self.found(NUMBER)
         return self.dollar() if letter == "$" else ("variable", self.reference())
@@ -476,7 +488,7 @@ class Reader:
             self.refuse()
         bounds = (int(least or "0"), int(most) if most else None) if point else (int(least), int(least))
         if self.next() == '"':
-            return Atom(*bounds, text=self.found(STRING)[1:-1].replace('""', '"'))
+            return Atom(*bounds, text=self.string())
         if self.has("pattern alternation") and self.takes("("):
             return Atom(*bounds, choices=tuple(self.bracketed(self.atoms)))
         return Atom(*bounds, classes=self.found(re.compile("[ACELNPUacelnpu]+")))

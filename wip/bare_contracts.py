@@ -48,10 +48,12 @@ def functions(source):
     return out
 HEAD = re.compile(r'^((?:    )?)(?:pub(?:\([a-z]+\))? )?(?:unsafe )*fn (\w+)')
 def bare(text):
-    lines = text.split('\n'); out = []; i = 0; of_trait = False
+    lines = text.split('\n'); out = []; i = 0; of_trait = of_drop = False; kept = set()
     while i < len(lines):
-        if lines[i].startswith('impl'): of_trait = ' for ' in lines[i]
-        elif lines[i] == '}': of_trait = False
+        if lines[i].startswith('impl'): of_trait = ' for ' in lines[i]; of_drop = ' Drop for ' in lines[i]
+        elif lines[i] == '}': of_trait = of_drop = False
+        # a drop keeps its body, and so its cycle
+        if of_drop: kept.add(len(out))
         m = None if of_trait else HEAD.match(lines[i])
         if not m: out.append(lines[i]); i += 1; continue
         ind = m.group(1); j = i
@@ -74,7 +76,7 @@ def bare(text):
         j = i + 1
         while out[j].strip().startswith(('#[', '//')): j += 1
         return not HEAD.match(out[j])
-    return '\n'.join(l for i, l in enumerate(out) if not l.strip().startswith('#[cycle(') or of_type(i))
+    return '\n'.join(l for i, l in enumerate(out) if not l.strip().startswith('#[cycle(') or i in kept or of_type(i))
 def stub(source, to, name):
     new = {}
     def hole(part_path):

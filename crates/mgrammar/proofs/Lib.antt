@@ -31,3 +31,4 @@ pub mod ReadingLanguages
 pub mod LanguageExamples
 pub mod AlternationExamples
 pub mod ProfileCalls
+pub mod StepsUncalled

@@ -8,6 +8,7 @@ use Rattle.mgrammar.specs.Reading.{line_at}
 use Rattle.mgrammar.specs.IndirectTexts.{ref_at, args_of, pattern_of, name_of}
 use Rattle.mgrammar.specs.RoutineLine.{RoutineLineTree, spell_routine_line, well_routine_line, routine_line_at, label_of, formals_of, dots_of, dots_of_body}
 use Rattle.mgrammar.specs.CallsIn.{has_call_line}
+use Rattle.mgrammar.specs.ProgramsIn.{in_steps_line}
 use Rattle.mgrammar.specs.Languages.{since_line, since_formals, since_routine_line, since_reference, since_args, line_in, routine_line_in, ref_in, args_in}
 
 -- no text has two trees
@@ -99,3 +100,7 @@ ProfileHasNoCall = (l : LineTree) → since_line l ≡ 0 → has_call_line l ≡
 -- and no line of a routine has a formal list there, whatever its text is
 abbrev pub ProfileHasNoList : Type 0
 ProfileHasNoList = (text : List ℕ) → formals_of 0 text ≡ None
+
+-- a line in which no function is called has none where it could not stand
+abbrev pub UncalledIsInSteps : Type 0
+UncalledIsInSteps = (l : LineTree) → has_call_line l ≡ false → in_steps_line l ≡ true

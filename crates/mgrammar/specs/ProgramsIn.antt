@@ -1,12 +1,18 @@
 -- SPDX-License-Identifier: Apache-2.0
 -- Whether each call of a function in a tree stands where it can be carried out a step at a time: under operators, signs and brackets, in
--- the arguments of functions of values, and in actuals. A subscript, a function of a variable, $SELECT and an indirection are done as a
--- whole, so none stands in them.
-use Rattle.std.specs.Prelude.{Bool, true, ◌&&◌, ◌||◌, not, Option, Some, None}
-use Rattle.mgrammar.specs.Grammar.{ExprTree, expr, TailsTree, no_tails, tail, TailTree, apply, matches, matches_not, raise, matches_indirect, matches_not_indirect}
-use Rattle.mgrammar.specs.Grammar.{OperandTree, operand, PrimaryTree, number, text, special, reference, bracket, call, select, refer, extrinsic, ExprsTree, no_exprs, exprs}
+-- the arguments of functions of values, and in actuals. A subscript, a function of a variable, $SELECT and an indirection are evaluated as
+-- a whole, as are the targets of SET, the parameters of FOR, and the names and the timeout of LOCK: no call stands in them.
+use Rattle.std.specs.Prelude.{Bool, true, ◌&&◌, ◌||◌, not, List, Option, Some, None}
+use Rattle.std.specs.List.{list_all, list_any}
+use Rattle.mgrammar.specs.Grammar.{ExprTree, expr, TailsTree, no_tails, tail, TailTree, apply, matches, matches_not, raise, matches_indirect}
+use Rattle.mgrammar.specs.Grammar.{matches_not_indirect}
+use Rattle.mgrammar.specs.Grammar.{OperandTree, operand, PrimaryTree, number, text, special, reference, bracket, call, select, refer, extrinsic, ExprsTree}
+use Rattle.mgrammar.specs.Grammar.{no_exprs, exprs}
 use Rattle.mgrammar.specs.Grammar.{ActualTree, missing_actual, value_actual, name_actual, indirect_actual, ActualsTree, no_actuals, actuals}
-use Rattle.mgrammar.specs.CallsIn.{has_call_primary, has_call_reference, has_call_exprs, has_call_choices}
+use Rattle.mgrammar.specs.Grammar.{ArgTree, assign, formats, coded, shown, kill_one, kill_others, new_one, new_others, tested, loop, do_one, go_to, executed}
+use Rattle.mgrammar.specs.Grammar.{locked, hang_for, returned, indirect_args, SpacedTree, LineTree}
+use Rattle.mgrammar.specs.CallsIn.{has_call_primary, has_call_reference, has_call_exprs, has_call_choices, has_call_optional, has_call_destination}
+use Rattle.mgrammar.specs.CallsIn.{has_call_parameter, has_call_locked}
 
 abbrev mutual
   pub in_steps : ExprTree → Bool
@@ -56,3 +62,33 @@ abbrev mutual
 abbrev pub in_steps_optional : Option ExprTree → Bool
 in_steps_optional None = true
 in_steps_optional (Some e) = in_steps e
+
+-- ---- arguments, and lines
+
+abbrev pub in_steps_arg : ArgTree → Bool
+in_steps_arg (assign d e) = not (has_call_destination d) && in_steps e
+in_steps_arg (formats run tab) = in_steps_optional tab
+in_steps_arg (coded e) = in_steps e
+in_steps_arg (shown e) = in_steps e
+in_steps_arg (kill_one r) = not (has_call_reference r)
+in_steps_arg (kill_others names) = true
+in_steps_arg (new_one name) = true
+in_steps_arg (new_others names) = true
+in_steps_arg (tested e) = in_steps e
+in_steps_arg (loop index parameters) = not (list_any has_call_parameter parameters)
+in_steps_arg (do_one entry xs c) = in_steps_actuals xs && in_steps_optional c
+in_steps_arg (go_to entry c) = in_steps_optional c
+in_steps_arg (executed e c) = in_steps e && in_steps_optional c
+in_steps_arg (locked k names t) = not (has_call_locked names || has_call_optional t)
+in_steps_arg (hang_for e) = in_steps e
+in_steps_arg (returned e) = in_steps e
+in_steps_arg (indirect_args f p) = not (has_call_primary p)
+
+abbrev pub in_steps_args : List ArgTree → Bool
+in_steps_args = list_all in_steps_arg
+
+abbrev pub in_steps_spaced : SpacedTree → Bool
+in_steps_spaced c = in_steps_optional c.0.condition && in_steps_args c.0.args
+
+abbrev pub in_steps_line : LineTree → Bool
+in_steps_line l = list_all in_steps_spaced l.commands

@@ -1,6 +1,6 @@
 // SPDX-License-Identifier: Apache-2.0
 // The laws of the grammar. Each function's contract is the law, and its body is empty: the code never calls them.
-ghost use Rattle.mgrammar.specs.GrammarLaws.{OneTree, ReadsItsTree, OneRoutineTree, ReadsItsRoutineTree, ToldOfItsTree, OneReference, ReadsItsReference, OneArgumentList, ReadsItsArguments, OnePattern, ReadsItsPattern, ReadsItsName, ReadsItsTreeIn, ReadsItsRoutineTreeIn, ReadsItsReferenceIn, ReadsItsArgumentsIn, LaterLanguagesRead, ProfileHasNoCall, ProfileHasNoList};
+ghost use Rattle.mgrammar.specs.GrammarLaws.{OneTree, ReadsItsTree, OneRoutineTree, ReadsItsRoutineTree, ToldOfItsTree, OneReference, ReadsItsReference, OneArgumentList, ReadsItsArguments, OnePattern, ReadsItsPattern, ReadsItsName, ReadsItsTreeIn, ReadsItsRoutineTreeIn, ReadsItsReferenceIn, ReadsItsArgumentsIn, LaterLanguagesRead, ProfileHasNoCall, ProfileHasNoList, UncalledIsInSteps};
 
 /// No text has two trees.
 #[tactic(auto, using(crate::proofs::ReadingLines::one_tree))]
@@ -102,4 +102,9 @@ pub fn profile_has_no_call()
 /// No line of a routine has a formal list in the profile, so that none is refused there for having one.
 pub fn profile_has_no_list()
     ensures { ProfileHasNoList }
+{}
+
+/// A line that calls no function has no call where none can stand in a language that has programs.
+pub fn uncalled_is_in_steps()
+    ensures { UncalledIsInSteps }
 {}

@@ -1,6 +1,8 @@
 -- SPDX-License-Identifier: Apache-2.0
 -- A function leaves $TEST as it was.
-use Rattle.mmeaning.proofs.MeaningWords.{◌≡◌, Bool, List, Some, subst, refl, ap, Answer, Plan, Done, Ask, Ops, then_plan, perform, State, Outcome, Gives, Fails, Act, on_gives, EntryTree, ActualsTree, Completion, Go_on, Skips, Quits, Goes, Context, closed, context, answering, target, Shared}
+use Rattle.mmeaning.proofs.MeaningWords.{◌≡◌, Bool, List, Some, subst, refl, ap, Answer, Plan, Done, Ask, Ops, then_plan, perform, State, Outcome, Gives}
+use Rattle.mmeaning.proofs.MeaningWords.{Fails, Act, on_gives, EntryTree, ActualsTree, Completion, Go_on, Skips, Quits, Goes, Context, closed, context}
+use Rattle.mmeaning.proofs.MeaningWords.{answering, target, Shared}
 use Rattle.mspec.specs.Scopes.{Binding}
 use Rattle.mspec.specs.Act.{with_locals}
 use Rattle.mmeaning.specs.Levels.{answers, a_level_free, deeper}
@@ -54,14 +56,16 @@ closed_tests b Quits now = tt
 closed_tests b (Goes t) now = tt
 closed_tests b (Returns v) now = refl
 
-entering_tests : (x : Context) (e : EntryTree) (xs : ActualsTree) (bs : List Binding) (b : Bool) (s : State) → AllGive (Tests b) (entering x e xs bs (answers b) s)
+entering_tests : (x : Context) (e : EntryTree) (xs : ActualsTree) (bs : List Binding) (b : Bool) (s : State)
+    → AllGive (Tests b) (entering x e xs bs (answers b) s)
 entering_tests x e xs bs b s =
     last_gives (Tests b) (a_level_free x.position.depth s) _ (λ u s2.
     last_gives (Tests b) (target x.position.level.copy 0 e s2) _ (λ t s3.
     last_gives (Tests b) (formals_of_target t s3) _ (λ names s4.
     last_gives (Tests b) (formals_for xs names bs s4) _ (λ formals s5.
     last_gives (Tests b) (with_locals (with_formals formals) s5) _ (λ v s6.
-    last_gives (Tests b) (lines_called (record x { position = deeper (answers b) x.position (record { copy = t.copy; next = Some t.line; dots = 0 }) }) s6) _ (λ k s7. closed_tests b k s7))))))
+    last_gives (Tests b) (lines_called (record x { position = deeper (answers b) x.position (record { copy = t.copy; next = Some t.line; dots = 0 }) }) s6) _
+    (λ k s7. closed_tests b k s7))))))
 
 value_tests : (b : Bool) (s : Completion) (now : State) → Tests b now → AllGive (Tests b) (returned_value s now)
 unfolding AllGive

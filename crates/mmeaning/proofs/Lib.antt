@@ -40,3 +40,5 @@ pub mod KeptTests
 pub mod ProgramSteps
 pub mod ProgramArguments
 pub mod ProgramFrames
+pub mod ProgramExamples
+pub mod ProgramsThere

@@ -1,6 +1,8 @@
 -- SPDX-License-Identifier: Apache-2.0
 -- What is left of a line, a step of it at a time.
-use Rattle.mmeaning.proofs.MeaningWords.{◌≡◌, ℕ, ◌≤◌, List, [], ◌∷◌, Result, Ok, Err, sym, subst, arith, Fault, Act, ◌>>=◌, give, Completion, Standing, Here, Did, MayLose, Follows, View, frame, left, Enough, MovedAs, MovedOn}
+use Rattle.mmeaning.proofs.MeaningWords.{◌≡◌, ℕ, ◌≤◌, List, [], ◌∷◌, Result, Ok, Err, sym, subst, arith, Fault, Act, ◌>>=◌, give, Completion, Standing, Here, Did, MayLose, Follows, View, frame, left, Enough, MovedAs, MovedOn, ◌<◌}
+use Rattle.mmeaning.specs.LineMeaning.{Position}
+use Rattle.mmeaning.specs.Frames.{Fits, Rests, Lists, Turns, Levels, Programs, Conditions}
 use Rattle.mmeaning.proofs.Calls.{then_follows, then_failed, follows_itself, follows_on, failed_after, assoc, did_lost}
 
 moved_after : {X E : Type 0} (b : Standing) (steady : Type 0) (fault_of : E → Fault) (completion_of : X → Completion) (p q : Act Completion) (h h1 : Here) (r : Result X E) (fs : List View) (h2 : Here)
@@ -46,12 +48,38 @@ module _ {X E : Type 0} {b : Standing} {steady : Type 0} {fault_of : E → Fault
   }
 
   -- a frame that is on top has to do with a completion what it does
-  pub on_top : {h : Here} {fs : List View} (f : View) (s : X) (n : ℕ) (ns : List ℕ) → h.0.steps ≤ n → Enough h.0.steps fs ns → MovedOn b steady fault_of completion_of (frame b.account n f (completion_of s)) (left b.account fs ns) h (Ok s) (f ∷ fs) h
+  pub on_top : {h : Here} {fs : List View} (f : View) (s : X) (n : ℕ) (ns : List ℕ) → Fits f h.0.steps n → Enough h.0.steps fs ns → MovedOn b steady fault_of completion_of (frame b.account n f (completion_of s)) (left b.account fs ns) h (Ok s) (f ∷ fs) h
   on_top {h = h} {fs = fs} f s n ns le e = record { done = (n ∷ ns, (le, e), follows_itself b (left b.account (f ∷ fs) (n ∷ ns) (completion_of s)) h) }
 
 -- fewer steps need no more
+pub fits : (m n x : ℕ) (f : View) → m ≤ n → Fits f n x → Fits f m x
+fits m n x (Rests p cs) le h = omega arith
+fits m n x (Lists p args) le h = omega arith
+fits m n x (Turns p t) le h = omega arith
+fits m n x (Levels p c) le h = omega arith
+fits m n x (Programs p ops k st) le h = omega arith
+fits m n x (Conditions p c rest) le h = omega arith
+
+-- fewer steps than a frame may enter texts
+pub fits_below : (m x : ℕ) (f : View) → m < x → Fits f m x
+fits_below m x (Rests p cs) h = omega arith
+fits_below m x (Lists p args) h = h
+fits_below m x (Turns p t) h = omega arith
+fits_below m x (Levels p c) h = omega arith
+fits_below m x (Programs p ops k st) h = h
+fits_below m x (Conditions p c rest) h = h
+
+-- no more than that
+pub fits_within : (m x : ℕ) (f : View) → Fits f m x → m ≤ x
+fits_within m x (Rests p cs) h = h
+fits_within m x (Lists p args) h = omega arith
+fits_within m x (Turns p t) h = h
+fits_within m x (Levels p c) h = h
+fits_within m x (Programs p ops k st) h = omega arith
+fits_within m x (Conditions p c rest) h = omega arith
+
 pub enough : (m n : ℕ) (fs : List View) (ns : List ℕ) → m ≤ n → Enough n fs ns → Enough m fs ns
 enough m n [] [] le e = tt
 enough m n [] (x ∷ ns) le e = e
 enough m n (f ∷ fs) [] le e = e
-enough m n (f ∷ fs) (x ∷ ns) le e = (let b = e.0 in omega arith, enough m n fs ns le e.1)
+enough m n (f ∷ fs) (x ∷ ns) le e = (fits m n x f le e.0, enough m n fs ns le e.1)

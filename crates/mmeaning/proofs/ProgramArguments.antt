@@ -1,6 +1,9 @@
 -- SPDX-License-Identifier: Apache-2.0
 -- Arguments and conditions do what their programs do.
-use Rattle.mmeaning.proofs.MeaningWords.{◌≡◌, ℕ, Bool, true, false, not, cond, List, [], ◌∷◌, Option, Some, None, refl, sym, ap, ◌∙◌, Text, Act, ◌>>=◌, give, ExprTree, EntryTree, ActualsTree, no_actuals, ArgTree, assign, formats, coded, shown, kill_one, new_one, tested, loop, do_one, go_to, executed, locked, indirect_args, target, setting, Inside, Completion, Context, Go_on, going, doing, executing, value}
+use Rattle.mmeaning.proofs.MeaningWords.{◌≡◌, ℕ, Bool, true, false, not, cond, List, [], ◌∷◌, Option, Some, None, refl, sym, ap, ◌∙◌, Text, Act, ◌>>=◌, give}
+use Rattle.mmeaning.proofs.MeaningWords.{ExprTree, EntryTree, ActualsTree, no_actuals, ArgTree, assign, formats, coded, shown, kill_one, new_one, tested}
+use Rattle.mmeaning.proofs.MeaningWords.{loop, do_one, go_to, executed, locked, indirect_args, target, setting, Inside, Completion, Context, Go_on, going}
+use Rattle.mmeaning.proofs.MeaningWords.{doing, executing, value}
 use Rattle.std.specs.Prelude.{ℤ, ◌&&◌}
 use Rattle.mspec.specs.Act.{◌>>◌, write, write_formats, test_is}
 use Rattle.mspec.specs.Scopes.{Binding}
@@ -10,8 +13,10 @@ use Rattle.mgrammar.specs.ProgramsIn.{in_steps, in_steps_actuals, in_steps_optio
 use Rattle.mmeaning.specs.Operators.{as_number, as_truth}
 use Rattle.mmeaning.specs.Levels.{Closing, leaves, a_level_free}
 use Rattle.mmeaning.specs.Parameters.{handed_over, formals_of_target, formals_for, with_formals}
-use Rattle.mmeaning.specs.LineMeaning.{inside_of, targets, all_prepared, all_assigned, spaced_to, character_written, argument, where_holds, where_true, number_of, in_level, lines_called, entering, answering}
-use Rattle.mmeaning.specs.Programs.{made, Op, Formats, Prepare, Where, Begin, Ending, Assign, Show, Tab, Character, Test, Hold, Wait, Return, Run, Enter, Go, Program, plain, listed, is_list, going_on, carried, of_value, of_list, of_condition, program_if, program_of, once_true}
+use Rattle.mmeaning.specs.LineMeaning.{inside_of, targets, all_prepared, all_assigned, spaced_to, character_written, argument, where_holds, where_true}
+use Rattle.mmeaning.specs.LineMeaning.{number_of, in_level, lines_called, entering, answering}
+use Rattle.mmeaning.specs.Programs.{made, Op, Formats, Prepare, Where, Begin, Ending, Assign, Show, Tab, Character, Test, Hold, Wait, Return, Run, Enter, Go}
+use Rattle.mmeaning.specs.Programs.{Program, plain, listed, is_list, going_on, carried, of_value, of_list, of_condition, program_if, program_of, once_true}
 use Rattle.mmeaning.specs.ProgramLaws.{ProgramsCarryArguments, ProgramsCarryConditions}
 use Rattle.mmeaning.proofs.Calls.{assoc}
 use Rattle.mmeaning.proofs.UncalledArguments.{targets_plain, in_targets}
@@ -40,9 +45,11 @@ module _ (x : Context) where
   abbrev does : Program → Act Completion
   does p = carried x p.steps p.ending []
 
-  entering_listed : (e : EntryTree) (xs : ActualsTree) (bs : List Binding) (c : Closing) → Alike (entering x e xs bs c) (entering x e (listed (is_list xs)) bs c)
+  entering_listed : (e : EntryTree) (xs : ActualsTree) (bs : List Binding) (c : Closing)
+      → Alike (entering x e xs bs c) (entering x e (listed (is_list xs)) bs c)
   entering_listed e xs bs c = λ j.
-      a_level_free x.position.depth >> (target x.position.level.copy 0 e >>= (λ t. formals_of_target t >>= (λ names. formals_listed xs names bs j >>= (λ formals.
+      a_level_free x.position.depth >> (target x.position.level.copy 0 e >>= (λ t.
+      formals_of_target t >>= (λ names. formals_listed xs names bs j >>= (λ formals.
       in_level x (record { copy = t.copy; next = Some t.line; dots = 0 }) c (with_formals formals) lines_called))))
 
   -- what is done with a value, and then the next argument
@@ -51,7 +58,8 @@ module _ (x : Context) where
 
   -- ---- conditions
 
-  where_chosen : (b : Bool) (ops : List Op) (k : Ending) (q : Act Completion) → Alike q (carried x ops k []) → Alike (cond b q (give Go_on)) (going_on (carried x ops k) (cond b (Some []) None))
+  where_chosen : (b : Bool) (ops : List Op) (k : Ending) (q : Act Completion) → Alike q (carried x ops k [])
+      → Alike (cond b q (give Go_on)) (going_on (carried x ops k) (cond b (Some []) None))
   where_chosen true ops k q h = h
   where_chosen false ops k q h = refl
 
@@ -96,13 +104,15 @@ module _ (x : Context) where
       ∙ (λ j. write_formats run >> sym (value_carried x Tab e [] [] is) j)
       ∙ sym (stepped x Tab (write_formats run) (λ u. []) (of_value e []))
 
-  hang_carried : (e : ExprTree) → in_steps e ≡ true → Alike ((number_of i e >>= (λ (seconds : ℤ). give (tt {0}))) >> give Go_on) (carried x (of_value e []) Wait [])
+  hang_carried : (e : ExprTree) → in_steps e ≡ true
+      → Alike ((number_of i e >>= (λ (seconds : ℤ). give (tt {0}))) >> give Go_on) (carried x (of_value e []) Wait [])
   hang_carried e is =
       assoc (number_of i e) (λ (seconds : ℤ). give (tt {0})) (λ u. give Go_on)
       ∙ assoc (value i e) as_number (λ (seconds : ℤ). give Go_on)
       ∙ sym (value_carried x Wait e [] [] is)
 
-  called_carried : (e : EntryTree) (xs : ActualsTree) → in_steps_actuals xs ≡ true → Alike (doing x e xs) (carried x (Begin ∷ of_list xs []) (Enter e (is_list xs)) [])
+  called_carried : (e : EntryTree) (xs : ActualsTree) → in_steps_actuals xs ≡ true
+      → Alike (doing x e xs) (carried x (Begin ∷ of_list xs []) (Enter e (is_list xs)) [])
   called_carried e xs is =
       (λ j. handed_over i xs >>= (λ bs. entering_listed e xs bs leaves j))
       ∙ (λ j. test_is >>= (λ b. sym (list_carried x (Enter e (is_list xs)) xs b [] [] is) j))

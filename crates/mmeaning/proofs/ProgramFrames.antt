@@ -1,16 +1,18 @@
 -- SPDX-License-Identifier: Apache-2.0
 -- Where programs pause, and how they go on.
-use Rattle.mmeaning.proofs.MeaningWords.{◌≡◌, ℕ, Bool, List, [], ◌∷◌, Option, Some, None, refl, sym, ◌∙◌, Text, Act, ◌>>=◌, give, EntryTree, Completion, Position, Context, context}
+use Rattle.mmeaning.proofs.MeaningWords.{◌≡◌, ℕ, Bool, List, [], ◌∷◌, Option, Some, None, refl, sym, ◌∙◌, Text, Act, ◌>>=◌, give, EntryTree, Completion}
+use Rattle.mmeaning.proofs.MeaningWords.{Position, Context, context}
 use Rattle.mspec.specs.Scopes.{Binding}
 use Rattle.mmeaning.specs.Levels.{answers}
 use Rattle.mmeaning.specs.Parameters.{bare_list}
 use Rattle.mmeaning.specs.LineMeaning.{entering, returned_value, answer, effect, where_holds}
-use Rattle.mmeaning.specs.Programs.{Item, one_value, handing, Op, Call, Ending, Enter, Run, step, ended_by, going_on, carried, Pause, over, end_begun, begun_on, begun}
-use Rattle.mmeaning.specs.Frames.{Programs, frame, resumed}
-use Rattle.mmeaning.specs.ProgramLaws.{ProgramsPause, ProgramsTakeValues, ConditionsGoOn}
+use Rattle.mmeaning.specs.Programs.{Item, one_value, handing, Op, Call, Ending, Enter, Run, step, ended_by, going_on, carried, Pause, over, end_begun}
+use Rattle.mmeaning.specs.Programs.{begun_on, begun}
+use Rattle.mmeaning.specs.Frames.{Lists, Programs, Conditions, frame, resumed}
+use Rattle.mmeaning.specs.ProgramLaws.{ProgramsPause, ProgramsTakeValues, ConditionsGoOn, ArgumentsPause, ConditionsPause}
 use Rattle.mmeaning.proofs.Calls.{assoc, ended}
 use Rattle.mmeaning.proofs.ProgramSteps.{stepped}
-use Rattle.mmeaning.proofs.ProgramArguments.{programs_carry_conditions}
+use Rattle.mmeaning.proofs.ProgramArguments.{programs_carry_arguments, programs_carry_conditions}
 
 module _ (a : Text) (n : ℕ) (p : Position) (k : Ending) where
   abbrev x : Context
@@ -43,7 +45,8 @@ module _ (a : Text) (n : ℕ) (p : Position) (k : Ending) where
       stepped x k (answer x e bs b) (λ v. one_value v ∷ st) ops
       ∙ assoc (entering x e bare_list bs (answers b)) returned_value (λ v. carried x ops k (one_value v ∷ st))
 
-end_pauses : (a : Text) (n : ℕ) (p : Position) (k : Ending) (st : List Item) → Alike a n p k (ended_by (context a n p) k st) (then_resumed a n p k (end_begun (context a n p) k st))
+end_pauses : (a : Text) (n : ℕ) (p : Position) (k : Ending) (st : List Item)
+    → Alike a n p k (ended_by (context a n p) k st) (then_resumed a n p k (end_begun (context a n p) k st))
 end_pauses a n p (Enter e is_listed) (handing b bs ∷ st) = refl
 end_pauses a n p Run (one_value v ∷ st) = refl
 end_pauses a n p k st = goes_over a n p k (ended_by (context a n p) k st)
@@ -64,3 +67,17 @@ pub conditions_go_on : ConditionsGoOn
 conditions_go_on a n p c rest e q is h =
     (λ j. where_holds (context a n p) (is j) (effect (context a n p) c.keyword c.args rest))
     ∙ programs_carry_conditions (context a n p) e q (effect (context a n p) c.keyword c.args rest) h
+
+-- ---- before the rest of a line
+
+pub arguments_pause : ArgumentsPause
+arguments_pause a n p arg rest q h =
+    (λ j. programs_carry_arguments (context a n p) arg q h j >>= frame a n (Lists p rest))
+    ∙ (λ j. programs_pause a n p q.steps q.ending [] j >>= frame a n (Lists p rest))
+    ∙ assoc (begun (context a n p) q.steps q.ending []) (resumed a n p q.ending) (frame a n (Lists p rest))
+
+pub conditions_pause : ConditionsPause
+conditions_pause a n p c rest e q is h =
+    conditions_go_on a n p c rest e q is h
+    ∙ (λ j. programs_pause a n p q.steps q.ending [] j >>= frame a n (Conditions p c rest))
+    ∙ assoc (begun (context a n p) q.steps q.ending []) (resumed a n p q.ending) (frame a n (Conditions p c rest))

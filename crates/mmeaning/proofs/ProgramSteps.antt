@@ -1,17 +1,24 @@
 -- SPDX-License-Identifier: Apache-2.0
 -- The steps of a program evaluate what they come from.
-use Rattle.mmeaning.proofs.MeaningWords.{◌≡◌, Bool, true, false, not, cond, List, [], ◌∷◌, ◌++◌, Some, refl, sym, ◌∙◌, Text, Act, ◌>>=◌, give, ExprTree, ExprsTree, PrimaryTree, OperandTree, ActualsTree, expr, tail, no_tails, apply, operand, number, text, reference, bracket, refer, exprs, no_exprs, no_actuals, Inside, Completion, Context, value}
+use Rattle.mmeaning.proofs.MeaningWords.{◌≡◌, Bool, true, false, not, cond, List, [], ◌∷◌, ◌++◌, Some, refl, sym, ◌∙◌, Text, Act, ◌>>=◌, give, ExprTree}
+use Rattle.mmeaning.proofs.MeaningWords.{ExprsTree, PrimaryTree, OperandTree, ActualsTree, expr, tail, no_tails, apply, operand, number, text, reference}
+use Rattle.mmeaning.proofs.MeaningWords.{bracket, refer, exprs, no_exprs, no_actuals, Inside, Completion, Context, value}
 use Rattle.std.specs.Prelude.{◌&&◌, ◌||◌}
 use Rattle.mspec.specs.Act.{◌>>◌, charge, test_is}
 use Rattle.mspec.specs.Scopes.{Binding, valued}
-use Rattle.mgrammar.specs.Grammar.{SignTree, special, call, select, extrinsic, TailsTree, TailTree, matches, matches_not, raise, matches_indirect, matches_not_indirect, ActualTree, missing_actual, value_actual, name_actual, indirect_actual, actuals}
-use Rattle.mgrammar.specs.CallsIn.{has_call, has_call_operand, has_call_primary, has_call_tail, has_call_actual, has_call_reference, has_call_exprs, has_call_choices}
-use Rattle.mgrammar.specs.ProgramsIn.{in_steps, in_steps_tails, in_steps_tail, in_steps_operand, in_steps_primary, in_steps_exprs, in_steps_actual, in_steps_actuals}
+use Rattle.mgrammar.specs.Grammar.{SignTree, special, call, select, extrinsic, TailsTree, TailTree, matches, matches_not, raise, matches_indirect}
+use Rattle.mgrammar.specs.Grammar.{matches_not_indirect, ActualTree, missing_actual, value_actual, name_actual, indirect_actual, actuals}
+use Rattle.mgrammar.specs.CallsIn.{has_call, has_call_operand, has_call_primary, has_call_tail, has_call_actual, has_call_reference, has_call_exprs}
+use Rattle.mgrammar.specs.CallsIn.{has_call_choices}
+use Rattle.mgrammar.specs.ProgramsIn.{in_steps, in_steps_tails, in_steps_tail, in_steps_operand, in_steps_primary, in_steps_exprs, in_steps_actual}
+use Rattle.mgrammar.specs.ProgramsIn.{in_steps_actuals}
 use Rattle.mmeaning.specs.Operators.{unaries, binary, raising}
 use Rattle.mmeaning.specs.Functions.{call_value}
 use Rattle.mmeaning.specs.Expression.{is_bare, linked_by, tails_value, tail_value, operand_value, primary_value, values, handed, all_handed, handed_over}
 use Rattle.mmeaning.specs.LineMeaning.{inside_of, answer, answering}
-use Rattle.mmeaning.specs.Programs.{Item, one_value, some_values, handing, Op, Operand, Tail, Join, Raise, Values, Add, Function, Begin, Actual, Hand, Hand_name, Call, Ending, plain, going_on, carried, signed, of_value, of_tails, of_tail, of_operand, of_primary, of_values, of_actual, of_actuals, of_list}
+use Rattle.mmeaning.specs.Programs.{Item, one_value, some_values, handing, Op, Operand, Tail, Join, Raise, Values, Add, Function, Begin, Actual, Hand}
+use Rattle.mmeaning.specs.Programs.{Hand_name, Call, Ending, plain, going_on, carried, signed, of_value, of_tails, of_tail, of_operand, of_primary, of_values}
+use Rattle.mmeaning.specs.Programs.{of_actual, of_actuals, of_list}
 use Rattle.mmeaning.specs.ProgramLaws.{StepsEvaluate}
 use Rattle.mmeaning.proofs.Calls.{assoc, ended}
 use Rattle.mmeaning.proofs.UncalledArguments.{operand_plain, tail_plain, handed_plain}
@@ -33,11 +40,13 @@ module _ (x : Context) (k : Ending) where
   i = inside_of x
 
   -- a step that gives a stack, and those after it
-  pub stepped : {A : Type 0} (p : Act A) (f : A → List Item) (ops : List Op) → Same ((p >>= (λ a. give (Some (f a)))) >>= going_on (carried x ops k)) (p >>= (λ a. carried x ops k (f a)))
+  pub stepped : {A : Type 0} (p : Act A) (f : A → List Item) (ops : List Op)
+      → Same ((p >>= (λ a. give (Some (f a)))) >>= going_on (carried x ops k)) (p >>= (λ a. carried x ops k (f a)))
   stepped p f ops = assoc p (λ a. give (Some (f a))) (going_on (carried x ops k))
 
   -- one of two programs
-  by_test : (c : Bool) (ops others : List Op) (st : List Item) (q : Act Completion) → (c ≡ true → Same (carried x ops k st) q) → (c ≡ false → Same (carried x others k st) q) → Same (carried x (cond c ops others) k st) q
+  by_test : (c : Bool) (ops others : List Op) (st : List Item) (q : Act Completion)
+      → (c ≡ true → Same (carried x ops k st) q) → (c ≡ false → Same (carried x others k st) q) → Same (carried x (cond c ops others) k st) q
   by_test true ops others st q yes_case no_case = yes_case refl
   by_test false ops others st q yes_case no_case = no_case refl
 
@@ -144,7 +153,8 @@ module _ (x : Context) (k : Ending) where
     primary_carried (refer word r more) ops st h = uncalled_primary (refer word r more) ops st (denied (has_call_reference r || has_call_exprs more) h)
     primary_carried (extrinsic e xs) ops st h =
         stepped charge (λ u. st) (Begin ∷ cond (is_bare xs) (Call e ∷ ops) (of_actuals xs (Call e ∷ ops)))
-        ∙ (λ j. charge >> (test_is >>= (λ b. list_of (is_bare xs) b (Call e ∷ ops) (of_actuals xs (Call e ∷ ops)) (all_handed i [] xs) st (actuals_carried xs b [] (Call e ∷ ops) st h) j)))
+        ∙ (λ j. charge >> (test_is >>= (λ b.
+        list_of (is_bare xs) b (Call e ∷ ops) (of_actuals xs (Call e ∷ ops)) (all_handed i [] xs) st (actuals_carried xs b [] (Call e ∷ ops) st h) j)))
         ∙ (λ j. charge >> (test_is >>= (λ b. handed_over i xs >>= (λ bs. stepped (answer x e bs b) (λ v. one_value v ∷ st) ops j))))
         ∙ (λ j. charge >> (test_is >>= (λ b. sym (assoc (handed_over i xs) (λ bs. answer x e bs b) (λ v. carried x ops k (one_value v ∷ st))) j)))
         ∙ (λ j. charge >> sym (assoc test_is (λ b. handed_over i xs >>= (λ bs. answer x e bs b)) (λ v. carried x ops k (one_value v ∷ st))) j)
@@ -167,7 +177,8 @@ module _ (x : Context) (k : Ending) where
         ∙ sym (assoc (value i e) (λ v. give (valued v)) (λ g. carried x ops k (handing b (bs ++ g ∷ []) ∷ st))))
         (λ n. uncalled_actual (value_actual e) b bs ops st n)
     actual_carried (name_actual name) b bs ops st h = uncalled_actual (name_actual name) b bs ops st refl
-    actual_carried (indirect_actual p) b bs ops st h = by_test (has_call_primary p) (of_primary p (Hand_name ∷ ops)) (Actual (indirect_actual p) ∷ ops) (handing b bs ∷ st) _
+    actual_carried (indirect_actual p) b bs ops st h = by_test (has_call_primary p)
+        (of_primary p (Hand_name ∷ ops)) (Actual (indirect_actual p) ∷ ops) (handing b bs ∷ st) _
         (λ c. primary_carried p (Hand_name ∷ ops) (handing b bs ∷ st) h
         ∙ (λ j. primary_value i p >>= (λ v. stepped (linked_by (plain x) v) (λ g. handing b (bs ++ g ∷ []) ∷ st) ops j))
         ∙ sym (assoc (primary_value i p) (λ v. linked_by i v) (λ g. carried x ops k (handing b (bs ++ g ∷ []) ∷ st))))

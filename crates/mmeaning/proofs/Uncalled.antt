@@ -1,22 +1,24 @@
 -- SPDX-License-Identifier: Apache-2.0
 -- What has no call means the same whatever functions give.
-use Rattle.mmeaning.proofs.MeaningWords.{◌≡◌, ℕ, zero, suc, Bool, true, false, not, cond, List, [], ◌∷◌, ◌++◌, refl, Zsyntax, Text, Act, ◌>>=◌, give, read_so, ExprTree, ExprsTree, PrimaryTree, ReferenceTree, OperandTree, expr, tail, no_tails, apply, operand, number, text, reference, bracket, refer, local, global, naked, indirect, extended, exprs, no_exprs, ref_in, Calls, Depth, Inside, Evaluated, of_local, of_global, of_naked, inside, finds, value, evaluated}
+use Rattle.mmeaning.proofs.MeaningWords.{◌≡◌, ℕ, zero, suc, true, false, not, cond, List, [], ◌∷◌, ◌++◌, refl, Zsyntax, Text, Act, ◌>>=◌, give, read_so}
+use Rattle.mmeaning.proofs.MeaningWords.{ExprTree, ExprsTree, PrimaryTree, ReferenceTree, OperandTree, expr, tail, no_tails, apply, operand, number, text}
+use Rattle.mmeaning.proofs.MeaningWords.{reference, bracket, refer, local, global, naked, indirect, extended, exprs, no_exprs, ref_in, Calls, Depth, Inside}
+use Rattle.mmeaning.proofs.MeaningWords.{Evaluated, of_local, of_global, of_naked, inside, finds, value, evaluated}
 use Rattle.std.specs.Prelude.{◌||◌}
 use Rattle.mspec.specs.Act.{◌>>◌, charge}
 use Rattle.mspec.specs.Interpretations.{truth_text}
-use Rattle.mgrammar.specs.Grammar.{special, call, select, extrinsic, matches_indirect, matches_not_indirect, TailsTree, TailTree, matches, matches_not, raise, ChoicesTree, no_choices, choice}
+use Rattle.mgrammar.specs.Grammar.{special, call, select, extrinsic, matches_indirect, matches_not_indirect, TailsTree, TailTree, matches, matches_not, raise}
+use Rattle.mgrammar.specs.Grammar.{ChoicesTree, no_choices, choice}
 use Rattle.mgrammar.specs.Functions.{function_of}
-use Rattle.mgrammar.specs.CallsIn.{has_call, has_call_tails, has_call_tail, has_call_operand, has_call_primary, has_call_reference, has_call_exprs, has_call_choices}
+pub use Rattle.mgrammar.proofs.StepsUncalled.{neither}
+use Rattle.mgrammar.specs.CallsIn.{has_call, has_call_tails, has_call_tail, has_call_operand, has_call_primary, has_call_reference, has_call_exprs}
+use Rattle.mgrammar.specs.CallsIn.{has_call_choices}
 use Rattle.mmeaning.specs.Operators.{as_truth, unaries, binary, raising}
 use Rattle.mmeaning.specs.Functions.{call_value}
 use Rattle.mmeaning.specs.Variables.{subscripts_of, with_subscripts, reading, resolve, read_at, referring}
-use Rattle.mmeaning.specs.Expression.{indirected, an_indirection_free, matches_text, named_by, tails_value, tail_value, operand_value, primary_value, values, chosen}
+use Rattle.mmeaning.specs.Expression.{indirected, an_indirection_free, matches_text, named_by, tails_value, tail_value, operand_value, primary_value, values}
+use Rattle.mmeaning.specs.Expression.{chosen}
 use Rattle.mmeaning.specs.CallLaws.{CallsAloneDiffer}
-
--- neither of two
-pub neither : (a b : Bool) → a || b ≡ false → (a ≡ false) × (b ≡ false)
-neither true b h = absurd (let clash : true ≡ false = h in cc)
-neither false b h = (refl, h)
 
 -- names are found alike, if the subscripts after them have no call
 abbrev FindsAlike : (Calls → Depth → ReferenceTree → ExprsTree → Act Evaluated) → Type 0

@@ -1,23 +1,28 @@
 -- SPDX-License-Identifier: Apache-2.0
 -- Arguments that have no call mean the same whatever functions give: what is proved of them where none is called serves a line.
-use Rattle.mmeaning.proofs.MeaningWords.{◌≡◌, ℕ, false, List, [], ◌∷◌, ◌++◌, Option, Some, None, refl, Zarg, Zchar, Text, Act, ◌>>=◌, give, give_some, ExprTree, ExprsTree, OperandTree, PrimaryTree, ReferenceTree, variable, one, lock_one, lock_several, Calls, Depth, Inside, LockName, inside, finds, value, evaluated, setting}
+use Rattle.mmeaning.proofs.MeaningWords.{◌≡◌, ℕ, false, List, [], ◌∷◌, ◌++◌, Option, Some, None, refl, Zarg, Zchar, Text, Act, ◌>>=◌, give, give_some}
+use Rattle.mmeaning.proofs.MeaningWords.{ExprTree, ExprsTree, OperandTree, PrimaryTree, ReferenceTree, variable, one, lock_one, lock_several, Calls, Depth}
+use Rattle.mmeaning.proofs.MeaningWords.{Inside, LockName, inside, finds, value, evaluated, setting}
 use Rattle.std.specs.Prelude.{ℤ, ◌||◌, cond}
 use Rattle.std.specs.List.{list_any}
 use Rattle.mspec.specs.Act.{◌>>◌, unless, write, write_formats, set_test, cursor_is}
 use Rattle.mspec.specs.Cursor.{is_column, spaces_to}
 use Rattle.mspec.specs.Scopes.{Binding, valued, linked_to}
 use Rattle.mspec.specs.Code.{Zsyntax}
-use Rattle.mgrammar.specs.Grammar.{TailTree, TargetTree, part, DestinationTree, several, LockKindTree, LockedTree, ActualTree, missing_actual, value_actual, name_actual, indirect_actual, ActualsTree, no_actuals, actuals}
+use Rattle.mgrammar.specs.Grammar.{TailTree, TargetTree, part, DestinationTree, several, LockKindTree, LockedTree, ActualTree, missing_actual, value_actual}
+use Rattle.mgrammar.specs.Grammar.{name_actual, indirect_actual, ActualsTree, no_actuals, actuals}
 use Rattle.mgrammar.specs.Functions.{function_of}
 use Rattle.mgrammar.specs.IndirectTexts.{name_of}
-use Rattle.mgrammar.specs.CallsIn.{has_call, has_call_tail, has_call_operand, has_call_primary, has_call_reference, has_call_exprs, has_call_optional, has_call_target, has_call_destination, has_call_locked, has_call_actual, has_call_actuals}
+use Rattle.mgrammar.specs.CallsIn.{has_call, has_call_tail, has_call_operand, has_call_primary, has_call_reference, has_call_exprs, has_call_optional}
+use Rattle.mgrammar.specs.CallsIn.{has_call_target, has_call_destination, has_call_locked, has_call_actual, has_call_actuals}
 use Rattle.mmeaning.specs.Operators.{as_number, as_truth}
 use Rattle.mmeaning.specs.Functions.{as_whole}
 use Rattle.mmeaning.specs.Variables.{writing, resolve, kill_at, named_lock}
 use Rattle.mmeaning.specs.Expression.{an_indirection_free, is_bare, tail_value, operand_value, primary_value, values, optional_value}
 use Rattle.mmeaning.specs.Locking.{locking, lock_names, names_of, carried, told}
 use Rattle.mmeaning.specs.Parameters.{handed, all_handed, handed_over}
-use Rattle.mmeaning.specs.LineMeaning.{Prepared, whole, partial, prepared, all_prepared, targets, all_assigned, showing, tabbing, formatting, coded_character, coding, killing, Returns, returning, holds, where_true, testing, number_of, hanging}
+use Rattle.mmeaning.specs.LineMeaning.{Prepared, whole, partial, prepared, all_prepared, targets, all_assigned, showing, tabbing, formatting, coded_character}
+use Rattle.mmeaning.specs.LineMeaning.{coding, killing, Returns, returning, holds, where_true, testing, number_of, hanging}
 use Rattle.mmeaning.proofs.Uncalled.{neither, finds_alike, value_same, tail_same, operand_same, primary_same, reference_same, values_same}
 
 module _ (a : Text) (n : ℕ) (d : Depth) (calls : Calls) where

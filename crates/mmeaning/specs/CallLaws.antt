@@ -20,5 +20,6 @@ CallsAloneDiffer =
 -- whatever a function does, and what hands over to it, $TEST is afterwards what it was before both, over any world
 abbrev pub FunctionKeepsTest : Type 0
 FunctionKeepsTest =
-    (ops : Ops Shared) (a : Text) (n : ℕ) (p : Position) (d : Depth) (e : EntryTree) (hands : Act (List Binding)) (s after : State) (w left : Shared) (x : Text) →
+    (ops : Ops Shared) (a : Text) (n : ℕ) (p : Position) (d : Depth) (e : EntryTree) (hands : Act (List Binding)) →
+    (s after : State) (w left : Shared) (x : Text) →
     perform ops (answering (context a n p) d e hands s) w ≡ (Gives x after, left) → after.test ≡ s.test

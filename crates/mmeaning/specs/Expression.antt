@@ -1,17 +1,21 @@
 -- SPDX-License-Identifier: Apache-2.0
 -- Expression meaning: the text that an expression gives, or its code.
 --
--- Restates "Expressions", "$SELECT", "Extrinsic function", what "Parameter passing" says of actuals, the environment of "Global variable name gvn", which is an account, and what "Indirection" says of
--- names, subscripts and patterns, of ISO/IEC 11756:1999: operators apply from left to right, none before another, and unary operators bind to the
--- operand after them. Both operands of an operator are evaluated, the left one first. A text that stands for an `@` names a variable,
--- and what it has to evaluate is evaluated where it stands.
+-- Restates "Expressions", "$SELECT", "Extrinsic function", what "Parameter passing" says of actuals, the environment of "Global variable name
+-- gvn", which is an account, and what "Indirection" says of names, subscripts and patterns, of ISO/IEC 11756:1999: operators apply from left
+-- to right, none before another, and unary operators bind to the operand after them. Both operands of an operator are evaluated, the left
+-- one first. A text that stands for an `@` names a variable, and what it has to evaluate is evaluated where it stands.
 use Rattle.std.specs.Prelude.{ℕ, zero, suc, ◌+◌, Bool, true, false, nat_lt, ◌&&◌, cond, not, List, [], ◌∷◌, ◌++◌, Option, Some, None}
 pub use Rattle.mspec.specs.Limits.{max_levels, max_indirections}
 use Rattle.mspec.specs.Number.{significant_digits}
 use Rattle.mspec.specs.NumberText.{numeric_value}
 use Rattle.mspec.specs.Interpretations.{truth_text}
 use Rattle.mspec.specs.Scopes.{Binding, valued, linked_to, unset}
-use Rattle.mgrammar.specs.Grammar.{ExprTree, expr, TailsTree, no_tails, tail, TailTree, apply, matches, matches_not, raise, matches_indirect, matches_not_indirect, OperandTree, operand, PrimaryTree, number, text, special, reference, bracket, call, select, refer, extrinsic, EntryTree, ActualTree, missing_actual, value_actual, name_actual, indirect_actual, ActualsTree, no_actuals, actuals, ReferenceTree, local, global, naked, indirect, extended, ExprsTree, no_exprs, exprs, ChoicesTree, no_choices, choice}
+use Rattle.mgrammar.specs.Grammar.{ExprTree, expr, TailsTree, no_tails, tail, TailTree, apply, matches, matches_not, raise, matches_indirect}
+use Rattle.mgrammar.specs.Grammar.{matches_not_indirect, OperandTree, operand, PrimaryTree, number, text, special, reference, bracket, call, select, refer}
+use Rattle.mgrammar.specs.Grammar.{extrinsic, EntryTree, ActualTree, missing_actual, value_actual, name_actual, indirect_actual, ActualsTree, no_actuals}
+use Rattle.mgrammar.specs.Grammar.{actuals, ReferenceTree, local, global, naked, indirect, extended, ExprsTree, no_exprs, exprs, ChoicesTree, no_choices}
+use Rattle.mgrammar.specs.Grammar.{choice}
 use Rattle.mgrammar.specs.Specials.{special_of}
 use Rattle.mgrammar.specs.Functions.{function_of}
 use Rattle.mgrammar.specs.IndirectTexts.{name_of, pattern_of}
@@ -20,7 +24,8 @@ use Rattle.mspec.specs.Code.{M4, Zdepth, Zsteps, Zsyntax}
 use Rattle.mspec.specs.Act.{Text, Act, ◌>>=◌, ◌>>◌, give, read_so, fail, give_some, unless, charge}
 use Rattle.mmeaning.specs.Operators.{as_text, as_truth, unaries, binary, raising, matching}
 use Rattle.mmeaning.specs.Functions.{call_value}
-use Rattle.mmeaning.specs.Variables.{Evaluated, of_local, of_global, of_naked, subscripts_of, with_subscripts, reading, resolve, read_at, referring, special_value}
+use Rattle.mmeaning.specs.Variables.{Evaluated, of_local, of_global, of_naked, subscripts_of, with_subscripts, reading, resolve, read_at, referring}
+use Rattle.mmeaning.specs.Variables.{special_value}
 
 -- how deep a text stands: the levels that are open, of which some are indirections under evaluation; and whether a value is wanted of its
 -- level, as one is of a function's

@@ -1,10 +1,11 @@
 -- SPDX-License-Identifier: Apache-2.0
 -- What a line still has to do, frame by frame: a frame is an act from the completion of what was done before it to its own.
-use Rattle.std.specs.Prelude.{ℕ, ◌≤◌, List, [], ◌∷◌, Result, Ok, Err}
+use Rattle.std.specs.Prelude.{ℕ, ◌≤◌, ◌<◌, List, [], ◌∷◌, Result, Ok, Err}
 use Rattle.mspec.specs.Code.{Fault}
 use Rattle.mspec.specs.Act.{Text, Act, ◌>>=◌, give}
 use Rattle.mgrammar.specs.Grammar.{ArgTree, CommandTree}
-use Rattle.mmeaning.specs.LineMeaning.{Completion, Position, Turning, Closing, leaves, answers, after, arguments, effect, commands, after_turn, after_level, closed, entering, returned_value, text_executed, context}
+use Rattle.mmeaning.specs.LineMeaning.{Completion, Position, Turning, Closing, leaves, answers, after, arguments, effect, commands, after_turn, after_level}
+use Rattle.mmeaning.specs.LineMeaning.{closed, entering, returned_value, text_executed, context}
 use Rattle.mmeaning.specs.Parameters.{bare_list}
 use Rattle.mmeaning.specs.Programs.{Op, Item, one_value, Ending, listed, carried, once_true, Pause, over, calls, enters, executes}
 use Rattle.mmeaning.specs.Calls.{Standing, Here, FailedBy, Follows}
@@ -40,10 +41,18 @@ left a [] ns s = give s
 left a (f ∷ fs) [] s = give s
 left a (f ∷ fs) (n ∷ ns) s = frame a n f s >>= left a fs ns
 
--- each frame may enter at least as many texts as there are steps
+-- A frame may enter at least as many texts as there are steps. What stands within a command, whose own step is spent, may enter one more: a
+-- program may end with a text that no further step comes before.
+abbrev pub Fits : View → (steps n : ℕ) → Type 0
+Fits (Lists p args) steps n = steps < n
+Fits (Programs p ops k st) steps n = steps < n
+Fits (Conditions p c rest) steps n = steps < n
+Fits f steps n = steps ≤ n
+
+-- each of them
 abbrev pub Enough : ℕ → List View → List ℕ → Type 0
 Enough steps [] [] = Unit {0}
-Enough steps (f ∷ fs) (n ∷ ns) = (steps ≤ n) × Enough steps fs ns
+Enough steps (f ∷ fs) (n ∷ ns) = Fits f steps n × Enough steps fs ns
 Enough steps fs ns = ⊥
 
 abbrev pub MovedAs : {X E : Type 0} → Standing → (steady : Type 0) → (E → Fault) → (X → Completion) → Act Completion → Here → Result X E → List View → Here → Type 0

@@ -1,24 +1,30 @@
 -- SPDX-License-Identifier: Apache-2.0
 -- Line meaning: what the commands of a line do, one after another.
 --
--- Restates "Commands" and "Extrinsic function" of ISO/IEC 11756:1999, "Do", "Else", "For", "Goto", "Halt", "Hang", "If", "Kill", "New", "Quit", "Set", "Write" and
--- "Xecute" among them, and what "Indirection" says of arguments: arguments are done from left to right, each as if it stood in a command of its
--- own, and those that a text gives as if they stood in its place. A DO without arguments does the lines after its own that have one dot
--- more, and keeps $TEST. LOCK is in Locking. Each text is read in the language that the line is given.
-use Rattle.std.specs.Prelude.{ℕ, zero, suc, ◌+◌, ℤ, pos, negsuc, ◌+ℤ◌, Bool, true, not, cond, nat_lt, nat_le, ◌==◌, List, [], ◌∷◌, ◌++◌, length, drop, Option, Some, None, is_none}
+-- Restates "Commands" and "Extrinsic function" of ISO/IEC 11756:1999, "Do", "Else", "For", "Goto", "Halt", "Hang", "If", "Kill", "New",
+-- "Quit", "Set", "Write" and "Xecute" among them, and what "Indirection" says of arguments: arguments are done from left to right, each as if
+-- it stood in a command of its own, and those that a text gives as if they stood in its place. A DO without arguments does the lines after
+-- its own that have one dot more, and keeps $TEST. LOCK is in Locking. Each text is read in the language that the line is given.
+use Rattle.std.specs.Prelude.{ℕ, zero, suc, ◌+◌, ℤ, pos, negsuc, ◌+ℤ◌, Bool, true, not, cond, nat_lt, nat_le, ◌==◌, List, [], ◌∷◌, ◌++◌, length, drop, Option}
+use Rattle.std.specs.Prelude.{Some, None, is_none}
 use Rattle.mspec.specs.Number.{sum_of}
 use Rattle.mspec.specs.NumberText.{number_text}
 use Rattle.mspec.specs.TextFunctions.{set_piece_of, has_places, set_range_of}
 pub use Rattle.mspec.specs.Cursor.{line_end}
 use Rattle.mspec.specs.Cursor.{is_column, spaces_to}
 use Rattle.mspec.specs.Scopes.{Binding, killed_except, newed, newed_except}
-use Rattle.mgrammar.specs.Grammar.{ExprTree, EntryTree, ActualsTree, ReferenceTree, TargetTree, variable, part, DestinationTree, one, several, ParameterTree, once, onward, until, KeywordTree, set_word, kill_word, new_word, if_word, else_word, for_word, quit_word, write_word, do_word, goto_word, execute_word, lock_word, halt_word, hang_word, halt_or_hang_word, ArgTree, assign, formats, coded, shown, kill_one, kill_others, new_one, new_others, tested, loop, do_one, go_to, executed, locked, hang_for, returned, indirect_args, FormTree, PrimaryTree, CommandTree, LineTree}
+use Rattle.mgrammar.specs.Grammar.{ExprTree, EntryTree, ActualsTree, ReferenceTree, TargetTree, variable, part, DestinationTree, one, several, ParameterTree}
+use Rattle.mgrammar.specs.Grammar.{once, onward, until, KeywordTree, set_word, kill_word, new_word, if_word, else_word, for_word, quit_word, write_word}
+use Rattle.mgrammar.specs.Grammar.{do_word, goto_word, execute_word, lock_word, halt_word, hang_word, halt_or_hang_word, ArgTree, assign, formats, coded}
+use Rattle.mgrammar.specs.Grammar.{shown, kill_one, kill_others, new_one, new_others, tested, loop, do_one, go_to, executed, locked, hang_for, returned}
+use Rattle.mgrammar.specs.Grammar.{indirect_args, FormTree, PrimaryTree, CommandTree, LineTree}
 use Rattle.mgrammar.specs.Functions.{ValueFunctionTree, FunctionTree, of_values, extract_function, piece_function, function_of}
 use Rattle.mgrammar.specs.Languages.{line_in, routine_line_in, args_in}
 use Rattle.mgrammar.specs.RoutineLine.{formals_of, dots_of}
 use Rattle.mspec.specs.Code.{M11, M15, M16, M17, Halting, Zarg, Zchar, Zsteps, Zsyntax}
 use Rattle.mspec.specs.Plan.{Release}
-use Rattle.mspec.specs.Act.{Text, Act, Locals, level_begun, ◌>>=◌, ◌>>◌, give, give_some, read_so, in_language, fail, unless, ask, charge, write, write_formats, with_locals, test_is, set_test, cursor_is}
+use Rattle.mspec.specs.Act.{Text, Act, Locals, level_begun, ◌>>=◌, ◌>>◌, give, give_some, read_so, in_language, fail, unless, ask, charge, write}
+use Rattle.mspec.specs.Act.{write_formats, with_locals, test_is, set_test, cursor_is}
 use Rattle.mmeaning.specs.Operators.{outcome, as_number, as_truth, as_text}
 use Rattle.mmeaning.specs.Functions.{as_whole, text_at, whole_at}
 use Rattle.mmeaning.specs.Variables.{Evaluated, at_local, writing, resolve, found_at, read_or, put_at, kill_at}

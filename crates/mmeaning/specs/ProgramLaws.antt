@@ -3,17 +3,22 @@
 use Rattle.std.specs.Prelude.{◌≡◌, ℕ, true, List, [], ◌∷◌, Some}
 use Rattle.mspec.specs.Act.{Text, Act, ◌>>=◌}
 use Rattle.mgrammar.specs.Grammar.{ExprTree, ArgTree, CommandTree}
-use Rattle.mgrammar.specs.ProgramsIn.{in_steps}
+use Rattle.mgrammar.specs.CallsIn.{has_call_arg}
+use Rattle.mgrammar.specs.ProgramsIn.{in_steps, in_steps_arg}
 use Rattle.mmeaning.specs.Expression.{value}
-use Rattle.mmeaning.specs.LineMeaning.{Completion, Returns, Position, Context, context, inside_of, where_holds, argument, conditional}
+use Rattle.mmeaning.specs.LineMeaning.{Completion, Returns, Position, Context, context, inside_of, where_holds, argument, arguments, conditional}
 use Rattle.mmeaning.specs.Programs.{Item, one_value, Op, Ending, Program, carried, of_value, program_of, program_of_condition, once_true, begun}
-use Rattle.mmeaning.specs.Frames.{Programs, Conditions, frame, resumed}
+use Rattle.mmeaning.specs.Frames.{Lists, Programs, Conditions, frame, resumed}
 
 -- an expression is evaluated by its steps, whatever comes after them, and whatever else is on the stack
 abbrev pub StepsEvaluate : Type 0
 StepsEvaluate =
     (x : Context) (e : ExprTree) (ops : List Op) (k : Ending) (st : List Item) → in_steps e ≡ true →
     ◌≡◌ {A = Act Completion} (carried x (of_value e ops) k st) (value (inside_of x) e >>= (λ v. carried x ops k (one_value v ∷ st)))
+
+-- there is a program for an argument with a call, if each call in it stands where steps are
+abbrev pub ProgramsAreThere : Type 0
+ProgramsAreThere = (a : ArgTree) → has_call_arg a ≡ true → in_steps_arg a ≡ true → (p : Program) × (program_of a ≡ Some p)
 
 -- an argument does what its program does
 abbrev pub ProgramsCarryArguments : Type 0
@@ -48,3 +53,18 @@ ConditionsGoOn =
     (a : Text) (n : ℕ) (p : Position) (c : CommandTree) (rest : List CommandTree) (e : ExprTree) (q : Program) →
     c.condition ≡ Some e → program_of_condition e ≡ Some q →
     ◌≡◌ {A = Act Completion} (conditional (context a n p) c rest) (carried (context a n p) q.steps q.ending [] >>= frame a n (Conditions p c rest))
+
+-- A line stops at an argument with a program as at a DO: what the argument leads to is done on top of the arguments after it.
+abbrev pub ArgumentsPause : Type 0
+ArgumentsPause =
+    (a : Text) (n : ℕ) (p : Position) (arg : ArgTree) (rest : List ArgTree) (q : Program) → program_of arg ≡ Some q →
+    ◌≡◌ {A = Act Completion} (arguments (context a n p) (arg ∷ rest))
+    (begun (context a n p) q.steps q.ending [] >>= (λ r. resumed a n p q.ending r >>= frame a n (Lists p rest)))
+
+-- and so at a condition
+abbrev pub ConditionsPause : Type 0
+ConditionsPause =
+    (a : Text) (n : ℕ) (p : Position) (c : CommandTree) (rest : List CommandTree) (e : ExprTree) (q : Program) →
+    c.condition ≡ Some e → program_of_condition e ≡ Some q →
+    ◌≡◌ {A = Act Completion} (conditional (context a n p) c rest)
+    (begun (context a n p) q.steps q.ending [] >>= (λ r. resumed a n p q.ending r >>= frame a n (Conditions p c rest)))

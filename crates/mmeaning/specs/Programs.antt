@@ -3,22 +3,24 @@
 --
 -- What stands before a call and what comes after it are apart here, so that a function's level can open in between. A step does what the
 -- meaning of expressions and lines does at its place, and costs what that costs. What has no call is one step.
-use Rattle.std.specs.Prelude.{Bool, true, false, ◌&&◌, not, cond, List, [], ◌∷◌, ◌++◌, Option, Some, None, ℕ}
+use Rattle.std.specs.Prelude.{Bool, true, false, cond, List, [], ◌∷◌, ◌++◌, Option, Some, None, ℕ}
 use Rattle.mspec.specs.Scopes.{Binding, valued}
 use Rattle.mspec.specs.Code.{Zsyntax}
 use Rattle.mspec.specs.Act.{Text, Act, ◌>>=◌, ◌>>◌, give, fail, charge, write, write_formats, test_is}
 use Rattle.mgrammar.specs.Grammar.{SignTree, BinaryTree, ExprTree, expr, TailsTree, no_tails, tail, TailTree, apply, raise}
 use Rattle.mgrammar.specs.Grammar.{OperandTree, operand, PrimaryTree, bracket, call, extrinsic, ExprsTree, no_exprs, exprs}
 use Rattle.mgrammar.specs.Grammar.{EntryTree, ActualTree, value_actual, indirect_actual, ActualsTree, no_actuals, actuals, DestinationTree}
-use Rattle.mgrammar.specs.Grammar.{ArgTree, assign, formats, coded, shown, kill_one, kill_others, new_one, new_others, tested, loop, do_one, go_to, executed, locked, hang_for, returned, indirect_args}
-use Rattle.mgrammar.specs.CallsIn.{has_call, has_call_operand, has_call_primary, has_call_destination}
-use Rattle.mgrammar.specs.ProgramsIn.{in_steps, in_steps_actuals, in_steps_optional}
+use Rattle.mgrammar.specs.Grammar.{ArgTree, assign, formats, coded, shown, kill_one, kill_others, new_one, new_others, tested, loop, do_one, go_to, executed}
+use Rattle.mgrammar.specs.Grammar.{locked, hang_for, returned, indirect_args}
+use Rattle.mgrammar.specs.CallsIn.{has_call, has_call_operand, has_call_primary}
+use Rattle.mgrammar.specs.ProgramsIn.{in_steps, in_steps_optional, in_steps_arg}
 use Rattle.mmeaning.specs.Operators.{as_number, as_truth, unaries, binary, raising}
 use Rattle.mmeaning.specs.Functions.{call_value}
 use Rattle.mmeaning.specs.Expression.{Inside, inside, is_bare, linked_by, tail_value, operand_value}
 use Rattle.mmeaning.specs.Parameters.{bare_list, handed}
 use Rattle.mmeaning.specs.Levels.{leaves}
-use Rattle.mmeaning.specs.LineMeaning.{Completion, Go_on, Returns, Context, Prepared, all_prepared, targets, all_assigned, spaced_to, character_written, truth_tested, where_true, entering, answer, text_executed, going}
+use Rattle.mmeaning.specs.LineMeaning.{Completion, Go_on, Returns, Context, Prepared, all_prepared, targets, all_assigned, spaced_to, character_written}
+use Rattle.mmeaning.specs.LineMeaning.{truth_tested, where_true, entering, answer, text_executed, going}
 
 -- ---- the stack
 
@@ -243,9 +245,9 @@ program_if true ops k = Some (record { steps = ops; ending = k })
 program_if false ops k = None
 
 -- The program of an argument, if its calls stand where steps are. There is none for KILL, NEW, FOR and LOCK, nor for arguments that a text
--- gives, nor for a target of SET with a call.
+-- gives.
 abbrev pub program_of : ArgTree → Option Program
-program_of (assign d e) = program_if (not (has_call_destination d) && in_steps e) (Prepare d ∷ of_value e []) Assign
+program_of (assign d e) = program_if (in_steps_arg (assign d e)) (Prepare d ∷ of_value e []) Assign
 program_of (formats run None) = None
 program_of (formats run (Some e)) = program_if (in_steps e) (Formats run ∷ of_value e []) Tab
 program_of (coded e) = program_if (in_steps e) (of_value e []) Character
@@ -256,9 +258,9 @@ program_of (new_one name) = None
 program_of (new_others names) = None
 program_of (tested e) = program_if (in_steps e) (of_value e []) Test
 program_of (loop index parameters) = None
-program_of (do_one e xs c) = program_if (in_steps_actuals xs && in_steps_optional c) (of_condition c (Begin ∷ of_list xs [])) (Enter e (is_list xs))
+program_of (do_one e xs c) = program_if (in_steps_arg (do_one e xs c)) (of_condition c (Begin ∷ of_list xs [])) (Enter e (is_list xs))
 program_of (go_to e c) = program_if (in_steps_optional c) (of_condition c []) (Go e)
-program_of (executed e c) = program_if (in_steps e && in_steps_optional c) (of_condition c (of_value e [])) Run
+program_of (executed e c) = program_if (in_steps_arg (executed e c)) (of_condition c (of_value e [])) Run
 program_of (locked k names t) = None
 program_of (hang_for e) = program_if (in_steps e) (of_value e []) Wait
 program_of (returned e) = program_if (in_steps e) (of_value e []) Return

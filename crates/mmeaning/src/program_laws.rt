@@ -1,10 +1,16 @@
 // SPDX-License-Identifier: Apache-2.0
 // The laws of programs. Each function's contract is the law, and its body is empty: the code never calls them.
-ghost use Rattle.mmeaning.specs.ProgramLaws.{ConditionsGoOn, ProgramsCarryArguments, ProgramsCarryConditions, ProgramsPause, ProgramsTakeValues, StepsEvaluate};
+ghost use Rattle.mmeaning.specs.ProgramLaws.{ArgumentsPause, ConditionsGoOn, ConditionsPause, ProgramsAreThere, ProgramsCarryArguments, ProgramsCarryConditions};
+ghost use Rattle.mmeaning.specs.ProgramLaws.{ProgramsPause, ProgramsTakeValues, StepsEvaluate};
 
 /// The steps of an expression evaluate it, whatever comes after them, and whatever else is on the stack.
 pub fn steps_evaluate()
     ensures { StepsEvaluate }
+{}
+
+/// An argument with a call has a program, if each call in it stands where steps are.
+pub fn programs_are_there()
+    ensures { ProgramsAreThere }
 {}
 
 /// An argument of a command does what its program does, if it has one.
@@ -30,4 +36,14 @@ pub fn programs_take_values()
 /// A command with a condition is the condition's program on top of the command.
 pub fn conditions_go_on()
     ensures { ConditionsGoOn }
+{}
+
+/// What an argument with a program leads to is done on top of the arguments after it.
+pub fn arguments_pause()
+    ensures { ArgumentsPause }
+{}
+
+/// What a condition with a program leads to is done on top of its command.
+pub fn conditions_pause()
+    ensures { ConditionsPause }
 {}

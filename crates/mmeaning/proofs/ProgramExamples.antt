@@ -1,0 +1,60 @@
+-- SPDX-License-Identifier: Apache-2.0
+-- Programs on examples, as proved equations: those of arguments, and where one pauses.
+use Rattle.mmeaning.proofs.MeaningWords.{◌≡◌, ℕ, suc, true, List, [], ◌∷◌, Option, Some, None, refl, rules, map, codes, option_map, Done, Gives, Text, State}
+use Rattle.mmeaning.proofs.MeaningWords.{PrimaryTree, reference, number, text, apply, join, multiply, minus, one, variable, at_label}
+use Rattle.mmeaning.proofs.MeaningWords.{set_argument, write_argument, do_argument, xecute_argument, args_in, reads_in, Position, context}
+use Rattle.mgrammar.specs.Grammar.{FormTree, add, value_actual, name_actual, missing_actual, quit_argument}
+use Rattle.mgrammar.proofs.ShortTrees.{plain, named, the_one}
+use Rattle.mmeaning.specs.Programs.{one_value, Op, Operand, Tail, Spend, Sign, Join, Values, Add, Function, Begin, Actual, Hand, Call, Where, Prepare, Ending}
+use Rattle.mmeaning.specs.Programs.{Assign, Show, Run, Return, Enter, Program, calls, begun, program_of}
+
+-- those of the arguments that a text has
+abbrev programs : FormTree → Text → Option (List (Option Program))
+programs f t = option_map (map program_of) (args_in f 2 t)
+
+-- one argument with a program
+abbrev one_of : List Op → Ending → Option (List (Option Program))
+one_of ops k = Some (Some (record { steps = ops; ending = k }) ∷ [])
+
+-- one without
+abbrev none : Option (List (Option Program))
+none = Some (None ∷ [])
+
+abbrev a : PrimaryTree
+a = reference (named (codes "A"))
+
+-- a call without actuals, once its step is spent
+abbrev called : Text → List Op → List Op
+called name ops = Spend ∷ Begin ∷ Call (at_label name) ∷ ops
+
+record Programs : Type 0 where
+  -- the operand before a call, the call, and what comes after it
+  joined : programs write_argument (codes "A_$$F()_A") ≡ one_of (Operand (plain a) ∷ called (codes "F") (Join join ∷ Tail (apply join (plain a)) ∷ [])) Show
+  -- a bracket costs its step before what is in it, and signs come after that
+  with_signs : programs write_argument (codes "-(A+$$F())*1")
+      ≡ one_of (Spend ∷ Operand (plain a) ∷ called (codes "F") (Join add ∷ Sign (minus ∷ []) ∷ Tail (apply multiply (plain (number (codes "1")))) ∷ [])) Show
+  of_values : programs quit_argument (codes "$L($$F(),A)")
+      ≡ one_of (Spend ∷ Values ∷ called (codes "F") (Add ∷ Operand (plain a) ∷ Add ∷ Function (codes "L") ∷ [])) Return
+  -- a call among actuals is done before those after it
+  in_actuals : programs write_argument (codes "$$F(1,.B,$$G,)")
+      ≡ one_of (Spend ∷ Begin ∷ Actual (value_actual the_one) ∷ Actual (name_actual (codes "B"))
+      ∷ called (codes "G") (Hand ∷ Actual missing_actual ∷ Call (at_label (codes "F")) ∷ [])) Show
+  -- a target comes first, and a condition
+  assigned : programs set_argument (codes "A=$$F()") ≡ one_of (Prepare (one (variable (named (codes "A")))) ∷ called (codes "F") []) Assign
+  entered : programs do_argument (codes "F($$G):A")
+      ≡ one_of (Operand (plain a) ∷ Where ∷ Begin ∷ called (codes "G") (Hand ∷ [])) (Enter (at_label (codes "F")) true)
+  executed : programs xecute_argument (codes "A:$$F") ≡ one_of (called (codes "F") (Where ∷ Operand (plain a) ∷ [])) Run
+  -- there is none yet for a call in a subscript, in $SELECT, in a function of a variable, in an indirection, or in a target
+  none_yet : map (programs write_argument) (codes "A($$F)" ∷ codes "$S($$F:1)" ∷ codes "$G(A($$F))" ∷ codes "@A@($$F)" ∷ codes "@$$F" ∷ [])
+      ≡ none ∷ none ∷ none ∷ none ∷ none ∷ []
+  no_target_yet : programs set_argument (codes "A($$F)=1") ≡ none
+
+examples : Programs
+unfolding reads_in
+examples = search rules
+
+-- a program pauses at its call, with what comes after it, and with what stands before it on the stack
+pauses : (a : Text) (n : ℕ) (p : Position) (s : State) (k : Ending) (steps : ℕ) (ops : List Op)
+    → begun (context a n p) (Operand (plain (text (codes "x"))) ∷ called (codes "F") (Join join ∷ ops)) k [] (record s { steps = suc (suc steps) })
+    ≡ Done (Gives (calls (at_label (codes "F")) s.test [] (Join join ∷ ops) (one_value (codes "x") ∷ [])) (record s { steps = steps }))
+pauses a n p s k steps ops = refl

@@ -315,9 +315,13 @@ impl<'a, S: NodeStore> Eval<'a, S> {
         Err(Code::M4)
     }
 
-    // A primary, and then the signs in front of it.
+    /// The value of a primary, and then of the signs in front of it.
+    ///
+    /// # Errors
+    ///
+    /// Those of `eval`.
     #[cycle(eval)]
-    fn operand(&mut self, alloc: Global, operand: &Operand) -> Result<Value, Code>
+    pub fn operand(&mut self, alloc: Global, operand: &Operand) -> Result<Value, Code>
         ensures spent { IfOk result (λ _. self.new.steps < self.old.steps) }
         ensures does { Evaluates S.NodeStore (λ i. meaning.operand_value i (operand_tree operand.now)) (λ v. v) self.old result self.new }
     {
@@ -366,10 +370,14 @@ impl<'a, S: NodeStore> Eval<'a, S> {
         self.matching(alloc, &atoms, value)
     }
 
-    // What is done with the value to the left, which becomes the result. It is changed in place: a value that is moved right after it is
-    // written has to be waited for.
+    /// What is done with the value to the left, which becomes the result. It is changed in place: a value that is moved right after it is
+    /// written has to be waited for.
+    ///
+    /// # Errors
+    ///
+    /// Those of `eval`, and of the operator. The value to the left is then any.
     #[cycle(eval)]
-    fn tail(&mut self, alloc: Global, left: &mut Value, tail: &Tail) -> Result<(), Code>
+    pub fn tail(&mut self, alloc: Global, left: &mut Value, tail: &Tail) -> Result<(), Code>
         ensures { Evaluates S.NodeStore (λ i. meaning.tail_value i left.old (tail_tree tail.now)) (λ _. left.new) self.old result self.new }
     {
         match tail {

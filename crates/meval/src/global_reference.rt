@@ -142,6 +142,19 @@ impl<'t> GlobalReference<'t> {
         Ok(GlobalReference::new(owner, name, subscripts))
     }
 
+    // The same node, which no tree need hold.
+    pub(crate) fn into_own<'u>(self) -> Result<GlobalReference<'u>, AllocError>
+        ensures { IfOk result (λ node. node ≡ self.entry) }
+    {
+        let GlobalReference {
+            owner,
+            name,
+            subscripts,
+        } = self;
+        let name = name.into_own()?;
+        Ok(GlobalReference::new(owner, name, subscripts))
+    }
+
     // The node with these subscripts after its own. It needs no tree.
     pub(crate) fn extended<'u>(
         self,

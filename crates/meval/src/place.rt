@@ -29,6 +29,27 @@ pub enum Pending<'t> {
 }
 
 impl<'t> Pending<'t> {
+    /// The same, which no tree need hold: a name that is lent is copied.
+    ///
+    /// # Errors
+    ///
+    /// `AllocError` if memory runs out.
+    pub fn into_own<'u>(self) -> Result<Pending<'u>, AllocError>
+        ensures { IfOk result (λ pending. pending_view pending ≡ pending_view self.entry) }
+    {
+        match self {
+            Pending::Local(name, subscripts) => {
+                let name = name.into_own()?;
+                Ok(Pending::Local(name, subscripts))
+            }
+            Pending::Global(node) => {
+                let node = node.into_own()?;
+                Ok(Pending::Global(node))
+            }
+            Pending::Naked(subscripts) => Ok(Pending::Naked(subscripts)),
+        }
+    }
+
     // The same with these subscripts after its own. It needs no tree.
     pub(crate) fn extended<'u>(
         self,

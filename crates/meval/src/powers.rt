@@ -55,9 +55,13 @@ impl<'a, S: NodeStore> Eval<'a, S> {
         Ok(())
     }
 
-    // Turns the value to the left into its power.
+    /// Turns the value to the left into its power, by the exponent to the right.
+    ///
+    /// # Errors
+    ///
+    /// Those of the two numbers and of the power; `Zsteps` if the steps do not suffice for it. The value to the left is then any.
     #[inline(never)]
-    pub(crate) fn raise(&mut self, left: &mut Value, right: &Value) -> Result<(), Code>
+    pub fn raise(&mut self, left: &mut Value, right: &Value) -> Result<(), Code>
         ensures { Evaluates S.NodeStore (λ i. meaning.raising left.old right.now) (λ _. left.new) self.old result self.new }
     {
         let (base, exponent) = base_and_exponent(left, right)?;

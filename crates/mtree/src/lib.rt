@@ -8,6 +8,7 @@
 #![tactic(auto)]
 
 mod brackets;
+mod calls;
 mod count;
 mod expression;
 mod function_word;
@@ -24,6 +25,9 @@ pub mod words;
 pub mod write;
 
 pub use brackets::FunctionWord;
+pub use calls::{
+    has_call, has_call_actual, has_call_arg, has_call_operand, has_call_optional, has_call_primary,
+};
 pub use count::Count;
 pub use function_word::{ValueWord, VariableWord};
 pub use intrinsic::{Function, SpecialVariable, ValueFunction, VariableFunction};

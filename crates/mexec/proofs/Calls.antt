@@ -1,6 +1,8 @@
 -- SPDX-License-Identifier: Apache-2.0
 -- How the calls of this crate are put together.
 use Rattle.mexec.proofs.ExecWords.{Doubts-same, Doubts-then, undoubted, ◌≡◌, ℕ, zero, suc, ◌≤◌, ◌<◌, ◌+◌, ◌++◌, List, [], ◌∷◌, Result, Ok, Err, length, drop, get_or, refl, sym, ◌∙◌, subst, arith, drop_more, IsErr, IsErrAnd, Text, Act, ◌>>=◌, ◌>>◌, give, set_test, ExprTree, ArgTree, CommandTree, as_truth, Inside, inside, inside_of, context, value, Go_on, after, Standing, Here, Did, View, Rests, Lists, left, frame, Enough, MovedOn, residual_is, did_then, did_failed, did_gives, did_lost, then_follows, then_failed, assoc, ended, Ghosts, fault_of, Code, Zmem, standing_of, depth_of, Parts, Does, DoesAt, KeepsLoans, here_of, Runs, view, stack, stacked, resting, completion_of, position_of, went, listing, at_done, keeps_at_depth, keeps_itself, keeps_on, Completion}
+use Rattle.mmeaning.specs.Frames.{Fits}
+use Rattle.mexec.specs.Frames.{RunsIf, RunsWithin}
 use Rattle.mmeaning.specs.LineMeaning as meaning
 use Rattle.mnodes.specs.Steady.{IsSteady}
 use Rattle.mmeaning.proofs.Moves.{on_then, on_failed, on_lost, on_completion, on_frame, on_top, enough}
@@ -86,102 +88,146 @@ moved_to : {A : Type 0} {b b1 : Standing} {steady : Type 0} (p : Text → Act A)
     → MovedOn b steady fault_of completion_of (p b.account) (k b.account) h r fs h1
 moved_to {steady = steady} p k {h = h} {h1 = h1} {r = r} {fs = fs} same m = subst (λ b. MovedOn b steady fault_of completion_of (p b.account) (k b.account) h r fs h1) same m
 
-pub runs_then : {S A X : Type 0} {g : Ghosts S} {p : Text → ℕ → Act A} (q : Text → ℕ → A → Act meaning.Completion) {f : X → A} {x : X} {fs fs' : List View} {old mid new : Parts S} {r : Result Completion Code}
-    → DoesAt g p f old (Ok x) mid → Runs g (λ a n. q a n (f x)) fs mid r fs' new → Runs g (λ a n. p a n >>= q a n) fs old r fs' new
-runs_then q {f = f} {x = x} {fs = fs} {old = old} {mid = mid} d k =
-    let few = d.keeps.eval.fewer in
-    record {
-      at = λ sure n ns le e.
-          on_then (q (standing_of old.eval).account n) n le (d.at (undoubted k.doubt sure))
-          (moved_to (λ a. q a n (f x)) (λ a. left a fs ns) d.keeps.eval.same (k.at sure n ns (omega (arith, few, le)) (enough mid.eval.steps old.eval.steps fs ns few e)));
-      doubt = Doubts-then d.doubt k.doubt;
-      keeps = keeps_on d.keeps k.keeps;
-    }
+module _ (fits : (steps n : ℕ) → Type 0) (sound : (s n : ℕ) → fits s n → s ≤ n) (fewer : (m s n : ℕ) → m ≤ s → fits s n → fits m n) where
+  pub if_then : {S A X : Type 0} {g : Ghosts S} {p : Text → ℕ → Act A} (q : Text → ℕ → A → Act meaning.Completion) {f : X → A} {x : X} {fs fs' : List View} {old mid new : Parts S} {r : Result Completion Code}
+      → DoesAt g p f old (Ok x) mid → RunsIf fits g (λ a n. q a n (f x)) fs mid r fs' new → RunsIf fits g (λ a n. p a n >>= q a n) fs old r fs' new
+  if_then q {f = f} {x = x} {fs = fs} {old = old} {mid = mid} d k =
+      let few = d.keeps.eval.fewer in
+      record {
+        at = λ sure n ns le e.
+            on_then (q (standing_of old.eval).account n) n (sound old.eval.steps n le) (d.at (undoubted k.doubt sure))
+            (moved_to (λ a. q a n (f x)) (λ a. left a fs ns) d.keeps.eval.same (k.at sure n ns (fewer mid.eval.steps old.eval.steps n few le) (enough mid.eval.steps old.eval.steps fs ns few e)));
+        doubt = Doubts-then d.doubt k.doubt;
+        keeps = keeps_on d.keeps k.keeps;
+      }
 
--- the same, if the first act spent the step of an entry: what follows runs with one text fewer
-pub runs_spent : {S A X : Type 0} {g : Ghosts S} {p : Text → ℕ → Act A} (q : Text → ℕ → A → Act meaning.Completion) {f : X → A} {x : X} {fs fs' : List View} {old mid new : Parts S} {r : Result Completion Code}
-    → DoesAt g p f old (Ok x) mid → mid.eval.steps < old.eval.steps → Runs g (λ a n. q a (suc n) (f x)) fs mid r fs' new → Runs g (λ a n. p a n >>= q a n) fs old r fs' new
-runs_spent {g = g} {p = p} q {f = f} {x = x} {fs = fs} {fs' = fs'} {old = old} {mid = mid} {new = new} {r = r} d less k = record {
-  at = go;
-  doubt = Doubts-then d.doubt k.doubt;
-  keeps = keeps_on d.keeps k.keeps;
-}
-  where
-    go : g.doubt new.eval.store.now ≡ 0 → (n : ℕ) (ns : List ℕ) → old.eval.steps ≤ n → Enough old.eval.steps fs ns
-        → MovedOn (standing_of old.eval) (IsSteady g new.eval.store.now) fault_of completion_of (p (standing_of old.eval).account n >>= q (standing_of old.eval).account n) (left (standing_of old.eval).account fs ns) (here_of g old) r fs' (here_of g new)
-    go sure zero ns le e = absurd (omega arith)
-    go sure (suc n) ns le e =
-        on_then (q (standing_of old.eval).account (suc n)) (suc n) le (d.at (undoubted k.doubt sure))
-        (moved_to (λ a. q a (suc n) (f x)) (λ a. left a fs ns) d.keeps.eval.same (k.at sure n ns (omega arith) (enough mid.eval.steps old.eval.steps fs ns (omega arith) e)))
+  -- an act fails, and the call returns by a `?`
+  pub if_stopped : {S A X : Type 0} {g : Ghosts S} {p : Text → ℕ → Act A} (q : Text → ℕ → A → Act meaning.Completion) {f : X → A} {fs fs' : List View} {old new : Parts S} {r : Result Completion Code} {e : Code}
+      → DoesAt g p f old (Err e) new → IsErr r × IsErrAnd r (λ x. x ≡ e) → RunsIf fits g (λ a n. p a n >>= q a n) fs old r fs' new
+  if_stopped {g = g} {p = p} q {fs = fs} {fs' = fs'} {old = old} {new = new} {r = r} d h = subst (λ r. RunsIf fits g (λ a n. p a n >>= q a n) fs old r fs' new) (sym (residual_is r _ h)) (record {
+    at = λ sure n ns le e. on_failed (q (standing_of old.eval).account n) n (sound old.eval.steps n le) (d.at sure);
+    doubt = d.doubt;
+    keeps = d.keeps;
+  })
 
--- an act fails, and the call returns by a `?`
-pub runs_stopped : {S A X : Type 0} {g : Ghosts S} {p : Text → ℕ → Act A} (q : Text → ℕ → A → Act meaning.Completion) {f : X → A} {fs fs' : List View} {old new : Parts S} {r : Result Completion Code} {e : Code}
-    → DoesAt g p f old (Err e) new → IsErr r × IsErrAnd r (λ x. x ≡ e) → Runs g (λ a n. p a n >>= q a n) fs old r fs' new
-runs_stopped {g = g} {p = p} q {fs = fs} {fs' = fs'} {old = old} {new = new} {r = r} d h = subst (λ r. Runs g (λ a n. p a n >>= q a n) fs old r fs' new) (sym (residual_is r _ h)) (record {
-  at = λ sure n ns le e. on_failed (q (standing_of old.eval).account n) n le (d.at sure);
-  doubt = d.doubt;
-  keeps = d.keeps;
-})
+  -- if the first act spent the step of an entry: what follows runs with one text fewer
+  pub if_spent : (below : (m s n : ℕ) → m < s → fits s (suc n) → fits m n) {S A X : Type 0} {g : Ghosts S} {p : Text → ℕ → Act A} (q : Text → ℕ → A → Act meaning.Completion) {f : X → A} {x : X} {fs fs' : List View} {old mid new : Parts S} {r : Result Completion Code}
+      → DoesAt g p f old (Ok x) mid → mid.eval.steps < old.eval.steps → RunsIf fits g (λ a n. q a (suc n) (f x)) fs mid r fs' new → RunsIf fits g (λ a n. p a n >>= q a n) fs old r fs' new
+  if_spent below {g = g} {p = p} q {f = f} {x = x} {fs = fs} {fs' = fs'} {old = old} {mid = mid} {new = new} {r = r} d less k = record {
+    at = go;
+    doubt = Doubts-then d.doubt k.doubt;
+    keeps = keeps_on d.keeps k.keeps;
+  }
+    where
+      go : g.doubt new.eval.store.now ≡ 0 → (n : ℕ) (ns : List ℕ) → fits old.eval.steps n → Enough old.eval.steps fs ns
+          → MovedOn (standing_of old.eval) (IsSteady g new.eval.store.now) fault_of completion_of (p (standing_of old.eval).account n >>= q (standing_of old.eval).account n) (left (standing_of old.eval).account fs ns) (here_of g old) r fs' (here_of g new)
+      go sure zero ns le e = let none = sound old.eval.steps zero le in absurd (omega arith)
+      go sure (suc n) ns le e =
+          on_then (q (standing_of old.eval).account (suc n)) (suc n) (sound old.eval.steps (suc n) le) (d.at (undoubted k.doubt sure))
+          (moved_to (λ a. q a (suc n) (f x)) (λ a. left a fs ns) d.keeps.eval.same (k.at sure n ns (below mid.eval.steps old.eval.steps n less le) (enough mid.eval.steps old.eval.steps fs ns (omega arith) e)))
 
--- out of memory: the call returns by a `?`
-pub runs_wanting : {S : Type 0} {g : Ghosts S} (p : Text → ℕ → Act meaning.Completion) {fs fs' : List View} {parts : Parts S} (r : Result Completion Code) → IsErr r × IsErrAnd r (λ x. x ≡ Zmem) → Runs g p fs parts r fs' parts
-runs_wanting {g = g} p {fs = fs} {fs' = fs'} {parts = parts} r h = subst (λ r. Runs g p fs parts r fs' parts) (sym (residual_is r Zmem h)) (record {
-  at = λ sure n ns le e. on_lost (p (standing_of parts.eval).account n) (left (standing_of parts.eval).account fs ns) Zmem tt refl (omega arith);
-  doubt = Doubts-same _;
-  keeps = keeps_itself _;
-})
+  -- an act that leaves the frames as they are
+  pub if_done : {S : Type 0} {g : Ghosts S} {p : Text → ℕ → Act meaning.Completion} {fs : List View} {old new : Parts S} (r : Result Completion Code) → DoesAt g p completion_of old r new → RunsIf fits g p fs old r fs new
+  if_done {g = g} {p = p} {fs = fs} {old = old} {new = new} (Ok s) d = record {
+    at = λ sure n ns le e. record {
+      done =
+          let b = standing_of old.eval in
+          let did = d.at sure in
+          let few = d.keeps.eval.fewer in
+          (ns, enough new.eval.steps old.eval.steps fs ns few e, then_follows b (p b.account n) (left b.account fs ns) (here_of g old) (completion_of s) (here_of g new) (did.at n (sound old.eval.steps n le)));
+    };
+    doubt = d.doubt;
+    keeps = d.keeps;
+  }
+  if_done {g = g} {p = p} {fs = fs} {old = old} {new = new} (Err c) d = record {
+    at = λ sure n ns le e. record {
+      done =
+          let b = standing_of old.eval in
+          let did = d.at sure in
+          then_failed b (IsSteady g new.eval.store.now) (p b.account n) (left b.account fs ns) (here_of g old) (fault_of c) (here_of g new) (did.at n (sound old.eval.steps n le));
+    };
+    doubt = d.doubt;
+    keeps = d.keeps;
+  }
 
--- a completion is given to the frames
-pub runs_completion : {S : Type 0} {g : Ghosts S} {fs : List View} {parts : Parts S} (s : Completion) → Runs g (λ a n. give (completion_of s)) fs parts (Ok s) fs parts
-runs_completion s = record {
-  at = λ sure n ns le e. on_completion s ns e;
-  doubt = Doubts-same _;
-  keeps = keeps_itself _;
-}
+module _ {fits : (steps n : ℕ) → Type 0} where
+  -- out of memory: the call returns by a `?`
+  pub runs_wanting : {S : Type 0} {g : Ghosts S} (p : Text → ℕ → Act meaning.Completion) {fs fs' : List View} {parts : Parts S} (r : Result Completion Code) → IsErr r × IsErrAnd r (λ x. x ≡ Zmem) → RunsIf fits g p fs parts r fs' parts
+  runs_wanting {g = g} p {fs = fs} {fs' = fs'} {parts = parts} r h = subst (λ r. RunsIf fits g p fs parts r fs' parts) (sym (residual_is r Zmem h)) (record {
+    at = λ sure n ns le e. on_lost (p (standing_of parts.eval).account n) (left (standing_of parts.eval).account fs ns) Zmem tt refl (omega arith);
+    doubt = Doubts-same _;
+    keeps = keeps_itself _;
+  })
 
--- an act by another name
-pub runs_as : {S : Type 0} {g : Ghosts S} {p q : Text → ℕ → Act meaning.Completion} {fs fs' : List View} {old new : Parts S} {r : Result Completion Code} → ((a : Text) (n : ℕ) → ◌≡◌ {A = Act meaning.Completion} (p a n) (q a n)) → Runs g q fs old r fs' new → Runs g p fs old r fs' new
-runs_as {g = g} {fs = fs} {fs' = fs'} {old = old} {new = new} {r = r} same k = subst (λ p. Runs g p fs old r fs' new) (λ i a n. sym (same a n) i) k
+  -- a completion is given to the frames
+  pub runs_completion : {S : Type 0} {g : Ghosts S} {fs : List View} {parts : Parts S} (s : Completion) → RunsIf fits g (λ a n. give (completion_of s)) fs parts (Ok s) fs parts
+  runs_completion s = record {
+    at = λ sure n ns le e. on_completion s ns e;
+    doubt = Doubts-same _;
+    keeps = keeps_itself _;
+  }
+
+  -- an act by another name
+  pub runs_as : {S : Type 0} {g : Ghosts S} {p q : Text → ℕ → Act meaning.Completion} {fs fs' : List View} {old new : Parts S} {r : Result Completion Code} → ((a : Text) (n : ℕ) → ◌≡◌ {A = Act meaning.Completion} (p a n) (q a n)) → RunsIf fits g q fs old r fs' new → RunsIf fits g p fs old r fs' new
+  runs_as {g = g} {fs = fs} {fs' = fs'} {old = old} {new = new} {r = r} same k = subst (λ p. RunsIf fits g p fs old r fs' new) (λ i a n. sym (same a n) i) k
+
+  -- a frame stands below what is done, in place of what it does then
+  pub frame_below : {S : Type 0} {g : Ghosts S} {p : Text → ℕ → Act meaning.Completion} (f : View) → ((s n : ℕ) → fits s n → Fits f s n) → {fs fs' : List View} {old new : Parts S} {r : Result Completion Code} → RunsIf fits g p (f ∷ fs) old r fs' new → RunsIf fits g (λ a n. p a n >>= frame a n f) fs old r fs' new
+  frame_below f fit {fs = fs} {old = old} k = record {
+    at = λ sure n ns le e. on_frame fs f n ns (k.at sure n (n ∷ ns) le (fit old.eval.steps n le, e));
+    doubt = k.doubt;
+    keeps = k.keeps;
+  }
+
+  -- a frame is on top, and goes on with what is next
+  pub frame_top : {S : Type 0} {g : Ghosts S} {fs : List View} {parts : Parts S} (f : View) → ((s n : ℕ) → fits s n → Fits f s n) → RunsIf fits g (λ a n. frame a n f Go_on) fs parts (Ok completion.GoOn) (f ∷ fs) parts
+  frame_top {parts = parts} f fit = record {
+    at = λ sure n ns le e. on_top f completion.GoOn n ns (fit parts.eval.steps n le) e;
+    doubt = Doubts-same _;
+    keeps = keeps_itself _;
+  }
+
+-- ---- as many texts as there are steps
+
+module _ {S A X : Type 0} {g : Ghosts S} {p : Text → ℕ → Act A} (q : Text → ℕ → A → Act meaning.Completion) {f : X → A} where
+  pub runs_then : {x : X} {fs fs' : List View} {old mid new : Parts S} {r : Result Completion Code} → DoesAt g p f old (Ok x) mid → Runs g (λ a n. q a n (f x)) fs mid r fs' new → Runs g (λ a n. p a n >>= q a n) fs old r fs' new
+  runs_then d k = if_then (λ s n. s ≤ n) (λ s n h. h) (λ m s n le h. omega arith) q d k
+
+  pub runs_spent : {x : X} {fs fs' : List View} {old mid new : Parts S} {r : Result Completion Code} → DoesAt g p f old (Ok x) mid → mid.eval.steps < old.eval.steps → Runs g (λ a n. q a (suc n) (f x)) fs mid r fs' new → Runs g (λ a n. p a n >>= q a n) fs old r fs' new
+  runs_spent d less k = if_spent (λ s n. s ≤ n) (λ s n h. h) (λ m s n le h. omega arith) (λ m s n less h. omega arith) q d less k
+
+  pub runs_stopped : {fs fs' : List View} {old new : Parts S} {r : Result Completion Code} {e : Code} → DoesAt g p f old (Err e) new → IsErr r × IsErrAnd r (λ x. x ≡ e) → Runs g (λ a n. p a n >>= q a n) fs old r fs' new
+  runs_stopped d h = if_stopped (λ s n. s ≤ n) (λ s n h. h) (λ m s n le h. omega arith) q d h
+
+  -- within a command, one more
+  pub within_then : {x : X} {fs fs' : List View} {old mid new : Parts S} {r : Result Completion Code} → DoesAt g p f old (Ok x) mid → RunsWithin g (λ a n. q a n (f x)) fs mid r fs' new → RunsWithin g (λ a n. p a n >>= q a n) fs old r fs' new
+  within_then d k = if_then (λ s n. s < n) (λ s n h. omega arith) (λ m s n le h. omega arith) q d k
+
+  pub within_spent : {x : X} {fs fs' : List View} {old mid new : Parts S} {r : Result Completion Code} → DoesAt g p f old (Ok x) mid → mid.eval.steps < old.eval.steps → RunsWithin g (λ a n. q a (suc n) (f x)) fs mid r fs' new → RunsWithin g (λ a n. p a n >>= q a n) fs old r fs' new
+  within_spent d less k = if_spent (λ s n. s < n) (λ s n h. omega arith) (λ m s n le h. omega arith) (λ m s n less h. omega arith) q d less k
+
+  pub within_stopped : {fs fs' : List View} {old new : Parts S} {r : Result Completion Code} {e : Code} → DoesAt g p f old (Err e) new → IsErr r × IsErrAnd r (λ x. x ≡ e) → RunsWithin g (λ a n. p a n >>= q a n) fs old r fs' new
+  within_stopped d h = if_stopped (λ s n. s < n) (λ s n h. omega arith) (λ m s n le h. omega arith) q d h
+
+  -- once a step is spent
+  pub spent_within : {x : X} {fs fs' : List View} {old mid new : Parts S} {r : Result Completion Code} → DoesAt g p f old (Ok x) mid → mid.eval.steps < old.eval.steps → RunsWithin g (λ a n. q a n (f x)) fs mid r fs' new → Runs g (λ a n. p a n >>= q a n) fs old r fs' new
+  spent_within {x = x} {fs = fs} {old = old} {mid = mid} d less k =
+      let few = d.keeps.eval.fewer in
+      record {
+        at = λ sure n ns le e.
+            on_then (q (standing_of old.eval).account n) n le (d.at (undoubted k.doubt sure))
+            (moved_to (λ a. q a n (f x)) (λ a. left a fs ns) d.keeps.eval.same (k.at sure n ns (omega arith) (enough mid.eval.steps old.eval.steps fs ns few e)));
+        doubt = Doubts-then d.doubt k.doubt;
+        keeps = keeps_on d.keeps k.keeps;
+      }
+
+-- what runs anywhere runs within a command
+pub runs_within : {S : Type 0} {g : Ghosts S} {p : Text → ℕ → Act meaning.Completion} {fs fs' : List View} {old new : Parts S} {r : Result Completion Code} → Runs g p fs old r fs' new → RunsWithin g p fs old r fs' new
+runs_within k = record { at = λ sure n ns less e. k.at sure n ns (omega arith) e; doubt = k.doubt; keeps = k.keeps }
 
 -- an act that leaves the frames as they are
 pub runs_done : {S : Type 0} {g : Ghosts S} {p : Text → ℕ → Act meaning.Completion} {fs : List View} {old new : Parts S} (r : Result Completion Code) → DoesAt g p completion_of old r new → Runs g p fs old r fs new
-runs_done {g = g} {p = p} {fs = fs} {old = old} {new = new} (Ok s) d = record {
-  at = λ sure n ns le e. record {
-    done =
-        let b = standing_of old.eval in
-        let did = d.at sure in
-        let few = d.keeps.eval.fewer in
-        (ns, enough new.eval.steps old.eval.steps fs ns few e, then_follows b (p b.account n) (left b.account fs ns) (here_of g old) (completion_of s) (here_of g new) (did.at n le));
-  };
-  doubt = d.doubt;
-  keeps = d.keeps;
-}
-runs_done {g = g} {p = p} {fs = fs} {old = old} {new = new} (Err c) d = record {
-  at = λ sure n ns le e. record {
-    done =
-        let b = standing_of old.eval in
-        let did = d.at sure in
-        then_failed b (IsSteady g new.eval.store.now) (p b.account n) (left b.account fs ns) (here_of g old) (fault_of c) (here_of g new) (did.at n le);
-  };
-  doubt = d.doubt;
-  keeps = d.keeps;
-}
-
--- a frame stands below what is done, in place of what it does then
-pub runs_frame : {S : Type 0} {g : Ghosts S} {p : Text → ℕ → Act meaning.Completion} (f : View) {fs fs' : List View} {old new : Parts S} {r : Result Completion Code} → Runs g p (f ∷ fs) old r fs' new → Runs g (λ a n. p a n >>= frame a n f) fs old r fs' new
-runs_frame f {fs = fs} k = record {
-  at = λ sure n ns le e. on_frame fs f n ns (k.at sure n (n ∷ ns) le (le, e));
-  doubt = k.doubt;
-  keeps = k.keeps;
-}
-
--- a frame is on top, and goes on with what is next
-pub runs_top : {S : Type 0} {g : Ghosts S} {fs : List View} {parts : Parts S} (f : View) → Runs g (λ a n. frame a n f Go_on) fs parts (Ok completion.GoOn) (f ∷ fs) parts
-runs_top f = record {
-  at = λ sure n ns le e. on_top f completion.GoOn n ns le e;
-  doubt = Doubts-same _;
-  keeps = keeps_itself _;
-}
+runs_done r d = if_done (λ s n. s ≤ n) (λ s n h. h) (λ m s n le h. omega arith) r d
 
 -- if nothing is next, a completion is given again
 nothing_next : (s : meaning.Completion) → ◌≡◌ {A = Act meaning.Completion} (after s (give Go_on)) (give s)
@@ -189,15 +235,15 @@ nothing_next Go_on = refl
 nothing_next s = refl
 
 -- an act before the rest of a line that may be empty
-pub runs_resting : {S : Type 0} {g : Ghosts S} {p : Text → ℕ → Act meaning.Completion} (d : meaning.Position) (l : List CommandTree) {fs fs' : List View} {old new : Parts S} {r : Result Completion Code} → Runs g p (resting d l fs) old r fs' new → Runs g (λ a n. p a n >>= frame a n (Rests d l)) fs old r fs' new
-runs_resting {p = p} d [] k = runs_as (λ a n. (λ i. p a n >>= (λ s. nothing_next s i)) ∙ ended (p a n)) k
-runs_resting d (c ∷ l) k = runs_frame (Rests d (c ∷ l)) k
+pub within_resting : {S : Type 0} {g : Ghosts S} {p : Text → ℕ → Act meaning.Completion} (d : meaning.Position) (l : List CommandTree) {fs fs' : List View} {old new : Parts S} {r : Result Completion Code} → RunsWithin g p (resting d l fs) old r fs' new → RunsWithin g (λ a n. p a n >>= frame a n (Rests d l)) fs old r fs' new
+within_resting {p = p} d [] k = runs_as (λ a n. (λ i. p a n >>= (λ s. nothing_next s i)) ∙ ended (p a n)) k
+within_resting d (c ∷ l) k = frame_below (Rests d (c ∷ l)) (λ s n h. omega arith) k
 
 -- an act before the rest of a command's arguments, of which there may be none
-pub runs_listing : {S : Type 0} {g : Ghosts S} {p : Text → ℕ → Act meaning.Completion} (d : meaning.Position) (args : List ArgTree) {fs fs' : List View} {old new : Parts S} {r : Result Completion Code}
-    → Runs g p (listing d args fs) old r fs' new → Runs g (λ a n. p a n >>= frame a n (Lists d args)) fs old r fs' new
-runs_listing {p = p} d [] k = runs_as (λ a n. (λ i. p a n >>= (λ s. nothing_next s i)) ∙ ended (p a n)) k
-runs_listing d (x ∷ args) k = runs_frame (Lists d (x ∷ args)) k
+pub within_listing : {S : Type 0} {g : Ghosts S} {p : Text → ℕ → Act meaning.Completion} (d : meaning.Position) (args : List ArgTree) {fs fs' : List View} {old new : Parts S} {r : Result Completion Code}
+    → RunsWithin g p (listing d args fs) old r fs' new → RunsWithin g (λ a n. p a n >>= frame a n (Lists d args)) fs old r fs' new
+within_listing {p = p} d [] k = runs_as (λ a n. (λ i. p a n >>= (λ s. nothing_next s i)) ∙ ended (p a n)) k
+within_listing d (x ∷ args) k = frame_below (Lists d (x ∷ args)) (λ s n h. h) k
 
 -- ---- frames
 

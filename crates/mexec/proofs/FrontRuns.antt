@@ -13,7 +13,8 @@ use Rattle.mexec.specs.declared.completion.Progress.TheVariants as progress
 use Rattle.mexec.specs.Arguments.{IsUncalled}
 use Rattle.mexec.proofs.ArgumentRuns.{argument_is}
 use Rattle.mexec.proofs.Loops.{course_runs, turn_begins, turn_done}
-use Rattle.mexec.proofs.Calls.{at_then, at_failed, at_stopped, at_gives, at_as, runs_then, runs_stopped, runs_as, some_item}
+use Rattle.mexec.proofs.Calls.{at_then, at_failed, at_stopped, at_gives, at_as, runs_then, runs_stopped, runs_as, spent_within, some_item}
+use Rattle.mexec.specs.Frames.{RunsWithin}
 
 -- ---- acts
 
@@ -146,6 +147,13 @@ module _ {S : Type 0} {g : Ghosts S} (p : Position) (l : Line) where
   front_runs from does k =
       runs_as (λ a n. commands_is (context a n p) (commands_from l from)) (runs_then (λ a n w. line_left (context a n p) w.0 w.1) does k)
 
+  -- one that stops within a command, whose step is spent
+  pub front_stops : (from : ℕ) {at : ℕ} {o : the_progress.Progress the_stop.Stop} {fs fs' : List View} {old mid new : Parts S} {r : Result Completion Code} → DoesAt g (λ a n. front (context a n p) (commands_from l from)) (front_of l) old (Ok (o, at)) mid → mid.eval.steps < old.eval.steps
+      → RunsWithin g (λ a n. line_left (context a n p) (front_of l (o, at)).0 (commands_from l at)) fs mid r fs' new
+      → Runs g (λ a n. commands (context a n p) (commands_from l from)) fs old r fs' new
+  front_stops from does less k =
+      runs_as (λ a n. commands_is (context a n p) (commands_from l from)) (spent_within (λ a n w. line_left (context a n p) w.0 w.1) does less k)
+
   pub front_stopped : (from : ℕ) {fs fs' : List View} {old new : Parts S} {r : Result Completion Code} {e : Code} → DoesAt g (λ a n. front (context a n p) (commands_from l from)) (front_of l) old (Err e) new
       → IsErr r × IsErrAnd r (λ x. x ≡ e) → Runs g (λ a n. commands (context a n p) (commands_from l from)) fs old r fs' new
   front_stopped from does h =
@@ -162,10 +170,10 @@ module _ {S : Type 0} {g : Ghosts S} (p : Position) (l : Line) where
 module _ {S X : Type 0} {g : Ghosts S} {f : X → Unit {0}} {u : X} {fs fs' : List View} (t : ForLoop) {old mid next : Parts S} (gone : DoesAt g (λ a n. advanced (turning t).index (course_view t.course)) (λ (b : Bool). b) old (Ok true) mid)
     (c : DoesAt g (λ a n. charge) f mid (Ok u) next) (less : next.eval.steps < mid.eval.steps) where
   -- its body up to where it stops, and then what is left of that
-  pub turn_runs : {at : ℕ} {o : the_progress.Progress the_stop.Stop} {last new : Parts S} {r : Result Completion Code} → DoesAt g (λ a n. front (context a n (position_of t.body.position.value)) (rest_tree t.body)) (front_of t.body.line.value) next (Ok (o, at)) last
-      → Runs g (λ a n. line_left (context a n (position_of t.body.position.value)) (front_of t.body.line.value (o, at)).0 (commands_from t.body.line.value at)) (Turns (position_of t.body.position.value) (turning t) ∷ fs) last r fs' new
+  pub turn_stops : {at : ℕ} {o : the_progress.Progress the_stop.Stop} {last new : Parts S} {r : Result Completion Code} → DoesAt g (λ a n. front (context a n (position_of t.body.position.value)) (rest_tree t.body)) (front_of t.body.line.value) next (Ok (o, at)) last → last.eval.steps < next.eval.steps
+      → RunsWithin g (λ a n. line_left (context a n (position_of t.body.position.value)) (front_of t.body.line.value (o, at)).0 (commands_from t.body.line.value at)) (Turns (position_of t.body.position.value) (turning t) ∷ fs) last r fs' new
       → Runs g (λ a n. meaning.after_course (context a n (position_of t.body.position.value)) (turning t) (course_view t.course)) fs old r fs' new
-  turn_runs does k = course_runs t gone (turn_begins (position_of t.body.position.value) (turning t) c less (front_runs (position_of t.body.position.value) t.body.line.value t.body.at does k))
+  turn_stops does within k = course_runs t gone (turn_begins (position_of t.body.position.value) (turning t) c less (front_stops (position_of t.body.position.value) t.body.line.value t.body.at does within k))
 
   pub turn_stopped : {new : Parts S} {r : Result Completion Code} {e : Code} → DoesAt g (λ a n. front (context a n (position_of t.body.position.value)) (rest_tree t.body)) (front_of t.body.line.value) next (Err e) new → IsErr r × IsErrAnd r (λ x. x ≡ e)
       → Runs g (λ a n. meaning.after_course (context a n (position_of t.body.position.value)) (turning t) (course_view t.course)) fs old r fs' new

@@ -11,7 +11,8 @@ use Rattle.meval.specs.declared.eval.Eval.{Eval}
 use Rattle.mexec.specs.declared.completion.Completion as completions
 use Rattle.mexec.specs.declared.completion.Completion.TheVariants as completion
 use Rattle.mcommand.proofs.Calls.{keeps_itself}
-use Rattle.mexec.proofs.Calls.{at_then, at_stopped, at_gives, runs_then, runs_spent, runs_stopped, runs_wanting, runs_as, runs_frame, runs_top, runs_completion}
+use Rattle.mexec.proofs.Calls.{at_then, at_stopped, at_gives, runs_then, runs_spent, runs_stopped, runs_wanting, runs_as, frame_below, frame_top, runs_completion}
+use Rattle.mexec.specs.Frames.{RunsWithin}
 
 -- ---- lists
 
@@ -144,11 +145,11 @@ module _ {S : Type 0} {g : Ghosts S} where
   -- the commands of a text that is entered stand on top of its level
   pub text_runs : {fs : List View} {parts : Parts S} (p : Position) (c : Closing) (cs : List CommandTree)
       → Runs g (λ a n. (texts a (suc n)).enter p cs >>= closed c) fs parts (Ok completion.GoOn) (Rests p cs ∷ Levels p c ∷ fs) parts
-  text_runs p c cs = runs_as (λ a n. assoc (commands (context a n p) cs) (after_level (context a n p)) (closed c)) (runs_frame (Levels p c) (runs_top (Rests p cs)))
+  text_runs p c cs = runs_as (λ a n. assoc (commands (context a n p) cs) (after_level (context a n p)) (closed c)) (frame_below (Levels p c) (λ s n h. h) (frame_top (Rests p cs) (λ s n h. h)))
 
   pub body_runs : {fs : List View} {parts : Parts S} (p : Position) (c : Closing) (b : BodyTree)
       → Runs g (λ a n. (texts a (suc n)).enter p (commands_in b) >>= closed c) fs parts (Ok completion.GoOn) (on_body p c b fs) parts
-  body_runs p c (short comment) = runs_frame (Levels p c) (runs_completion completion.GoOn)
+  body_runs p c (short comment) = frame_below (Levels p c) (λ s n h. h) (runs_completion completion.GoOn)
   body_runs p c (spaced_out dots l) = text_runs p c (commands_of l)
 
   -- ---- lines that are passed over
@@ -236,9 +237,13 @@ module _ {S : Type 0} {g : Ghosts S} where
       subst (λ (d : Depth). Runs g (λ a n. (texts a (suc n)).enter there cs >>= closed leaves) fs parts (Ok completion.GoOn) (Rests (text_position d p) cs ∷ Levels (text_position d p) leaves ∷ fs) parts) (sym is)
       (text_runs there leaves cs)
 
+  list_on_top : {fs : List View} {parts : Parts S} (p : Position) (args : List ArgTree)
+      → RunsWithin g (λ a n. (texts a (suc n)).list p args) fs parts (Ok completion.GoOn) (Lists p args ∷ fs) parts
+  list_on_top p args = frame_top (Lists p args) (λ s n h. h)
+
   -- arguments that a text gives stand on top
   pub list_opened : (p : Position) (d : Depth) → d ≡ indirected p.depth → {fs : List View} {parts : Parts S} (args : List ArgTree)
-      → Runs g (λ a n. (texts a (suc n)).list (within_indirection p) args) fs parts (Ok completion.GoOn) (Lists (so_deep d p) args ∷ fs) parts
+      → RunsWithin g (λ a n. (texts a (suc n)).list (within_indirection p) args) fs parts (Ok completion.GoOn) (Lists (so_deep d p) args ∷ fs) parts
   list_opened p d is {fs = fs} {parts = parts} args =
-      subst (λ (d : Depth). Runs g (λ a n. (texts a (suc n)).list (within_indirection p) args) fs parts (Ok completion.GoOn) (Lists (so_deep d p) args ∷ fs) parts) (sym is)
-      (runs_top (Lists (within_indirection p) args))
+      subst (λ (d : Depth). RunsWithin g (λ a n. (texts a (suc n)).list (within_indirection p) args) fs parts (Ok completion.GoOn) (Lists (so_deep d p) args ∷ fs) parts) (sym is)
+      (list_on_top (within_indirection p) args)

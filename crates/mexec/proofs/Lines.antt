@@ -5,6 +5,8 @@ use Rattle.mmeaning.specs.LineMeaning as meaning
 use Rattle.mmeaning.proofs.LevelMoves.{line_begins}
 use Rattle.mnodes.specs.Steady.{IsSteady}
 use Rattle.mexec.specs.declared.completion.Completion.TheVariants as completion
+use Rattle.mmeaning.specs.Frames.{Fits}
+use Rattle.mexec.specs.Frames.{RunsIf, RunsWithin}
 use Rattle.mexec.proofs.Calls.{passes, runs_as, runs_completion}
 
 module _ {S : Type 0} {g : Ghosts S} where
@@ -21,7 +23,7 @@ module _ {S : Type 0} {g : Ghosts S} where
 
   module _ (p : Text → ℕ → Act meaning.Completion) (f : View) (fs : List View) {s : meaning.Completion} {old mid new : Parts S} (d : Leads g p old (f ∷ fs) s mid) where
     -- what the frame on top does, stated from where the line began
-    moved : {fs' : List View} {r : Result Completion Code} → Runs g (λ a n. frame a n f s) fs mid r fs' new → (sure : g.doubt new.eval.store.now ≡ 0) (m : ℕ) (ms : List ℕ) → mid.eval.steps ≤ m → Enough mid.eval.steps fs ms
+    moved : {fs' : List View} {r : Result Completion Code} → RunsIf (Fits f) g (λ a n. frame a n f s) fs mid r fs' new → (sure : g.doubt new.eval.store.now ≡ 0) (m : ℕ) (ms : List ℕ) → Fits f mid.eval.steps m → Enough mid.eval.steps fs ms
         → MovedAs {X = Completion} (standing_of old.eval) (IsSteady g new.eval.store.now) fault_of completion_of (left (standing_of old.eval).account (f ∷ fs) (m ∷ ms) s) (here_of g mid) r fs' (here_of g new)
     moved {fs' = fs'} {r = r} k sure m ms le e =
         let here =
@@ -29,7 +31,7 @@ module _ {S : Type 0} {g : Ghosts S} where
         in
         here.done
 
-    pub leads_on : {fs' : List View} {s' : Completion} → Runs g (λ a n. frame a n f s) fs mid (Ok s') fs' new → Leads g p old fs' (completion_of s') new
+    pub leads_on : {fs' : List View} {s' : Completion} → RunsIf (Fits f) g (λ a n. frame a n f s) fs mid (Ok s') fs' new → Leads g p old fs' (completion_of s') new
     leads_on {fs' = fs'} {s' = s'} k = record {
       at = λ sure n le. go sure n (d.at (undoubted k.doubt sure) n le);
       doubt = Doubts-then d.doubt k.doubt;
@@ -45,7 +47,7 @@ module _ {S : Type 0} {g : Ghosts S} where
             let done = moved k sure m ms e.0 e.1 in
             (done.0, done.1, follows_on b (p b.account n) (left b.account (f ∷ fs) (m ∷ ms) s) (left b.account fs' done.0 (completion_of s')) (here_of g old) (here_of g mid) (here_of g new) follows done.2)
 
-    pub leads_stopped : {fs' : List View} {e : Code} {r : Result Completion Code} → Runs g (λ a n. frame a n f s) fs mid (Err e) fs' new → IsErr r × IsErrAnd r (λ x. x ≡ e) → DoesAt g p completion_of old r new
+    pub leads_stopped : {fs' : List View} {e : Code} {r : Result Completion Code} → RunsIf (Fits f) g (λ a n. frame a n f s) fs mid (Err e) fs' new → IsErr r × IsErrAnd r (λ x. x ≡ e) → DoesAt g p completion_of old r new
     leads_stopped {e = e} {r = r} k h =
         let keeps = keeps_on d.keeps k.keeps in
         let few = keeps.eval.fewer in
@@ -81,5 +83,5 @@ module _ {S : Type 0} {g : Ghosts S} where
   rest_passes p cs s not_go = runs_as (λ a n. passes s (commands (context a n p) cs) not_go) (runs_completion s)
 
   -- and of a command's arguments
-  pub list_passes : {fs : List View} {parts : Parts S} (p : meaning.Position) (args : List ArgTree) (s : Completion) → (s ≡ completion.GoOn → ⊥) → Runs g (λ a n. frame a n (Lists p args) (completion_of s)) fs parts (Ok s) fs parts
+  pub list_passes : {fs : List View} {parts : Parts S} (p : meaning.Position) (args : List ArgTree) (s : Completion) → (s ≡ completion.GoOn → ⊥) → RunsWithin g (λ a n. frame a n (Lists p args) (completion_of s)) fs parts (Ok s) fs parts
   list_passes p args s not_go = runs_as (λ a n. passes s (arguments (context a n p) args) not_go) (runs_completion s)

@@ -12,7 +12,7 @@ use Rattle.mcommand.specs.ForParameters.{start_and_increment, begun_within, star
 use Rattle.mexec.specs.declared.completion.Completion.TheVariants as completion
 use Rattle.mgrammar.specs.CallsIn.{has_call_parameter}
 use Rattle.mexec.proofs.Here.{started_here}
-use Rattle.mexec.proofs.Calls.{runs_then, runs_stopped, runs_as, runs_spent, runs_frame, runs_completion}
+use Rattle.mexec.proofs.Calls.{runs_then, runs_stopped, runs_as, runs_spent, frame_below, runs_completion}
 
 -- ---- acts
 
@@ -71,7 +71,7 @@ course_is x t forever = refl
 module _ {S X : Type 0} {g : Ghosts S} {f : X → Unit {0}} {u : X} {old mid : Parts S} (d : Position) (t : Turning) (c : DoesAt g (λ a n. charge) f old (Ok u) mid) (less : mid.eval.steps < old.eval.steps) where
   -- once its step is spent its body is done, with the turns below it
   pub turn_begins : {fs fs' : List View} {new : Parts S} {r : Result Completion Code} → Runs g (λ a n. meaning.commands (context a n d) t.body) (frames.Turns d t ∷ fs) mid r fs' new → Runs g (λ a n. begin_turn (context a n d) t) fs old r fs' new
-  turn_begins k = runs_spent (λ a n _. (context a n d).texts.turn d t) c less (runs_frame (frames.Turns d t) k)
+  turn_begins k = runs_spent (λ a n _. (context a n d).texts.turn d t) c less (frame_below (frames.Turns d t) (λ s n h. h) k)
 
   -- the same at once
   pub turn_done : {s : Completion} {fs fs' : List View} {next new : Parts S} {r : Result Completion Code} → DoesAt g (λ a n. meaning.commands (context a n d) t.body) completion_of mid (Ok s) next

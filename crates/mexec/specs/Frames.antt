@@ -1,6 +1,6 @@
 -- SPDX-License-Identifier: Apache-2.0
 -- Frames of the program as those of the definitions, and what calls say of them.
-use Rattle.std.specs.Prelude.{◌≡◌, ℕ, ◌≤◌, List, [], ◌∷◌, Result, Ok, Err, map, drop, true}
+use Rattle.std.specs.Prelude.{◌≡◌, ℕ, ◌≤◌, ◌<◌, List, [], ◌∷◌, Result, Ok, Err, map, drop, true}
 use Rattle.mspec.specs.Act.{Text, Act}
 use Rattle.mgrammar.specs.Grammar.{CommandTree}
 use Rattle.mmeaning.specs.LineMeaning as meaning
@@ -100,12 +100,20 @@ abbrev pub resting : Position → List CommandTree → List View → List View
 resting p [] fs = fs
 resting p (c ∷ cs) fs = Rests p (c ∷ cs) ∷ fs
 
--- a call does an act before some frames, and leaves frames that have to do what is then left
-pub record Runs {S : Type 0} (g : Ghosts S) (p : Text → ℕ → Act meaning.Completion) (fs : List View) (old : Parts S) (r : Result Completion Code) (fs' : List View) (new : Parts S) : Type 0 where
-  pub at : g.doubt new.eval.store.now ≡ 0 → (n : ℕ) (ns : List ℕ) → old.eval.steps ≤ n → Enough old.eval.steps fs ns →
+-- a call does an act before some frames, and leaves frames that have to do what is then left; how many texts the act may enter fits the steps
+pub record RunsIf {S : Type 0} (fits : (steps n : ℕ) → Type 0) (g : Ghosts S) (p : Text → ℕ → Act meaning.Completion) (fs : List View) (old : Parts S) (r : Result Completion Code) (fs' : List View) (new : Parts S) : Type 0 where
+  pub at : g.doubt new.eval.store.now ≡ 0 → (n : ℕ) (ns : List ℕ) → fits old.eval.steps n → Enough old.eval.steps fs ns →
       MovedOn (standing_of old.eval) (IsSteady g new.eval.store.now) fault_of completion_of (p (standing_of old.eval).account n) (left (standing_of old.eval).account fs ns) (here_of g old) r fs' (here_of g new)
   pub doubt : DoubtsOver g old.eval.store.now new.eval.store.now (is_kept r)
   pub keeps : KeepsLoans old new
+
+-- as many as there are steps
+abbrev pub Runs : {S : Type 0} → Ghosts S → (Text → ℕ → Act meaning.Completion) → List View → Parts S → Result Completion Code → List View → Parts S → Type 0
+Runs = RunsIf (λ steps n. steps ≤ n)
+
+-- one more, as within a command, whose own step is spent
+abbrev pub RunsWithin : {S : Type 0} → Ghosts S → (Text → ℕ → Act meaning.Completion) → List View → Parts S → Result Completion Code → List View → Parts S → Type 0
+RunsWithin = RunsIf (λ steps n. steps < n)
 
 -- what the frames have to do with a completion is what is left of an act
 pub record Leads {S : Type 0} (g : Ghosts S) (p : Text → ℕ → Act meaning.Completion) (old : Parts S) (fs : List View) (s : meaning.Completion) (new : Parts S) : Type 0 where

@@ -6,7 +6,7 @@ ghost use Rattle.mgrammar.specs.CallsIn.{has_call, has_call_arg, has_call_option
 ghost use Rattle.mmeaning.specs.LineMeaning as meaning;
 ghost use Rattle.mexec.specs.Words.{DoesAt, arg_tree, condition_tree, context, depth_of, entry_tree, expr_tree, inside};
 ghost use Rattle.mexec.specs.Falls.{Falls};
-ghost use Rattle.mexec.specs.Frames.{Runs, completion_of, went, source_args, source_position, position_of, stack};
+ghost use Rattle.mexec.specs.Frames.{RunsWithin, completion_of, went, source_args, source_position, position_of, stack};
 ghost use Rattle.mexec.specs.Progress.{IfStops, ends};
 ghost use Rattle.mexec.specs.Fronts.{args_started, begun_of};
 ghost use Rattle.mexec.specs.Arguments.{IsUncalled, started, start_of, where_applies, entrance_of, entered_then};
@@ -181,7 +181,7 @@ pub(crate) fn enter_argument<S: NodeStore>(
 ) -> Result<Completion, Code>
     requires { IsUncalled entrance }
     ensures falls { Falls parts.old scratch.old result parts.new scratch.new }
-    ensures does { Runs S.NodeStore (λ a n. entered_then (context a n (position_of (source_position source.entry))) (entrance_of entrance.entry) (map arg_tree (drop argument (source_args source.entry)))) (stack scratch.old.frames.items) parts.old result (stack scratch.new.frames.items) parts.new }
+    ensures does { RunsWithin S.NodeStore (λ a n. entered_then (context a n (position_of (source_position source.entry))) (entrance_of entrance.entry) (map arg_tree (drop argument (source_args source.entry)))) (stack scratch.old.frames.items) parts.old result (stack scratch.new.frames.items) parts.new }
 {
     source.leave(argument, scratch)?;
     let position = source.position();
@@ -203,7 +203,7 @@ pub(crate) fn arguments<S: NodeStore>(
     scratch: &mut Scratch,
 ) -> Result<Completion, Code>
     ensures falls { Falls parts.old scratch.old result parts.new scratch.new }
-    ensures does { Runs S.NodeStore (λ a n. meaning.arguments (context a n (position_of (source_position source.entry))) (map arg_tree (drop from (source_args source.entry)))) (stack scratch.old.frames.items) parts.old result (stack scratch.new.frames.items) parts.new }
+    ensures does { RunsWithin S.NodeStore (λ a n. meaning.arguments (context a n (position_of (source_position source.entry))) (map arg_tree (drop from (source_args source.entry)))) (stack scratch.old.frames.items) parts.old result (stack scratch.new.frames.items) parts.new }
 {
     let (begun, argument) = arguments_begun(alloc, parts, source.position(), source.all(), from)?;
     match begun {

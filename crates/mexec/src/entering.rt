@@ -102,7 +102,7 @@ pub(crate) fn doing<S: NodeStore>(
         dots: 0,
     };
     let inner = Position { depth, level };
-    enter_line(alloc, parts, &inner, Closing::Leaves, line, scratch)
+    enter_line(alloc, parts, inner, Closing::Leaves, line, scratch)
 }
 
 // DO without arguments: the lines after this one that have one more dot. $TEST is afterwards what it was.

@@ -6,7 +6,7 @@ ghost use Rattle.mgrammar.specs.CallsIn.{has_call_arg, has_call_primary};
 ghost use Rattle.mexec.specs.Words.{Lists, Yields, an_indirection_free, arg_tree, context, depth_of, fault_of, form_of, indirected, keyword_tree, primary_tree};
 ghost use Rattle.mmeaning.specs.LineMeaning as meaning;
 ghost use Rattle.mexec.specs.Falls.{FallsFurther};
-ghost use Rattle.mexec.specs.Frames.{Runs, position_of, stack};
+ghost use Rattle.mexec.specs.Frames.{RunsWithin, position_of, stack};
 ghost use Rattle.mexec.specs.Entering.{so_deep};
 
 use crate::completion::Completion;
@@ -68,7 +68,7 @@ pub(crate) fn giving<S: NodeStore>(
 ) -> Result<Completion, Code>
     requires { has_call_primary (primary_tree operand.now) ≡ false }
     ensures falls { FallsFurther parts.old scratch.old result parts.new scratch.new }
-    ensures does { Runs S.NodeStore (λ a n. meaning.given (context a n (position_of position.now)) (form_of (keyword_tree keyword)) (primary_tree operand.now)) (stack scratch.old.frames.items) parts.old result (stack scratch.new.frames.items) parts.new }
+    ensures does { RunsWithin S.NodeStore (λ a n. meaning.given (context a n (position_of position.now)) (form_of (keyword_tree keyword)) (primary_tree operand.now)) (stack scratch.old.frames.items) parts.old result (stack scratch.new.frames.items) parts.new }
 {
     parts.eval.depth = position.depth;
     let text = parts.eval.primary(alloc, operand)?;

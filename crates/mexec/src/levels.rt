@@ -119,15 +119,15 @@ fn next_line<S: NodeStore>(parts: &mut Parts<S>, level: &Level) -> Result<Option
     }
 }
 
-// The same level, with another line coming next.
-fn coming_next(position: &Position, next: usize) -> Result<Position, AllocError>
-    ensures { IfOk result (λ there. position_of there ≡ at_next (position_of position.now) next) }
+// The same position, of one's own.
+fn same_position(position: &Position) -> Result<Position, AllocError>
+    ensures { IfOk result (λ there. position_of there ≡ position_of position.now) }
 {
     Ok(Position {
         depth: position.depth,
         level: Level {
             copy: position.level.copy.clone()?,
-            next: Some(next),
+            next: position.level.next,
             dots: position.level.dots,
         },
     })
@@ -157,17 +157,19 @@ pub(crate) fn leave_commands(
 // Leaves what comes after a label on the frames, on top of its level, with another line coming next.
 fn enter_body(
     alloc: Global,
-    position: &Position,
+    position: Position,
     next: usize,
     closing: Closing,
     body: &Body,
     scratch: &mut Scratch,
 ) -> Result<(), AllocError>
     requires { has_call_body (body_tree body.now) ≡ false }
-    ensures frames { OnOk result (stack scratch.new.frames.items ≡ on_body (at_next (position_of position.now) next) (closing_of closing) (body_tree body.now) (stack scratch.old.frames.items)) }
+    ensures frames { OnOk result (stack scratch.new.frames.items ≡ on_body (at_next (position_of position) next) (closing_of closing) (body_tree body.now) (stack scratch.old.frames.items)) }
     ensures most { OnOk result (length scratch.new.frames.items ≤ length scratch.old.frames.items + 2) }
 {
-    let there = Rc::new(alloc, coming_next(position, next)?)?;
+    let mut there = position;
+    there.level.next = Some(next);
+    let there = Rc::new(alloc, there)?;
     match body {
         Body::Short(_) => {
             scratch.frames.push(Frame::Level(there, closing))?;
@@ -184,17 +186,17 @@ fn enter_body(
 fn read_and_enter<S: NodeStore>(
     alloc: Global,
     parts: &mut Parts<S>,
-    position: &Position,
+    position: Position,
     closing: Closing,
     at: usize,
     language: u32,
     scratch: &mut Scratch,
 ) -> Result<Completion, Code>
-    requires within { at < length position.now.level.copy.value.items }
+    requires within { at < length position.level.copy.value.items }
     requires language { language ≡ (standing_of parts.old.eval).given.language }
     requires known { language ≤ 1 }
     ensures falls { IfOk result (λ _. 6 * parts.new.eval.steps + length scratch.new.frames.items ≤ 6 * parts.old.eval.steps + length scratch.old.frames.items + 2) }
-    ensures does { Runs S.NodeStore (λ a n. line_then (context a (suc n) (position_of position.now)) (closing_of closing) at (get_or position.now.level.copy.value.items at [])) (stack scratch.old.frames.items) parts.old result (stack scratch.new.frames.items) parts.new }
+    ensures does { Runs S.NodeStore (λ a n. line_then (context a (suc n) (position_of position)) (closing_of closing) at (get_or position.level.copy.value.items at [])) (stack scratch.old.frames.items) parts.old result (stack scratch.new.frames.items) parts.new }
 {
     let text = position.level.copy[at].as_bytes();
     let line = read_routine_line(alloc, &mut scratch.trees, language, text)?;
@@ -207,14 +209,14 @@ fn read_and_enter<S: NodeStore>(
 pub(crate) fn enter_line<S: NodeStore>(
     alloc: Global,
     parts: &mut Parts<S>,
-    position: &Position,
+    position: Position,
     closing: Closing,
     at: usize,
     scratch: &mut Scratch,
 ) -> Result<Completion, Code>
-    requires { at < length position.now.level.copy.value.items }
+    requires { at < length position.level.copy.value.items }
     ensures falls { FallsFurther parts.old scratch.old result parts.new scratch.new }
-    ensures does { Runs S.NodeStore (λ a n. entering (context a n (position_of position.now)) (closing_of closing) at (get_or position.now.level.copy.value.items at [])) (stack scratch.old.frames.items) parts.old result (stack scratch.new.frames.items) parts.new }
+    ensures does { Runs S.NodeStore (λ a n. entering (context a n (position_of position)) (closing_of closing) at (get_or position.level.copy.value.items at [])) (stack scratch.old.frames.items) parts.old result (stack scratch.new.frames.items) parts.new }
 {
     parts.eval.charge()?;
     let language = parts.eval.language();
@@ -239,7 +241,8 @@ fn reach_line<S: NodeStore>(
     if has_formal_list(language, position.level.copy[at].as_bytes()) {
         return Err(Code::M11);
     }
-    read_and_enter(alloc, parts, position, closing, at, language, scratch)
+    let there = same_position(position)?;
+    read_and_enter(alloc, parts, there, closing, at, language, scratch)
 }
 
 // Goes to the line that comes next in a level, or closes it.

@@ -5,7 +5,8 @@ ghost use Rattle.mgrammar.specs.CallsIn.{has_call_line};
 ghost use Rattle.mexec.specs.Words.{DoesAt, Levels, commands_of, frame, line_tree, stays};
 ghost use Rattle.mmeaning.specs.LineMeaning as meaning;
 ghost use Rattle.mexec.specs.Falls.{Falls};
-ghost use Rattle.mexec.specs.Frames.{Runs, view, stack, completion_of, position_of};
+ghost use Rattle.mmeaning.specs.Frames.{Fits};
+ghost use Rattle.mexec.specs.Frames.{RunsIf, view, stack, completion_of, position_of};
 
 use crate::arguments::arguments;
 use crate::completion::Completion;
@@ -31,7 +32,7 @@ fn run_frame<S: NodeStore>(
     scratch: &mut Scratch,
 ) -> Result<Completion, Code>
     ensures falls { Falls parts.old scratch.old result parts.new scratch.new }
-    ensures does { Runs S.NodeStore (λ a n. frame a n (view top) (completion_of completion)) (stack scratch.old.frames.items) parts.old result (stack scratch.new.frames.items) parts.new }
+    ensures does { RunsIf (Fits (view top)) S.NodeStore (λ a n. frame a n (view top) (completion_of completion)) (stack scratch.old.frames.items) parts.old result (stack scratch.new.frames.items) parts.new }
 {
     match top {
         Frame::Continuation(rest) => match completion {

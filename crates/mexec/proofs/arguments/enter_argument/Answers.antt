@@ -1,5 +1,5 @@
 -- SPDX-License-Identifier: Apache-2.0
-use Rattle.mexec.proofs.ExecLaws.{map, drop, arg_tree, source_args, source_position, position_of, runs_wanting, runs_listing}
+use Rattle.mexec.proofs.ExecLaws.{map, drop, arg_tree, source_args, source_position, position_of, runs_wanting, runs_within, within_listing}
 use Rattle.mexec.proofs.arguments.enter_argument.Goals as goal
 
 pub returns-in_err-leave-clause-does : goal.returns-in_err-leave-clause-does
@@ -9,19 +9,19 @@ pub returns-in-Lines-clause-does : goal.returns-in-Lines-clause-does
 returns-in-Lines-clause-does g c =
     let s = c.args.source in
     let does = rw (c.position-position.ensures, c.in_ok-leave.ensures.frames) at c.doing.ensures.does in
-    rw c.in-Lines.is (runs_listing (position_of (source_position s)) (map arg_tree (drop c.args.argument (source_args s))) does)
+    rw c.in-Lines.is (within_listing (position_of (source_position s)) (map arg_tree (drop c.args.argument (source_args s))) (runs_within does))
 
 pub returns-in-Text-clause-does : goal.returns-in-Text-clause-does
 returns-in-Text-clause-does g c =
     let s = c.args.source in
     let does = rw (c.position-position.ensures, c.in_ok-leave.ensures.frames) at c.executing.ensures.does in
-    rw c.in-Text.is (runs_listing (position_of (source_position s)) (map arg_tree (drop c.args.argument (source_args s))) does)
+    rw c.in-Text.is (within_listing (position_of (source_position s)) (map arg_tree (drop c.args.argument (source_args s))) (runs_within does))
 
 pub returns-in-Indirect-clause-does : goal.returns-in-Indirect-clause-does
 returns-in-Indirect-clause-does g c =
     let s = c.args.source in
     let does = rw (c.position-position.ensures, c.in_ok-leave.ensures.frames) at c.giving.ensures.does in
-    rw c.in-Indirect.is (runs_listing (position_of (source_position s)) (map arg_tree (drop c.args.argument (source_args s))) does)
+    rw c.in-Indirect.is (within_listing (position_of (source_position s)) (map arg_tree (drop c.args.argument (source_args s))) does)
 
 pub doing-requires : goal.doing-requires
 doing-requires g c = rw c.in-Lines.is at c.requires

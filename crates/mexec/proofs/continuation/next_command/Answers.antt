@@ -1,5 +1,5 @@
 -- SPDX-License-Identifier: Apache-2.0
-use Rattle.mexec.proofs.ExecLaws.{arith, position_of, runs_completion, runs_wanting, falls_within, front_runs, front_stopped}
+use Rattle.mexec.proofs.ExecLaws.{arith, position_of, runs_completion, runs_wanting, falls_within, front_runs, front_stops, front_stopped}
 use Rattle.mexec.proofs.continuation.next_command.Goals as goal
 
 pub returns-in_err-outcome-clause-does : goal.returns-in_err-outcome-clause-does
@@ -35,7 +35,8 @@ returns-clause-does g c =
     let r = c.args.rest in
     let does = rw (c.deref.ensures, c.deref-2.ensures, c.in-Stops.is) at c.in_ok-outcome.ensures.does in
     let goes = rw (c.in_ok-behind-in-Stops.ensures.position, c.in_ok-behind-in-Stops.ensures.line, c.in_ok-behind-in-Stops.ensures.at) at c.go_on.ensures.does in
-    front_runs (position_of r.position.value) r.line.value r.at does goes
+    let spent = rw c.in-Stops.is at c.in_ok-outcome.ensures.spent in
+    front_stops (position_of r.position.value) r.line.value r.at does spent goes
 
 pub front-requires : goal.front-requires
 front-requires g c = rw c.deref-2.ensures c.args.rest.uncalled

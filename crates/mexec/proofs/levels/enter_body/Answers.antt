@@ -3,11 +3,11 @@ use Rattle.mexec.proofs.ExecLaws.{refl, stack_push}
 use Rattle.mexec.proofs.levels.enter_body.Goals as goal
 
 pub returns-in_ok-push-in-Short-clause-frames : goal.returns-in_ok-push-in-Short-clause-frames
-returns-in_ok-push-in-Short-clause-frames c = rw (c.in-Short.is, c.in_ok-push-in-Short.ensures.items, stack_push, c.in_ok-there.ensures.ok, c.in_ok-coming_next.ensures) refl
+returns-in_ok-push-in-Short-clause-frames c = rw (c.in-Short.is, c.in_ok-push-in-Short.ensures.items, stack_push, c.in_ok-there.ensures.ok) refl
 
 pub returns-in_ok-line-in-Spaced-clause-frames : goal.returns-in_ok-line-in-Spaced-clause-frames
 returns-in_ok-line-in-Spaced-clause-frames c =
-    let frames = rw (c.in_ok-line-in-Spaced.ensures.cases, c.in_ok-there.ensures.ok, c.in_ok-coming_next.ensures) at c.leave_commands.ensures.frames in
+    let frames = rw (c.in_ok-line-in-Spaced.ensures.cases, c.in_ok-there.ensures.ok) at c.leave_commands.ensures.frames in
     rw c.in-Spaced.is frames
 
 pub leave_commands-requires : goal.leave_commands-requires

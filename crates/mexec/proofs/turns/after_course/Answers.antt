@@ -1,5 +1,5 @@
 -- SPDX-License-Identifier: Apache-2.0
-use Rattle.mexec.proofs.ExecLaws.{refl, arith, context, completion_of, position_of, turning, runs_completion, runs_wanting, runs_as, at_plain, course_runs, not_gone_on, turn_charge_failed, falls_within, after_turn_is, turn_left, runs_then, runs_stopped, at_yielded, turn_runs, turn_stopped, turn_over}
+use Rattle.mexec.proofs.ExecLaws.{refl, arith, context, completion_of, position_of, turning, runs_completion, runs_wanting, runs_as, at_plain, course_runs, not_gone_on, turn_charge_failed, falls_within, after_turn_is, turn_left, runs_then, runs_stopped, at_yielded, turn_stops, turn_stopped, turn_over}
 use Rattle.mexec.proofs.turns.after_course.Goals as goal
 
 pub turns-init : goal.turns-init
@@ -90,13 +90,13 @@ pub returns-in_err-behind-in-Stops-clause-does : goal.returns-in_err-behind-in-S
 returns-in_err-behind-in-Stops-clause-does g c =
     let gone = rw (c.deref-in-turns.ensures, c.if-not-goes_on.false) at c.in_ok-goes_on.ensures in
     let body = rw (c.deref-in-turns-2.ensures, c.deref-in-turns-3.ensures, c.in_ok-body.ensures.position, c.in_ok-body.ensures.line, c.in_ok-body.ensures.at, c.deref.ensures) at c.in_ok-outcome.ensures.does in
-    c.turns.invariant.leads _ _ _ (turn_runs c.args.turns.value gone (at_plain c.in_ok-charge.ensures.does) c.in_ok-charge.ensures.spent body (runs_wanting _ _ c.from_residual-in_err-behind-in-Stops.ensures))
+    c.turns.invariant.leads _ _ _ (turn_stops c.args.turns.value gone (at_plain c.in_ok-charge.ensures.does) c.in_ok-charge.ensures.spent body (rw c.in-Stops.is at c.in_ok-outcome.ensures.spent) (runs_wanting _ _ c.from_residual-in_err-behind-in-Stops.ensures))
 
 pub returns-in_err-leave_turns-in-Stops-clause-does : goal.returns-in_err-leave_turns-in-Stops-clause-does
 returns-in_err-leave_turns-in-Stops-clause-does g c =
     let gone = rw (c.deref-in-turns.ensures, c.if-not-goes_on.false) at c.in_ok-goes_on.ensures in
     let body = rw (c.deref-in-turns-2.ensures, c.deref-in-turns-3.ensures, c.in_ok-body.ensures.position, c.in_ok-body.ensures.line, c.in_ok-body.ensures.at, c.deref.ensures) at c.in_ok-outcome.ensures.does in
-    c.turns.invariant.leads _ _ _ (turn_runs c.args.turns.value gone (at_plain c.in_ok-charge.ensures.does) c.in_ok-charge.ensures.spent body (runs_wanting _ _ c.from_residual-in_err-leave_turns-in-Stops.ensures))
+    c.turns.invariant.leads _ _ _ (turn_stops c.args.turns.value gone (at_plain c.in_ok-charge.ensures.does) c.in_ok-charge.ensures.spent body (rw c.in-Stops.is at c.in_ok-outcome.ensures.spent) (runs_wanting _ _ c.from_residual-in_err-leave_turns-in-Stops.ensures))
 
 pub go_on-requires : goal.go_on-requires
 go_on-requires g c =
@@ -108,7 +108,7 @@ returns-in-Stops-clause-does g c =
     let gone = rw (c.deref-in-turns.ensures, c.if-not-goes_on.false) at c.in_ok-goes_on.ensures in
     let body = rw (c.deref-in-turns-2.ensures, c.deref-in-turns-3.ensures, c.in_ok-body.ensures.position, c.in_ok-body.ensures.line, c.in_ok-body.ensures.at, c.deref.ensures, c.in-Stops.is) at c.in_ok-outcome.ensures.does in
     let does = rw (c.in_ok-behind-in-Stops.ensures.position, c.in_ok-behind-in-Stops.ensures.line, c.in_ok-behind-in-Stops.ensures.at, c.in_ok-body.ensures.position, c.in_ok-body.ensures.line, c.deref.ensures, c.in_ok-leave_turns-in-Stops.ensures.frames, c.turns.invariant.scratch) at c.go_on.ensures.does in
-    c.turns.invariant.leads _ _ _ (turn_runs c.args.turns.value gone (at_plain c.in_ok-charge.ensures.does) c.in_ok-charge.ensures.spent body does)
+    c.turns.invariant.leads _ _ _ (turn_stops c.args.turns.value gone (at_plain c.in_ok-charge.ensures.does) c.in_ok-charge.ensures.spent body (rw c.in-Stops.is at c.in_ok-outcome.ensures.spent) does)
 
 pub returns-in_err-turn_ends-in-Over-clause-does : goal.returns-in_err-turn_ends-in-Over-clause-does
 returns-in_err-turn_ends-in-Over-clause-does g c =

@@ -21,7 +21,7 @@ sys.path[:0] = [str(Path(__file__).resolve().parent / folder) for folder in ("te
 
 from database import IN_MEMORY  # noqa: E402
 from front import FRONT, Front, Ran, until  # noqa: E402
-from mserve_front.control import Refused, asked  # noqa: E402
+from mserve_front.control import ControlError, asked  # noqa: E402
 from running import PROGRAM, require_program  # noqa: E402
 from test_replay import held, works  # noqa: E402
 from test_restarts import Counting  # noqa: E402
@@ -107,7 +107,7 @@ async def followed(leader: Front, second: Front) -> dict[str, object] | None:
     def status() -> dict[str, object]:
         try:
             return asked(second.folder / "mfront.control", {"ask": "status"}, 30)
-        except Refused:
+        except ControlError:
             return {}
     await until(lambda: LATER in second.told() or status().get("caught up") is True, "a standby that has run all")
     if LATER in second.told():

@@ -58,7 +58,7 @@ Description: shared M (MUMPS) server with isolated accounts
 """
 
 
-class Refused(Exception):
+class NotMade(Exception):
     """The package cannot be made; the text says why, and what to do."""
 
 
@@ -71,7 +71,7 @@ def made_at() -> int:
     """The time that all files have: the day of this version in CHANGELOG.md."""
     found = re.search(rf"^## {re.escape(version())}, (\d{{4}}-\d\d-\d\d)$", (TOP / "CHANGELOG.md").read_text(encoding="utf-8"), re.MULTILINE)
     if found is None:
-        raise Refused(f"CHANGELOG.md has no heading '## {version()}, YYYY-MM-DD'")
+        raise NotMade(f"CHANGELOG.md has no heading '## {version()}, YYYY-MM-DD'")
     return int(datetime.fromisoformat(found[1]).replace(tzinfo=UTC).timestamp())
 
 
@@ -84,12 +84,12 @@ def programs() -> dict[str, bytes]:
     """The released programs, which are those that release/record names."""
     record = release_record()
     if record["version"] != version():
-        raise Refused(f"the release is of version {record['version']}, and VERSION says {version()}: tools/release.py make")
+        raise NotMade(f"the release is of version {record['version']}, and VERSION says {version()}: tools/release.py make")
     found = {}
     for name in PROGRAMS:
         found[name] = lzma.decompress((TOP / "release" / f"{name}.xz").read_bytes())
         if hashlib.sha256(found[name]).hexdigest() != record.get(name):
-            raise Refused(f"release/{name}.xz is not the program that release/record names: tools/release.py make")
+            raise NotMade(f"release/{name}.xz is not the program that release/record names: tools/release.py make")
     return found
 
 
@@ -126,7 +126,7 @@ def put_commands(root: Path) -> None:
     copied(root, TOP / "front" / "mserve_front", f"{SHARE}/front/mserve_front")
     copied(root, TOP / "front" / "page", f"{SHARE}/front/page")
     copied(root, TOP / "front" / "admin", f"{SHARE}/front/admin")
-    # The front makes the page of the language from it. What stands in DOC may be left out of a machine.
+    # The front makes the page of the language from it. What is in DOC may be left out of a machine.
     put(root, f"{SHARE}/docs/LANGUAGE.md", (TOP / "docs" / "LANGUAGE.md").read_bytes())
     copied(root, TOP / "packaging" / "monitoring", f"{SHARE}/monitoring")
     for name, folder in COMMANDS.items():
@@ -179,7 +179,7 @@ def put_control(root: Path) -> None:
 def make(folder: Path) -> Path:
     """Makes the package in a folder, and gives its path."""
     if shutil.which("dpkg-deb") is None:
-        raise Refused("dpkg-deb is missing: apt-get install dpkg")
+        raise NotMade("dpkg-deb is missing: apt-get install dpkg")
     folder.mkdir(parents=True, exist_ok=True)
     target = folder / f"mserve_{version()}_amd64.deb"
     with tempfile.TemporaryDirectory() as name:
@@ -195,7 +195,7 @@ def make(folder: Path) -> Path:
         words = ["dpkg-deb", "--root-owner-group", "-Zxz", "--build", root, target]
         done = subprocess.run(words, env=environment, capture_output=True, text=True)
         if done.returncode:
-            raise Refused(f"dpkg-deb: {done.stderr.strip()}")
+            raise NotMade(f"dpkg-deb: {done.stderr.strip()}")
     return target
 
 
@@ -205,7 +205,7 @@ def main() -> int:
     reader.add_argument("--to", type=Path, default=TOP / "packaging" / "out", metavar="FOLDER", help="where the package goes (default packaging/out)")
     try:
         print(make(reader.parse_args().to))
-    except (Refused, OSError) as error:
+    except (NotMade, OSError) as error:
         print(f"make_deb: {error}", file=sys.stderr)
         return 1
     return 0

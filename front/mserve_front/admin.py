@@ -1,7 +1,7 @@
 # SPDX-License-Identifier: Apache-2.0
 """The operator's page, at a socket of its own that only the front's user and root may open: who is signed on, what each account uses, what waits, the
-journal and the backup, how far its standbys are behind, the last hour in pictures, and for each alarm what to do. A standby has it too, with how far it is
-behind its leader, and a gate has one of its islands."""
+journal and the backup, how far its standbys lag, the last hour in pictures, and for each alarm what to do. A standby has it too, with how far it lags
+its leader, and a gate has one of its islands."""
 from __future__ import annotations
 
 import asyncio
@@ -17,6 +17,7 @@ from aiohttp import web
 from .control import bound
 from .http_head import names_loopback
 from .metrics import Metrics
+from .server import Server
 from .sessions import Sessions
 from .settings import Settings
 from .standbys import Behind, most_of
@@ -125,10 +126,11 @@ async def asked_here(request: web.Request, handler: Callable[[web.Request], Awai
 class Admin(Page):
     """The page of a front that serves."""
 
-    def __init__(self, settings: Settings, sessions: Sessions, metrics: Metrics, behind: Callable[[], list[Behind]] = list) -> None:
-        """`behind` gives how far each standby is behind."""
+    def __init__(self, settings: Settings, server: Server, sessions: Sessions, metrics: Metrics, behind: Callable[[], list[Behind]] = list) -> None:
+        """`behind` gives how far each standby lags."""
         super().__init__(settings.admin, self.told)
         self._behind = behind
+        self._server = server
         self._sessions = sessions
         self._metrics = metrics
         self._points: deque[list[float]] = deque(maxlen=POINTS)
@@ -142,10 +144,10 @@ class Admin(Page):
 
     def sample(self) -> None:
         """Adds a point: when, lines a second, which part of the time the server was busy, lines that wait, and the longest wait."""
-        used = self._sessions.server.shares.used().values()
+        used = self._server.shares.used().values()
         now, lines, taken = time.monotonic(), sum(count for count, _ in used), sum(seconds for _, seconds in used)
         span = max(now - self._before[0], 1e-6)
-        server = self._sessions.server
+        server = self._server
         self._points.append([round(time.time()), round((lines - self._before[1]) / span, 2), round((taken - self._before[2]) / span, 4), server.waiting,
                              round(max(server.oldest(), self._metrics.longest()), 3)])
         self._before = (now, lines, taken)
@@ -157,7 +159,7 @@ class Admin(Page):
         users = [{"user": one.user, "account": one.account, "terminal": one.terminal, "way": one.way, "from": one.address,
                   "seconds": round(time.monotonic() - one.began), "waits": one.carried > 0} for one in self._sessions]
         accounts = [{"account": account, "lines": lines, "seconds": round(taken, 3), "signed_on": sum(one["account"] == account for one in users)}
-                    for account, (lines, taken) in sorted(self._sessions.server.shares.used().items())]
+                    for account, (lines, taken) in sorted(self._server.shares.used().items())]
         state = f"The server is {'up' if figures['mfront_up'] else 'not up'}; {len(users)} signed on"
         shown = [{"standby": one.name, "line": one.line, "lines": one.lines, "seconds": round(one.seconds, 1), "silent": round(one.silent, 1),
                   "waits": one.waits} for one in standbys]
@@ -165,6 +167,6 @@ class Admin(Page):
                 "points": list(self._points), "step": STEP, **({"standbys": shown} if shown else {})}
 
     def _figures(self) -> dict[str, float]:
-        server = self._sessions.server
+        server = self._server
         text = self._metrics.text({}, server.waiting, server.oldest(), server.state == "up", self._sessions.journal_figures())
         return figures_of(text) | {"mfront_audit_waiting": float(self._sessions.audit_waiting)}

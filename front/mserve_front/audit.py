@@ -1,5 +1,5 @@
 # SPDX-License-Identifier: Apache-2.0
-"""The audit log: who did what, when, from where and at which terminal, as JSON lines. Texts of lines stand in it only if asked for."""
+"""The audit log: who did what, when, from where and at which terminal, as JSON lines. Texts of lines are in it only if asked for."""
 from __future__ import annotations
 
 import contextlib
@@ -10,7 +10,7 @@ from datetime import UTC, datetime
 from pathlib import Path
 
 from .metrics import Metrics
-from .server import Fault
+from .server import Condition
 
 
 class NoAudit(Exception):
@@ -26,8 +26,8 @@ class Audit:
         self._path = path
         self._metrics = metrics
         self._kept: list[bytes] = []
-        self._fault = Fault(f"{path}: the audit log cannot be written: {{}}: nobody signs on, and no line goes on until it can",
-                            f"{path}: the audit log is written again")
+        self._fault = Condition(f"{path}: the audit log cannot be written: {{}}: nobody signs on, and no line goes on until it can",
+                                f"{path}: the audit log is written again")
         self._descriptor = -1
         self.reopen()
 
@@ -100,7 +100,7 @@ class Audit:
 
 
 def packed(what: Mapping[str, object]) -> str:
-    """Keys and values, as they stand in a record."""
+    """Keys and values, as they are in a record."""
     return json.dumps(what)[1:-1]
 
 

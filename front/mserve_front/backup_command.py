@@ -3,15 +3,17 @@
 from __future__ import annotations
 
 import argparse
+import hashlib
 import json
 import shutil
 import tempfile
 import time
 from collections.abc import Callable
+from dataclasses import asdict
 from pathlib import Path
 
 from . import ending, journal_command
-from .control import Refused, asked
+from .control import ControlError, asked
 from .ending import DEFAULT, FAILED, FOUND, USAGE
 from .figures import VERIFIED
 from .folders import sync_folder, write_whole
@@ -71,7 +73,8 @@ def take(options: argparse.Namespace) -> int:
     found = asked(control, request, None)
     part = Path(str(found["part"]))
     try:
-        made = finish(part, Manifest(int(found["journal"]), int(found["number"]), str(found["time"]), list(found["open"])))
+        name = Manifest(int(found["journal"]), int(found["number"]), str(found["time"]), list(found["open"]), sequence=int(found.get("sequence", 0)))
+        made = finish(part, name)
         target = options.folder / f"{made.number:012d}"
         _replaced(part, target)
     except BaseException:
@@ -114,18 +117,37 @@ def verified(options: argparse.Namespace) -> int:
     latest = found[-1]
     manifest = check(latest)
     before = next((path for path in reversed(found[:-1]) if read_manifest(path).exact), None)
+    note = {"line": manifest.number, "at": time.time(), "from": before.name if before else "", "holds": digest_of(manifest)}
+    if verified_before(options.folder, note):
+        # What came before it may have expired since.
+        write_whole(options.folder / VERIFIED, json.dumps(note).encode() + b"\n")
+        print(f"{latest}: good: nobody has worked since it was verified, and it holds the same: {told(manifest)}")
+        return 0
     began = time.monotonic()
     with tempfile.TemporaryDirectory(prefix=".verify-", dir=options.scratch or options.folder) as scratch:
         store = Path(scratch) / "store"
-        words = ["--config", str(options.config), "replay", "--store", str(store), "--to", str(manifest.number)]
+        words = ["--config", str(options.config), "replay", "--store", str(store), "--to", str(latest.absolute())]
         status = journal_command.does([*words, *(["--from", str(before)] if before else [])])
         if status or not store.exists():
             raise BadSnapshot(f"{latest}: the journal up to line {manifest.number} could not be replayed from {before or 'its beginning'}: status {status}")
         differ(latest, manifest.accounts, accounts_of(store))
-    note = {"line": manifest.number, "at": time.time(), "from": before.name if before else ""}
     write_whole(options.folder / VERIFIED, json.dumps(note).encode() + b"\n")
     print(f"{latest}: good: a replay from {before or 'the beginning of the journal'} holds the same, in {time.monotonic() - began:.1f} s: {told(manifest)}")
     return 0
+
+
+def digest_of(manifest: Manifest) -> str:
+    """What tells a journal, and what all accounts held, from others."""
+    return hashlib.sha256(json.dumps([manifest.journal, asdict(manifest)["accounts"]], sort_keys=True).encode()).hexdigest()
+
+
+def verified_before(folder: Path, note: dict[str, object]) -> bool:
+    """Whether a snapshot of the same line, which held the same, was verified."""
+    try:
+        found = json.loads((folder / VERIFIED).read_bytes())
+        return bool(found["line"] == note["line"] and found["holds"] == note["holds"])
+    except (OSError, ValueError, KeyError, TypeError):
+        return False
 
 
 def compared(options: argparse.Namespace) -> int:
@@ -159,4 +181,4 @@ def say(text: str) -> None:
 
 def main() -> int:
     """The status of the command."""
-    return ending.ended(NAME, words().parse_args(), {BadSettings: USAGE, BadSnapshot: FOUND, Refused: FAILED})
+    return ending.ended(NAME, words().parse_args(), {BadSettings: USAGE, BadSnapshot: FOUND, ControlError: FAILED})

@@ -1,6 +1,6 @@
 # SPDX-License-Identifier: Apache-2.0
 """Other settings of the server, while users stay signed on: more accounts and terminals, other steps and grants. The server is started again between two
-lines, so that variables and locks are gone, as users are told; who is signed on stays so, at the same terminal."""
+lines, so that variables and locks are gone, which an event says to users; who is signed on stays so, at the same terminal."""
 from __future__ import annotations
 
 import asyncio
@@ -9,7 +9,7 @@ from collections.abc import Mapping, Sequence
 from pathlib import Path
 from typing import Protocol
 
-from .control import Answered, Refused
+from .control import Answered, ControlError
 from .faults import NoJournal
 from .server import Server
 from .settings import BadSettings, Settings, read_terminals
@@ -28,7 +28,7 @@ class Knowing(Protocol):
 
 
 class Changes:
-    """Takes the settings of the server as they stand in their file by now."""
+    """Takes the settings of the server as they are in their file by now."""
 
     def __init__(self, settings: Settings, server: Server, knowing: Sequence[Knowing]) -> None:
         self._settings = settings
@@ -36,21 +36,21 @@ class Changes:
         self._knowing = knowing
 
     async def take(self, _: dict[str, object]) -> Answered:
-        """Takes them, if the server would, and if all terminals are there that were. Raises `Refused`: the server goes on with those that it has."""
+        """Takes them, if the server would, and if all terminals are there that were. Raises `ControlError`: the server goes on with those that it has."""
         path = self._settings.server_settings
         if self._settings.join is not None:
-            raise Refused("the front has joined a server (server.join), which has its settings from elsewhere")
+            raise ControlError("the front has joined a server (server.join), which has its settings from elsewhere")
         try:
             terminals = read_terminals(path)
         except BadSettings as error:
-            raise Refused(str(error)) from error
+            raise ControlError(str(error)) from error
         refuse_missing(path, self._settings.terminals, terminals)
         await self._refuse_bad(path)
         began, new = time.monotonic(), sorted(terminals.keys() - self._settings.terminals.keys())
         try:
             await self._server.start_again(lambda: self._known(terminals))
         except (Unsent, NoJournal) as error:
-            raise Refused(f"the server has the settings of before: it is being started, or the journal cannot be written: {error}") from error
+            raise ControlError(f"the server has the settings of before: it is being started, or the journal cannot be written: {error}") from error
         await self._up()
         return {"accounts": len(terminals), "new": new, "seconds": round(time.monotonic() - began, 3)}
 
@@ -60,26 +60,26 @@ class Changes:
             one.know(terminals)
 
     async def _refuse_bad(self, path: Path) -> None:
-        """Raises `Refused` with what the program itself says of settings that it does not take."""
+        """Raises `ControlError` with what the program itself says of settings that it does not take."""
         words = [str(self._settings.program), "run", "--settings", str(path), "--store", "memory"]
         process = await asyncio.create_subprocess_exec(*words, stdin=asyncio.subprocess.DEVNULL, stdout=asyncio.subprocess.DEVNULL,
                                                        stderr=asyncio.subprocess.PIPE, start_new_session=True)
         _, told = await process.communicate()
         if process.returncode:
-            raise Refused(f"{path}: {told.decode('utf-8', 'replace').strip()} (mserve-settings {path} says where). The server goes on with the settings that "
-                          "it has; its next start reads this file")
+            raise ControlError(f"{path}: {told.decode('utf-8', 'replace').strip()} (mserve-settings {path} says where). The server goes on with "
+                               "the settings that it has; its next start reads this file")
 
     async def _up(self) -> None:
         """Waits until the server is up again."""
         end = time.monotonic() + STARTING
         while self._server.state != "up":
             if time.monotonic() > end:
-                raise Refused("the server has not come up by the new settings: its log says why")
+                raise ControlError("the server has not come up by the new settings: its log says why")
             await asyncio.sleep(0.01)
 
 
 def refuse_missing(path: Path, before: Terminals, after: Terminals) -> None:
-    """Raises `Refused` if a terminal is not there any more, or is another account's: somebody may be signed on at it."""
+    """Raises `ControlError` if a terminal is not there any more, or is another account's: somebody may be signed on at it."""
     for account, terminals in before.items():
         if missing := sorted(set(terminals) - set(after.get(account, ()))):
-            raise Refused(f"{path}: {account}: terminal {missing[0]} is there no more, which takes a restart of the front (systemctl restart mfront)")
+            raise ControlError(f"{path}: {account}: terminal {missing[0]} is there no more, which takes a restart of the front (systemctl restart mfront)")

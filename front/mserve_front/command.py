@@ -14,7 +14,7 @@ from typing import TypeAlias
 
 from . import ending
 from .connection import NoStart
-from .control import Answered, Refused, asked
+from .control import Answered, ControlError, asked
 from .faults import TAKEN
 from .figures import of_standby
 from .passwords import LEAST
@@ -182,11 +182,11 @@ def promote(options: argparse.Namespace) -> None:
 
 
 def _promoted(control: Path, force: bool, until: float) -> Answered:
-    """The answer of a standby that is promoted; while another front has the journal it is asked again, up to a moment. Raises `Refused`."""
+    """The answer of a standby that is promoted; while another front has the journal it is asked again, up to a moment. Raises `ControlError`."""
     while True:
         try:
             return asked(control, {"ask": "promote", "force": force}, None)
-        except Refused as error:
+        except ControlError as error:
             if TAKEN not in str(error) or time.monotonic() > until:
                 raise
         time.sleep(AGAIN)
@@ -208,7 +208,8 @@ def checked(options: argparse.Namespace) -> None:
         return Service(settings)
     asyncio.run(made())
     store = None if settings.store is None else Path(settings.store)
-    for key, path in (("server.store", store), ("listen.key", settings.key), ("audit.file", settings.audit), ("journal.folder", settings.journal.folder)):
+    for key, path in (("server.store", store), ("listen.key", settings.listen.key), ("audit.file", settings.audit),
+                      ("journal.folder", settings.journal.folder)):
         if path is not None and path.exists() and path.stat().st_mode & 0o007:
             raise BadSettings(f"{options.config}: {key}: {path}: every user of the machine may read it: chmod o= {path}")
     print(f"{options.config}: good: {len(load(settings.users))} users, {sum(map(len, settings.terminals.values()))} terminals")
@@ -310,7 +311,7 @@ def main() -> int:
     except NoStart as error:
         tell(f"the server does not start: {error}" if not options.follow else str(error))
         return FAILED
-    except Refused as error:
+    except ControlError as error:
         tell(str(error))
         return FAILED
     except OSError as error:

@@ -47,6 +47,7 @@ class Connection(asyncio.BufferedProtocol):
         """What is to be done once all answers that came at once are taken."""
 
     def connection_made(self, transport: asyncio.BaseTransport) -> None:
+        """Keeps the connection."""
         assert isinstance(transport, asyncio.Transport)
         self._transport = transport
         self._socket = transport.get_extra_info("socket")

@@ -19,7 +19,7 @@ LONGEST = 65_536
 PATIENCE = 20.0
 
 
-class Refused(Exception):
+class ControlError(Exception):
     """A request cannot be done; the text says why."""
 
 
@@ -80,7 +80,7 @@ class Control:
                 found = json.loads(await reader.readline())
             handler = self._handlers.get(str(found.get("ask"))) if isinstance(found, dict) else None
             answer = {"error": "there is no such request here"} if handler is None else await handler(found)
-        except Refused as error:
+        except ControlError as error:
             answer = {"error": str(error)}
         except (ValueError, TimeoutError) as error:
             answer = {"error": f"this is no request: {error}"}
@@ -92,7 +92,7 @@ class Control:
 
 
 def asked(path: Path, request: dict[str, object], timeout: float | None) -> Answered:
-    """The answer of a front to a request. Raises `Refused` if there is none, or it is an error."""
+    """The answer of a front to a request. Raises `ControlError` if there is none, or it is an error."""
     try:
         with socket.socket(socket.AF_UNIX) as peer:
             peer.settimeout(timeout)
@@ -102,12 +102,12 @@ def asked(path: Path, request: dict[str, object], timeout: float | None) -> Answ
             with peer.makefile("rb") as answers:
                 line = answers.readline()
     except TimeoutError as error:
-        raise Refused(f"{path}: no answer in time") from error
+        raise ControlError(f"{path}: no answer in time") from error
     except OSError as error:
-        raise Refused(f"{path}: no front that keeps a journal is there: {error.strerror}") from error
+        raise ControlError(f"{path}: no front that keeps a journal is there: {error.strerror}") from error
     if not line:
-        raise Refused(f"{path}: the front ended before it answered")
+        raise ControlError(f"{path}: the front ended before it answered")
     answer: Answered = json.loads(line)
     if "error" in answer:
-        raise Refused(str(answer["error"]))
+        raise ControlError(str(answer["error"]))
     return answer

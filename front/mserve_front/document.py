@@ -9,7 +9,7 @@ import re
 from collections.abc import Iterator
 from pathlib import Path
 
-# In a checkout and in the package it stands beside the front's folder.
+# In a checkout and in the package it is beside the front's folder.
 LANGUAGE = Path(__file__).resolve().parents[2] / "docs" / "LANGUAGE.md"
 HEAD = """<!doctype html>
 <html lang="en">
@@ -51,7 +51,7 @@ def page_of(text: str) -> str:
 
 
 def _parts(text: str) -> Iterator[str]:
-    """What stands between empty lines, without comments; a heading, and each entry of a list, is a part of its own."""
+    """What is between empty lines, without comments; a heading, and each entry of a list, is a part of its own."""
     lines: list[str] = []
     for line in [*text.splitlines(), ""]:
         if lines and (not line or HEADING.fullmatch(line) or line.startswith("- ")):

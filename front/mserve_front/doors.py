@@ -1,7 +1,7 @@
 # SPDX-License-Identifier: Apache-2.0
 """Doors: connections are accepted, counted by address, and ended if nothing comes of them in time.
 
-A door stands in front of the protocol of each connection. What comes is handed on in small pieces, and only once the protocol wants more, so that a
+A door is in front of the protocol of each connection. What comes is handed on in small pieces, and only once the protocol wants more, so that a
 peer who sends ahead takes bounded memory and bounded turns of the loop. Of HTTP a request is handed on once the one before it is answered."""
 from __future__ import annotations
 
@@ -121,6 +121,7 @@ class Door(asyncio.Protocol):
             self._hand()
 
     def connection_made(self, transport: asyncio.BaseTransport) -> None:
+        """Keeps the connection, and reads of it a piece at a time."""
         assert isinstance(transport, asyncio.Transport)
         self.transport = transport
         if hasattr(transport, "max_size"):
@@ -128,6 +129,7 @@ class Door(asyncio.Protocol):
         self.inner.connection_made(transport)
 
     def data_received(self, data: bytes) -> None:
+        """Keeps what came until the gate's preamble is read, and reads no more while much waits."""
         self._held += data
         if self.gate is None or self._introduced():
             self._hand()
@@ -148,16 +150,20 @@ class Door(asyncio.Protocol):
         return True
 
     def eof_received(self) -> bool | None:
+        """Hands the end on once all that came before it was."""
         self._ended = True
         return True if self._held else self.inner.eof_received()
 
     def pause_writing(self) -> None:
+        """Hands that on."""
         self.inner.pause_writing()
 
     def resume_writing(self) -> None:
+        """Hands that on."""
         self.inner.resume_writing()
 
     def connection_lost(self, error: Exception | None) -> None:
+        """Drops what waits, and hands that on."""
         self._held.clear()
         self.inner.connection_lost(error)
         self._left(self)

@@ -25,7 +25,7 @@ LOOPBACK, PORT, WAYS = "127.0.0.1", 9000, 4
 # How a server is started. It has the signals that Python ignores ignored too: a file that is as long as it may be, or a peer that is gone, is an answer of
 # the system to it, and not its end.
 APART: dict[str, Any] = {"stdin": asyncio.subprocess.DEVNULL, "stdout": asyncio.subprocess.DEVNULL, "start_new_session": True, "restore_signals": False}
-# Seconds between two attempts to connect: the first and the longest; and what says that nobody listens yet: a socket that was refused is aborted once more.
+# Seconds between two attempts to connect: the first and the longest; and what says that nobody listens yet: a socket that was refused is aborted again.
 FIRST_PAUSE, LONGEST_PAUSE = 0.002, 0.1
 NOT_YET = (ConnectionRefusedError, ConnectionAbortedError)
 # Seconds for a child to say whether there can be such a network, and between two looks at it.
@@ -62,7 +62,7 @@ def tried() -> NoReturn:
 
 async def started(words: Sequence[str]) -> tuple[asyncio.subprocess.Process, list[socket.socket]]:
     """A program that is started in a network of its own, and ends with this process; and sockets that are in that network, by which this process connects
-    to it. Raises OSError."""
+    to it: none if it was killed before it had sent them. Raises OSError."""
     here, there = socket.socketpair()
     with here, there:
         try:
@@ -70,6 +70,8 @@ async def started(words: Sequence[str]) -> tuple[asyncio.subprocess.Process, lis
             process = await asyncio.create_subprocess_exec(*words, **APART, preexec_fn=functools.partial(enclosed.begin, os.getpid(), there, WAYS))
         except subprocess.SubprocessError as error:
             raise OSError(errno.EPERM, "it could not have a network of its own") from error
+        # It has sent them by now, or was killed. Then that is the end of what comes, since nobody has the other side any more.
+        there.close()
         ways = [socket.socket(fileno=number) for number in socket.recv_fds(here, 1, WAYS)[1]]
     for way in ways:
         way.setblocking(False)

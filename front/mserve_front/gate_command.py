@@ -21,9 +21,9 @@ from .ending import FAILED, USAGE
 from .gate import Gate
 from .init import make_islands, write_machine
 from .islands import Home, Islands
-from .journal import LogFault
+from .journal import RETRY, LogFault
 from .placement import NAME, BadPlacement, LocalPlacement, Machine, Placed, Placement
-from .server import tell
+from .server import Condition, tell
 from .settings import PROGRAM, BadSettings, Limits, Table, characters_of, limits_of, read_toml
 from .slices import SHORT, take_slices
 from .users import BadUsers
@@ -172,26 +172,28 @@ def load(context: ssl.SSLContext, certificate: Path, key: Path, authority: Path 
 def serve(options: argparse.Namespace) -> None:
     """Serves until it is stopped."""
     take_slices(SHORT)
-    ending.run(_serve(*settings_of(options)))
+    ending.run(_serve(lambda: settings_of(options)))
 
 
-async def _serve(home: Home, doorway: Doorway) -> None:
-    _, most = resource.getrlimit(resource.RLIMIT_NOFILE)
-    with contextlib.suppress(OSError, ValueError):
-        resource.setrlimit(resource.RLIMIT_NOFILE, (most, most))
+async def _serve(read: Callable[[], tuple[Home, Doorway]]) -> None:
+    """Serves by the settings that are read, and read again at a reload."""
+    home, doorway = read()
+    take_files()
     stopping = asyncio.Event()
     for number in (signal.SIGTERM, signal.SIGINT):
         ending.hear(number, stopping.set)
     shown = contexts(doorway)
     islands = Islands(home, placed_of(home))
     gate, page = Gate(home.machine.name, islands, shown.outward), page_of(home, doorway, islands)
-    await islands.begin()
+    if not await begun(islands, home, stopping):
+        return
     # Other machines' connections have doors of their own, so that users' take none of theirs.
     outside, between = Doors(Limits(connections=MOST), shown.users, {}), Doors(Limits(connections=MOST, connections_of_address=MOST), shown.inward, {})
     keeping = [asyncio.create_task(islands.run()), asyncio.create_task(swept(outside, between))]
 
     def again() -> None:
         reload(doorway, shown)
+        relimit(home, read)
         keeping.append(asyncio.create_task(islands.reopen()))
     ending.hear(signal.SIGHUP, again)
     try:
@@ -215,14 +217,48 @@ async def _serve(home: Home, doorway: Doorway) -> None:
         await islands.end()
 
 
+def take_files() -> None:
+    """May have as many files and connections open as the system lets it."""
+    _, most = resource.getrlimit(resource.RLIMIT_NOFILE)
+    with contextlib.suppress(OSError, ValueError):
+        resource.setrlimit(resource.RLIMIT_NOFILE, (most, most))
+
+
+async def begun(islands: Islands, home: Home, stopping: asyncio.Event) -> bool:
+    """Begins, once the database is there: the machine may be up before that, and nobody looks after it. Whether no stop came before. Raises `LogFault` where
+    there is no database, or `BadUsers`."""
+    away = Condition("it does not serve yet: {}; it is tried again", "the placement can be read")
+    while not stopping.is_set():
+        try:
+            await islands.begin()
+            away.goes()
+            return True
+        except LogFault as error:
+            if home.database is None:
+                raise
+            away.comes(error)
+        with contextlib.suppress(TimeoutError):
+            await asyncio.wait_for(stopping.wait(), RETRY)
+    return False
+
+
 def reload(doorway: Doorway, shown: Contexts) -> None:
     """Takes new certificates, if all can be used."""
     try:
         contexts(doorway)
         shown.load(doorway)
-        tell("certificates opened again, and the audit logs of the islands")
+        tell("reloaded: certificates")
     except BadSettings as error:
-        tell(f"not reloaded: {error}")
+        tell(f"not reloaded: certificates: {error}")
+
+
+def relimit(home: Home, read: Callable[[], tuple[Home, Doorway]]) -> None:
+    """Takes the limits as they stand in the settings, which the islands' fronts are given then."""
+    try:
+        home.limits.take(read()[0].limits)
+        tell("reloaded: limits of the islands")
+    except BadSettings as error:
+        tell(f"not reloaded: limits of the islands: {error}")
 
 
 def page_of(home: Home, doorway: Doorway, islands: Islands) -> GatePage | None:

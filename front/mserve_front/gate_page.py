@@ -16,6 +16,7 @@ from .placement import HERE, Island
 
 # Seconds for a front to answer, and how many are asked at once.
 ANSWER, AT_ONCE = 3.0, 20
+UNANSWERED = "its front does not answer"
 SILENT = "See the lines of its front: journalctl -u mgate. It is started again by itself."
 
 
@@ -34,7 +35,7 @@ class GatePage(Page):
         found = dict(zip((island.name for island in placed), await asyncio.gather(*map(self._asked, placed)), strict=True))
         here = [island for island in placed if island.machine == self._machine]
         alarms: list[Told] = [{**alarm, "what": f"{name}: {alarm['what']}"} for name, one in found.items() if one is not None for alarm in one["alarms"]]
-        alarms += [{"what": f"{island.name}: its front does not answer.", "do": SILENT, "value": 0} for island in here
+        alarms += [{"what": f"{island.name}: {UNANSWERED}.", "do": SILENT, "value": 0} for island in here
                    if found[island.name] is None and island.state == HERE]
         fronts = [one for one in found.values() if one is not None]
         return {"time": round(time.time()), "state": f"Machine {self._machine}: {len(here)} of {len(placed)} islands are here",

@@ -5,7 +5,7 @@ from __future__ import annotations
 from collections.abc import Iterable, Iterator
 from dataclasses import dataclass
 
-from .records import BadJournal, BeginRecord, Flush, Held, LineRecord, ReplyRecord, RowsRecord, StartRecord
+from .records import BadJournal, BeginRecord, Flush, LineRecord, ReplyRecord, RowsRecord, StartRecord, StoreAtStart
 
 # Codes after which a line may have written a first part of what it was to write, and its session is gone.
 CUT_SHORT = ("ZMEM", "ZSTORE")
@@ -31,13 +31,13 @@ class Began:
     rows: tuple[bytes, ...] = ()
 
     @property
-    def held(self) -> Held:
+    def held(self) -> StoreAtStart:
         """What the store held then. A start of version 1 says it less well: a store that was put back to a line before `answered` is UNKNOWN there too."""
         if isinstance(self.start, BeginRecord):
             return self.start.held
         if self.start.fresh:
-            return Held.ALL
-        return Held.RUN if self.start.base is not None and self.start.base >= self.answered else Held.UNKNOWN
+            return StoreAtStart.ALL
+        return StoreAtStart.RUN if self.start.base is not None and self.start.base >= self.answered else StoreAtStart.UNKNOWN
 
 
 Event = Answered | Began
@@ -102,7 +102,7 @@ class History:
     def _began(self, start: BeginRecord | StartRecord) -> Began:
         self._forget(start.number)
         self._expect(start.number)
-        # A reader that has read no reply yet may begin with a store that stands after this start, as one of a snapshot does.
+        # A reader that has read no reply yet may begin with a store that comes after this start, as one of a snapshot does.
         answered, self.at = self.at if self.at > self._after else 0, self.last
         lines, self._waiting = list(self._waiting.values()), {}
         unknown = tuple(line for line in lines if line.number <= start.sent)

@@ -57,12 +57,13 @@ def make_islands(home: Home, settings: Path, store: Path) -> Iterator[str]:
 def write_machine(config: Path, front: Path, folder: Path) -> None:
     """Writes the settings of a machine that is alone, by those of a front. Raises `BadSettings`."""
     found = read_settings(front, False)
-    if not found.tls or found.lines_port is None:
+    place = found.listen
+    if not found.tls or place.lines_port is None:
         raise BadSettings(f"{front}: listen: a gate serves over TLS, and lines too: give listen.certificate, listen.key and listen.lines_port")
     tables: dict[str, dict[str, object]] = {
         "machine": {"name": "one", "folder": str(folder.absolute()), "users": str(found.users), "program": str(found.program)},
-        "listen": {"host": found.host, "port": found.port, "lines_port": found.lines_port, "certificate": str(found.certificate), "key": str(found.key),
-                   "origins": list(found.origins)},
+        "listen": {"host": place.host, "port": place.port, "lines_port": place.lines_port, "certificate": str(place.certificate), "key": str(place.key),
+                   "origins": list(place.origins)},
         "audit": {"texts": found.texts}, "limits": read_toml(front).get("limits", {})}
     if found.in_utf_8:
         tables["machine"]["text"] = "utf-8"

@@ -17,13 +17,13 @@ from dataclasses import asdict, dataclass, field
 from pathlib import Path
 
 from .connection import HOST
-from .control import Refused, asked
+from .control import ControlError, asked
 from .doors import held
 from .folders import write_whole
 from .placement import HERE, LEFT, MOVING, READY, TAKING, Island, Machine, Placed
 from .places import first_of
 from .preamble import new_secret
-from .server import Fault, tell, tied
+from .server import Condition, tell, tied
 from .settings import JournalSettings, Limits
 from .standing import place_of, read_standing
 from .users import Users, load, save
@@ -34,7 +34,7 @@ LOOK, PAUSE = 0.3, 1.0
 LONGEST = 30.0
 # Seconds for an answer of a front, and for its end; and after which it surely hears signals.
 ANSWER, ENDING, SETTLED = 5.0, 20.0, 10.0
-# Lines that a standby is behind at most when the front of the machine before is ended.
+# Lines that a standby lags at most when the front of the machine before is ended.
 NEAR = 200
 COMMAND = Path(__file__).resolve().parent.parent / "mfront"
 
@@ -52,11 +52,11 @@ class Home:
     origins: tuple[str, ...]
     text: str = "ascii"
     texts: bool = False
-    limits: Limits = Limits()
+    limits: Limits = field(default_factory=Limits)
 
 
 @dataclass(eq=False, slots=True)
-class House:
+class IslandFront:
     """The front of an island: its ports, its process, whether it stands by, and its server's settings. The gate holds the ports, so that no other user of the
     machine has one of them before the front listens, or after its end, and is handed users."""
 
@@ -86,10 +86,10 @@ class Islands:
     def __init__(self, home: Home, placement: Placed) -> None:
         self._home = home
         self._placement = placement
-        self._houses: dict[str, House] = {}
+        self._fronts: dict[str, IslandFront] = {}
         self._users: Users = {}
         self._seen = 0
-        self._fault = Fault("the islands stay as they are: {}", "the placement can be read again")
+        self._fault = Condition("the islands stay as they are: {}", "the placement can be read again")
         # What this machine's gate and its fronts have in common, and nobody else.
         self.secret = new_secret()
         self.placed: dict[str, Island] = {}
@@ -104,8 +104,8 @@ class Islands:
 
     def port(self, island: str, kind: str) -> int | None:
         """The port of an island's front here, or None if it does not serve here."""
-        house = self._houses.get(island)
-        return house.port(kind) if house is not None and not house.follows else None
+        front = self._fronts.get(island)
+        return front.port(kind) if front is not None and not front.follows else None
 
     async def begin(self) -> None:
         """Notes where this machine is, and reads the placement once. Raises `LogFault` or `BadUsers`."""
@@ -130,24 +130,27 @@ class Islands:
             await asyncio.sleep(LOOK)
 
     async def reopen(self) -> None:
-        """Has all fronts open their audit logs again. One that has just begun is left alone for a while: it does not hear of it yet, and would end."""
-        await asyncio.gather(*map(self._reopens, list(self._houses.values())))
+        """Has all fronts open their audit logs again, and take the limits. One that has just begun is left alone for a while: it does not hear of it yet, and
+        would end."""
+        await asyncio.gather(*map(self._reopens, list(self._fronts.values())))
 
-    @staticmethod
-    async def _reopens(house: House) -> None:
-        await asyncio.sleep(max(0.0, house.began + SETTLED - time.monotonic()))
-        if house.process is not None and house.process.returncode is None:
-            house.process.send_signal(signal.SIGHUP)
+    async def _reopens(self, front: IslandFront) -> None:
+        await asyncio.sleep(max(0.0, front.began + SETTLED - time.monotonic()))
+        if front.process is not None and front.process.returncode is None:
+            with contextlib.suppress(OSError):
+                # On a disk that is full the log is to be opened again all the same.
+                await asyncio.to_thread(self._write_front, front)
+            front.process.send_signal(signal.SIGHUP)
 
     async def end(self) -> None:
         """Ends all fronts in order."""
-        await asyncio.gather(*(self._ended(name) for name in list(self._houses)))
+        await asyncio.gather(*(self._ended(name) for name in list(self._fronts)))
         self._placement.close()
 
     def _concerned(self) -> list[Island]:
         """The islands that are here, were here, or are to come."""
         me = self._home.machine.name
-        return [island for island in self.placed.values() if me in (island.machine, island.target) or island.name in self._houses]
+        return [island for island in self.placed.values() if me in (island.machine, island.target) or island.name in self._fronts]
 
     async def _look(self) -> None:
         placed = await asyncio.to_thread(self._placement.islands)
@@ -156,7 +159,7 @@ class Islands:
             self.placed = placed
             self.of_account = {account: island.name for island in placed.values() for account in island.accounts}
         await self._read_users()
-        for name in [name for name in self._houses if name not in self.placed]:
+        for name in [name for name in self._fronts if name not in self.placed]:
             await self._ended(name)
 
     async def _turn(self, island: Island) -> None:
@@ -179,26 +182,26 @@ class Islands:
 
     async def _served(self, island: Island, follows: bool) -> None:
         """Starts the front of an island, if it does not run."""
-        house = self._houses.get(island.name)
-        if house is not None and house.process is not None and house.process.returncode is None:
-            if house.follows == follows and house.settings == island.settings:
+        front = self._fronts.get(island.name)
+        if front is not None and front.process is not None and front.process.returncode is None:
+            if front.follows == follows and front.settings == island.settings:
                 return
-            if house.settings != island.settings:
+            if front.settings != island.settings:
                 tell(f"island {island.name} is started again, with other settings")
             await self._ended(island.name)
-        elif house is not None and time.monotonic() - house.began < house.pause:
+        elif front is not None and time.monotonic() - front.began < front.pause:
             return
-        if house is not None:
-            house.close()
-        pause = PAUSE if house is None or time.monotonic() - house.began > 2 * LONGEST else min(2 * house.pause, LONGEST)
-        house = House(island.name, {kind: held(HOST, 0, shared=True) for kind in ("http", "lines")}, follows, island.settings, pause)
-        self._houses[island.name] = house
+        if front is not None:
+            front.close()
+        pause = PAUSE if front is None or time.monotonic() - front.began > 2 * LONGEST else min(2 * front.pause, LONGEST)
+        front = IslandFront(island.name, {kind: held(HOST, 0, shared=True) for kind in ("http", "lines")}, follows, island.settings, pause)
+        self._fronts[island.name] = front
         if follows:
             await asyncio.to_thread(self._put_aside, island.name)
         # Apart: a disk takes its time, and users of other islands go on.
-        path = await asyncio.to_thread(self._written, island, house)
+        path = await asyncio.to_thread(self._written, island, front)
         words = [*tied(shutil.which("setpriv")), sys.executable, str(COMMAND), "--config", str(path), *(["--follow"] if follows else [])]
-        house.process = await asyncio.create_subprocess_exec(*words, stdin=asyncio.subprocess.DEVNULL, start_new_session=True)
+        front.process = await asyncio.create_subprocess_exec(*words, stdin=asyncio.subprocess.DEVNULL, start_new_session=True)
 
     def _put_aside(self, name: str) -> None:
         """Puts the store of an island aside that is to stand by, if it cannot begin with that. Raises `LogFault`."""
@@ -208,23 +211,23 @@ class Islands:
         put_aside(store, 1 if standing is None or standing.number is None else first_of(kept))
 
     async def _ended(self, name: str, how: signal.Signals = signal.SIGTERM) -> None:
-        """Ends the front of an island in order, if it runs here; by SIGUSR1 its users are told that they have moved."""
-        house = self._houses.pop(name, None)
-        if house is None:
+        """Ends the front of an island in order, if it runs here; by SIGUSR1 it tells its users that they have moved."""
+        front = self._fronts.pop(name, None)
+        if front is None:
             return
-        if house.process is not None and house.process.returncode is None:
-            house.process.send_signal(how)
+        if front.process is not None and front.process.returncode is None:
+            front.process.send_signal(how)
             try:
-                await asyncio.wait_for(house.process.wait(), ENDING)
+                await asyncio.wait_for(front.process.wait(), ENDING)
             except TimeoutError:
-                house.process.kill()
-                await house.process.wait()
-        house.close()
+                front.process.kill()
+                await front.process.wait()
+        front.close()
 
     async def _caught_up(self, name: str) -> bool:
         try:
             found = await asyncio.to_thread(asked, self.folder(name) / "mfront.control", {"ask": "status"}, ANSWER)
-        except Refused:
+        except ControlError:
             return False
         if found.get("differs") is True:
             # Its store is of no use, and nobody looks after it: it begins with the journal.
@@ -238,15 +241,15 @@ class Islands:
 
     async def _promoted(self, island: Island) -> None:
         """Promotes the front that stands by, and notes that the island is here."""
-        house = self._houses.get(island.name)
-        if house is None or house.process is None or house.process.returncode is not None:
+        front = self._fronts.get(island.name)
+        if front is None or front.process is None or front.process.returncode is not None:
             await self._served(island, follows=True)
             return
         try:
-            if house.follows:
+            if front.follows:
                 await asyncio.to_thread(asked, self.folder(island.name) / "mfront.control", {"ask": "promote"}, None)
-                house.follows = False
-        except Refused as error:
+                front.follows = False
+        except ControlError as error:
             self._tell_once(island.name, f"island {island.name}: {error}")
             return
         await asyncio.to_thread(self._placement.arrived, island.name, self._home.machine.name)
@@ -254,31 +257,36 @@ class Islands:
 
     def _tell_once(self, name: str, text: str) -> None:
         """Tells what the front of an island says: it is asked again and again."""
-        house = self._houses.get(name)
-        if house is not None and house.told != text:
-            house.told = text
+        front = self._fronts.get(name)
+        if front is not None and front.told != text:
+            front.told = text
             tell(text)
 
     def folder(self, name: str) -> Path:
         """The folder of an island on this machine."""
         return self._home.folder / name
 
-    def _written(self, island: Island, house: House) -> Path:
+    def _written(self, island: Island, front: IslandFront) -> Path:
         """Writes the settings of an island's front, and gives their path."""
-        folder, home = self.folder(island.name), self._home
+        folder = self.folder(island.name)
         folder.mkdir(mode=0o700, parents=True, exist_ok=True)
         write_whole(folder / "settings.toml", island.settings.encode())
         write_secret(folder / "gate.secret", self.secret)
         if not (folder / "metrics.token").exists():
             write_secret(folder / "metrics.token", new_secret())
         self._write_users(island)
+        return self._write_front(front)
+
+    def _write_front(self, front: IslandFront) -> Path:
+        """Writes what the front of an island reads at its start and at a reload, and gives the path."""
+        folder, home = self.folder(front.island), self._home
         tables: dict[str, dict[str, object]] = {
                   "server": {"program": home.program, "settings": "settings.toml", "store": "store", "text": home.text},
-                  "listen": {"port": house.port("http"), "lines_port": house.port("lines"), "origins": list(home.origins), "gate": "gate.secret"},
+                  "listen": {"port": front.port("http"), "lines_port": front.port("lines"), "origins": list(home.origins), "gate": "gate.secret"},
                   # One machine's file can be changed here; that of several is for who keeps it.
                   "users": {"file": "users.json"} | ({"machine": str(home.users)} if home.database is None else {}),
                   "audit": {"file": "audit.log", "texts": home.texts},
-                  "journal": {"backup": "backup"} | ({"folder": "journal"} if home.database is None else {"database": home.database, "name": island.name}),
+                  "journal": {"backup": "backup"} | ({"folder": "journal"} if home.database is None else {"database": home.database, "name": front.island}),
                   "metrics": {"token": "metrics.token"}, "admin": {"socket": "admin.socket"},
                   "limits": {name: int(value) for name, value in asdict(home.limits).items()}}
         text = "".join(f"[{name}]\n" + "".join(f"{key} = {json.dumps(value)}\n" for key, value in keys.items()) for name, keys in tables.items())
@@ -292,7 +300,7 @@ class Islands:
             return
         self._users = await asyncio.to_thread(load, self._home.users)
         self.of_token = {token.hash: name for name, user in self._users.items() for token in user.tokens.values()}
-        for island in [self.placed[name] for name in self._houses if name in self.placed]:
+        for island in [self.placed[name] for name in self._fronts if name in self.placed]:
             await asyncio.to_thread(self._write_users, island)
         # This comes last: what could not be written is written at the next look.
         self._seen = changed
@@ -309,7 +317,7 @@ def write_secret(path: Path, secret: str) -> None:
 
 
 def put_aside(store: Path, first: int = 1) -> None:
-    """Renames a store of which nobody knows which line it stands at, or that stands before what the journal has, which begins with the line `first`: what
+    """Renames a store of which nobody knows which line it is at, or that comes before what the journal has, which begins with the line `first`: what
     stands by begins with the journal, or with a snapshot. It is served elsewhere, or was."""
     standing = read_standing(store)
     if store.exists() and (standing is None or standing.number is None or standing.number < first - 1):

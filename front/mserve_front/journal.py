@@ -15,11 +15,11 @@ from concurrent.futures import ThreadPoolExecutor
 from dataclasses import dataclass
 from typing import Any, Generic, Protocol, TypeVar
 
-from .faults import HeldBack, NoJournal
+from .faults import Causes, HeldBack, NoJournal
 from .history import CUT_SHORT
 from .lines import HALT, Line
 from .metrics import Metrics
-from .records import BeginRecord, Flush, Held, LineRecord, Record, ReplyRecord, RowsRecord
+from .records import BeginRecord, Flush, LineRecord, Record, ReplyRecord, RowsRecord, StoreAtStart
 
 # Seconds between two attempts to write again, and those after which a reply that cannot be noted is given up.
 RETRY, HELD = 1.0, 30.0
@@ -39,8 +39,8 @@ class LogTaken(Exception):
 
 @dataclass(frozen=True, slots=True)
 class Tail:
-    """Where a journal ends: its number, its last flush, the next line, the last line with a reply, the last time, who wrote it; and what the operator
-    is told."""
+    """Where a journal ends: its number, its last flush, the next line, the last line with a reply, the last time, who wrote it; and what to
+    say to the operator."""
 
     journal: int
     sequence: int
@@ -126,7 +126,7 @@ class _Rows:
 class _Start:
     """A start: sessions begin again."""
 
-    held: Held
+    held: StoreAtStart
     base: int
     parts: int
     settings: bytes
@@ -179,6 +179,7 @@ class Journal:
         self.answered = 0
         self.open: set[int] = set()
         self.fault: str | None = None
+        self._causes = Causes()
         # Since when it cannot be written.
         self.faulty = 0.0
         self.witness: Witness | None = None
@@ -206,7 +207,7 @@ class Journal:
         """Notes up to which line the store has run: the lines after it were not."""
         self.sent = number
 
-    async def begin(self, held: Held, base: int, settings: bytes, parts: Iterator[bytes] = iter(())) -> None:
+    async def begin(self, held: StoreAtStart, base: int, settings: bytes, parts: Iterator[bytes] = iter(())) -> None:
         """Notes that all sessions begin again, and what the store holds then: `parts` are its rows, if these are to be given. Raises `NoJournal`."""
         count = 0
         while (part := await asyncio.to_thread(_next_of, parts)) is not None:
@@ -217,9 +218,9 @@ class Journal:
     async def renew(self, settings: bytes, rows: Iterator[bytes] | None) -> None:
         """Notes that all sessions begin again between two lines, with all rows of the store if these are given. Raises `NoJournal`."""
         if rows is None:
-            await self.begin(Held.RUN, self.next - 1, settings)
+            await self.begin(StoreAtStart.RUN, self.next - 1, settings)
         else:
-            await self.begin(Held.ALL, 0, settings, rows)
+            await self.begin(StoreAtStart.ALL, 0, settings, rows)
 
     async def _kept(self, entry: _Rows | _Start) -> None:
         """Waits until an entry is durable. Raises `NoJournal`."""
@@ -275,12 +276,12 @@ class Journal:
             self._work = asyncio.get_running_loop().create_task(self._write())
 
     async def _write(self) -> None:
-        """Writes what waits, flush by flush; after a fault it tries until that is mended."""
+        """Writes what waits, flush by flush; after a fault it tries until that is fixed."""
         began = 0.0
         try:
             while (self._waiting or self.fault is not None) and not self.taken.done():
                 batch, self._waiting = self._waiting, []
-                # Before the first flush that fails: somebody may have waited for it.
+                # Before the first flush that fails: somebody may await it.
                 began = began or time.monotonic()
                 if await self._flushed(batch):
                     began = 0.0
@@ -378,9 +379,12 @@ class Journal:
         self._metrics.journal_faults += 1
         entries = batch + self._waiting
         self._waiting = [entry for entry in entries if isinstance(entry, _Reply)]
+        known = self._causes.has(error)
         if first:
             self.faulty = time.monotonic()
             self._tell(f"the journal cannot be written: {error}: no line goes on until it can")
+        elif not known:
+            self._tell(f"the journal cannot be written yet: {error}")
         for entry in entries:
             if isinstance(entry, _Lines):
                 entry.carrier.refuse(self.fault)
@@ -390,6 +394,7 @@ class Journal:
     def _mend(self) -> None:
         if self.fault is not None:
             self.fault = None
+            self._causes.clear()
             self._tell("the journal is written again")
 
     def _give_up(self) -> None:

@@ -10,7 +10,7 @@ import tempfile
 import time
 from collections import Counter, deque
 from collections.abc import Iterator
-from dataclasses import dataclass, replace
+from dataclasses import dataclass
 from datetime import UTC, datetime
 from pathlib import Path
 
@@ -23,7 +23,7 @@ from .places import end_of, expire, last_line, reader_of
 from .player import Stage, Stopped
 from .records import BadJournal, LineRecord
 from .settings import PROGRAM, BadSettings, JournalSettings, Table, journal_settings, read_toml
-from .snapshots import SETTINGS, BadSnapshot, check, name_store, put_back
+from .snapshots import MANIFEST, SETTINGS, BadSnapshot, check, name_store, put_back, read_manifest
 from .standing import Standing, forget_standing
 
 NAME = "mjournal"
@@ -76,7 +76,8 @@ def _grep_words(one: argparse.ArgumentParser) -> None:
 def _replay_words(one: argparse.ArgumentParser) -> None:
     one.add_argument("--from", dest="snapshot", type=Path, metavar="SNAPSHOT", help="the snapshot to begin with; without it the journal's own beginning")
     one.add_argument("--store", required=True, metavar="FILE", help="the store to make, which is not there yet; memory keeps none")
-    one.add_argument("--to", type=_goal, metavar="NUMBER|TIME", help=f"the last line to run, or {TIME} (default: all)")
+    one.add_argument("--to", type=_goal, default=Goal(), metavar="NUMBER|TIME|SNAPSHOT",
+                     help=f"the last line to run; or {TIME}; or a snapshot, which the store is to be as (default: all)")
     one.add_argument("--program", type=Path, metavar="FILE", help="the server (default: that of the settings, or /usr/lib/mserve/mserve)")
 
 
@@ -88,8 +89,33 @@ def moment(text: str) -> int:
         raise argparse.ArgumentTypeError(f"{text!r} is no time: {TIME}") from None
 
 
-def _goal(text: str) -> tuple[str, int]:
-    return ("number", int(text)) if text.isascii() and text.isdigit() else ("time", moment(text))
+@dataclass(frozen=True, slots=True)
+class Goal:
+    """Where a replay ends: after the line of a number, or after the last one that is not later than a time. Starts after that line are taken up to a flush:
+    a snapshot has what they say of the store."""
+
+    number: int | None = None
+    time: int | None = None
+    sequence: int = 0
+
+    def passed(self, event: Event, sequence: int) -> bool:
+        """Whether an event, which a flush tells, comes after it."""
+        what = event.line if isinstance(event, Answered) else event.start
+        if self.number is None:
+            return self.time is not None and what.time > self.time
+        return what.number > self.number + (isinstance(event, Began) and sequence <= self.sequence)
+
+
+def _goal(text: str) -> Goal:
+    if text.isascii() and text.isdigit():
+        return Goal(int(text))
+    if not (Path(text) / MANIFEST).exists():
+        return Goal(time=moment(text))
+    try:
+        manifest = read_manifest(Path(text))
+    except BadSnapshot as error:
+        raise argparse.ArgumentTypeError(str(error)) from error
+    return Goal(manifest.number, sequence=manifest.sequence)
 
 
 def _pattern(text: str) -> re.Pattern[str]:
@@ -209,15 +235,8 @@ class Replay:
     """A replay: where it begins, and where it is to end."""
 
     stage: Stage
-    goal: tuple[str, int] | None
+    goal: Goal
     journal: int = 0
-
-    def over(self, line: LineRecord) -> bool:
-        """Whether a line comes after the goal."""
-        if self.goal is None:
-            return False
-        kind, most = self.goal
-        return (line.number if kind == "number" else line.time) > most
 
     async def run(self, settings: JournalSettings) -> None:
         """Runs lines up to the goal, or to the journal's end."""
@@ -227,8 +246,8 @@ class Replay:
                 if self.journal not in (0, flushes[0].journal):
                     raise BadJournal("the snapshot is of another journal than this one")
                 self.journal = flushes[0].journal
-                for event in history.take(flushes):
-                    if self.over(event.line if isinstance(event, Answered) else replace(_EMPTY, number=event.start.number, time=event.start.time)):
+                for flush, event in ((flush, event) for flush in flushes for event in history.take([flush])):
+                    if self.goal.passed(event, flush.sequence):
                         return
                     await self.stage.take(event)
         finally:
@@ -237,9 +256,6 @@ class Replay:
         unanswered = [line.number for line in history.unanswered]
         if unanswered:
             say(f"lines {unanswered[0]} to {unanswered[-1]} have no reply in the journal, and are not run")
-
-
-_EMPTY = LineRecord(0, 0, 0, "", b"")
 
 
 def act_replay(options: argparse.Namespace) -> int:
@@ -288,8 +304,8 @@ async def _begin(replay: Replay, options: argparse.Namespace, part: Path) -> Non
     manifest = put_back(options.snapshot, part)
     if manifest.number > last_line(journal_of(options)):
         raise BadJournal(f"the snapshot stands after line {manifest.number}, and the journal ends before it: it has lost a part, or is another")
-    if replay.goal is not None and replay.goal[0] == "number" and replay.goal[1] < manifest.number:
-        raise BadSnapshot(f"{options.snapshot}: it stands after line {manifest.number}, and line {replay.goal[1]} comes before: take an earlier one")
+    if replay.goal.number is not None and replay.goal.number < manifest.number:
+        raise BadSnapshot(f"{options.snapshot}: it stands after line {manifest.number}, and line {replay.goal.number} comes before: take an earlier one")
     if not manifest.exact:
         say(f"{len(manifest.open)} sessions were open at the snapshot, and their variables and locks are not in it: a line that needs them differs")
     replay.stage.at, replay.journal = manifest.number, manifest.journal

@@ -104,7 +104,7 @@ class FileLog:
         return tail
 
     def append(self, flush: Flush) -> None:
-        """Writes a flush, and returns once it is on the disk. One that another front's taking overtakes may stand there, and `LogTaken` says so."""
+        """Writes a flush, and returns once it is on the disk. One that another front's taking overtakes may be there, and `LogTaken` says so."""
         try:
             self._hold(again=True)
             if self._descriptor < 0 or self._size >= self._roll:
@@ -265,10 +265,10 @@ def first_of(folder: Path) -> int:
 
 
 class FileReader:
-    """Reads the journal in a folder from the file on that a line stands in. Its writer may be writing meanwhile."""
+    """Reads the journal in a folder from the file on that a line is in. Its writer may be writing meanwhile."""
 
     def __init__(self, folder: Path, line: int = 1) -> None:
-        """Begins at the file that the line of this number stands in, or at the first one."""
+        """Begins at the file that the line of this number is in, or at the first one."""
         self._folder = folder
         self._line = line
         self._path = folder

@@ -32,7 +32,7 @@ LOCK = 0x6D66726F
 # A database that is away is noticed within this many seconds, and milliseconds; and by the database, a front that is away. The lock of a machine without
 # power would be kept for hours otherwise.
 CONNECTING, SILENT = 2, 5_000
-# Seconds after which a database that has not answered is asked, over another connection, whether it is at the statement: what stands between may keep a
+# Seconds after which a database that has not answered is asked, over another connection, whether it is at the statement: what is between may keep a
 # connection open whose database is gone; and those for an answer that is on its way then. And those after which a flush is given up whatever the database
 # is at, as one that waits for a replica that is away.
 ANSWER, LAST, LONGEST = 2.0, 0.5, 20.0
@@ -190,6 +190,7 @@ class TableLog:
 
     def take(self, force: bool = False) -> Tail:
         """Takes the lock, makes the table if it is not there, and finds the end. With `force` the connection of the one who has the lock is ended."""
+        self.close()
         self._base = base = connected(self._place)
         with faults():
             self._refuse_replica(base)
@@ -243,7 +244,7 @@ class TableLog:
                 peer.shutdown(socket.SHUT_RDWR)
 
     def _refuse_replica(self, base: Answered) -> None:
-        """Raises `LogFault` if the database is a replica: it may be behind, and nothing can be written there."""
+        """Raises `LogFault` if the database is a replica: it may lag, and nothing can be written there."""
         if value_of(base, "SELECT pg_is_in_recovery()"):
             self.close()
             raise LogFault("database: it is a replica, and read-only: promote it, or connect to the primary (target_session_attrs=read-write)")
@@ -301,7 +302,7 @@ def said_in(place: str, name: str) -> list[str]:
 
 
 class TableReader:
-    """Reads the journal in a table from the flush on that a line stands in. Its writer may be writing meanwhile."""
+    """Reads the journal in a table from the flush on that a line is in. Its writer may be writing meanwhile."""
 
     def __init__(self, place: str, name: str, line: int = 1) -> None:
         self._place = place

@@ -15,15 +15,15 @@ from pathlib import Path
 
 from .audit import Audit, NoAudit
 from .connection import NoStart
-from .control import Answered, Control, Handler, Refused
+from .control import Answered, Control, ControlError, Handler
 from .faults import NoJournal
 from .figures import ByAccount, of_backup, of_journal
-from .journal import Journal, LogFault, LogTaken, Tail
+from .journal import RETRY, Journal, LogFault, LogTaken, Tail
 from .metrics import Metrics
 from .places import said_beside, writer_of
-from .records import BadJournal, Held
+from .records import BadJournal, StoreAtStart
 from .rows import packed
-from .server import Child, Server, tell
+from .server import Child, Condition, Server, tell
 from .settings import Settings
 from .snapshots import SETTINGS, STORE, Manifest, copied
 from .standbys import LOOK, SELDOM, Behind, Standbys, figures_of
@@ -76,7 +76,8 @@ class Keeper:
         metrics.more += [self.accounts.text, self._figures]
 
     async def begin(self, server: Server) -> Child | None:
-        """Takes the journal, and notes where the store stands. Gives the server that runs already, if one does. Raises `NoStart`."""
+        """Takes the journal, and notes where the store stands. It waits for a database that is away. Gives the server that runs already, if one does. Raises
+        `NoStart`."""
         self._server = server
         server.begins(self._begun)
         self.journal.witness = self._witness
@@ -84,13 +85,28 @@ class Keeper:
             self.journal.stands_at(self._promoted.line)
             return self._promoted.child
         try:
-            await self.journal.take()
+            await self._take()
             self._first = not self.journal.sequence
             if self._store is not None:
                 self._hold(self._store, read_standing(self._store))
         except (LogTaken, LogFault, BadJournal) as error:
             raise NoStart(f"the journal cannot be used: {error}") from error
         return None
+
+    async def _take(self) -> None:
+        """Takes the journal, once its database is there: a machine may be up before that, and nobody looks after the front. Raises `LogTaken`, `LogFault` for
+        one in a folder, or `BadJournal`."""
+        away = Condition("the journal cannot be used yet: {}; it is tried again", "the journal can be used")
+        while True:
+            try:
+                await self.journal.take()
+                away.goes()
+                return
+            except LogFault as error:
+                if self._settings.journal.database is None:
+                    raise
+                away.comes(error)
+            await asyncio.sleep(RETRY)
 
     async def _begun(self, fresh: bool, settings: bytes) -> None:
         """Notes that this front serves with the store, before the journal has anything of it; then the start, with what the store holds. Raises
@@ -111,11 +127,11 @@ class Keeper:
         cut, covers = (witness.cut, witness.covers) if witness is not None else (False, False)
         return Known(fresh, witness is not None, self._first, self._known, journal.sent, journal.answered, cut, covers)
 
-    def _rows(self, what: Held, fresh: bool) -> Iterator[bytes]:
+    def _rows(self, what: StoreAtStart, fresh: bool) -> Iterator[bytes]:
         """The rows of the store that a start gives."""
-        if self._store is None or fresh or what not in (Held.CHANGED, Held.ALL):
+        if self._store is None or fresh or what not in (StoreAtStart.CHANGED, StoreAtStart.ALL):
             return iter(())
-        return packed(image(self._store) if what is Held.ALL else changes(self._store))
+        return packed(image(self._store) if what is StoreAtStart.ALL else changes(self._store))
 
     async def began(self) -> None:
         """The server is up."""
@@ -149,7 +165,7 @@ class Keeper:
             await asyncio.sleep(LOOK if in_files else SELDOM)
 
     def behind(self) -> list[Behind]:
-        """How far each standby is behind."""
+        """How far each standby lags."""
         return self.standbys.behind(self.journal.answered)
 
     async def lost(self) -> None:
@@ -216,9 +232,9 @@ class Keeper:
         """Copies the store between two lines into a new folder, and says its name."""
         folder, ended, rows = Path(str(request.get("folder", ""))), request.get("anew") is True, request.get("all") is True
         if self._store is None:
-            raise Refused("there is no file to copy: the store is in memory, or the front has joined a server (server.join)")
+            raise ControlError("there is no file to copy: the store is in memory, or the front has joined a server (server.join)")
         if not folder.is_dir():
-            raise Refused(f"{folder}: there is no such folder")
+            raise ControlError(f"{folder}: there is no such folder")
         part = folder
         try:
             part = Path(tempfile.mkdtemp(prefix=".part-", dir=folder))
@@ -227,9 +243,10 @@ class Keeper:
         except (OSError, Unsent, Lost, NoJournal, BadLog) as error:
             if part != folder:
                 shutil.rmtree(part, ignore_errors=True)
-            raise Refused(_why(part, error)) from error
+            raise ControlError(_why(part, error)) from error
         self._note("snapshot", line=made.number, folder=str(folder), ended=ended)
-        return {"part": str(part), "journal": made.journal, "number": made.number, "time": made.time, "open": made.open, "seconds": round(seconds, 3)}
+        return {"part": str(part), "journal": made.journal, "number": made.number, "time": made.time, "open": made.open, "sequence": made.sequence,
+                "seconds": round(seconds, 3)}
 
     async def _copied(self, store: Path, part: Path, ended: bool, rows: bool) -> tuple[Manifest, float]:
         """Copies between two lines; with `ended` all sessions are ended there, and with `rows` the journal gets all that the store holds."""
@@ -238,10 +255,10 @@ class Keeper:
         server: Server = self._server
 
         async def between() -> None:
+            journal, sequence = self.journal, self.journal.sequence
             if ended:
                 await server.renew(packed(image(store)) if rows else None)
-            journal = self.journal
-            made.append(Manifest(journal.number, journal.next - 1, datetime.now(UTC).isoformat(timespec="seconds"), sorted(journal.open)))
+            made.append(Manifest(journal.number, journal.next - 1, datetime.now(UTC).isoformat(timespec="seconds"), sorted(journal.open), sequence=sequence))
         seconds = await copied(store, part / STORE, server.quiet, between)
         return made[0], seconds
 

@@ -14,7 +14,7 @@ LONGEST = 255
 _PLAIN = re.compile(rb"[\x01-\x09\x0b\x0c\x0e-\x7f]*")
 
 
-class Refused(Exception):
+class LineRefused(Exception):
     """The text is not sent: `code` is the code that the server has for such a line, `why` says it in words."""
 
     def __init__(self, code: str, why: str) -> None:
@@ -25,15 +25,15 @@ class Refused(Exception):
 
 @dataclass(frozen=True, slots=True)
 class Line:
-    """The bytes of one line: at most 255, each from 1 to 127, and no line feed or carriage return. Raises `Refused` for any other."""
+    """The bytes of one line: at most 255, each from 1 to 127, and no line feed or carriage return. Raises `LineRefused` for any other."""
 
     data: bytes
 
     def __post_init__(self) -> None:
         if len(self.data) > LONGEST:
-            raise Refused("ZLINE", f"a line has at most {LONGEST} characters, and this one has {len(self.data)}")
+            raise LineRefused("ZLINE", f"a line has at most {LONGEST} characters, and this one has {len(self.data)}")
         if not _PLAIN.fullmatch(self.data):
-            raise Refused("ZCHAR", "a line has ASCII characters alone, and no line feed, carriage return or NUL: write $CHAR(10) for one")
+            raise LineRefused("ZCHAR", "a line has ASCII characters alone, and no line feed, carriage return or NUL: write $CHAR(10) for one")
 
     @classmethod
     def of(cls, text: str) -> Line:
@@ -42,11 +42,11 @@ class Line:
 
     @classmethod
     def in_utf_8(cls, data: bytes) -> Line:
-        """The line of bytes of UTF-8: each character over 127 within a string becomes an escape of ASCII. Raises `Refused` for other bytes too."""
+        """The line of bytes of UTF-8: each character over 127 within a string becomes an escape of ASCII. Raises `LineRefused` for other bytes too."""
         try:
             return cls(stored_line(data.decode()).encode())
         except (UnicodeDecodeError, NotText):
-            raise Refused("ZCHAR", "the line has bytes that are no UTF-8") from None
+            raise LineRefused("ZCHAR", "the line has bytes that are no UTF-8") from None
 
     def sent_by(self, terminal: int) -> bytes:
         """What goes to the server."""

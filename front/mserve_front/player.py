@@ -18,7 +18,7 @@ from . import enclosure
 from .connection import Connection, joined
 from .history import CUT_SHORT, Answered, Began, Event
 from .lines import HALT, Line
-from .records import Held, LineRecord, StartRecord
+from .records import LineRecord, StartRecord, StoreAtStart
 from .replies import Answer
 from .rows import apply
 from .server import CONNECTIONS, PATIENCE, Child, launched
@@ -84,6 +84,7 @@ class Player(Connection):
             self._transport.close()
 
     def connection_lost(self, error: Exception | None) -> None:
+        """Ends what still waits for a reply."""
         self._transport = None
         for _, reply in self._flying:
             if not reply.done():
@@ -241,10 +242,10 @@ class Stage:
         start, held = event.start, event.held
         if isinstance(start, StartRecord):
             self._by_version_1(start, event.answered)
-        elif held is Held.RUN and start.base < event.answered:
+        elif held is StoreAtStart.RUN and start.base < event.answered:
             raise Stopped(f"the start before line {start.number} goes on after line {start.base}, and lines up to {event.answered} have been run here: two "
                           "fronts have written the journal")
-        if held is Held.UNKNOWN:
+        if held is StoreAtStart.UNKNOWN:
             if self.child is None and not self.at:
                 raise Stopped("the journal begins over a store that was there before: begin with a snapshot")
             for line in event.unknown:
@@ -253,8 +254,8 @@ class Stage:
         elif event.unknown:
             lines = f"line {event.unknown[0].number}" if len(event.unknown) == 1 else f"lines {event.unknown[0].number} to {event.unknown[-1].number}"
             self._tell(f"{lines} had no reply when the leader's server ended: what the leader's store held then is in the journal, and stands here too")
-        emptied = held is Held.ALL and self._store == "memory" and not event.rows
-        if held in (Held.CHANGED, Held.ALL) and not emptied and (event.rows or self.at or self.child is not None):
+        emptied = held is StoreAtStart.ALL and self._store == "memory" and not event.rows
+        if held in (StoreAtStart.CHANGED, StoreAtStart.ALL) and not emptied and (event.rows or self.at or self.child is not None):
             await self._given(event)
         await self._renewed(start.settings, emptied)
         self.at = start.number - 1
@@ -273,7 +274,7 @@ class Stage:
             raise Stopped(f"the start before line {event.start.number} gives rows of a store, and this one is in memory")
         await self.end()
         try:
-            await asyncio.to_thread(apply, Path(self._store), event.rows, event.held is Held.ALL)
+            await asyncio.to_thread(apply, Path(self._store), event.rows, event.held is StoreAtStart.ALL)
         except (sqlite3.Error, ClientError) as error:
             raise Stopped(f"the rows before line {event.start.number} cannot be stored: {error}") from error
 

@@ -1,7 +1,7 @@
 # SPDX-License-Identifier: Apache-2.0
-"""What each account takes of the store and of the server's memory. One that is over a quota is told, and has one line a second; others are not met by it.
+"""What each account takes of the store and of the server's memory. One that is over a quota hears so, and has one line a second; others are not met by it.
 
-The server counts neither, so both are seen from beside it. Rows are counted in the store's file, which lags behind by what the store's log has. Memory
+The server counts neither, so both are seen from beside it. Rows are counted in the store's file, which lacks what the store's log has. Memory
 is what the server grew by while an account had nearly all of its time; what grew while several did is charged to nobody."""
 from __future__ import annotations
 
@@ -97,7 +97,7 @@ class Quotas:
 
     def __init__(self, most_rows: int, most_memory: int, memory: Memory, used: Used, told: Callable[[str, Over], None]) -> None:
         """`told` is called with an account, and what it is over, each time that this is another."""
-        self._most = {ROWS: most_rows, MEMORY: most_memory}
+        self.limit(most_rows, most_memory)
         self._used, self._told = used, told
         self._next: dict[str, float] = {}
         # Of each account, how many lines it had had at its last count that succeeded, and the stamp of the file at its last count.
@@ -108,6 +108,10 @@ class Quotas:
         self.memory = memory
         self.rows: dict[str, int] = {}
         self.over: dict[str, Over] = {}
+
+    def limit(self, rows: int, memory: int) -> None:
+        """What an account may have, from the next look on."""
+        self._most = {ROWS: rows, MEMORY: memory}
 
     async def count(self, store: Path) -> None:
         """Counts rows, if it is time, of the accounts that had lines since they were counted, if the file was written since then."""
@@ -166,7 +170,7 @@ class Quotas:
 
 
 def in_words(over: Over) -> str:
-    """What an account is told with each reply."""
+    """What each reply says of it to the account."""
     parts = [f"{used:,} {'rows' if what == ROWS else 'bytes of memory'} of {most:,}" for what, (used, most) in over.items()]
     return f"the account is over its quota ({', '.join(parts)}): it has one line a second"
 

@@ -88,7 +88,7 @@ class StartRecord:
         return b"S" + _START.pack(self.number, self.time, self.sent, base, self.fresh) + zlib.compress(self.settings)
 
 
-class Held(enum.IntEnum):
+class StoreAtStart(enum.IntEnum):
     """What the store of the one who writes held at a start."""
 
     # It had run all lines up to `base`, and nothing else.
@@ -122,7 +122,7 @@ class BeginRecord:
     number: int
     time: int
     sent: int
-    held: Held
+    held: StoreAtStart
     base: int
     parts: int
     settings: bytes
@@ -222,4 +222,4 @@ def _begin(rest: bytes) -> BeginRecord:
     if rest[0] != VERSION:
         raise BadJournal(f"a start of version {rest[0]}, and this program knows {VERSION}: a later version wrote this journal")
     _, number, time, sent, held, base, parts = _BEGIN.unpack_from(rest)
-    return BeginRecord(number, time, sent, Held(held), base, parts, zlib.decompress(rest[_BEGIN.size:]))
+    return BeginRecord(number, time, sent, StoreAtStart(held), base, parts, zlib.decompress(rest[_BEGIN.size:]))

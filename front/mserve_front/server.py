@@ -16,14 +16,14 @@ from typing import TYPE_CHECKING
 
 from .connection import HOST, NoStart, joined
 from .enclosure import APART, PORT, can_enclose, started
-from .faults import NoJournal
+from .faults import Causes, NoJournal
 from .lines import HALT, Line
 from .metrics import Metrics
 from .replies import Answer
 from .settings import Settings
 from .shares import Shares
 from .slices import OWN, take_slices
-from .turns import Ask, Lost, Turns, Unsent
+from .turns import Ask, FairConnection, Lost, Unsent
 
 if TYPE_CHECKING:
     from .journal import Journal
@@ -42,24 +42,31 @@ def tell(text: str) -> None:
     print(f"mfront: {text}", file=sys.stderr, flush=True)
 
 
-class Fault:
-    """A fault that may last: it is reported when it comes and when it is gone, and not each time that it is met. `text` says what it is; empty if there is
-    none."""
+class Condition:
+    """A fault that may last: it is reported when it comes, when it has another cause, and when it is gone, and not each time that it is met. `text` says what
+    it is; empty if there is none."""
 
     def __init__(self, came: str, gone: str) -> None:
         """What is said of it then; `{}` stands for what it is."""
         self._came, self._gone, self.text = came, gone, ""
+        self._causes = Causes()
 
     def comes(self, error: Exception) -> None:
         """It is met."""
-        if not self.text:
+        if not self._causes.has(error):
             tell(self._came.format(error))
         self.text = str(error)
+
+    def comes_again(self, error: Exception) -> None:
+        """It is met, and reported whatever it was before."""
+        self._causes.clear()
+        self.comes(error)
 
     def goes(self) -> None:
         """It is not there, or no more."""
         if self.text:
             tell(self._gone)
+        self._causes.clear()
         self.text = ""
 
 
@@ -80,14 +87,14 @@ class _Ended(Exception):
 
 
 class Server:
-    """The server and the one connection to it. `session` counts how often all terminals' sessions were begun again; `state` is `starting`, `up`
+    """The server and the one connection to it. `generation` counts how often all terminals' sessions were begun again; `state` is `starting`, `up`
     or `down`; `shares` has what each account has used of it."""
 
-    def __init__(self, settings: Settings, metrics: Metrics, restarted: Callable[[], Awaitable[None]], journal: Journal | None = None) -> None:
-        """`restarted` is called each time that the server is up again after it was down."""
+    def __init__(self, settings: Settings, metrics: Metrics, journal: Journal | None = None) -> None:
+        """`restarted` is called each time that the server is up again after it was down; who has the sessions sets it."""
         self._settings = settings
         self._metrics = metrics
-        self._restarted = restarted
+        self.restarted: Callable[[], Awaitable[None]] | None = None
         self._journal = journal
         self._began: Callable[[bool, bytes], Awaitable[None]] | None = None
         self._one = asyncio.Lock()
@@ -99,9 +106,9 @@ class Server:
         self._port = settings.join or 0
         self._ways: list[socket.socket] | None = None
         self._ahead: socket.socket | None = None
-        self._turns: Turns | None = None
+        self._turns: FairConnection | None = None
         self.state = "starting"
-        self.session = 1
+        self.generation = 1
 
     @property
     def pid(self) -> int | None:
@@ -155,13 +162,13 @@ class Server:
         users, as after a restart. Raises `Lost`, `Unsent` or `NoJournal`."""
         assert self._turns is not None and self._journal is not None
         await self._journal.renew(self._text, rows)
-        # From here on it stands in the journal. If the server ends now, its start does the same.
-        self.session += 1
+        # From here on it is in the journal. If the server ends now, its start does the same.
+        self.generation += 1
         await self._turns.halt(self._terminals)
-        await self._restarted()
+        await self._begin_again()
 
     async def start_again(self, known: Callable[[], None]) -> None:
-        """Between two lines (`quiet`): ends the child, which is started again by the settings that stand in their file; `known` is called before. Users are
+        """Between two lines (`quiet`): ends the child, which is started again by the settings that are in their file; `known` is called before. Users are
         told, as after any restart. Raises `Unsent` or `NoJournal` if it cannot be now."""
         with contextlib.suppress(_Ended):
             async with self.quiet():
@@ -182,7 +189,7 @@ class Server:
             self._turns.forget(terminal)
 
     def begins(self, began: Callable[[bool, bytes], Awaitable[None]]) -> None:
-        """Has a call note each start in the journal, once the store is there and no session is open: it is told whether the store was made again, and the
+        """Has a call note each start in the journal, once the store is there and no session is open: it gets whether the store was made again, and the
         server's settings. It raises `NoJournal` or `NoStart`."""
         self._began = began
 
@@ -234,10 +241,15 @@ class Server:
     def _fell(self, fault: str | None) -> None:
         """Notes that the connection is over."""
         self.state = "down"
-        self.session += 1
+        self.generation += 1
         self._turns = None
         self._metrics.restarts += 1
         tell(f"the connection to the server ended{': ' + fault if fault else ''}")
+
+    async def _begin_again(self) -> None:
+        """Says that all sessions begin again."""
+        if self.restarted is not None:
+            await self.restarted()
 
     async def _again(self) -> None:
         """Starts a child that has ended, and connects. One that only broke the connection goes on, with what it has in memory."""
@@ -247,7 +259,7 @@ class Server:
         if self._settings.join is None and (self._process is None or self._process.returncode is not None):
             await self._launch()
         await self._connect()
-        await self._restarted()
+        await self._begin_again()
 
     async def _launch(self) -> None:
         """Starts the child."""
@@ -275,7 +287,7 @@ class Server:
         self._turns = turns
         self.state = "up"
 
-    async def _noted(self, turns: Turns) -> None:
+    async def _noted(self, turns: FairConnection) -> None:
         """Notes in the journal, if there is one, that all sessions begin again; from now on the connection's lines are in it. Raises `NoJournal`."""
         if self._journal is not None and self._began is not None:
             await self._began(self._fresh, self._text)
@@ -288,7 +300,7 @@ class Server:
         except OSError as error:
             raise NoStart(f"{self._settings.server_settings}: {error.strerror}") from error
 
-    def _why(self, turns: Turns, error: Exception) -> str:
+    def _why(self, turns: FairConnection, error: Exception) -> str:
         if isinstance(error, NoJournal):
             return f"the journal cannot be written: {error}"
         return f"no reply at port {self._port}: " + ("another client is connected to it" if isinstance(error, TimeoutError) else
@@ -300,11 +312,11 @@ class Server:
             self._process.kill()
             await self._process.wait()
 
-    async def _connected(self) -> Turns:
+    async def _connected(self) -> FairConnection:
         """A connection to the server. One that was there before this process began has to be listening."""
         patient = self._process is not None or self.state != "starting"
         ahead, self._ahead = self._ahead, None
-        return await joined(self._port, lambda: Turns(self._settings.limits.reply, self._metrics.timed, self.shares), self._process, patient,
+        return await joined(self._port, lambda: FairConnection(self._settings.limits.reply, self._metrics.timed, self.shares), self._process, patient,
                             self._ways, ahead)
 
 

@@ -10,6 +10,7 @@ import signal
 import ssl
 import time
 from collections.abc import Awaitable
+from dataclasses import fields
 from typing import TYPE_CHECKING
 
 from aiohttp import web
@@ -22,9 +23,9 @@ from .connection import NoStart
 from .doors import Doors, Made, spare_memory, strict
 from .line_port import LinePort
 from .metrics import Metrics
-from .server import tell
+from .server import Server, tell
 from .sessions import Sessions
-from .settings import BadSettings, Settings
+from .settings import AT_A_START, BadSettings, Limits, Settings, changed_keys, read_settings, read_toml
 from .signing import Signing
 from .users import BadUsers, Register
 from .web import Web
@@ -36,7 +37,8 @@ if TYPE_CHECKING:
 KEPT = 30.0
 # Seconds that requests have to end at the stop.
 CLOSING = 1.0
-# What ends the service, and what users are told of it.
+TAKEN_BY_A_RELOAD = {f"limits.{one.name}" for one in fields(Limits)} - {f"limits.{name}" for name in AT_A_START}
+# What ends the service, and what it says to users.
 ENDS = {signal.SIGTERM: "stopping", signal.SIGINT: "stopping", signal.SIGUSR1: "moved"}
 
 
@@ -46,6 +48,7 @@ class Service:
     def __init__(self, settings: Settings, promoted: Promoted | None = None) -> None:
         """Raises `BadSettings` or `BadUsers` for what does not fit together. A standby that was promoted hands on what it has."""
         self.settings = settings
+        self._tables = read_toml(settings.path)
         self.metrics = Metrics()
         self._context = tls_context(settings)
         self._audit = audit_log(settings, self.metrics)
@@ -54,12 +57,14 @@ class Service:
         for user in self._register.users.values():
             if not settings.terminals.get(user.account):
                 raise BadUsers(f"{settings.users}: user {user.name}: {user.account} is no account with terminals in {settings.server_settings}")
-        self._doors = Doors(settings.limits, self._context, promoted.places if promoted else {}, settings.gate)
+        self._doors = Doors(settings.limits, self._context, promoted.places if promoted else {}, settings.listen.gate)
         self._signing = Signing(self._register, self._audit, self.metrics)
-        self._sessions = Sessions(settings, self.metrics, self._audit, self._register, self._keeper.journal if self._keeper else None)
+        journal = self._keeper.journal if self._keeper else None
+        self._server = Server(settings, self.metrics, journal)
+        self._sessions = Sessions(settings, self._server, self.metrics, self._audit, self._register, journal)
         if self._keeper is not None:
-            self._keeper.answer("change", Changes(settings, self._sessions.server, (self._sessions, self._keeper.accounts)).take)
-        self._admin = Admin(settings, self._sessions, self.metrics, self._keeper.behind if self._keeper else list)
+            self._keeper.answer("change", Changes(settings, self._server, (self._sessions, self._keeper.accounts)).take)
+        self._admin = Admin(settings, self._server, self._sessions, self.metrics, self._keeper.behind if self._keeper else list)
         self._stopping = promoted.stopping if promoted else asyncio.Event()
         self._why = "stopping"
 
@@ -72,7 +77,7 @@ class Service:
         for number, why in ENDS.items():
             ending.hear(number, self._stop, why)
         ending.hear(signal.SIGHUP, self._reload)
-        pages = Web(self.settings, self._sessions, self._signing, self.metrics, self._doors)
+        pages = Web(self.settings, self._server, self._sessions, self._signing, self.metrics, self._doors)
         runner = web.AppRunner(pages.application(), handle_signals=False, access_log=None, keepalive_timeout=KEPT, auto_decompress=False,
                                logger=_quiet("aiohttp.server"))
         _quiet("asyncio")
@@ -87,8 +92,8 @@ class Service:
             self._doors.close()
             await self._admin.end()
             await self._sessions.stop(self._why)
-            whole = self._sessions.server.whole
-            await self._sessions.server.end()
+            whole = self._server.whole
+            await self._server.end()
             if self._keeper is not None:
                 await self._keeper.end(whole)
             if runner.server is not None:
@@ -103,8 +108,8 @@ class Service:
 
     async def _begin(self) -> None:
         """Starts the server, and the journal before it."""
-        child = None if self._keeper is None else await self._keeper.begin(self._sessions.server)
-        await self._sessions.server.begin(child)
+        child = None if self._keeper is None else await self._keeper.begin(self._server)
+        await self._server.begin(child)
         if self._keeper is not None:
             await self._keeper.began()
 
@@ -122,22 +127,22 @@ class Service:
 
     def _listen(self, made: Made) -> None:
         settings = self.settings
-        self._doors.listen(settings.host, settings.port, made)
-        if settings.lines_port is not None:
+        self._doors.listen(settings.listen.host, settings.listen.port, made)
+        if settings.listen.lines_port is not None:
             port = LinePort(self._sessions, self._signing, settings.limits, self._doors)
-            self._doors.listen(settings.host, settings.lines_port, port.door)
+            self._doors.listen(settings.listen.host, settings.listen.lines_port, port.door)
         # Both are there by now: who waits for the first of these may come at once.
         kind = "https" if settings.tls else "http"
-        tell(f"serving at {kind}://{f'[{settings.host}]' if ':' in settings.host else settings.host}:{settings.port}/")
-        if settings.lines_port is not None:
-            tell(f"lines at port {settings.lines_port}")
+        tell(f"serving at {kind}://{f'[{settings.listen.host}]' if ':' in settings.listen.host else settings.listen.host}:{settings.listen.port}/")
+        if settings.listen.lines_port is not None:
+            tell(f"lines at port {settings.listen.lines_port}")
         if not settings.tls:
             tell("no certificate (listen.certificate, listen.key): listening at the loopback alone, without TLS")
         if settings.volatile:
             tell("the store is volatile: all data are gone once the server ends")
 
     async def _serve(self) -> None:
-        tasks = [asyncio.create_task(self._sessions.server.run()), asyncio.create_task(self._sweep()), asyncio.create_task(self._sessions.count()),
+        tasks = [asyncio.create_task(self._server.run()), asyncio.create_task(self._sweep()), asyncio.create_task(self._sessions.count()),
                  asyncio.create_task(self._admin.run()), asyncio.create_task(self._stopping.wait())]
         if self._keeper is not None:
             tasks += [asyncio.create_task(self._keeper.lost()), asyncio.create_task(self._keeper.looks())]
@@ -164,14 +169,28 @@ class Service:
             self._sessions.look()
 
     def _reload(self) -> None:
-        """Takes a new certificate, and opens the audit log again."""
-        try:
-            if self._context is not None:
-                load_certificate(self._context, self.settings)
-            self._audit.reopen()
-            tell("certificate and audit log opened again")
-        except (BadSettings, OSError) as error:
-            tell(f"not reloaded: {error}")
+        """Opens the audit log again, and takes a new certificate and new limits: each of them, whatever is wrong with the others. A service that stops
+        takes nothing, so that signals do not hold it up."""
+        if self._stopping.is_set():
+            return
+        for what, act in (("the audit log", self._audit.reopen), ("the certificate", self._new_certificate), ("limits", self._new_limits)):
+            try:
+                act()
+                tell(f"reloaded: {what}")
+            except (BadSettings, OSError) as error:
+                tell(f"not reloaded: {what}: {error}")
+
+    def _new_certificate(self) -> None:
+        """Takes the certificate as it stands. Raises `BadSettings`; then that of before stays."""
+        if self._context is not None:
+            load_certificate(self._context, self.settings)
+
+    def _new_limits(self) -> None:
+        """Takes the limits as they stand in the settings, and tells what else has changed there. Raises `BadSettings`; then those of before stay."""
+        path = self.settings.path
+        self._sessions.limit(read_settings(path, self.settings.volatile).limits)
+        if later := changed_keys(self._tables, read_toml(path), TAKEN_BY_A_RELOAD):
+            tell(f"{path}: {', '.join(later)}: this counts from the next start of the front")
 
 
 def _quiet(name: str) -> logging.Logger:
@@ -203,7 +222,7 @@ def tls_context(settings: Settings) -> ssl.SSLContext | None:
 
 def load_certificate(context: ssl.SSLContext, settings: Settings) -> None:
     """Reads the certificate and its key. Raises `BadSettings` if they cannot be read or do not fit."""
-    certificate, key = settings.certificate, settings.key
+    certificate, key = settings.listen.certificate, settings.listen.key
     assert certificate is not None and key is not None, "the front speaks TLS"
     for name, path in (("certificate", certificate), ("key", key)):
         try:

@@ -18,13 +18,13 @@ from mserve_client.escape import shown
 from .audit import Audit, NoAudit, packed
 from .fair import Pace
 from .faults import HeldBack, NoJournal
-from .lines import Line, Refused
+from .lines import Line, LineRefused
 from .metrics import Metrics, family
 from .quotas import COUNTED as COUNTED_ROWS
 from .quotas import Memory, Over as OverQuota, Quotas, in_words, size_of
 from .replies import Answer
 from .server import Server
-from .settings import Settings
+from .settings import AT_A_START, Limits, Settings
 from .signing import Wrong
 from .terminals import NotUp, Terminals
 from .turns import Lost, Unsent
@@ -34,7 +34,7 @@ from .users import Register, User
 if TYPE_CHECKING:
     from .journal import Journal
 
-# What a user is told, as JSON has it.
+# What a user gets, as JSON has it.
 Record = dict[str, Any]
 # The ways to sign on.
 PAGE, LINES, TOKEN = "page", "lines", "token"
@@ -57,7 +57,7 @@ class Over(Exception):
 
 
 class Listener(Protocol):
-    """A connection of a session, which is told of events."""
+    """A connection of a session, which gets its events."""
 
     async def tell(self, event: Record) -> None:
         """Sends an event; a connection that does not take it is cut off."""
@@ -68,7 +68,7 @@ class Listener(Protocol):
 
 @dataclass(eq=False, slots=True)
 class Session:
-    """A user at a terminal. `number` is the server's session that its variables are of, `proof` the hash that it was signed on by. `carried` counts its
+    """A user at a terminal. `generation` is the server's generation that its variables are of, `proof` the hash that it was signed on by. `carried` counts its
     lines whose replies were not taken yet; `clean` says that none was sent since HALT; `refused` counts those that were refused and not noted yet;
     `packed` is what each record of the audit log has of it."""
 
@@ -78,7 +78,7 @@ class Session:
     way: str
     address: str
     proof: str
-    number: int
+    generation: int
     key: str = field(default_factory=lambda: secrets.token_urlsafe(32))
     began: float = field(default_factory=time.monotonic)
     used: float = field(default_factory=time.monotonic)
@@ -120,7 +120,8 @@ class Carried:
 class Sessions:
     """All sessions, and the terminals that nobody has."""
 
-    def __init__(self, settings: Settings, metrics: Metrics, audit: Audit, register: Register, journal: Journal | None = None) -> None:
+    def __init__(self, settings: Settings, server: Server, metrics: Metrics, audit: Audit, register: Register, journal: Journal | None = None) -> None:
+        """The sessions of a server, whose restarts they hear of from now on."""
         self._journal = journal
         self._settings = settings
         self._metrics = metrics
@@ -131,7 +132,8 @@ class Sessions:
         self._stopping = False
         self._cheap = Pace(SPARED)
         self.unread = Unread()
-        self.server = Server(settings, metrics, self.restarted, journal)
+        self.server = server
+        server.restarted = self.restarted
         self._terminals = Terminals(settings.terminals, self.server, journal)
         metrics.more.append(self._by_account)
         used = self.server.shares.used
@@ -143,6 +145,11 @@ class Sessions:
         """Which terminals each account has, from now on."""
         self._terminals.know(terminals)
         self.server.know(terminals)
+
+    def limit(self, limits: Limits) -> None:
+        """Takes other limits, for all who are signed on too."""
+        self._settings.limits.take(limits, AT_A_START)
+        self.quotas.limit(limits.rows, limits.memory)
 
     def __iter__(self) -> Iterator[Session]:
         """The sessions as they stand: they may be ended meanwhile."""
@@ -167,9 +174,9 @@ class Sessions:
         return self._of_key.get(key)
 
     def record(self, session: Session) -> Record:
-        """What a user is told of their session."""
+        """What a user gets of their session."""
         return {"user": session.user, "account": session.account, "terminal": session.terminal, "volatile": self._settings.volatile,
-                "session": session.number, **({"text": "utf-8"} if self._settings.in_utf_8 else {})}
+                "generation": session.generation, "session": session.generation, **({"text": "utf-8"} if self._settings.in_utf_8 else {})}
 
     async def sign_on(self, user: User, way: str, address: str, proof: str) -> Session:
         """Gives a user a terminal. Raises `AllInUse`, `NotUp`, `Wrong` if they are no user any more by what they signed on with, or `NoAudit` if the
@@ -182,7 +189,7 @@ class Sessions:
             # Between the look at the password and this there may have been a change of the users: what comes later is met by `sweep`.
             if not self._register.proves(user.name, user.account, proof):
                 raise Wrong
-            session = Session(user.name, user.account, terminal, way, address, proof, self.server.session)
+            session = Session(user.name, user.account, terminal, way, address, proof, self.server.generation)
             self._note("sign-on", session)
         except BaseException:
             self._terminals.put_back(user.account, terminal)
@@ -238,14 +245,14 @@ class Sessions:
             session.used = time.monotonic()
             self._spawn(self._halt(session))
 
-    async def run(self, session: Session, data: bytes, number: int | None = None) -> Record:
-        """The record of a line's reply, or of why there is none. `number` is the server's session that the line was written for. Raises `Over`."""
+    async def run(self, session: Session, data: bytes, generation: int | None = None) -> Record:
+        """The record of a line's reply, or of why there is none. `generation` is the server's generation that the line was written for. Raises `Over`."""
         over = self.quotas.over.get(session.account)
         if over is not None:
             await self.quotas.turn(session.account)
         try:
-            record = await self._run(session, data, number)
-        except Refused as error:
+            record = await self._run(session, data, generation)
+        except LineRefused as error:
             record = {"refused": error.code, "why": error.why}
         except Lost:
             record = {"unknown": True, "why": UNKNOWN}
@@ -268,12 +275,12 @@ class Sessions:
         """Waits for the turn of what costs the server nothing: a line that is refused, a ping. Others have their turns meanwhile."""
         await self._cheap.turn(session.account)
 
-    async def _run(self, session: Session, data: bytes, number: int | None) -> Record:
+    async def _run(self, session: Session, data: bytes, generation: int | None) -> Record:
         if session.over:
             raise Over
         line = Line.in_utf_8(data) if self._settings.in_utf_8 else Line(data)
         self._audit.check()
-        if self._stopping or session.number != self.server.session or number not in (None, session.number):
+        if self._stopping or session.generation != self.server.generation or generation not in (None, session.generation):
             raise Unsent
         session.clean = False
         answer = await self.server.ask(session.terminal, line, session.user)
@@ -304,12 +311,12 @@ class Sessions:
 
     async def restarted(self) -> None:
         """Tells all that the server was started again: their variables and locks are gone."""
-        self._audit.note_later("restarted", session=self.server.session)
+        self._audit.note_later("restarted", generation=self.server.generation, session=self.server.generation)
         for session in self:
-            session.number = self.server.session
+            session.generation = self.server.generation
             session.fresh = session.clean = True
             if session.listener is not None:
-                event = {"event": "restarted", "volatile": self._settings.volatile, "session": session.number}
+                event = {"event": "restarted", "volatile": self._settings.volatile, "generation": session.generation, "session": session.generation}
                 self._spawn(session.listener.tell(event))
 
     def sweep(self) -> None:

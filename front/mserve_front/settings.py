@@ -4,7 +4,8 @@ from __future__ import annotations
 
 import ipaddress
 import tomllib
-from dataclasses import dataclass
+from collections.abc import Container
+from dataclasses import dataclass, fields
 from pathlib import Path
 from typing import Any, TypedDict, overload
 
@@ -15,9 +16,9 @@ class BadSettings(Exception):
     """A file cannot be used; the text says which file, which key, and what is wanted there."""
 
 
-@dataclass(frozen=True, slots=True)
+@dataclass(slots=True)
 class Limits:
-    """Times in seconds, sizes in bytes, and counts."""
+    """Times in seconds, sizes in bytes, and counts. A reload changes them in place, so that all who have them see it."""
 
     idle: float = 30 * 60
     absent: float = 2 * 60
@@ -34,6 +35,16 @@ class Limits:
     sessions_of_user: int = 4
     rows: int = 10_000_000
     memory: int = 1_000_000_000
+
+    def take(self, other: Limits, but: Container[str] = ()) -> None:
+        """Takes the values of others, but for some."""
+        for one in fields(self):
+            if one.name not in but:
+                setattr(self, one.name, getattr(other, one.name))
+
+
+# Limits that count from a front's start: the ways in, and its connection to the server, are made with them.
+AT_A_START = ("body", "reply")
 
 
 @dataclass(frozen=True, slots=True)
@@ -55,6 +66,20 @@ class JournalSettings:
 
 
 @dataclass(frozen=True, slots=True)
+class Listen:
+    """Where users connect, what a browser is shown, and the secret of the gate before the front, if there is one."""
+
+    host: str
+    port: int
+    lines_port: int | None
+    gate: str | None
+    certificate: Path | None
+    key: Path | None
+    origins: tuple[str, ...]
+    page: Path
+
+
+@dataclass(frozen=True, slots=True)
 class Settings:
     """All settings, with paths made whole."""
 
@@ -64,14 +89,7 @@ class Settings:
     store: str | None
     join: int | None
     volatile: bool
-    host: str
-    port: int
-    lines_port: int | None
-    gate: str | None
-    certificate: Path | None
-    key: Path | None
-    origins: tuple[str, ...]
-    page: Path
+    listen: Listen
     users: Path
     audit: Path | None
     texts: bool
@@ -87,7 +105,7 @@ class Settings:
     @property
     def tls(self) -> bool:
         """Whether the front speaks TLS."""
-        return self.certificate is not None
+        return self.listen.certificate is not None
 
 
 class Table:
@@ -203,6 +221,12 @@ def read_toml(path: Path) -> dict[str, Any]:
         raise BadSettings(f"{path}: is no TOML: {error}") from error
 
 
+def changed_keys(before: dict[str, Any], after: dict[str, Any], known: Container[str] = ()) -> list[str]:
+    """The keys whose values differ between two readings of a file, as TABLE.KEY, but for those that are known."""
+    tables = [{f"{name}.{key}": value for name, keys in tables.items() for key, value in keys.items()} for tables in (before, after)]
+    return sorted(key for key in tables[0].keys() | tables[1].keys() if key not in known and tables[0].get(key) != tables[1].get(key))
+
+
 def read_terminals(path: Path) -> dict[str, tuple[int, ...]]:
     """The terminals of each account, of a file of the server's settings. The server itself checks them in full."""
     accounts = read_toml(path).get("account", [])
@@ -224,8 +248,8 @@ def read_settings(path: Path, volatile: bool) -> Settings:
         raise BadSettings(f"{path}: {name}: there is no such table")
     taken = {name: Table(path, name, tables.get(name, {})) for name in TABLES}
     users = taken["users"].needed_file("file")
-    settings = Settings(path=path, users_of_machine=taken["users"].file("machine"), **_server(taken["server"], volatile), **_listen(taken["listen"]),
-                        users=users,
+    settings = Settings(path=path, users_of_machine=taken["users"].file("machine"), **_server(taken["server"], volatile),
+                        listen=_listen(taken["listen"]), users=users,
                         journal=journal_settings(taken["journal"], users.parent), audit=taken["audit"].file("file"), texts=taken["audit"].truth("texts", False),
                         metrics_from=_networks(taken["metrics"]), metrics_token=taken["metrics"].secret("token"),
                         admin=taken["admin"].file("socket"), limits=limits_of(taken["limits"]))
@@ -275,20 +299,7 @@ def characters_of(table: Table) -> str:
     return text
 
 
-class OfListen(TypedDict):
-    """What the table of the places gives."""
-
-    host: str
-    port: int
-    lines_port: int | None
-    gate: str | None
-    certificate: Path | None
-    key: Path | None
-    origins: tuple[str, ...]
-    page: Path
-
-
-def _listen(table: Table) -> OfListen:
+def _listen(table: Table) -> Listen:
     """Where users connect. Without a certificate that is the loopback alone."""
     certificate, key = table.file("certificate"), table.file("key")
     if (certificate is None) != (key is None):
@@ -307,8 +318,7 @@ def _listen(table: Table) -> OfListen:
     gate = table.secret("gate")
     if gate is not None and not address.is_loopback:
         raise table.fault("gate", f"is for a front at the loopback, and host is {host}: a gate of this machine hands users on")
-    return {"host": host, "port": port, "lines_port": lines_port, "gate": gate, "certificate": certificate, "key": key,
-            "origins": _origins(table), "page": table.file("page", Path(__file__).resolve().parent.parent / "page")}
+    return Listen(host, port, lines_port, gate, certificate, key, _origins(table), table.file("page", Path(__file__).resolve().parent.parent / "page"))
 
 
 def _origins(table: Table) -> tuple[str, ...]:

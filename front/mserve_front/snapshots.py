@@ -14,7 +14,7 @@ import shutil
 import sqlite3
 from collections.abc import Awaitable, Callable
 from contextlib import AbstractAsyncContextManager
-from dataclasses import asdict, dataclass, field
+from dataclasses import asdict, dataclass, field, replace
 from datetime import UTC, datetime
 from itertools import groupby
 from pathlib import Path
@@ -37,13 +37,14 @@ class BadSnapshot(Exception):
 
 @dataclass(frozen=True, slots=True)
 class Manifest:
-    """What a snapshot is of."""
+    """What a snapshot is of. `sequence` is the journal's last flush before it was begun: starts after its line that are there by then are part of it."""
 
     journal: int
     number: int
     time: str
     open: list[int]
     accounts: dict[str, Account] = field(default_factory=dict)
+    sequence: int = 0
 
     @property
     def exact(self) -> bool:
@@ -141,7 +142,7 @@ def _held(base: sqlite3.Connection) -> dict[str, Account]:
 def finish(folder: Path, name: Manifest) -> Manifest:
     """Checks the store of a snapshot that was copied, and writes its manifest."""
     held = accounts_of(folder / STORE)
-    made = Manifest(name.journal, name.number, name.time, name.open, held)
+    made = replace(name, accounts=held)
     for path in (folder / STORE, folder / SETTINGS):
         with path.open("rb") as file:
             os.fsync(file.fileno())
@@ -155,7 +156,8 @@ def read_manifest(folder: Path) -> Manifest:
     try:
         found = json.loads(path.read_bytes())
         accounts = {name: Account(int(one["nodes"]), str(one["digest"])) for name, one in found["accounts"].items()}
-        return Manifest(int(found["journal"]), int(found["number"]), str(found["time"]), [int(one) for one in found["open"]], accounts)
+        return Manifest(int(found["journal"]), int(found["number"]), str(found["time"]), [int(one) for one in found["open"]], accounts,
+                        int(found.get("sequence", 0)))
     except OSError as error:
         raise BadSnapshot(f"{path}: cannot be read: {error.strerror}") from error
     except (ValueError, KeyError, TypeError, AttributeError) as error:
@@ -168,7 +170,7 @@ def snapshots_of(folder: Path) -> list[Path]:
 
 
 def latest(folder: Path, journal: int, least: int, most: int) -> Path | None:
-    """The latest exact snapshot in a folder that is of a journal, and stands at one of these lines. One whose manifest cannot be read, as while it is being
+    """The latest exact snapshot in a folder that is of a journal, and is at one of these lines. One whose manifest cannot be read, as while it is being
     copied there, does not count."""
     with contextlib.suppress(OSError):
         for path in reversed(snapshots_of(folder)):

@@ -18,7 +18,7 @@ from pathlib import Path
 from . import ending
 from .admin import Page, Told, alarms_of, figures_of
 from .connection import NoStart
-from .control import Answered, Control, Refused
+from .control import Answered, Control, ControlError
 from .doors import held
 from .figures import of_standby
 from .history import Answered as Ran
@@ -28,8 +28,8 @@ from .keeper import Promoted
 from .metrics import Metrics
 from .places import end_of, first_of, last_line, last_of, reader_of, writer_of
 from .player import NotYet, Stage, Stopped
-from .records import BadJournal, Flush, Held, LineRecord
-from .server import Fault, tell
+from .records import BadJournal, Flush, LineRecord, StoreAtStart
+from .server import Condition, tell
 from .settings import Settings
 from .snapshots import BadSnapshot, latest, put_back
 from .standbys import SAYS, Said, name_of
@@ -76,9 +76,9 @@ class Standby:
         self._wake = asyncio.Event()
         self._control = Control(settings.journal.control, {"status": self._status, "promote": self._promote})
         self._page = Page(settings.admin, self._told)
-        self._fault = Fault("the journal cannot be read: {}; it is tried again", "the journal can be read again")
+        self._fault = Condition("the journal cannot be read: {}; it is tried again", "the journal can be read again")
         # What it waits for, so that it can go on; and whether that is because its store is not as the leader's.
-        self._waits = Fault("it stands still, and waits: {}", "it goes on")
+        self._waits = Condition("it stands still, and waits: {}", "it goes on")
         self._differs = False
         # The journal's first line, where it does not reach back to what the store has run; and whether that was looked at since the reading began.
         self._gone: int | None = None
@@ -141,10 +141,10 @@ class Standby:
     def _hold_ports(self) -> None:
         """Holds the ports that it is to serve at, where nobody has them: at a promotion it is late to hear that one is taken."""
         settings = self._settings
-        for port in (settings.port, settings.lines_port):
+        for port in (settings.listen.port, settings.listen.lines_port):
             try:
                 if port is not None:
-                    self._places[port] = held(settings.host, port, shared=settings.gate is not None)
+                    self._places[port] = held(settings.listen.host, port, shared=settings.listen.gate is not None)
             except OSError as error:
                 tell(f"{error.strerror}: it cannot serve as long as that is so")
 
@@ -248,8 +248,8 @@ class Standby:
 
     def _stands_still(self, error: Stopped) -> None:
         """Runs no line any more, until a start of the leader gives all that its store holds: this one is not as the leader's was."""
-        self._differs, self._waits.text = True, ""
-        self._waits.comes(Stopped(f"{error}. It goes on once {ALL}, or begin with a snapshot"))
+        self._differs = True
+        self._waits.comes_again(Stopped(f"{error}. It goes on once {ALL}, or begin with a snapshot"))
         self._gone = None
         for line in self._stage.give_up():
             self._lost.add(line)
@@ -296,8 +296,7 @@ class Standby:
     def _waits_for(self, error: Exception) -> None:
         """Waits, and tells for what, if that is something else than before."""
         if self._waits.text != str(error):
-            self._waits.text = ""
-            self._waits.comes(error)
+            self._waits.comes_again(error)
 
     async def _begins_with_snapshot(self, first: int) -> None:
         """Begins with a snapshot that was put back, or with the latest one that the journal, which begins with this line, goes on from; if there is one in the
@@ -331,7 +330,7 @@ class Standby:
         bad = None if self._events else await self._read()
         came = bool(self._events)
         self._idle = self._idle and not came
-        # A stop waits for the lines that are on their way, and for no others: the store is known to stand before them.
+        # A stop waits for the lines that are on their way, and for no others: the store is known to come before them.
         while self._events and not self._stopping.is_set():
             event = self._events.popleft()
             try:
@@ -368,7 +367,7 @@ class Standby:
 
     async def _take(self, event: Event) -> None:
         """Runs a line, or begins again. While the store differs from the leader's, lines are passed over, up to a start that gives all."""
-        if self._differs and not (isinstance(event, Began) and event.held is Held.ALL):
+        if self._differs and not (isinstance(event, Began) and event.held is StoreAtStart.ALL):
             if isinstance(event, Ran):
                 self._lost.add(event.line)
             return
@@ -410,7 +409,7 @@ class Standby:
     async def _promote(self, request: dict[str, object]) -> Answered:
         """Asks for the promotion, and waits for what comes of it."""
         if not self._follows:
-            raise Refused(f"not promoted: it has not begun, and waits for the journal: {self._fault.text}")
+            raise ControlError(f"not promoted: it has not begun, and waits for the journal: {self._fault.text}")
         if self._wanted is None:
             self._force = request.get("force") is True
             self._wanted = asyncio.get_running_loop().create_future()
@@ -423,10 +422,10 @@ class Standby:
         journal = Journal(writer_of(self._settings.journal), Metrics(), tell)
         try:
             lost = await self._ready(journal)
-        except (Stopped, BadJournal, Refused, LogTaken, LogFault, NoStart) as error:
+        except (Stopped, BadJournal, ControlError, LogTaken, LogFault, NoStart) as error:
             await journal.close()
             self._wanted = None
-            wanted.set_exception(Refused(f"not promoted: {error}"))
+            wanted.set_exception(ControlError(f"not promoted: {error}"))
             # The one who asked hears of it before this process ends.
             await asyncio.sleep(0.1)
             return None
@@ -440,12 +439,12 @@ class Standby:
         return Promoted(child, journal, self._history.at, self._places, self._stopping, whole=bool(lost))
 
     async def _ready(self, journal: Journal) -> list[str]:
-        """Takes the journal, and runs what was answered. Gives what is lost, which is nothing unless it is promoted by force. Raises `Refused` if it cannot
-        be promoted, something would be lost, or a stop has come."""
+        """Takes the journal, and runs what was answered. Gives what is lost, which is nothing unless it is promoted by force. Raises `ControlError` if it
+        cannot be promoted, something would be lost, or a stop has come."""
         self._go_on()
         if self._gone is not None and self._stage.child is None and await self._caught_up() and self._gone is not None:
             # This comes first: it has nothing to serve with, so that the one that has the journal keeps it.
-            raise Refused(self._waits.text)
+            raise ControlError(self._waits.text)
         await journal.take(self._force)
         wrong = await self._caught_up()
         # From here to the promotion it waits for nothing, unless something is lost: a stop that comes later is for the service.
@@ -454,9 +453,9 @@ class Standby:
         if self._history.last != journal.next - 1:
             lost.append(f"the journal was read up to line {self._history.last}, and ends with line {journal.next - 1}")
         if self._stage.child is None:
-            raise Refused("; ".join(lost) or "the journal has no start: there is nothing to promote")
+            raise ControlError("; ".join(lost) or "the journal has no start: there is nothing to promote")
         if lost and not self._force:
-            raise Refused(f"{'; '.join(lost)}. To lose that, and serve: mfront promote --force")
+            raise ControlError(f"{'; '.join(lost)}. To lose that, and serve: mfront promote --force")
         if lost:
             self._stage.give_up()
             await self._stage.begins_again()
@@ -483,6 +482,6 @@ class Standby:
         return [f"{lost.count} lines that were answered would be lost: {', '.join(shown)}{more}"]
 
     def _go_on(self) -> None:
-        """Raises `Refused` if a stop has come."""
+        """Raises `ControlError` if a stop has come."""
         if self._stopping.is_set():
-            raise Refused("it is being stopped")
+            raise ControlError("it is being stopped")

@@ -1,5 +1,5 @@
 # SPDX-License-Identifier: Apache-2.0
-"""What a standby says of itself beside the journal that it follows, and what its leader makes of that: how far it is behind, and whether it is heard of.
+"""What a standby says of itself beside the journal that it follows, and what its leader makes of that: how far it lags, and whether it is heard of.
 
 It is a line of text (docs/FORMATS.md): in a file of the journal's folder, or as the name of its connection to the database. It changes each time that it is
 said, so that one who says nothing any more is found by that."""
@@ -63,7 +63,7 @@ class Standby:
 
 @dataclass(frozen=True, slots=True)
 class Behind:
-    """How far a standby is behind, in lines and in seconds; for how long it has said nothing; and whether it cannot go on."""
+    """How far a standby lags, in lines and in seconds; for how long it has said nothing; and whether it cannot go on."""
 
     name: str
     line: int
@@ -92,7 +92,7 @@ class Standbys:
         self._known = {name: one for name, one in self._known.items() if now - one.heard < FORGOTTEN and (name in found or not have_left)}
 
     def behind(self, answered: int) -> list[Behind]:
-        """How far each is behind the last line with a reply."""
+        """How far each lags the last line with a reply."""
         now = time.monotonic()
         return [Behind(name, one.said.line, max(0, answered - one.said.line), self._since(one.said.line, now), now - one.heard, one.said.waits)
                 for name, one in sorted(self._known.items())]

@@ -15,7 +15,7 @@ from .records import BadJournal
 @dataclass(frozen=True, slots=True)
 class Standing:
     """A journal, the last line that the store has run, and the terminals that had variables or locks then: these are in no store. `restored` says that
-    the store was put back on purpose. `writers` stand in place of the line while a front serves: the journal's last one has to be one of them."""
+    the store was put back on purpose. `writers` are in place of the line while a front serves: the journal's last one has to be one of them."""
 
     journal: int
     number: int | None

@@ -4,7 +4,7 @@ from __future__ import annotations
 
 from dataclasses import dataclass
 
-from .records import Held
+from .records import StoreAtStart
 
 
 @dataclass(frozen=True, slots=True)
@@ -24,15 +24,15 @@ class Known:
     covers: bool
 
 
-def held(known: Known) -> tuple[Held, int]:
+def held(known: Known) -> tuple[StoreAtStart, int]:
     """What the start says, and the line that it names with RUN."""
     if known.fresh:
-        return Held.ALL, 0
+        return StoreAtStart.ALL, 0
     if not known.readable:
-        return Held.UNKNOWN, 0
+        return StoreAtStart.UNKNOWN, 0
     if known.first or known.cut:
-        return Held.ALL, 0
+        return StoreAtStart.ALL, 0
     line = known.answered if known.line is None and known.sent == known.answered else known.line
     if line is not None:
-        return (Held.RUN, line) if line >= known.answered else (Held.ALL, 0)
-    return (Held.CHANGED, 0) if known.covers else (Held.ALL, 0)
+        return (StoreAtStart.RUN, line) if line >= known.answered else (StoreAtStart.ALL, 0)
+    return (StoreAtStart.CHANGED, 0) if known.covers else (StoreAtStart.ALL, 0)

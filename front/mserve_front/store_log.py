@@ -2,7 +2,7 @@
 """What the log of a store has changed, and what a store holds: read from its files between two lines, beside a server that has them or after its end.
 
 A log (FILE-wal, SQLite's form) has pages in the order in which they were written. Until it is copied into the file, that is as it was when the log was
-begun. So the rows of all pages that stand in the log, and of these pages as they are in the file, are all rows that can have changed since."""
+begun. So the rows of all pages that are in the log, and of these pages as they are in the file, are all rows that can have changed since."""
 from __future__ import annotations
 
 import os
@@ -186,7 +186,7 @@ def _rows(number: int, page: Page) -> Iterator[tuple[bytes, bytes]]:
 
 
 def _payloads(number: int, page: Page) -> Iterator[tuple[bytes, bool]]:
-    """What each row of a page has; and whether all of it stands in the page. Nothing if it has no rows of a table."""
+    """What each row of a page has; and whether all of it is in the page. Nothing if it has no rows of a table."""
     body, at = page(number), _FIRST if number == 1 else 0
     if len(body) <= at or body[at] != _LEAF:
         return

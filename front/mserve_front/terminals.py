@@ -77,13 +77,13 @@ class Terminals:
         """Ends a terminal's session, after the line that is on its way, and says whether that has ended: if not, another HALT took this one's place, or
         the journal could not be written and can again. If the server is down, its start ends all."""
         self._server.forget(terminal)
-        session = self._server.session
+        generation = self._server.generation
         try:
             await self._server.ask(terminal, HALT)
         except (Lost, HeldBack):
             return True
         except Unsent:
-            return not self._server.whole or self._server.session != session
+            return not self._server.whole or self._server.generation != generation
         except NoJournal:
             assert self._journal is not None, "it says so"
             await self._journal.mended()

@@ -54,7 +54,7 @@ class Ask:
 Timed = Callable[[float, float], None]
 
 
-class Turns(Connection):
+class FairConnection(Connection):
     """A connection. `timed` gets of each reply how long the wait was, and how long the server took; `ended` that the connection is over."""
 
     def __init__(self, room: int, timed: Timed, shares: Shares[Ask] | None = None) -> None:
@@ -143,6 +143,7 @@ class Turns(Connection):
         self._send()
 
     def connection_lost(self, error: Exception | None) -> None:
+        """Answers all that waits: what was sent is lost, and the rest unsent."""
         self.fault = self.fault or (str(error) if error else None)
         queues, self._queues = self._queues, {}
         self._shares.clear()

@@ -20,6 +20,7 @@ from .document import language_page
 from .doors import Door, Doors, HttpDoor, Made
 from .http_head import Head, names_loopback
 from .metrics import Metrics
+from .server import Server
 from .sessions import LINES, PAGE, TOKEN, Carried, Over, Session, Sessions
 from .settings import Settings
 from .signing import Signing, Slowed, Wrong
@@ -41,7 +42,7 @@ TRANSPORT = "max-age=31536000"
 REQUEST = 60.0
 
 
-class Fault(Exception):
+class HttpFault(Exception):
     """A request is answered by a status and an error."""
 
     def __init__(self, status: int, error: str, **headers: str) -> None:
@@ -68,8 +69,9 @@ class Answering(RequestHandler):
 class Web:
     """The handlers of all paths."""
 
-    def __init__(self, settings: Settings, sessions: Sessions, signing: Signing, metrics: Metrics, doors: Doors) -> None:
+    def __init__(self, settings: Settings, server: Server, sessions: Sessions, signing: Signing, metrics: Metrics, doors: Doors) -> None:
         self._settings = settings
+        self._server = server
         self._sessions = sessions
         self._signing = signing
         self._metrics = metrics
@@ -131,7 +133,7 @@ class Web:
         try:
             await self._received(request)
             return await handler(request)
-        except Fault as fault:
+        except HttpFault as fault:
             return web.json_response({"error": str(fault)}, status=fault.status, headers=fault.headers)
         except web.HTTPException as fault:
             allowed = {"Allow": fault.headers["Allow"]} if "Allow" in fault.headers else {}
@@ -144,9 +146,9 @@ class Web:
     def _is_ours(self, request: web.Request) -> bool:
         """Whether a request names this service. With TLS the certificate says that; without it a page of another origin could have its name stand for the
         loopback, and ask here."""
-        if self._settings.tls or self._settings.gate is not None:
+        if self._settings.tls or self._settings.listen.gate is not None:
             return True
-        named = (origin.partition("//")[2] for origin in self._settings.origins)
+        named = (origin.partition("//")[2] for origin in self._settings.listen.origins)
         return names_loopback(request.host) or request.host.lower() in named
 
     async def _received(self, request: web.Request) -> None:
@@ -155,7 +157,7 @@ class Web:
             async with asyncio.timeout(self._settings.limits.sign_on):
                 await request.read()
         except TimeoutError:
-            raise Fault(408, "the body did not come in time") from None
+            raise HttpFault(408, "the body did not come in time") from None
         self._time(request, None)
 
     def _time(self, request: web.Request, seconds: float | None) -> None:
@@ -174,15 +176,15 @@ class Web:
     async def _document(self, request: web.Request) -> web.StreamResponse:
         """The page of the language, to which Help leads."""
         if self._language is None:
-            raise Fault(404, "docs/LANGUAGE.md is not installed")
+            raise HttpFault(404, "docs/LANGUAGE.md is not installed")
         return web.Response(text=self._language, content_type="text/html", headers={"Cache-Control": "no-cache"})
 
     def _page_file(self, name: str) -> web.StreamResponse:
         """A file of the page's folder itself, of a kind that is known."""
         found = NAME.fullmatch(name)
-        path = self._settings.page / name
+        path = self._settings.listen.page / name
         if found is None or found[1] not in TYPES or not path.is_file():
-            raise Fault(404, "there is no such file")
+            raise HttpFault(404, "there is no such file")
         kind = TYPES[found[1]]
         charset = "; charset=utf-8" if kind.startswith("text/") else ""
         return web.FileResponse(path, headers={"Content-Type": kind + charset, "Cache-Control": "no-cache"})
@@ -192,7 +194,7 @@ class Web:
     def _session(self, request: web.Request) -> Session:
         session = self._sessions.find(request.cookies.get(self._cookie, ""))
         if session is None:
-            raise Fault(401, "not signed on")
+            raise HttpFault(401, "not signed on")
         return session
 
     def _own_origin(self, request: web.Request, needed: bool) -> None:
@@ -201,21 +203,21 @@ class Web:
         if origin is None and not needed:
             return
         # A gate serves over TLS, whatever it has with this front.
-        scheme = "https" if self._settings.tls or self._settings.gate is not None else "http"
-        own = self._settings.origins or (f"{scheme}://{request.host}".lower(),)
+        scheme = "https" if self._settings.tls or self._settings.listen.gate is not None else "http"
+        own = self._settings.listen.origins or (f"{scheme}://{request.host}".lower(),)
         if origin is None or origin.lower() not in own:
-            raise Fault(403, "the origin is not this service's")
+            raise HttpFault(403, "the origin is not this service's")
 
     async def _body(self, request: web.Request) -> dict[str, object]:
         """The body, a table of JSON."""
         if request.content_type != "application/json":
-            raise Fault(415, "the body is to be JSON: Content-Type: application/json")
+            raise HttpFault(415, "the body is to be JSON: Content-Type: application/json")
         try:
             found = json.loads(await request.read())
         except (ValueError, RecursionError):
-            raise Fault(400, "the body is no JSON") from None
+            raise HttpFault(400, "the body is no JSON") from None
         if not isinstance(found, dict):
-            raise Fault(400, "the body is to be an object of JSON")
+            raise HttpFault(400, "the body is to be an object of JSON")
         return found
 
     async def _sign_on(self, request: web.Request) -> web.StreamResponse:
@@ -223,7 +225,7 @@ class Web:
         body = await self._body(request)
         name, password = body.get("user"), body.get("password")
         if not isinstance(name, str) or not isinstance(password, str):
-            raise Fault(400, "user and password are to be texts")
+            raise HttpFault(400, "user and password are to be texts")
         address = self._address(request)
         try:
             # A token is for programs: a browser names the origin of its page, and has a person before it.
@@ -233,13 +235,13 @@ class Web:
                 self._sessions.sign_off(before, "replaced")
             session = await self._sessions.sign_on(user, PAGE, address, proof)
         except Wrong as error:
-            raise Fault(401, str(error)) from None
+            raise HttpFault(401, str(error)) from None
         except Slowed as error:
-            raise Fault(429, str(error), Retry_After=str(error.seconds)) from None
+            raise HttpFault(429, str(error), Retry_After=str(error.seconds)) from None
         except (AllInUse, NotUp) as error:
-            raise Fault(503, str(error)) from None
+            raise HttpFault(503, str(error)) from None
         except NoAudit:
-            raise Fault(503, "the audit log cannot be written") from None
+            raise HttpFault(503, "the audit log cannot be written") from None
         if request.transport is None:
             # Who has gone meanwhile does not know the key: nobody could use the terminal.
             self._sessions.sign_off(session, "left")
@@ -268,17 +270,17 @@ class Web:
         session, body = self._session(request), await self._body(request)
         old, new = body.get("old"), body.get("new")
         if not isinstance(old, str) or not isinstance(new, str):
-            raise Fault(400, "old and new are to be texts")
-        if self._settings.gate is not None and self._settings.users_of_machine is None:
-            raise Fault(409, "ask the operator for another password: users are kept for several machines")
+            raise HttpFault(400, "old and new are to be texts")
+        if self._settings.listen.gate is not None and self._settings.users_of_machine is None:
+            raise HttpFault(409, "ask the operator for another password: users are kept for several machines")
         try:
             self._sessions.keeps(session, await self._signing.change(session.user, old, new, self._address(request)))
         except Wrong:
-            raise Fault(403, "the password is not right") from None
+            raise HttpFault(403, "the password is not right") from None
         except Slowed as error:
-            raise Fault(429, str(error), Retry_After=str(error.seconds)) from None
+            raise HttpFault(429, str(error), Retry_After=str(error.seconds)) from None
         except BadUsers as error:
-            raise Fault(422, str(error)) from None
+            raise HttpFault(422, str(error)) from None
         return web.Response(status=204)
 
     def _set_cookie(self, response: web.Response, value: str, age: int | None = None) -> None:
@@ -288,7 +290,7 @@ class Web:
         self._own_origin(request, needed=True)
         door = self._doors.of(request.protocol)
         if not isinstance(door, HttpDoor):
-            raise Fault(400, "the connection has ended")
+            raise HttpFault(400, "the connection has ended")
         if not _bearer(request):
             return await carry(request, self._session(request), self._sessions, self._settings.limits, door)
         session = await self._program_session(request)
@@ -304,12 +306,12 @@ class Web:
         session = await self._token_session(request)
         text = (await self._body(request)).get("line")
         if not isinstance(text, str):
-            raise Fault(400, "line is to be a text")
+            raise HttpFault(400, "line is to be a text")
         try:
             with Carried(session):
                 record = await self._sessions.run(session, text.encode("utf-8", "surrogatepass"))
         except Over:
-            raise Fault(503, "the session was ended", Retry_After="1") from None
+            raise HttpFault(503, "the session was ended", Retry_After="1") from None
         if session.fresh and "output" in record:
             session.fresh = False
             record["new"] = True
@@ -321,7 +323,7 @@ class Web:
         """The session of a token; it is signed on if it is not."""
         secret = _bearer(request)
         if not secret:
-            raise Fault(401, "a token is needed: Authorization: Bearer TOKEN", WWW_Authenticate="Bearer")
+            raise HttpFault(401, "a token is needed: Authorization: Bearer TOKEN", WWW_Authenticate="Bearer")
         address = self._address(request)
         with refusals_of_a_token():
             user, proof = self._signing.by_token(secret, address)
@@ -341,7 +343,7 @@ class Web:
     # ---- operators
 
     async def _health(self, request: web.Request) -> web.StreamResponse:
-        state = self._sessions.server.state
+        state = self._server.state
         return web.json_response({"child": state, "volatile": self._settings.volatile}, status=200 if state == "up" else 503)
 
     def _may_see_figures(self, request: web.Request) -> bool:
@@ -350,12 +352,12 @@ class Web:
         if token is not None and hmac.compare_digest(_bearer(request).encode(), token.encode()):
             return True
         address = ipaddress.ip_address(address_of(request) or "0.0.0.0")
-        return self._settings.gate is None and any(address in network for network in self._settings.metrics_from)
+        return self._settings.listen.gate is None and any(address in network for network in self._settings.metrics_from)
 
     async def _figures(self, request: web.Request) -> web.StreamResponse:
         if not self._may_see_figures(request):
-            raise Fault(403, "figures are for the addresses of metrics.from, or for the token of metrics.token")
-        server, signed_on = self._sessions.server, {way: 0 for way in ("page", "lines", "token")}
+            raise HttpFault(403, "figures are for the addresses of metrics.from, or for the token of metrics.token")
+        server, signed_on = self._server, {way: 0 for way in ("page", "lines", "token")}
         for session in self._sessions:
             signed_on[session.way] += 1
         text = self._metrics.text(signed_on, server.waiting, server.oldest(), server.state == "up", self._sessions.journal_figures())
@@ -368,16 +370,16 @@ def refusals_of_a_token() -> Iterator[None]:
     try:
         yield
     except Wrong:
-        raise Fault(401, "wrong token", WWW_Authenticate="Bearer") from None
+        raise HttpFault(401, "wrong token", WWW_Authenticate="Bearer") from None
     except (AllInUse, NotUp) as error:
-        raise Fault(503, str(error), Retry_After="1") from None
+        raise HttpFault(503, str(error), Retry_After="1") from None
     except NoAudit:
-        raise Fault(503, "the audit log cannot be written") from None
+        raise HttpFault(503, "the audit log cannot be written") from None
 
 
 async def misdirected(request: web.Request) -> web.StreamResponse:
     """Answers a request for another service."""
-    raise Fault(421, "this is not the service of that name (listen.origins)")
+    raise HttpFault(421, "this is not the service of that name (listen.origins)")
 
 
 def _bearer(request: web.Request) -> str:

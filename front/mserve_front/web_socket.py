@@ -33,7 +33,7 @@ class PageSocket:
         self._transport = request.transport
         self._door = door
         self._spared = spared
-        # Since when it has waited for the peer's next frame; None while it does not.
+        # Since when it awaits the peer's next frame; None while it does not.
         self._since: float | None = None
         self.socket = web.WebSocketResponse(compress=False, max_msg_size=limits.body, timeout=2.0, autoping=False)
 
@@ -154,21 +154,21 @@ async def carried(page: PageSocket, text: str, session: Session, sessions: Sessi
     if session.listener is not page:
         # Another connection has taken the session over: what was sent here before is not run there.
         return False
-    place, line, number = asked
+    place, line, generation = asked
     with Carried(session):
-        await page.send({"id": place, **await sessions.run(session, line, number)})
+        await page.send({"id": place, **await sessions.run(session, line, generation)})
     return True
 
 
 def asked_by(text: str) -> tuple[int, bytes, int | None] | None:
-    """The number, the line and the server's session of a message, or None if it is no message."""
+    """The number, the line and the server's generation of a message, or None if it is no message. The generation may have its old name, `session`."""
     try:
         found = json.loads(text)
     except (ValueError, RecursionError):
         return None
     if not isinstance(found, dict) or not isinstance(found.get("line"), str):
         return None
-    place, number = found.get("id"), found.get("session")
-    if type(place) is not int or not 0 <= place < MOST_ID or number is not None and type(number) is not int:
+    place, generation = found.get("id"), found.get("generation", found.get("session"))
+    if type(place) is not int or not 0 <= place < MOST_ID or generation is not None and type(generation) is not int:
         return None
-    return place, found["line"].encode("utf-8", "surrogatepass"), number
+    return place, found["line"].encode("utf-8", "surrogatepass"), generation

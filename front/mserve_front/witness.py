@@ -3,7 +3,7 @@
 
 It is written over at each flush, after that is durable, and not synced: after a loss of power it may be older than it was, and never says more than is
 so. A journal that ends before it has lost its end. And where the store's file is as it was before the first line without a reply was sent, all that
-such lines changed stands in the store's log (`store_log`)."""
+such lines changed is in the store's log (`store_log`)."""
 from __future__ import annotations
 
 import contextlib
@@ -124,7 +124,7 @@ class StoreWitness:
 
     @property
     def covers(self) -> bool:
-        """Whether all that lines without a reply have changed stands in the store's log."""
+        """Whether all that lines without a reply have changed is in the store's log."""
         seen = self._seen[0][1]
         return seen is not None and seen == look(self._store, self._boot)
 

@@ -9,7 +9,7 @@ import { FAULTS, FORMALS, GUARD, LABEL_PARAMETERS, LONGEST_LINE, LONGEST_NAME, L
 import { fault, inWords } from "./language.js";
 import { setLines } from "./mtext.js";
 import { textOf } from "./routines.js";
-import { Refused } from "./service.js";
+import { AnsweredByCode } from "./service.js";
 import { askedAll, withLocal } from "./walk.js";
 
 const LONGEST_REST = LONGEST_TEXT - GUARD.length;
@@ -67,7 +67,7 @@ function hasBarred(text) {
 
 function isAccepted(line, code) {
   if (code !== null && code !== "ZSYNTAX") {
-    throw new Refused(line, code, inWords(code));
+    throw new AnsweredByCode(line, code, inWords(code));
   }
   return code === null;
 }
@@ -83,7 +83,7 @@ async function longAnswer(terminal, rest) {
   });
 }
 
-/** Whether what stands in brackets after a label is a formal list: names, each once, or none. */
+/** Whether what is in brackets after a label is a formal list: names, each once, or none. */
 function isFormalList(text) {
   const names = text.slice(1, -1).split(",");
   return text === "()" || (text !== "" && names.every((name) => NAME.test(name)) && new Set(names).size === names.length);
@@ -117,7 +117,7 @@ function faultOfForm(line, language) {
   return null;
 }
 
-/** How many characters stand before a line's first command. */
+/** How many characters come before a line's first command. */
 function before(line) {
   return line.label.length + line.formals.length + line.level.length;
 }

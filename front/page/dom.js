@@ -20,7 +20,8 @@ export function setAttribute(element, name, value) {
   }
 }
 
-/** The element with an id. */
+/** The element with an id, of whichever kind the page has it.
+ * @returns {any} */
 export function byId(id) {
   return document.getElementById(id);
 }
@@ -45,7 +46,7 @@ export function counted(count, word) {
   return `${count.toLocaleString("en")} ${word}${count === 1 ? "" : "s"}`;
 }
 
-/** A text as a screen shows it: control characters but the tab as they stand on the wire, `\1B`. */
+/** A text as a screen shows it: control characters but the tab as they are on the wire, `\1B`. */
 export function visible(text) {
   return text.replace(/[\x00-\x08\x0a-\x1f\x7f]/g, (found) => `\\${found.charCodeAt(0).toString(16).toUpperCase().padStart(2, "0")}`);
 }

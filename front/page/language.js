@@ -20,7 +20,7 @@ export function advice(code) {
   return CODES[code] ? CODES[code].advice : "";
 }
 
-/** A text with what stands in its strings blanked out, and without its comment; places stay the same. */
+/** A text with what is in its strings blanked out, and without its comment; places stay the same. */
 export function blanked(text) {
   const plain = text.replace(STRING, (found) => (found.length > 1 ? `"${".".repeat(found.length - 2)}"` : found));
   const comment = plain.indexOf(";");

@@ -12,11 +12,11 @@ import { SignOnRefused, Terminal, session, signOff, signOn } from "./service.js"
 import { Tabs } from "./tabs.js";
 
 /** The state of a page with a user; null while nobody is signed on. */
-let house = null;
+let signedOn = null;
 // What was not saved when a session ended by itself, for the same user's next sign-on: it is kept in this page alone.
 let unsaved = null;
 
-// What a user is told of the reason for a sign-off.
+// The reason for a sign-off, in words.
 const WHYS = {
   idle: "You were signed off: nothing was done for a while.", replaced: "You were signed off here: the page was opened in another place.",
   removed: "You were signed off: your user or password was changed.", stopping: "You were signed off: the service was stopped.",
@@ -24,9 +24,9 @@ const WHYS = {
 };
 
 const tabs = new Tabs();
-const prompt = new Prompt((text) => house.terminal.line(text), (text) => globals.learn(text), () => house.terminal.alone(languageOf));
-const globals = new Globals(() => house.terminal);
-const editor = new RoutineEditor(() => house.terminal, (text) => globals.learn(text), (line) => {
+const prompt = new Prompt((text) => signedOn.terminal.line(text), (text) => globals.learn(text), () => signedOn.terminal.alone(languageOf));
+const globals = new Globals(() => signedOn.terminal);
+const editor = new RoutineEditor(() => signedOn.terminal, (text) => globals.learn(text), (line) => {
   tabs.show("terminal");
   prompt.run(line);
 });
@@ -36,7 +36,7 @@ byId("sign-on").addEventListener("submit", (event) => {
   trySignOn();
 });
 byId("sign-off").addEventListener("click", leave);
-byId("change-password").addEventListener("click", () => ask(house.record.user).catch((error) => tell(error.message, "fault")));
+byId("change-password").addEventListener("click", () => ask(signedOn.record.user).catch((error) => tell(error.message, "fault")));
 byId("help").addEventListener("click", () => shown("The language", [
   make("p", {}, "Commands and functions, whole or by their short words. ",
     make("a", { id: "language", href: "page/language.html", target: "_blank", rel: "noopener" }, "The whole language"), "."),
@@ -45,13 +45,13 @@ byId("help").addEventListener("click", () => shown("The language", [
 tabs.opened("globals", () => globals.opened());
 tabs.opened("routines", () => editor.opened());
 window.addEventListener("beforeunload", (event) => {
-  if (house && editor.isChanged) {
+  if (signedOn && editor.isChanged) {
     event.preventDefault();
   }
 });
 begin();
 
-/** Shows the house if the browser has a session, else the door. */
+/** Shows the application if the browser has a session, else the form of sign-on. */
 async function begin() {
   try {
     const record = await session();
@@ -95,7 +95,7 @@ async function held(seconds) {
 }
 
 function showDoor(text) {
-  byId("house").hidden = true;
+  byId("app").hidden = true;
   byId("door").hidden = false;
   byId("sign-on-fault").textContent = text;
   document.title = "Sign on · mserve";
@@ -103,14 +103,14 @@ function showDoor(text) {
 }
 
 function enter(record) {
-  house = { record, terminal: new Terminal(record, heard), isLeaving: false };
+  signedOn = { record, terminal: new Terminal(record, heard), isLeaving: false };
   byId("who-account").textContent = record.account;
   byId("who-user").textContent = record.user;
   byId("who-terminal").textContent = `terminal ${record.terminal}`;
   byId("volatile").hidden = !record.volatile;
   document.title = `${record.account} · mserve`;
   byId("door").hidden = true;
-  byId("house").hidden = false;
+  byId("app").hidden = false;
   heard("state", "waiting");
   if (unsaved && unsaved.user === record.user && unsaved.account === record.account) {
     editor.takeBack(unsaved.draft);
@@ -144,11 +144,11 @@ function heard(kind, what) {
 
 /** The session ended by itself: what was not saved is kept for the same user. */
 function ended(text) {
-  if (!house || house.isLeaving) {
+  if (!signedOn || signedOn.isLeaving) {
     return;
   }
   const draft = editor.draft();
-  unsaved = draft && { user: house.record.user, account: house.record.account, draft };
+  unsaved = draft && { user: signedOn.record.user, account: signedOn.record.account, draft };
   close();
   showDoor(text);
 }
@@ -158,22 +158,22 @@ async function leave() {
   if (editor.isChanged && !await confirmed({ question: "Sign off?", about: `The routine ${editor.name} is not saved.`, yes: "Sign off", isDanger: true })) {
     return;
   }
-  house.isLeaving = true;
+  signedOn.isLeaving = true;
   try {
     await signOff();
     close();
     byId("user").value = "";
     showDoor("");
   } catch (error) {
-    house.isLeaving = false;
+    signedOn.isLeaving = false;
     tell(error.message, "fault");
   }
 }
 
 /** Takes everything of a user from the page. */
 function close() {
-  house.terminal.close();
-  house = null;
+  signedOn.terminal.close();
+  signedOn = null;
   prompt.clear();
   globals.clear();
   editor.clear();

@@ -59,7 +59,7 @@ export function unquoted(expression) {
     if (!found) {
       return null;
     }
-    text += found[2] === undefined ? found[1].replaceAll('""', '"') : String.fromCharCode(...found[2].split(","));
+    text += found[2] === undefined ? found[1].replaceAll('""', '"') : String.fromCharCode(...found[2].split(",").map(Number));
     at = part.lastIndex + 1;
   } while (expression[at - 1] === "_");
   return at > expression.length ? text : null;
@@ -97,7 +97,7 @@ export function argumentsOf(text) {
     const code = text[place];
     isString = isString !== (code === '"');
     if (!isString) {
-      depth += (code === "(") - (code === ")");
+      depth += Number(code === "(") - Number(code === ")");
       if (code === "," && depth === 0) {
         parts.push(text.slice(start, place));
         start = place + 1;

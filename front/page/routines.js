@@ -123,7 +123,7 @@ async function putBack(terminal, name, old) {
   return old.length ? "the old routine is back" : "there was none before, and there is none now";
 }
 
-/** Deletes a routine with all that stands below ^ROUTINE("name"). */
+/** Deletes a routine with all that is below ^ROUTINE("name"). */
 export async function remove(terminal, name) {
   await asked(terminal, `K ${reference(ROUTINE, [name])}`);
 }

@@ -23,7 +23,7 @@ export class SignOnRefused extends Trouble {
 export class Unanswered extends Trouble {}
 
 /** A line of the page itself that was answered by a code. */
-export class Refused extends Trouble {
+export class AnsweredByCode extends Trouble {
   constructor(line, code, words) {
     super(`${line.slice(0, 120)}\nwas answered ${words}`);
     this.line = line;
@@ -118,11 +118,11 @@ export class Terminal {
   #wait = FIRST_WAIT;
   #timer = 0;
   #isClosed = false;
-  #session;
+  #generation;
 
   constructor(record, told) {
     this.#told = told;
-    this.#session = record.session;
+    this.#generation = record.generation;
     this.#open(() => {});
   }
 
@@ -155,7 +155,7 @@ export class Terminal {
     this.#number += 1;
     const id = this.#number;
     const reply = new Promise((taken, failed) => this.#due.set(id, { taken, failed }));
-    this.#socket.send(JSON.stringify({ id, line: text, session: this.#session }));
+    this.#socket.send(JSON.stringify({ id, line: text, generation: this.#generation }));
     return reply;
   }
 
@@ -208,7 +208,7 @@ export class Terminal {
   #take(data) {
     const message = JSON.parse(data);
     if (message.event !== undefined) {
-      this.#session = message.session ?? this.#session;
+      this.#generation = message.generation ?? this.#generation;
       this.#told("event", message);
       return;
     }
@@ -238,7 +238,7 @@ export class Terminal {
     try {
       const record = await session();
       if (!this.#isClosed && record) {
-        this.#session = record.session;
+        this.#generation = record.generation;
         this.#open(() => this.#told("again"));
       } else if (!this.#isClosed) {
         this.#told("state", "closed");

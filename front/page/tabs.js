@@ -1,5 +1,5 @@
 // SPDX-License-Identifier: Apache-2.0
-/** The parts of the page as tabs. Where there is room the terminal stands beside the other two, and has no tab. */
+/** The parts of the page as tabs. Where there is room the terminal is beside the other two, and has no tab. */
 import { byId, setAttribute } from "./dom.js";
 
 const PARTS = ["terminal", "globals", "routines"];

@@ -2,13 +2,13 @@
 /** Walks over what a terminal's session can see, by $ORDER: the nodes below a node, and the account's routines.
  *
  * As clients/mserve_client/walk.py does: one line asks for many children of a node. The lines use the local variables %i and
- * %t, which NEW hides. Subscripts that are too long for a line stand in a local that the session does not have, which is
+ * %t, which NEW hides. Subscripts that are too long for a line are in a local that the session does not have, which is
  * killed afterwards. The session's naked indicator moves. Each call wants a terminal that its caller has alone
  * (`Terminal.alone`). */
 import { BATCH, LOCAL, LONGEST_START, ROOM, ROUTINE } from "./codes.js";
 import { inWords } from "./language.js";
 import { argumentsOf, isName, quoted, reference, setLines } from "./mtext.js";
-import { Refused } from "./service.js";
+import { AnsweredByCode } from "./service.js";
 
 const [INDEX, TURN] = ["%i", "%t"];
 
@@ -16,7 +16,7 @@ const [INDEX, TURN] = ["%i", "%t"];
 export async function asked(terminal, line) {
   const reply = await terminal.send(line);
   if (reply.code !== null) {
-    throw new Refused(line, reply.code, inWords(reply.code));
+    throw new AnsweredByCode(line, reply.code, inWords(reply.code));
   }
   return reply;
 }
@@ -47,7 +47,7 @@ function subscriptLines(local, subscripts) {
   return subscripts.flatMap((part, number) => setLines(`${local}(${number + 1})`, part));
 }
 
-/** A node by subscripts that stand in a local variable. */
+/** A node by subscripts that are in a local variable. */
 function referenceBy(local, name, subscripts) {
   return `${name}(${subscripts.map((_, number) => `${local}(${number + 1})`).join(",")})`;
 }
@@ -64,7 +64,7 @@ export async function withReference(terminal, name, subscripts, act) {
   });
 }
 
-/** What stands at a node: its text or null, and whether there are nodes below it. */
+/** What is at a node: its text or null, and whether there are nodes below it. */
 export function nodeAt(terminal, name, subscripts) {
   return withReference(terminal, name, subscripts, async (place) => {
     const reply = await asked(terminal, `W $D(${place}),! W:$D(${place})#10 ${place},!`);
@@ -85,7 +85,7 @@ export async function children(terminal, name, place = [], after = "", count = B
   return isLong ? withLocal(terminal, ask) : ask("");
 }
 
-/** The lines that ask for children of a global's node; the last one writes them. What is too long for a line stands in `local`, if that is given. */
+/** The lines that ask for children of a global's node; the last one writes them. What is too long for a line is in `local`, if that is given. */
 function childrenLines(name, place, after, count, local) {
   const before = local ? [...subscriptLines(local, place), ...setLines(`${local}(0)`, after)] : [];
   const parent = local && place.length ? referenceBy(local, name, place) : reference(name, place);
@@ -98,7 +98,7 @@ function childrenLines(name, place, after, count, local) {
 /** The children that a reply writes, of which up to `count` were asked for. A line whose steps were used up has written some first ones. */
 export function childrenOf(reply, count, line) {
   if (reply.code !== null && reply.code !== "ZSTEPS") {
-    throw new Refused(line, reply.code, inWords(reply.code));
+    throw new AnsweredByCode(line, reply.code, inWords(reply.code));
   }
   const found = [];
   for (let at = 0; at < reply.lines.length; at += 1) {
@@ -112,7 +112,7 @@ export function childrenOf(reply, count, line) {
     found.push({ subscript, text: hasText ? reply.lines[at] : null, hasMore: status !== "1" });
   }
   if (reply.code !== null && !found.length) {
-    throw new Refused(line, reply.code, inWords(reply.code));
+    throw new AnsweredByCode(line, reply.code, inWords(reply.code));
   }
   return { found, isEnd: reply.code === null && found.length < count };
 }

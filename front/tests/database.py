@@ -110,7 +110,6 @@ class Wire:
     """A way over TCP to a database, which can be cut so that the database does not see it."""
 
     def __init__(self, cluster: Cluster) -> None:
-        self._socket = cluster.folder / ".s.PGSQL.5432"
         self._server: asyncio.Server | None = None
         self._near: list[asyncio.StreamWriter] = []
         # What leads to the database is kept open after a cut.
@@ -120,6 +119,7 @@ class Wire:
         self.asked: list[float] = []
         # Whether a connection is kept open though the database is not there.
         self.keeps = False
+        self.leads_to(cluster)
 
     async def begin(self) -> str:
         """Listens, and gives how the database is connected to."""
@@ -145,6 +145,11 @@ class Wire:
         with contextlib.suppress(ConnectionError):
             while data := await reader.read(65_536):
                 writer.write(data)
+
+    def leads_to(self, cluster: Cluster) -> None:
+        """Leads to another database from now on, and ends the connections to that of before."""
+        self._socket = cluster.folder / ".s.PGSQL.5432"
+        self.cut()
 
     def cut(self) -> None:
         """Ends all connections at their near side."""

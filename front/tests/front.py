@@ -162,7 +162,7 @@ class Front:
         self._words, self._awaited = list(words), awaited
 
     def again(self) -> None:
-        """Starts it once more, after it has ended."""
+        """Starts it again, after it has ended."""
         self.process.wait(2 * Patience.seconds)
         self._started()
 

@@ -75,7 +75,7 @@ class Gate:
             time.sleep(0.02)
 
     def again(self) -> None:
-        """Starts it once more."""
+        """Starts it again."""
         self.process = self._started()
 
     def told(self) -> str:

@@ -33,7 +33,7 @@ def started_by(parents: Iterable[int]) -> list[int]:
 
 
 def processor_time(pids: Iterable[int]) -> float:
-    """Seconds that these processes took, and those that they have waited for."""
+    """Seconds that these processes took, and those of their children that have ended."""
     return sum(int(ticks) for pid in pids for ticks in _fields(pid)[11:15]) / TICKS
 
 

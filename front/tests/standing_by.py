@@ -3,6 +3,7 @@
 from __future__ import annotations
 
 import asyncio
+import contextlib
 import os
 import re
 import signal
@@ -10,8 +11,10 @@ import time
 from pathlib import Path
 
 import aiohttp
+import pytest
 from front import Front, Patience, Person, Ran, tool, until
-from mserve_front.control import Refused, asked
+from mserve_front.control import ControlError, asked
+from mserve_front.faults import TAKEN
 from mserve_front.places import end_of, last_line
 from mserve_front.settings import JournalSettings
 
@@ -46,7 +49,7 @@ def asks_promotion(control: Path) -> dict[str, object]:
     while True:
         try:
             return asked(control, {"ask": "promote"}, 4 * Patience.seconds)
-        except Refused as error:
+        except ControlError as error:
             if "it has not begun" not in str(error) or time.monotonic() > until:
                 raise
             time.sleep(0.05)
@@ -56,7 +59,7 @@ def takes_over(front: Front) -> str:
     """Has a standby promoted, and gives why it is not; empty if it is, and serves."""
     try:
         asks_promotion(front.folder / "mfront.control")
-    except Refused as error:
+    except ControlError as error:
         return str(error)
     front.hears("serving at")
     return ""
@@ -82,11 +85,36 @@ def stands_by(front: Front) -> int:
     return int(re.search(r"standing by, after line (\d+) of the journal", front.told())[1])
 
 
+async def fenced_off(leader: Front, second: Front, journal: JournalSettings, told: str) -> None:
+    """A leader hangs, and its standby is promoted by force. Once it goes on it acknowledges nothing, tells a text, and ends, while the other one serves."""
+    ada = leader.person("ada")
+    await ada.__aenter__()
+    assert await ada.told("S ^X=1 W ^X") == "1"
+    await caught_up(second, journal)
+    leader.process.send_signal(signal.SIGSTOP)
+    await ada.send("S ^X=7")
+    status, _, refused = promoted(second)
+    assert status == 3 and TAKEN in refused
+    assert tool("mfront")("promote", "--force", "--config", second.folder / "front.toml")[0] == 0
+    second.hears("serving at")
+    async with second.person("ben") as ben:
+        assert await ben.told("S ^X=^X+1 W ^X") == "2"
+        leader.process.send_signal(signal.SIGCONT)
+        assert await asyncio.to_thread(leader.process.wait, Patience.seconds) == 3
+        assert told in leader.told()
+        with contextlib.suppress(ConnectionError):
+            assert "output" not in await ada.next()
+        await ada.http.close()
+        assert await ben.told("S ^X=^X+1 W ^X") == "3"
+        with pytest.raises(RuntimeError, match=TAKEN):
+            leader.again()
+
+
 class Load:
     """Users who each count at nodes of their own until the leader is gone: which nodes they sent, and which were answered."""
 
     def __init__(self, more: str = "") -> None:
-        """`more` stands after each line."""
+        """`more` comes after each line."""
         self.more = more
         self.sent: set[int] = set()
         self.answered: set[int] = set()
@@ -131,7 +159,7 @@ class Load:
         return killed
 
     async def counted(self, front: Front) -> dict[int, str]:
-        """What stands at the nodes."""
+        """What is at the nodes."""
         found: dict[int, str] = {}
         async with front.person("ada") as ada:
             await ada.line('S K=""')
@@ -144,7 +172,7 @@ class Load:
                     return found
 
     async def holds(self, front: Front, number: int) -> None:
-        """Holds what stands at the nodes against what was promised; `number` says after which kill. Each fault shows by its nodes."""
+        """Holds what is at the nodes against what was promised; `number` says after which kill. Each fault shows by its nodes."""
         found = await self.counted(front)
         lost, strange, again = self.answered - found.keys(), found.keys() - self.sent, {node: value for node, value in found.items() if value != "1"}
         assert not lost, f"kill {number}: answered, and not there: {sorted(lost)}"

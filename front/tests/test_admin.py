@@ -19,7 +19,7 @@ import pytest
 from front import FRONT, Front, at_rest, in_loop, until
 from mserve_front import figures, standbys
 from mserve_front.admin import ALARMS, alarms_of
-from mserve_front.gate_page import together
+from mserve_front.gate_page import UNANSWERED, together
 from mserve_front.places import last_line
 from mserve_front.settings import JournalSettings
 from mserve_front.standbys import SAYS, Behind, Said
@@ -98,10 +98,13 @@ async def test_each_figure_of_alarms_and_pictures_is_one_that_the_front_has(star
     shown = [target["expr"] for panel in json.loads(board)["panels"] for target in panel["targets"]]
     assert len(shown) > 10 and rules.count("- alert:") > 10
     assert rules.count("- alert:") == rules.count("description:") == rules.count("summary:")
-    # Each alarm has its row in the table of what to do.
+    # Each alarm has its row in the table of what to do, those of the pages too.
     runbook = PAGE[PAGE.index("### What to watch"):]
     for rule in re.findall(r'expr: "(.*)"', rules):
         assert any(f"`{name}" in runbook for name in NAMES.findall(rule)), rule
+    for alarm in ALARMS:
+        assert f"`{alarm.figure}`" in runbook, alarm.figure
+    assert f"`ISLAND: {UNANSWERED}`" in runbook
     for name in {*NAMES.findall(rules), *NAMES.findall(" ".join(shown)), *(alarm.figure for alarm in ALARMS if alarm.figure.startswith("mfront"))}:
         assert name in known, name
 
@@ -130,13 +133,13 @@ async def test_snapshots_that_nobody_has_verified_are_an_alarm(start, tmp_path: 
 
 @in_loop()
 async def test_the_operators_page_of_a_standby(start, tmp_path: Path) -> None:
-    """How far it is behind its leader, and what it waits for. A reload leaves it there, and once it serves the page is a front's."""
+    """How far it lags its leader, and what it waits for. A reload leaves it there, and once it serves the page is a front's."""
     leader = leading(start, tmp_path / "journal")
     second = standby(start, tmp_path / "journal", admin={"socket": "admin.socket"})
     async with leader.person("ada") as ada:
         await ada.line("S ^X=1")
         await caught_up(second, tmp_path / "journal")
-        # Its server is held up, so that it is behind by the line that comes now.
+        # Its server is held up, so that it lags by the line that comes now.
         os.kill(second.child, signal.SIGSTOP)
         try:
             await ada.line("S ^X=2")
@@ -161,7 +164,7 @@ async def test_the_operators_page_of_a_standby(start, tmp_path: Path) -> None:
 @pytest.mark.long
 @in_loop()
 async def test_a_leader_shows_how_far_its_standbys_are_behind(start, tmp_path: Path) -> None:
-    """On its page and in its figures. One whose server is held up is behind, one that is stopped in order is a standby no more, and one that is killed is not
+    """On its page and in its figures. One whose server is held up lags, one that is stopped in order is a standby no more, and one that is killed is not
     heard of."""
     leader = start(store="store.db", journal={"folder": str(tmp_path / "journal")}, admin={"socket": "admin.socket"})
     second, third = standby(start, tmp_path / "journal"), standby(start, tmp_path / "journal")
@@ -194,7 +197,7 @@ async def test_a_leader_shows_how_far_its_standbys_are_behind(start, tmp_path: P
 
 
 def test_what_a_leader_makes_of_what_standbys_say(monkeypatch: pytest.MonkeyPatch) -> None:
-    """How long they are behind, and say nothing; which alarms that is; and when they are forgotten."""
+    """How long they lag, and say nothing; which alarms that is; and when they are forgotten."""
     clock = [1000.0]
     monkeypatch.setattr(standbys.time, "monotonic", lambda: clock[0])
     known = standbys.Standbys()

@@ -5,22 +5,25 @@ from __future__ import annotations
 import asyncio
 import math
 import os
+import re
 import signal
 import statistics
+import subprocess
+import sys
 import time
 from collections.abc import Iterator
 from pathlib import Path
 from typing import Any
 
 import pytest
-from front import PASSWORD, Front, Person, Ran, at_rest, in_loop, mjournal, toml, tool, until
+from front import FRONT, PASSWORD, Front, Patience, Person, Ran, at_rest, in_loop, mjournal, toml, tool, until
 from machines import Gate, Program
 from measured import slices, started_by
 from mserve_front.settings import read_settings, read_toml
 from mserve_front.slices import SHORT
 from mserve_front.users import load
 from running import ISLANDS, PROGRAM
-from test_admin import shows
+from test_admin import PAGE, shows
 from test_password import NEW, changed
 from test_replay import held
 
@@ -53,6 +56,9 @@ mode = "read"
 USERS = {"hugo": "HEAVY", "lisa": "LIGHT", "lab": "LAB", "cleo": "CLINIC"}
 # A line that uses up a million steps, lines of the other a second, and for how long.
 LONG, RATE, SECONDS = "F  S N=1", 20, 6
+# The bound in seconds of the 99th percentile of their waits, where the variable STRICT is set; on a machine that has other work, of the middle one: after
+# lines that each take a good part of a second, twenty a second would fall back by many.
+STRICT, LOOSE = 0.02, 1.5
 
 
 class Alone(Gate):
@@ -121,8 +127,7 @@ async def test_a_heavy_account_holds_nobody_up(alone: Path, certificate: tuple[P
         count = await heavy
         print(f"{count} lines of a million steps beside {len(waits)} lines: median {statistics.median(waits) * 1000:.1f} ms, 99th percentile "
               f"{percentile(waits, 0.99) * 1000:.1f} ms, longest {max(waits) * 1000:.1f} ms")
-        # After lines that each take a good part of a second, twenty lines a second would fall back by many seconds. The machine may be busy.
-        assert statistics.median(waits) < 1.5
+        assert percentile(waits, 0.99) < STRICT if os.environ.get("STRICT") else statistics.median(waits) < LOOSE
         await changes(gate, lisa, tmp_path)
         for program in (hugo, lisa, cleo):
             program.close()
@@ -162,7 +167,7 @@ async def test_an_operator_sees_all_islands_and_has_logs_opened_anew(alone: Path
         assert all(one["lines"] > 0 for one in found["accounts"] if one["account"] == "LIGHT")
         assert "LIGHT: No snapshot was verified for two days." in alarms(found)
         assert read_settings(tmp_path / "islands" / "LIGHT" / "front.toml", False).limits.rows == 30
-        await snapshot(tmp_path)
+        await snapshots(tmp_path)
         await own_password(gate, tmp_path)
         await reloaded(gate, lisa, certificate)
         # A front that does not answer is an alarm, and holds nothing else of the page up.
@@ -179,15 +184,14 @@ async def test_an_operator_sees_all_islands_and_has_logs_opened_anew(alone: Path
         gate.stop()
 
 
-async def snapshot(folder: Path) -> None:
-    """Makes a snapshot of an island by the page's commands, and verifies it: then that is no alarm any more."""
-    island = folder / "islands" / "LIGHT"
-    (island / "backup").mkdir()
-    for words in (["take", island / "backup", "--end-sessions"], ["verify", island / "backup"]):
-        status, _, why = await asyncio.to_thread(tool("mbackup"), *words, "--config", island / "front.toml")
-        assert status == 0, why
+async def snapshots(folder: Path) -> None:
+    """Makes a snapshot of each island by the page's commands, and verifies it: then that is no alarm any more, but for an island where it cannot be done."""
+    lines = re.search(r"For all of this machine, each night.*?\n\n(.*?)\n\n", PAGE, re.DOTALL)[1].replace("/var/lib/mserve/islands", str(folder / "islands"))
+    (folder / "islands" / "HEAVY" / "backup").write_text("no folder")
+    script = f'mbackup() {{ {sys.executable} {FRONT / "mbackup"} "$@"; }}\n{lines}'
+    done = await asyncio.to_thread(subprocess.run, ["bash", "-c", script], capture_output=True, text=True, timeout=8 * Patience.seconds)
     old = ": No snapshot was verified for two days."
-    await shows(folder, lambda found: f"LAB{old}" in alarms(found) and f"LIGHT{old}" not in alarms(found), "no alarm of the one that is verified")
+    await shows(folder, lambda found: [what.partition(":")[0] for what in alarms(found) if what.endswith(old)] == ["HEAVY"], f"snapshots: {done.stderr}")
 
 
 def alarms(found: dict[str, Any]) -> list[str]:
@@ -221,19 +225,22 @@ async def own_password(gate: Alone, folder: Path) -> None:
 
 
 async def reloaded(gate: Alone, lisa: Program, certificate: tuple[Path, Path]) -> None:
-    """Reloads a gate, once with a certificate that is broken."""
-    log = gate.folder / "islands" / "LIGHT" / "audit.log"
+    """Reloads a gate, once with a certificate that is broken. The limits in its settings are its islands' then, too."""
+    log, config = gate.folder / "islands" / "LIGHT" / "audit.log", gate.folder / "machine.toml"
     log.rename(log.with_name("audit.old"))
     before = certificate[0].read_bytes()
+    config.write_text(config.read_text().replace("rows = 30\n", "rows = 31\n"))
     try:
         certificate[0].write_text("broken")
         gate.process.send_signal(signal.SIGHUP)
-        await until(lambda: "not reloaded: " in gate.told(), "a certificate that is refused")
+        await until(lambda: "not reloaded: certificates: " in gate.told(), "a certificate that is refused")
     finally:
         certificate[0].write_bytes(before)
     gate.process.send_signal(signal.SIGHUP)
-    await until(lambda: "certificates opened again" in gate.told(), "a gate that is reloaded")
+    await until(lambda: "mfront: reloaded: certificates" in gate.told(), "a gate that is reloaded")
     await until(log.exists, "a new audit log")
+    await until(lambda: gate.told().count("mfront: reloaded: limits\n") >= 3, "the limits of all islands")
+    assert read_settings(log.with_name("front.toml"), False).limits.rows == 31
     assert await lisa.told("S A=6 W A") == "6"
     assert '"event": "line"' in log.read_text()
     second = Program(gate, "lisa")

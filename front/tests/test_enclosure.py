@@ -4,6 +4,7 @@ from __future__ import annotations
 
 import asyncio
 import os
+import signal
 import socket
 import subprocess
 import sys
@@ -11,8 +12,9 @@ from pathlib import Path
 
 import pytest
 from front import Front, in_loop, missed, until
+from mserve_front import enclosed
 from mserve_front.doors import held
-from mserve_front.enclosure import HELPER, PORT, can_enclose
+from mserve_front.enclosure import HELPER, PORT, can_enclose, connected, started
 from mserve_front.server import HOST
 
 # What a local user without rights does: finds ports that are listened at, says a line at each terminal there, and looks for the word.
@@ -50,6 +52,19 @@ def needed() -> None:
 def as_nobody(*words: str) -> subprocess.Popen[str]:
     return subprocess.Popen(["setpriv", "--reuid", "65534", "--regid", "65534", "--clear-groups", *words], stdout=subprocess.PIPE, stderr=subprocess.PIPE,
                             text=True)
+
+
+@in_loop()
+async def test_a_server_that_is_killed_before_it_has_sent_its_sockets(monkeypatch: pytest.MonkeyPatch) -> None:
+    """The front waits for none of them, and so goes on: it held all its users up for ever."""
+    monkeypatch.setattr(enclosed, "begin", lambda *_: os.kill(os.getpid(), signal.SIGKILL))
+    socket.setdefaulttimeout(30)
+    try:
+        process, ways = await started(["/bin/true"])
+    finally:
+        socket.setdefaulttimeout(None)
+    assert ways == [] and await connected(process, PORT, ways) is None
+    assert await process.wait() == -signal.SIGKILL
 
 
 @pytest.mark.alone

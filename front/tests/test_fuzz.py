@@ -45,7 +45,7 @@ def test_a_head_is_refused_or_means_one_thing(data: bytes) -> None:
 
 
 class Kept(asyncio.Protocol):
-    """A protocol that keeps what it is given, and answers when it is told."""
+    """A protocol that keeps what it is given, and answers when a test says so."""
 
     def __init__(self) -> None:
         self.given: list[bytes] = []

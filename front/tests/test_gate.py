@@ -16,7 +16,7 @@ from mserve_front import islands as islands_module
 from mserve_front.doors import Doors
 from mserve_front.gate import Gate
 from mserve_front.gate_command import Doorway, Peers, contexts
-from mserve_front.islands import Home, House, Islands
+from mserve_front.islands import Home, IslandFront, Islands
 from mserve_front.placement import HERE, Island, LocalPlacement, Machine
 from mserve_front.preamble import new_secret, preamble, told_by
 from mserve_front.settings import Limits
@@ -188,7 +188,7 @@ async def test_users_who_change_hold_no_connection_up(tmp_path: Path, monkeypatc
     for name in "AB":
         (folder / name).mkdir(parents=True)
         islands.placed[name] = Island(name, "one", None, HERE, (name,), "")
-        islands._houses[name] = House(name, {}, False, "")
+        islands._fronts[name] = IslandFront(name, {}, False, "")
     with pytest.raises(OSError, match="No space left"):
         await islands._read_users()
     await islands._read_users()

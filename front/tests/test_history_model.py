@@ -14,7 +14,7 @@ from hypothesis import HealthCheck, settings
 from hypothesis import strategies as st
 from hypothesis.stateful import RuleBasedStateMachine, invariant, precondition, rule, run_state_machine_as_test
 from mserve_front.history import Began, History
-from mserve_front.records import BeginRecord, Flush, Held, LineRecord, Record, ReplyRecord, RowsRecord, read_flush
+from mserve_front.records import BeginRecord, Flush, LineRecord, Record, ReplyRecord, RowsRecord, StoreAtStart, read_flush
 from mserve_front.rows import packed, unpacked
 from mserve_front.starts import Known, held
 
@@ -58,7 +58,7 @@ class Reader:
                 self.differs = self.differs or event.line.number
 
     def _begins(self, event: Began) -> None:
-        if event.held is Held.ALL:
+        if event.held is StoreAtStart.ALL:
             self.store.clear()
         for node, text in unpacked(event.rows):
             self.store.pop(node, None)
@@ -101,10 +101,10 @@ class Leading(RuleBasedStateMachine):
         what, base = held(Known(fresh, True, False, self.known, self.sent, self.answered, False, self.answered >= self.before_log))
         rows: dict[bytes, int | None] = {}
         if not self.says:
-            what = Held.UNKNOWN
-        elif what is Held.ALL:
+            what = StoreAtStart.UNKNOWN
+        elif what is StoreAtStart.ALL:
             rows = dict(self.store)
-        elif what is Held.CHANGED:
+        elif what is StoreAtStart.CHANGED:
             rows = {node: self.store.get(node) for node in self.log}
         parts = list(packed((node, None if count is None else b"%d" % count) for node, count in rows.items()))
         for number, part in enumerate(parts):

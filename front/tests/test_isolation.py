@@ -1,9 +1,9 @@
 # SPDX-License-Identifier: Apache-2.0
-"""Isolation through the front: drawn streams of all accounts, their users at once, and each account is told the same as alone.
+"""Isolation through the front: drawn streams of all accounts, their users at once, and each account is answered the same as alone.
 
-Settings, lines and the check of who reaches whom are those of tests/drawn_settings.py and tests/support.py. An account is told alone what `mserve run` answers
-to the lines of the accounts that reach it; so that this can be compared, the users of accounts that reach one another send in the drawn order, and all others
-send at the same time as they like. Some accounts have language 0, and some language 1."""
+Settings, lines and the check of who reaches whom are those of tests/drawn_settings.py and tests/support.py. An account is answered alone what
+`mserve run` answers to the lines of the accounts that reach it; so that this can be compared, the users of accounts that reach one another send in the
+drawn order, and all others send at the same time as they like. Some accounts have language 0, and some language 1."""
 from __future__ import annotations
 
 import asyncio
@@ -14,7 +14,7 @@ import pytest
 from drawn_settings import Runs, Setting, drawn_lines, drawn_setting, sent_by, told
 from front import Front, Person, in_loop
 from mserve_client.wire import Reply, ReplyReader
-from mserve_front.lines import Line, Refused
+from mserve_front.lines import Line, LineRefused
 from support import reaching
 
 SETTINGS = 6
@@ -43,13 +43,13 @@ def lines_of(rng: random.Random, settings: Setting) -> list[tuple[int, bytes]]:
                 continue
             try:
                 found.append((terminal, Line(text).data))
-            except Refused:
+            except LineRefused:
                 continue
     return found
 
 
 def alone(runs: Runs, settings: Setting, account: str, lines: list[tuple[int, bytes]]) -> dict[int, list[dict[str, object]]]:
-    """What the terminals of an account are told where there is nothing but the accounts that reach it."""
+    """What the terminals of an account are answered if there is nothing but the accounts that reach it."""
     members = reaching(account, settings.grants)
     stream = [(terminal, b"%d %s\n" % (terminal, text)) for terminal, text in lines]
     answer = runs.answered(settings.cut(members), sent_by(settings, members, stream))

@@ -19,7 +19,7 @@ from mserve_front import journal_file, witness
 from mserve_front.history import Began, History
 from mserve_front.journal import LogFault, LogTaken
 from mserve_front.journal_file import MARK, FileLog, FileReader, files_of, tail_of
-from mserve_front.records import BadJournal, BeginRecord, Flush, Held, LineRecord, ReplyRecord, RowsRecord, StartRecord, read_flush
+from mserve_front.records import BadJournal, BeginRecord, Flush, LineRecord, ReplyRecord, RowsRecord, StartRecord, StoreAtStart, read_flush
 
 
 def test_records_there_and_back() -> None:
@@ -42,7 +42,7 @@ class Later:
 
 def test_starts_there_and_back_and_records_of_a_later_version() -> None:
     """What another version wrote is refused by its name."""
-    start = BeginRecord(7, 5, 6, Held.CHANGED, 0, 2, b"[[account]]\n")
+    start = BeginRecord(7, 5, 6, StoreAtStart.CHANGED, 0, 2, b"[[account]]\n")
     flush = Flush(7, 3, 7, 6, 5, (RowsRecord(0, b"rows"), RowsRecord(1, b""), start, StartRecord(7, 5, 6, None, False, b"x")))
     assert read_flush(flush.packed(), 0)[0] == flush
     for data, told in ((b"Q", "there is no record of the kind b'Q': a later version wrote this journal"),
@@ -326,7 +326,7 @@ def test_words_of_mjournal(told_of: Front, tmp_path: Path) -> None:
 @pytest.mark.long
 @in_loop()
 async def test_a_disk_that_is_full(certificate: tuple[Path, Path], tmp_path: Path) -> None:
-    """No line goes on, users and the operator are told, and once there is room all goes on. What was answered is in the journal."""
+    """No line goes on, users and the operator hear so, and once there is room all goes on. What was answered is in the journal."""
     folder = tmp_path / "front"
     disk = folder / "disk"
     disk.mkdir(parents=True)

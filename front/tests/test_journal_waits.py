@@ -16,13 +16,13 @@ from mserve_front.history import Began, History
 from mserve_front.journal import Journal, LogFault, LogTaken, Tail
 from mserve_front.lines import Line
 from mserve_front.metrics import Metrics
-from mserve_front.records import Flush, Held, LineRecord, ReplyRecord
-from mserve_front.turns import Lost, Turns, Unsent
+from mserve_front.records import Flush, LineRecord, ReplyRecord, StoreAtStart
+from mserve_front.turns import FairConnection, Lost, Unsent
 from test_turns import Peer
 
 
 class Memory:
-    """A log in memory: a flush waits as long as it is told, or until it may go on, or fails. `begun` counts the flushes, with those that wait."""
+    """A log in memory: a flush waits as long as a test says, or until it may go on, or fails. `begun` counts the flushes, with those that wait."""
 
     def __init__(self) -> None:
         self.flushes: list[Flush] = []
@@ -59,12 +59,12 @@ class Kept:
         self.log, self.told = Memory(), []
         self.metrics = Metrics()
         self.journal = Journal(self.log, self.metrics, self.told.append)
-        self.turns = Turns(1_000_000, lambda waited, taken: None)
+        self.turns = FairConnection(1_000_000, lambda waited, taken: None)
         self.peer = Peer(self.turns)
 
     async def begin(self) -> Kept:
         await self.journal.take()
-        await self.journal.begin(Held.ALL, 0, b"")
+        await self.journal.begin(StoreAtStart.ALL, 0, b"")
         self.turns.keep(self.journal)
         return self
 
@@ -149,11 +149,14 @@ async def test_a_journal_that_cannot_be_written() -> None:
     with pytest.raises(NoJournal):
         await kept.turns.ask(3, Line(b"W 4"))
     kept.peer.reply(b"1")
-    # Until it was tried again in vain, however busy the machine is.
-    while kept.log.mended < 2:
-        await asyncio.sleep(0.001)
+    await tried_in_vain(kept)
     assert not sent.done() and kept.peer.lines == [] and kept.told == [
         "the journal cannot be written: journal: No space left on device: no line goes on until it can"]
+    # Another cause is reported too, and once.
+    for process in (7, 8):
+        kept.log.fails = LogFault(f"journal: process {process} has the lock")
+        await tried_in_vain(kept)
+    assert not sent.done() and kept.told[1:] == ["the journal cannot be written yet: journal: process 7 has the lock"]
     kept.log.fails = None
     assert (await sent).reply.rest == "1" and kept.told[-1] == "the journal is written again" and kept.log.mended > 1
     after = kept.turns.ask(2, Line(b"W 5"))
@@ -164,6 +167,13 @@ async def test_a_journal_that_cannot_be_written() -> None:
     numbers = [record.number for record in kept.records()[1:]]
     assert numbers == [1, 1, 2, 2] and [flush.sequence for flush in kept.log.flushes] == list(range(1, len(kept.log.flushes) + 1))
     assert kept.metrics.journal_faults > 1
+
+
+async def tried_in_vain(kept: Kept) -> None:
+    """Waits until it was tried again twice, however busy the machine is: the first attempt may have begun before."""
+    before = kept.log.mended
+    while kept.log.mended < before + 2:
+        await asyncio.sleep(0.001)
 
 
 @in_loop()
@@ -184,7 +194,7 @@ async def test_a_reply_that_cannot_be_noted_for_long_is_held_back(monkeypatch: p
 
 @in_loop()
 async def test_lines_whose_connection_ends_while_they_wait_for_the_disk_are_not_sent() -> None:
-    """They stand in the journal, and the next start says that they were not sent."""
+    """They are in the journal, and the next start says that they were not sent."""
     kept = await Kept().begin()
     first = kept.turns.ask(1, Line(b"W 1"))
     while not kept.peer.lines:
@@ -196,7 +206,7 @@ async def test_lines_whose_connection_ends_while_they_wait_for_the_disk_are_not_
     kept.log.goes.set()
     with pytest.raises(Unsent):
         await second
-    await kept.journal.begin(Held.UNKNOWN, 0, b"")
+    await kept.journal.begin(StoreAtStart.UNKNOWN, 0, b"")
     history = History()
     began = list(history.take(kept.log.flushes))[-1]
     assert isinstance(began, Began) and [line.number for line in began.unknown] == [1] and [line.number for line in began.unsent] == [2]

@@ -12,7 +12,7 @@ import aiohttp
 import pytest
 from front import PASSWORD, SETTINGS, Front, Person, in_loop
 from mserve_client.wire import ReplyReader
-from mserve_front.lines import LONGEST, Line, Refused
+from mserve_front.lines import LONGEST, Line, LineRefused
 from running import run
 
 # Bytes that no line has: they end a line, or are no ASCII.
@@ -51,7 +51,7 @@ def test_every_byte_at_every_place_of_a_line(length: int) -> None:
         for byte in range(256):
             data = b"x" * place + bytes([byte]) + b"x" * (length - place - 1)
             if byte in NEVER:
-                with pytest.raises(Refused) as refused:
+                with pytest.raises(LineRefused) as refused:
                     Line(data)
                 assert refused.value.code == "ZCHAR"
             else:
@@ -62,7 +62,7 @@ def test_every_byte_at_every_place_of_a_line(length: int) -> None:
 @pytest.mark.parametrize("place", [0, 1, 100, 254])
 def test_every_code_point_above_is_refused(place: int) -> None:
     for code in [*range(128, 0x3000), *range(0xD7F0, 0xE010), *range(0xFF00, 0x10100), 0x1F600, 0x10FFFF]:
-        with pytest.raises(Refused) as refused:
+        with pytest.raises(LineRefused) as refused:
             Line.of("x" * place + chr(code))
         assert refused.value.code in ("ZCHAR", "ZLINE")
 
@@ -70,7 +70,7 @@ def test_every_code_point_above_is_refused(place: int) -> None:
 def test_longer_lines_are_refused() -> None:
     assert Line(b"x" * LONGEST).data == b"x" * LONGEST
     for length in (LONGEST + 1, 261, 10_000):
-        with pytest.raises(Refused) as refused:
+        with pytest.raises(LineRefused) as refused:
             Line(b"\n" * length)
         assert refused.value.code == "ZLINE"
 
@@ -147,7 +147,8 @@ async def test_no_text_reaches_another_terminal(lasting: Front, text: str) -> No
 
 @pytest.mark.parametrize("message", [
     "W 1", "[]", "1", "null", "{}", '{"id": 1}', '{"line": "W 1"}', '{"id": "1", "line": "W 1"}', '{"id": -1, "line": "W 1"}', '{"id": 1.5, "line": "W 1"}',
-    '{"id": true, "line": "W 1"}', '{"id": 1, "line": 5}', '{"id": 1, "line": ["W 1"]}', '{"id": 1, "line": "W 1", "session": "x"}', '{"id": 1, "line": "W 1"',
+    '{"id": true, "line": "W 1"}', '{"id": 1, "line": 5}', '{"id": 1, "line": ["W 1"]}', '{"id": 1, "line": "W 1", "session": "x"}',
+    '{"id": 1, "line": "W 1", "generation": "x"}', '{"id": 1, "line": "W 1"',
     '{"id": 123456789012345678901234567890, "line": "W 1"}', "[" * 7_000,
 ])
 @in_loop()
@@ -170,13 +171,15 @@ async def test_texts_that_are_no_utf8_end_the_connection(lasting: Front) -> None
         assert ada.socket.close_code in (aiohttp.WSCloseCode.INVALID_TEXT, OVERTAKEN)
 
 
+@pytest.mark.parametrize("name", ["generation", "session"])
 @in_loop()
-async def test_line_for_another_session_of_the_server_is_not_sent(lasting: Front) -> None:
+async def test_line_for_another_epoch_of_the_server_is_not_sent(lasting: Front, name: str) -> None:
+    """By its name, and by the one that it had before."""
     async with lasting.person() as ada:
-        now = ada.record["session"]
-        await ada.send("S ^W=1", session=now + 1)
+        now = ada.record[name]
+        await ada.send("S ^W=1", **{name: now + 1})
         assert (await ada.next())["refused"] == "restarted"
-        await ada.send("W $D(^W)", session=now)
+        await ada.send("W $D(^W)", **{name: now})
         assert (await ada.next())["rest"] == "0"
 
 

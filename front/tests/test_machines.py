@@ -262,7 +262,7 @@ ENDS = "SELECT name, max(sequence) FROM mfront_journal GROUP BY name ORDER BY na
 
 @in_loop()
 async def test_a_database_that_is_away(host: Callable[..., Gate], cluster: Pair, tmp_path: Path) -> None:
-    """The gate and the fronts stay, lines are refused, and a machine that is started meanwhile says so; once it is there all goes on."""
+    """The gate and the fronts stay, lines are refused, and a machine that is started meanwhile says so and waits; once it is there all goes on."""
     islands(tmp_path / "islands", 1)
     gate = host("one")
     assert gate.does("place", "island0", tmp_path / "islands" / "island0.toml", "one")[0] == 0
@@ -276,10 +276,12 @@ async def test_a_database_that_is_away(host: Callable[..., Gate], cluster: Pair,
             await asyncio.sleep(0.1)
         status, _, told = await asyncio.to_thread(gate.does, "list")
         assert status == 3 and told.startswith("mgate: database: ") and len(told.splitlines()) == 1
-        with pytest.raises(RuntimeError, match="mgate: database: "):
-            host("two")
+        second = asyncio.create_task(asyncio.to_thread(host, "two"))
+        log = gate.folder.parent / "two" / "told"
+        await until(lambda: log.exists() and "it does not serve yet: database: " in log.read_text(), "a machine that waits for the database")
     finally:
         await asyncio.to_thread(cluster.start)
+    assert (await second).stop() == 0
     while "refused" in (record := await user.line("S ^N=$G(^N)+1 W ^N")):
         await asyncio.sleep(0.1)
     assert record["rest"] == "2"

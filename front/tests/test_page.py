@@ -248,7 +248,7 @@ def test_markup_stays_text(browsers: Opened) -> None:  # noqa: F811
     ada.run(PASTE, f"; {MARKUP}\n{MARKUP}")
     ada.yes()
     ada.until(lambda: "ZSYNTAX" in ada.texts("#log .reply")[-1], "the refusal")
-    assert ada.run("return [window.hit ?? null, document.querySelectorAll('b, script:not([src]), #house img:not([src^=\"page/\"])').length]") == [None, 0]
+    assert ada.run("return [window.hit ?? null, document.querySelectorAll('b, script:not([src]), #app img:not([src^=\"page/\"])').length]") == [None, 0]
     assert "^ ZSYNTAX: " in ada.line(f"{MARKUP[:40]}")
     assert ada.line("W 1 2").splitlines()[:2] == ["W 1 2", "   ^ ZSYNTAX: two expressions need a comma, or two commands one space"]
     assert ada.line("W $RE(1) R X").splitlines()[1] == "  ^ ZSYNTAX: $REVERSE, which needs language 1 of the account's settings"
@@ -362,7 +362,7 @@ SMALL = """const told = (one) => one.id || one.className || one.textContent.slic
 
 
 def fits_fingers(browser: Browser, least: int) -> None:
-    """Looks at all fields and targets that are there, so many at least."""
+    """Looks at all fields and targets that are there, at least this many."""
     letters, targets, count = browser.run(SMALL)
     assert (letters, targets) == ([], []) and count >= least
 
@@ -507,7 +507,7 @@ def test_wrong_password_says_so(browsers: Opened) -> None:  # noqa: F811
     ben.one("#user").send_keys("ben")
     ben.one("#password").send_keys("not this one" + Keys.ENTER)
     ben.until(lambda: ben.one("#sign-on-fault").text.startswith("Wrong name or password."), "the refusal")
-    assert ben.one("#password").get_attribute("value") == "" and not ben.all("#house")
+    assert ben.one("#password").get_attribute("value") == "" and not ben.all("#app")
     ben.until(lambda: ben.one("#sign-on button").is_enabled(), "another try")
 
 

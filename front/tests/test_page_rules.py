@@ -140,7 +140,7 @@ def test_what_is_said_of_other_systems_lines(browser: Browser, connection: Conne
         assert found and found == checked(connection, text), text
 
 
-def as_told(found: language.Fault) -> dict[str, object]:
+def as_told(found: language.LineFault) -> dict[str, object]:
     """A fault as the page has it."""
     return dataclasses.asdict(dataclasses.replace(found, advice=advice_of(found.advice)))
 

@@ -76,7 +76,7 @@ async def posted(http, token: str, line: object) -> tuple[int, Record]:
 @in_loop()
 async def test_lines_at_the_line_port(lasting: Front) -> None:
     async with Program(lasting, f"cleo {PASSWORD}") as program:
-        assert program.record == {"user": "cleo", "account": "LAB", "terminal": program.record["terminal"], "volatile": True, "session": 1}
+        assert program.record == {"user": "cleo", "account": "LAB", "terminal": program.record["terminal"], "volatile": True, "generation": 1, "session": 1}
         assert await program.line("S A=5 W A,!,A+1") == {"output": ["5"], "rest": "6", "code": None}
         assert await program.line("") == {"output": [], "rest": "", "code": None}
         assert (await program.line("W B"))["code"] == "M6"
@@ -111,7 +111,7 @@ async def test_a_program_is_told_of_a_restart(start) -> None:
     async with Program(front, f"ada {PASSWORD}") as program:
         await program.line("S A=1")
         front.kill_child()
-        assert await program.next() == {"event": "restarted", "volatile": True, "session": 2}
+        assert await program.next() == {"event": "restarted", "volatile": True, "generation": 2, "session": 2}
         assert (await program.line("W A"))["code"] == "M6"
 
 
@@ -252,7 +252,7 @@ async def test_audit_log(start) -> None:
         await ada.sign_on("wrong")
         (front.folder / "audit.log").rename(front.folder / "audit.old")
         front.process.send_signal(signal.SIGHUP)
-        front.hears("certificate and audit log opened again")
+        front.hears("reloaded: the audit log")
         await ada.line("W B")
     records = [json.loads(line) for line in (front.folder / "audit.old").read_text().splitlines()]
     # Refused lines are counted once a second, so perhaps before the log was moved.
@@ -295,7 +295,7 @@ async def test_a_new_certificate_is_taken(start, tmp_path) -> None:
         try:
             front.certificate[0].write_text("broken")
             front.process.send_signal(signal.SIGHUP)
-            front.hears("not reloaded")
+            front.hears("not reloaded: the certificate: ")
         finally:
             front.certificate[0].write_bytes(before)
         assert (await program.line("W 1"))["rest"] == "1"

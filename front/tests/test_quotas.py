@@ -5,11 +5,12 @@ from __future__ import annotations
 import asyncio
 import json
 import os
+import signal
 import time
 from pathlib import Path
 
 import pytest
-from front import PASSWORD, Front, Person, in_loop, small_disk, until
+from front import PASSWORD, Front, Person, in_loop, small_disk, toml, until
 from mserve_front import quotas as quotas_module
 from mserve_front.quotas import PAUSE, Memory, Quotas
 from test_programs import Program, new_token, posted
@@ -84,6 +85,33 @@ async def test_an_account_over_its_quota_of_memory_is_slowed_until_its_sessions_
             async def is_free() -> bool:
                 return "quota" not in await ada.line("W 1")
             await until(is_free, "an account whose variables are gone")
+
+
+@in_loop()
+async def test_limits_are_raised_while_users_work(start) -> None:
+    """By a reload: who is signed on stays so and keeps variables, and hears that the account is within its quota. What else has changed in the settings is
+    named. Settings that are wrong leave the limits as they were, and the audit log is opened again all the same."""
+    front: Front = start(limits={"memory": 100_000_000})
+    async with front.person("ada") as ada:
+        assert " bytes of memory of 100,000,000)" in (await fills(ada, VARIABLES))["quota"]
+        (front.folder / "audit.log").rename(front.folder / "audit.old")
+        await reloads(front, {"limits": {"memory": -1}}, "not reloaded: limits: ", "limits.memory: is to be a whole number")
+        assert (front.folder / "audit.log").exists() and "quota" in await ada.line("W 1")
+        await reloads(front, {"limits": {"memory": 10 ** 12, "reply": 5000}, "metrics": {"from": []}}, "reloaded: limits",
+                      "limits.reply, metrics.from: this counts from the next start of the front")
+
+        async def is_free() -> bool:
+            return "quota" not in await ada.line("W 1")
+        await until(is_free, "an account within its quota")
+        assert ada.events[1:] == [{"event": "quota", "over": {}}] and await ada.told("W $D(A(1))") == "1"
+
+
+async def reloads(front: Front, tables: dict[str, dict[str, object]], *told: str) -> None:
+    """Gives a front other tables in its settings, and has it read them; it tells these texts."""
+    (front.folder / "front.toml").write_text(toml(front.tables | tables))
+    front.process.send_signal(signal.SIGHUP)
+    for text in told:
+        await asyncio.to_thread(front.hears, text)
 
 
 def test_memory_is_charged_to_who_had_the_server() -> None:

@@ -11,6 +11,7 @@ import pytest
 from front import COMMAND, Front, in_loop, until, write_users
 from mserve_front.audit import Audit
 from mserve_front.metrics import Metrics
+from mserve_front.server import Server
 from mserve_front.sessions import PAGE, Over, Sessions
 from mserve_front.settings import read_settings
 from mserve_front.signing import Wrong
@@ -24,8 +25,9 @@ def sessions_of(folder) -> tuple[Sessions, Register]:
     (folder / "settings.toml").write_text('[[account]]\nname = "ONE"\nterminals = [1, 2]\nsteps = 1000\n')
     (folder / "front.toml").write_text('[server]\nsettings = "settings.toml"\nstore = "memory"\n[users]\nfile = "users.json"\n')
     settings, metrics, register = read_settings(folder / "front.toml", True), Metrics(), Register(folder / "users.json")
-    made = Sessions(settings, metrics, Audit(None, metrics), register)
-    made.server.state = "up"
+    server = Server(settings, metrics)
+    server.state = "up"
+    made = Sessions(settings, server, metrics, Audit(None, metrics), register)
     return made, register
 
 

@@ -342,6 +342,56 @@ async def test_snapshots_are_verified_by_a_replay(start, tmp_path: Path) -> None
     assert status == 1 and "other nodes than the manifest says: CLINIC" in told
 
 
+def verified(front: Front) -> str:
+    """What the command says of the latest snapshot of a front: its last line if that is good, and else what is wrong."""
+    status, output, told = tool("mbackup")("verify", front.folder, "--config", front.folder / "front.toml")
+    return output.splitlines()[-1] if status == 0 else told
+
+
+@in_loop()
+async def test_snapshots_that_come_before_the_next_line_are_verified(start) -> None:
+    """Of a store that nobody has worked with yet; and of one whose server was killed at a line that it had run in part, after which nobody has worked: what the
+    start that came then says of the store is in the snapshot, and so it is in what that is held against."""
+    front = start(tls=False, store="store.db", journal={"folder": "journal"})
+    log = front.folder / "store.db-wal"
+
+    async def is_taken() -> bool:
+        """While the server is started again it is refused."""
+        return (await asyncio.to_thread(tool("mbackup"), "take", front.folder, "--end-sessions", "--config", front.folder / "front.toml"))[0] == 0
+
+    async def is_killed_at_a_line(ada: Person) -> bool:
+        before = log.stat()
+        await ada.send("S ^N=$G(^N)+1 F I=1:1:300000 S A=I")
+        await until(lambda: (log.stat().st_size, log.stat().st_mtime_ns) != (before.st_size, before.st_mtime_ns), "what a line stores")
+        front.kill_child()
+        return "unknown" in await ada.next()
+    assert await is_taken()
+    assert "holds the same" in (found := await asyncio.to_thread(verified, front)) and "line 0, " in found, found
+    async with front.person("ada") as ada:
+        await ada.line("S ^M=1")
+        await until(lambda: is_killed_at_a_line(ada), "a line that was run in part")
+        await until(is_taken, "a snapshot")
+        assert "holds the same" in (found := await asyncio.to_thread(verified, front)), found
+
+
+@in_loop()
+async def test_a_snapshot_is_verified_though_what_came_before_has_expired(start) -> None:
+    """It was verified, and nobody has worked since: the next night's snapshot is of the same line. One that holds something else is not taken for it."""
+    front = start(tls=False, store="store.db", journal={"folder": "journal", "roll": 4096})
+    async with front.person("ada") as ada:
+        await works(ada, 3, 40)
+        took = [await asyncio.to_thread(backup, front, "--end-sessions")]
+        await works(ada, 4, 80)
+        took += [await asyncio.to_thread(backup, front, "--end-sessions")]
+        assert "a replay from " in await asyncio.to_thread(verified, front)
+        assert mjournal(front.folder / "journal")("expire", took[1])[0] == 0
+        took += [await asyncio.to_thread(backup, front, "--end-sessions")]
+        assert took[1] == took[2] != took[0] and "nobody has worked since it was verified" in await asyncio.to_thread(verified, front)
+        note = json.loads((front.folder / "verified.json").read_text())
+        (front.folder / "verified.json").write_text(json.dumps(note | {"holds": "something else"}))
+        assert re.search("missing|could not be replayed", await asyncio.to_thread(verified, front))
+
+
 @pytest.fixture(scope="module")
 def sound(tmp_path_factory: pytest.TempPathFactory) -> Path:
     """A snapshot of some nodes."""

@@ -20,7 +20,7 @@ from yarl import URL
 @in_loop()
 async def test_record_and_cookie(lasting: Front) -> None:
     async with lasting.person("cleo") as cleo:
-        assert cleo.record == {"user": "cleo", "account": "LAB", "terminal": cleo.record["terminal"], "volatile": True, "session": 1}
+        assert cleo.record == {"user": "cleo", "account": "LAB", "terminal": cleo.record["terminal"], "volatile": True, "generation": 1, "session": 1}
         assert cleo.record["terminal"] in (1001, 1002)
         async with cleo.http.get("/session") as response:
             assert (response.status, await response.json()) == (200, cleo.record)

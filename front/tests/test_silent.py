@@ -1,13 +1,12 @@
 # SPDX-License-Identifier: Apache-2.0
-"""A database that does not answer, for a time or for good: what stands between keeps the connection open, its machine has no power, its disk or its replica
-makes it wait. Users are told, and all goes on by itself once it is back."""
+"""A database that does not answer, for a time or for good: what is between keeps the connection open, its machine has no power, its disk or its replica
+makes it wait. Users hear so, and all goes on by itself once it is back."""
 from __future__ import annotations
 
 import asyncio
 import os
 import signal
 import socket
-import time
 from pathlib import Path
 
 import pytest
@@ -22,9 +21,9 @@ from mserve_front.settings import JournalSettings
 from running import PROGRAM
 from standing_by import caught_up
 from test_replay import held
-from test_table import BACK, cluster, goes_away_meanwhile, journal, own_cluster, two_fronts  # noqa: F401
+from test_table import cluster, goes_away_meanwhile, journal, own_cluster, served_again, two_fronts  # noqa: F401
 
-# Seconds within which users are told, however busy the machine is: half a minute for a reply that is held back, and what the machine takes.
+# Seconds within which users hear so, however busy the machine is: half a minute for a reply that is held back, and what the machine takes.
 PATIENCE = 120.0
 
 
@@ -32,7 +31,7 @@ PATIENCE = 120.0
 @pytest.mark.parametrize("keeps", [False, True], ids=["refuses", "keeps"])
 @in_loop()
 async def test_a_way_that_stays_open_while_its_database_is_gone(start, tmp_path: Path, keeps: bool) -> None:
-    """What stands between keeps its connections open and says nothing, and takes new ones or not: users are told, and all goes on soon after the database
+    """What is between keeps its connections open and says nothing, and takes new ones or not: users hear so, and all goes on soon after the database
     is back. The standby hears of it too."""
     async with own_cluster() as cluster:  # noqa: F811
         wire = Wire(cluster)
@@ -47,11 +46,7 @@ async def test_a_way_that_stays_open_while_its_database_is_gone(start, tmp_path:
                 record = await ben.next()
             assert record["unknown"] and "its reply is held back" in record["why"]
             await asyncio.to_thread(cluster.start)
-            began = time.monotonic()
-            while "refused" in await ada.line("S ^Z=1"):
-                await asyncio.sleep(0.1)
-            print(f"served again {time.monotonic() - began:.1f} s after the database")
-            assert time.monotonic() - began < BACK
+            await served_again(ada, "S ^Z=1")
             assert await ada.told("W ^X,^Y,^Z") == "111"
         assert "no answer within" in front.told()
         await stopped(front)
@@ -124,7 +119,7 @@ def test_a_machine_that_is_silent_is_passed_over(cluster: Cluster, journal: Jour
 
 @pytest.mark.long
 def test_a_row_that_no_replica_has_is_gone_after_a_fail_over(monkeypatch: pytest.MonkeyPatch) -> None:
-    """A flush is given up while the replica is away. Its row stands at the primary alone: it was not acknowledged, so the replica may take over without."""
+    """A flush is given up while the replica is away. Its row is at the primary alone: it was not acknowledged, so the replica may take over without."""
     first = Cluster()
     second = Cluster(first)
     try:

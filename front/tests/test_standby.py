@@ -25,7 +25,7 @@ from mserve_front.settings import JournalSettings, read_settings
 from mserve_front.standby import Standby
 from mserve_front.standing import read_standing
 from running import PROGRAM
-from standing_by import SLOW, Load, asks_promotion, caught_up, leading, promoted, standby, stands_by, takes_over
+from standing_by import SLOW, Load, asks_promotion, caught_up, fenced_off, leading, promoted, standby, stands_by, takes_over
 from test_replay import backup, held, works
 
 # Leaders that are killed, unless more are asked for (--count).
@@ -220,27 +220,7 @@ async def test_a_leader_that_lives_is_fenced_off(start, tmp_path: Path) -> None:
     """It hangs, and the standby takes over by force. Once it goes on it acknowledges nothing, and ends; what the other one serves is not touched."""
     leader = leading(start, tmp_path / "journal")
     second = standby(start, tmp_path / "journal")
-    ada = leader.person("ada")
-    await ada.__aenter__()
-    assert await ada.told("S ^X=1 W ^X") == "1"
-    await caught_up(second, tmp_path / "journal")
-    leader.process.send_signal(signal.SIGSTOP)
-    await ada.send("S ^X=7")
-    status, _, told = promoted(second)
-    assert status == 3 and "another front writes this journal" in told
-    assert tool("mfront")("promote", "--force", "--config", second.folder / "front.toml")[0] == 0
-    second.hears("serving at")
-    async with second.person("ben") as ben:
-        assert await ben.told("S ^X=^X+1 W ^X") == "2"
-        leader.process.send_signal(signal.SIGCONT)
-        assert await asyncio.to_thread(leader.process.wait, 30) == 3
-        assert "another front has taken this journal" in leader.told()
-        with contextlib.suppress(ConnectionError):
-            assert "output" not in await ada.next()
-        await ada.http.close()
-        assert await ben.told("S ^X=^X+1 W ^X") == "3"
-        with pytest.raises(RuntimeError, match="another front writes this journal"):
-            leader.again()
+    await fenced_off(leader, second, JournalSettings(tmp_path / "journal"), "another front has taken this journal")
     await stopped(second)
     assert mjournal(tmp_path / "journal")("replay", "--program", PROGRAM, "--store", tmp_path / "all")[::2] == (0, "")
     assert held(tmp_path / "all") == held(second.folder / "store.db")
@@ -410,7 +390,7 @@ async def goes_on(leader: Front, second: Front, left: int, journal: Path) -> Non
 @pytest.mark.parametrize("alone", [pytest.param(True, marks=pytest.mark.long), False])
 @in_loop()
 async def test_a_leader_that_was_killed_stands_by(start, tmp_path: Path, alone: bool) -> None:
-    """If all its lines were answered, its store stands after the last of them: whether nobody has served since (`alone`) or another one has."""
+    """If all its lines were answered, its store comes after the last of them: whether nobody has served since (`alone`) or another one has."""
     leader = leading(start, tmp_path / "journal", roll=4096)
     second = standby(start, tmp_path / "journal")
     async with leader.person("ada") as ada:

@@ -49,7 +49,7 @@ async def is_closed(front: Front) -> bool:
 @pytest.mark.parametrize(("number", "why"), [(signal.SIGTERM, "stopping"), (signal.SIGUSR1, "moved")])
 @in_loop()
 async def test_a_line_on_its_way_has_its_reply_before_the_user_hears_of_a_stop(start, number: signal.Signals, why: str) -> None:
-    """By the page and at the line port. A line that comes meanwhile is refused. The journal has all replies, and the store is known to stand after them.
+    """By the page and at the line port. A line that comes meanwhile is refused. The journal has all replies, and the store is known to come after them.
     A stop waits for a reply for some seconds alone, so it is tried again where this test itself was held up for as long."""
     while not await is_answered_at_a_stop(start(store="store", journal={"folder": "journal"}), number, why):
         pass

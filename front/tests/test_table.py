@@ -29,7 +29,7 @@ from mserve_front.records import BadJournal, Flush, LineRecord
 from mserve_front.settings import JournalSettings
 from mserve_front.standbys import said_in
 from running import PROGRAM
-from standing_by import Load, caught_up, stands_by, takes_over
+from standing_by import Load, caught_up, fenced_off, stands_by, takes_over
 from test_replay import backup, held, works
 
 
@@ -152,7 +152,7 @@ def test_a_row_that_is_cut_at_each_byte_or_has_a_bit_turned() -> None:
 
 
 def test_a_row_whose_acknowledgment_was_lost(cluster: Cluster, journal: JournalSettings) -> None:
-    """It stands there; its lines were not sent, and those that come next take their numbers."""
+    """It is there; its lines were not sent, and those that come next take their numbers."""
     log, parts = writer_of(journal), flushes(4)
     log.take()
     for flush in parts[:3]:
@@ -189,6 +189,15 @@ def log_key(journal: JournalSettings) -> int:
     return key_of(journal.name) % (1 << 32)
 
 
+async def served_again(person: Person, line: str) -> None:
+    """Sends a line until it is run, which takes little time once the database is there."""
+    began = time.monotonic()
+    while "refused" in await person.line(line):
+        await asyncio.sleep(0.1)
+    print(f"served again {time.monotonic() - began:.1f} s after the database was gone")
+    assert time.monotonic() - began < BACK
+
+
 @pytest.mark.long
 @in_loop()
 async def test_a_database_that_is_away(start, tmp_path: Path) -> None:
@@ -203,11 +212,7 @@ async def test_a_database_that_is_away(start, tmp_path: Path) -> None:
                 assert (await ada.line("S ^X=2"))["refused"] == "journal"
                 await asyncio.sleep(0.3)
             await asyncio.to_thread(cluster.start)
-            began = time.monotonic()
-            while "refused" in await ada.line("S ^Y=1"):
-                await asyncio.sleep(0.1)
-            print(f"served again {time.monotonic() - began:.1f} s after the database")
-            assert time.monotonic() - began < BACK
+            await served_again(ada, "S ^Y=1")
             await work
             assert await ada.told("W ^X,^Y") == "11"
             snapshot = await asyncio.to_thread(backup, front)
@@ -228,9 +233,25 @@ async def test_a_database_that_is_away(start, tmp_path: Path) -> None:
         await asyncio.to_thread(cluster.stop)
         status, _, told = await asyncio.to_thread(run, "verify")
         assert status == 3 and told.startswith("mjournal: database: ")
-        with pytest.raises(RuntimeError, match="the journal cannot be used: database: "):
-            front.again()
+        await waits_to_serve(front, cluster)
+        await asyncio.to_thread(cluster.stop)
         await waits_for_its_journal(second, cluster)
+
+
+async def waits_to_serve(front: Front, cluster: Cluster) -> None:
+    """A front that is started while the database is away says what it waits for. A stop ends it in order, and leaves what is known of its store; else it
+    serves once the database is there."""
+    place = front.folder / "store.db.at"
+    before = place.read_text()
+    front.words([], "the journal cannot be used yet: database: ")
+    await asyncio.to_thread(front.again)
+    assert await asyncio.to_thread(front.stop) == 0 and place.read_text() == before
+    await asyncio.to_thread(front.again)
+    await asyncio.to_thread(cluster.start)
+    await asyncio.to_thread(front.hears, "serving at")
+    async with front.person("ada") as ada:
+        assert await ada.told("W ^X,^Y") == "11"
+    await stopped(front)
 
 
 async def waits_for_its_journal(second: Front, cluster: Cluster) -> None:
@@ -328,11 +349,7 @@ async def test_connections_that_are_cut(start, tmp_path: Path) -> None:
                 assert await ada.told(f"S ^X({number})=1 W 1") == "1"
                 wire.cut()
                 await ada.line("S ^Y=1")
-                began = time.monotonic()
-                while "refused" in await ada.line("S ^Y=1"):
-                    await asyncio.sleep(0.1)
-                print(f"served again {time.monotonic() - began:.1f} s after the cut")
-                assert time.monotonic() - began < BACK
+                await served_again(ada, "S ^Y=1")
             assert await ada.told("W ^X(2),^Y") == "11"
         assert "another front" not in front.told()
         await stopped(front)
@@ -342,7 +359,7 @@ async def test_connections_that_are_cut(start, tmp_path: Path) -> None:
 
 
 def test_a_writer_meets_a_replica_or_is_forced_out(cluster: Cluster, journal: JournalSettings, tmp_path: Path) -> None:
-    """It waits for a replica, since it may be behind. A journal that is taken by force is lost to the one who had it, at once."""
+    """It waits for a replica, since it may lag. A journal that is taken by force is lost to the one who had it, at once."""
     log, parts = writer_of(journal), flushes(5)
     log.take()
     for flush in parts[:3]:
@@ -378,21 +395,76 @@ FULL = """CREATE FUNCTION full_disk() RETURNS trigger LANGUAGE plpgsql AS $$ BEG
 
 @in_loop()
 async def test_a_database_whose_disk_is_full(start, tmp_path: Path) -> None:
-    """It refuses rows, as PostgreSQL does then: no line goes on, users and the operator are told, and once there is room all goes on."""
+    """It refuses rows, as PostgreSQL does then: no line goes on, users and the operator hear so, and once there is room all goes on."""
     async with own_cluster() as cluster:
-        front = start(store="store.db", journal={"database": cluster.place})
+        wire = Wire(cluster)
+        front = await asyncio.to_thread(start, store="store.db", journal={"database": await wire.begin()})
         async with front.person("ada") as ada:
             assert await ada.told("S ^X=1 W ^X") == "1"
-            cluster.does(FULL)
+            await asyncio.to_thread(cluster.does, FULL)
             assert (await ada.line("S ^X=2"))["refused"] == "journal"
             assert 'could not extend file "base/5/16384": No space left on device' in front.told() and "no line goes on until it can" in front.told()
-            cluster.does("DROP FUNCTION full_disk CASCADE")
-            while "refused" in await ada.line("S ^Y=1"):
-                await asyncio.sleep(0.1)
+            await asyncio.to_thread(cluster.does, "DROP FUNCTION full_disk CASCADE")
+            await served_in_few_attempts(ada, wire)
             assert await ada.told("W ^X,^Y") == "11"
-        await stopped(front)
-        run = tool("mjournal", "--config", str(front.folder / "front.toml"))
-        assert run("replay", "--store", tmp_path / "new")[::2] == (0, "") and held(tmp_path / "new") == held(front.folder / "store.db")
+        await replayed_alike(front, wire, cluster, tmp_path / "new")
+
+
+@pytest.mark.long
+@in_loop()
+async def test_a_replica_that_is_not_the_primary_yet(start, tmp_path: Path) -> None:
+    """The primary is gone, and what led there leads to its replica. No line goes on while that is read-only, users and the operator hear of it, and once it
+    is promoted all goes on."""
+    async with own_cluster() as primary, own_cluster(primary) as replica:
+        await asyncio.to_thread(primary.waits_for, replica)
+        wire = Wire(primary)
+        front = await asyncio.to_thread(start, store="store.db", journal={"database": await wire.begin()})
+        async with front.person("ada") as ada:
+            assert await ada.told("S ^X=1 W ^X") == "1"
+            await asyncio.to_thread(primary.stop)
+            wire.leads_to(replica)
+            await until(lambda: refused(ada), "a line that is refused")
+            await until(lambda: "it is a replica, and read-only" in front.told(), "what the operator is told")
+            assert await refused(ada)
+            await asyncio.to_thread(replica.promote)
+            await served_in_few_attempts(ada, wire)
+            assert await ada.told("W ^X,^Y") == "11"
+        await replayed_alike(front, wire, replica, tmp_path / "new")
+
+
+async def refused(person: Person) -> bool:
+    """Whether a line is refused, since the journal cannot be written."""
+    return (await person.line("S ^X=^X")).get("refused") == "journal"
+
+
+async def served_in_few_attempts(person: Person, wire: Wire) -> None:
+    """Waits until a line goes on: by the first attempts to come at the database, which are a second apart, but for what a busy machine takes."""
+    began, before = time.monotonic(), len(wire.asked)
+    while "refused" in await person.line("S ^Y=1"):
+        await asyncio.sleep(0.1)
+    print(f"served again {time.monotonic() - began:.1f} s after the database, by attempt {len(wire.asked) - before}")
+    # One may be on its way, and the look for standbys has connections of its own.
+    assert len(wire.asked) - before <= 3 and time.monotonic() - began < LATEST
+
+
+async def replayed_alike(front: Front, wire: Wire, cluster: Cluster, store: Path) -> None:
+    """Ends a front, and holds its store against a replay."""
+    await stopped(front)
+    wire.close()
+    assert tool("mjournal", "--database", cluster.place)("replay", "--program", PROGRAM, "--store", store)[::2] == (0, "")
+    assert held(store) == held(front.folder / "store.db")
+
+
+@pytest.mark.long
+@in_loop()
+async def test_a_leader_that_lives_is_fenced_off(start, journal: JournalSettings, tmp_path: Path) -> None:
+    """It hangs, and the standby has the database end its connection, by force. Once it goes on it acknowledges nothing, and ends; what the other one serves
+    is not touched."""
+    leader, second = two_fronts(start, table(journal))
+    await fenced_off(leader, second, journal, "another front writes this journal")
+    await stopped(second)
+    assert mjournal(journal)("replay", "--program", PROGRAM, "--store", tmp_path / "all")[::2] == (0, "")
+    assert held(tmp_path / "all") == held(second.folder / "store.db")
 
 
 @pytest.mark.long
@@ -463,7 +535,7 @@ def freed(journal: JournalSettings) -> None:
 @pytest.mark.long
 @in_loop()
 async def test_a_leader_that_was_killed_stands_by(start, journal: JournalSettings) -> None:
-    """Its store stands after its last line, by the table, in which another one has written since."""
+    """Its store comes after its last line, by the table, in which another one has written since."""
     leader, second = two_fronts(start, table(journal))
     async with leader.person("ada") as ada:
         await works(ada, 5, 30)

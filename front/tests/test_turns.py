@@ -16,7 +16,7 @@ from front import SETTINGS, Front, busy, in_loop, until
 from mserve_client import BadReply, Reply
 from mserve_front.lines import Line
 from mserve_front.replies import Answer, ReplyReader
-from mserve_front.turns import WINDOW, Lost, Turns, Unsent
+from mserve_front.turns import WINDOW, FairConnection, Lost, Unsent
 from running import connected, free_port, serve_words
 
 # A line that takes the server some time: all of 1,000,000 steps.
@@ -24,9 +24,9 @@ LONG = "F  S Z=1"
 
 
 class Peer(asyncio.Transport):
-    """The other end of a connection: it keeps what is written, and replies when it is told."""
+    """The other end of a connection: it keeps what is written, and replies when a test says so."""
 
-    def __init__(self, turns: Turns) -> None:
+    def __init__(self, turns: FairConnection) -> None:
         super().__init__()
         self.turns = turns
         self.lines: list[bytes] = []
@@ -48,8 +48,8 @@ class Peer(asyncio.Transport):
         return line
 
 
-def turns() -> Turns:
-    return Turns(1_000_000, lambda waited, taken: None)
+def turns() -> FairConnection:
+    return FairConnection(1_000_000, lambda waited, taken: None)
 
 
 @in_loop()
@@ -168,7 +168,7 @@ async def test_a_flood_of_one_user_delays_another_by_a_line_at_most(start) -> No
 
 @in_loop()
 async def test_child_that_is_killed_in_the_middle(start, tmp_path) -> None:
-    """What was sent and not answered is unknown; nothing is sent twice; what was answered stays; all are told."""
+    """What was sent and not answered is unknown; nothing is sent twice; what was answered stays; all hear so."""
     front = start(store=str(tmp_path / "store.db"))
     async with front.person("ada") as ada, front.person("cleo") as cleo:
         assert await ada.told("S ^COUNT=0,A=1") == ""
@@ -187,7 +187,7 @@ async def test_child_that_is_killed_in_the_middle(start, tmp_path) -> None:
         assert {record["refused"] for record in refused} <= {"restarted"} and refused
         while not ada.events:
             await ada.event()
-        assert ada.events == [{"event": "restarted", "volatile": False, "session": 2}]
+        assert ada.events == [{"event": "restarted", "volatile": False, "generation": 2, "session": 2}]
         assert front.child != child
         assert await ada.told("W A") == "M6"
         assert int(await ada.told("W ^COUNT")) in (answered, answered + 1)
@@ -278,7 +278,7 @@ class Between:
 
 @in_loop()
 async def test_a_connection_that_breaks_while_the_server_stays(start) -> None:
-    """What the server has in memory stays; variables and locks are gone, and all are told."""
+    """What the server has in memory stays; variables and locks are gone, and all hear so."""
     port = free_port()
     server = subprocess.Popen(serve_words(port, 1000, settings=str(SETTINGS)), stdin=subprocess.DEVNULL)
     try:

@@ -11,7 +11,7 @@ from pathlib import Path
 
 from database import Cluster
 from front import Front, Patience, Person, tool
-from mserve_front.control import Refused, asked
+from mserve_front.control import ControlError, asked
 from mserve_front.islands import NEAR, put_aside
 from standing_by import takes_over
 from test_replay import backup
@@ -144,7 +144,7 @@ class Pair(Troubled):
         def near() -> bool:
             try:
                 status = asked(control, {"ask": "status"}, 10)
-            except Refused:
+            except ControlError:
                 return False
             assert not status.get("differs"), status
             return int(str(status["behind"])) <= behind and (bool(status["caught up"]) or behind > 0 and status["fault"] == "")

@@ -22,7 +22,7 @@ FULL, BACK = 1.5, 3600
 MACHINE = "MFRONT_MACHINE"
 
 
-class Fault:
+class LastingTrouble:
     """The trouble that lasts a while: a disk that is full, or a clock that went back."""
 
     full_until = 0.0
@@ -73,13 +73,13 @@ def happens(what: str) -> None:
     if what in ("front", "both", "machine"):
         os.kill(os.getpid(), signal.SIGKILL)
     if what == "connection":
-        from mserve_front.turns import Turns
-        for turns in Turns.made:
+        from mserve_front.turns import FairConnection
+        for turns in FairConnection.made:
             turns.abort()
     if what == "disk full":
-        Fault.full_until = time.monotonic() + FULL
+        LastingTrouble.full_until = time.monotonic() + FULL
     if what == "clock back":
-        Fault.back = BACK
+        LastingTrouble.back = BACK
 
 
 class Steps:
@@ -133,32 +133,32 @@ def install(place: str) -> None:
     done = {"_Lines": "lines are sent", "_Reply": "a reply is handed out"}
     around(journal.Journal, "_done", lambda entry: durable[type(entry).__name__], lambda entry: done.get(type(entry).__name__, ""))
     around(journal.Journal, "lines", lambda *_: "lines wait", lambda *_: "")
-    around(turns.Turns, "_answered", lambda *_: "a reply has come", lambda *_: "")
+    around(turns.FairConnection, "_answered", lambda *_: "a reply has come", lambda *_: "")
     around(server.Server, "_connect", lambda *_: "the server is started", lambda *_: "")
     note_turns()
     trouble_disk_and_clock()
 
 
 def note_turns() -> None:
-    """Keeps the last `Turns` that were made, whose connection can be broken."""
+    """Keeps the last `FairConnection` that were made, whose connection can be broken."""
     from mserve_front import turns
-    turns.Turns.made = []
-    begun = turns.Turns.__init__
+    turns.FairConnection.made = []
+    begun = turns.FairConnection.__init__
 
     def first(self, *given):
         begun(self, *given)
-        turns.Turns.made[:] = [self]
-    turns.Turns.__init__ = first
+        turns.FairConnection.made[:] = [self]
+    turns.FairConnection.__init__ = first
 
 
 def trouble_disk_and_clock() -> None:
-    """Has the disk be full, and the clock be back, while `Fault` says so."""
+    """Has the disk be full, and the clock be back, while `LastingTrouble` says so."""
     from mserve_front import journal_file
     write, now = journal_file.FileLog._write, time.time_ns
 
     def written(self, data):
-        if time.monotonic() < Fault.full_until:
+        if time.monotonic() < LastingTrouble.full_until:
             raise OSError(28, "No space left on device")
         write(self, data)
     journal_file.FileLog._write = written
-    time.time_ns = lambda: now() - Fault.back * 10**9
+    time.time_ns = lambda: now() - LastingTrouble.back * 10**9

@@ -1,7 +1,7 @@
 # SPDX-License-Identifier: Apache-2.0
 """What is wrong with a line that is not in the language, in words: causes, and what to write instead.
 
-A cause is found by what was wanted at the place of the fault, by what stands there and before it, and by the command it stands in. The first
+A cause is found by what was wanted at the place of the fault, by what is there and before it, and by the command it is in. The first
 one of the list counts. tools/page_words.py writes the list out for the page."""
 from __future__ import annotations
 

@@ -18,7 +18,7 @@ from .grammar import LANGUAGES
 from .mtext import is_barred, set_lines
 from .routine_files import Source, SourceLine, source_line
 from .routines import is_line, nodes_of
-from .walk import Refused, asked, free_local
+from .walk import AnsweredByCode, asked, free_local
 from .wire import LONGEST_LINE, ClientError, Connected
 
 GUARD = "Q  "
@@ -74,7 +74,7 @@ def language_of(connection: Connected) -> int:
     return max(taken, default=language.PROFILE)
 
 
-def fault_of(connection: Connected, text: str) -> language.Fault | None:
+def fault_of(connection: Connected, text: str) -> language.LineFault | None:
     """Why the server has refused a line. It is asked for the account's language only if the verdicts of several leave that open."""
     told = {number: language.fault(text, number) for number in LANGUAGES}
     refusing = {number: fault for number, fault in told.items() if fault is not None}
@@ -111,7 +111,7 @@ def _is_short(rest: str) -> bool:
 
 def _is_accepted(line: str, code: str | None) -> bool:
     if code is not None and code != "ZSYNTAX":
-        raise Refused(line, code)
+        raise AnsweredByCode(line, code)
     return code is None
 
 
@@ -162,13 +162,13 @@ def _refused(line: SourceLine, accepted: bool | None, number: int) -> Finding | 
 
 
 def is_formal_list(text: str) -> bool:
-    """Whether what stands in brackets after a label is a formal list: names, each once, or none."""
+    """Whether what is in brackets after a label is a formal list: names, each once, or none."""
     names = text[1:-1].split(",")
     return text == "()" or bool(text) and all(map(keys.is_name, names)) and len(set(names)) == len(names)
 
 
 def before(line: SourceLine) -> int:
-    """How many characters stand before a line's first command."""
+    """How many characters come before a line's first command."""
     return len(line.label) + len(line.formals) + len(line.level)
 
 
@@ -188,7 +188,7 @@ def _locks(line: SourceLine, number: int) -> Iterator[Finding]:
 
 
 def entries(lines: list[SourceLine], number: int) -> Iterator[Entry]:
-    """What the DOs and GOTOs of a routine name. What stands in strings, or after an @, is not looked at."""
+    """What the DOs and GOTOs of a routine name. What is in strings, or after an @, is not looked at."""
     for place, line in enumerate(lines, 1):
         for name, start, end in language.reader(number).read(line.rest).marks if _may_call(line) else ():
             if name == "entry":

@@ -2,7 +2,7 @@
 """Texts that are not ASCII, as ASCII: each character over 127 is one escape, `~e9;`, its code in small hexadecimal digits.
 
 Each text of ASCII has one shown form, and each text of Unicode one stored form: `shown` and `stored` are each other's inverse, both ways. An
-escape that stands in a text by itself gets a `~7e;` for its `~` (`~7e;e9;`), and one that has some gets one more. Whatever is no whole escape is
+escape that is in a text by itself gets a `~7e;` for its `~` (`~7e;e9;`), and one that has some gets one more. Whatever is no whole escape is
 itself: `~`, `~e`, `~E9;`, `~09;`.
 
 The front takes it from here."""
@@ -38,7 +38,7 @@ def shown(text: str) -> str:
 
 
 def stored_line(line: str) -> str:
-    """A line of M of which the strings are put into their stored form. What stands outside of strings is as it was."""
+    """A line of M of which the strings are put into their stored form. What is outside of strings is as it was."""
     return _LITERAL.sub(lambda found: stored(found[0]), line) if "~" in line or not line.isascii() else line
 
 

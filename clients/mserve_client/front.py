@@ -45,7 +45,7 @@ class NoSignOn(ClientError):
 
 
 @dataclass(frozen=True, slots=True)
-class Place:
+class Address:
     """Where a front is: its URL, cut into parts."""
 
     secure: bool
@@ -53,7 +53,7 @@ class Place:
     port: int
 
     @classmethod
-    def of(cls, url: str) -> Place:
+    def of(cls, url: str) -> Address:
         """The place of a URL. ValueError if it is none that a secret may be sent to."""
         found = urlsplit(url if "://" in url else f"https://{url}")
         if found.scheme not in ("http", "https") or not found.hostname or found.path not in ("", "/") or found.query or found.username:
@@ -87,7 +87,7 @@ class FrontConnection:
     def __init__(self, url: str, user: str, secret: str, *, authority: str | None = None, timeout: float | None = PATIENCE) -> None:
         """Signs on: `secret` is the password of the user or a token, which says by itself whose it is; `authority` is a file with certificates. NoServer,
         NoSignOn."""
-        self.place, self.user, self.timeout = Place.of(url), user, timeout
+        self.place, self.user, self.timeout = Address.of(url), user, timeout
         self._verified = context(authority) if self.place.secure else None
         self._events: queue.SimpleQueue[Record | ClientError] = queue.SimpleQueue()
         self._due: set[int] = set()
@@ -241,7 +241,7 @@ class FrontConnection:
     # ---- lines and replies
 
     def _ask(self, text: str | bytes) -> None:
-        """Sends a line. A line that was written for a server's session that is over is not run."""
+        """Sends a line. A line that was written for an generation of the server that is over is not run; an older front calls an generation `session`."""
         line = text.decode("utf-8", "surrogateescape") if isinstance(text, bytes) else text
         if "\n" in line:
             raise BadLine('a line cannot have a line feed in it: write "first"_$CHAR(10)_"second"')
@@ -251,7 +251,8 @@ class FrontConnection:
             line = shown_line(line)
         self._number += 1
         self._due.add(self._number)
-        self._put(TEXT, json.dumps({"id": self._number, "line": line, "session": self.record["session"]}).encode())
+        name = "generation" if "generation" in self.record else "session"
+        self._put(TEXT, json.dumps({"id": self._number, "line": line, name: self.record[name]}).encode())
 
     def _answer(self) -> Reply:
         """The next reply that is due."""

@@ -16,7 +16,7 @@ from .options import FOUND, counted
 from .progress import Progress
 from .store_file import BadStore, StoreFile
 from .terminal_way import ImportStopped, TerminalWay
-from .walk import Refused
+from .walk import AnsweredByCode
 from .wire import ClientError, Connection, ServerGone
 
 NAME = "mglobal"
@@ -76,7 +76,7 @@ def run(chosen: argparse.Namespace) -> int:
             os.stat(chosen.file)
         with way(chosen) as found:
             return ACTS[chosen.act](found, chosen)
-    except (NotWanted, BadStore, ImportStopped, Refused, extracts.BadExtract) as error:
+    except (NotWanted, BadStore, ImportStopped, AnsweredByCode, extracts.BadExtract) as error:
         options.tell(NAME, str(error))
         return FOUND
 

@@ -12,7 +12,7 @@ the same few kinds of steps:
     ["inner", NAME]            the same, one bracket deeper
     ["mark", NAME, STEP]       the step, with its place kept under a name
 
-A text is in the grammar if the rule `line` reaches its end. The place that was reached at most is that of the fault: what stands before
+A text is in the grammar if the rule `line` reaches its end. The place that was reached at most is that of the fault: what comes before
 it begins some line of the grammar, and what follows does not go on with it."""
 from __future__ import annotations
 
@@ -112,7 +112,7 @@ def command(words: str, argument: Step | None, is_bare: bool, is_conditioned: bo
 
 
 def function(words: str, *inside: Step) -> Step:
-    """A function, its bracket, and what stands in it."""
+    """A function, its bracket, and what is in it."""
     whole = words.split()[-1]
     return all_of(text(rf"\${either(words)}\(", "operand"), *inside, text(r"\)", f"close ${whole}"))
 
@@ -137,7 +137,7 @@ CONDITION = all_of(text(":"), rule("expression"))
 OPERAND = all_of(text("@"), inner("primary"))
 OPERATOR = r"[+\-*/\\#_=<>&!\[]|\]\]?|'(?:[=<>&!\[]|\]\]?)"
 COUNT = r"(?:[0-9]{1,4}(?![0-9.])|[0-9]{0,4}\.[0-9]{0,4}(?![0-9]))"
-# What stands before the name of another account's routine.
+# What comes before the name of another account's routine.
 ENVIRONMENT = r'\|"(?:[^"]|"")*"\|'
 
 

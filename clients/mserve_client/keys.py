@@ -88,7 +88,7 @@ def key(account: str, name: str, subscripts: Subscripts = ()) -> bytes:
 
 @lru_cache(1 << 10)
 def above(account: str, name: str, subscripts: Subscripts) -> bytes:
-    """The key of a node, kept: many nodes stand below it."""
+    """The key of a node, kept: many nodes are below it."""
     return start(account, name) + b"".join(map(subscript_bytes, subscripts))
 
 

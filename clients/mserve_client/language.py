@@ -26,7 +26,7 @@ HEAD = re.compile(r"[A-Za-z]+(?::\S+)? ")
 
 
 @dataclass(frozen=True, slots=True)
-class Fault:
+class LineFault:
     """Why a line is not in the language: the code that it is answered, the place from 0, where its command begins, the cause, and what to
     write instead."""
 
@@ -45,10 +45,10 @@ def reader(language: int) -> Reader:
     return Reader(LANGUAGES[language])
 
 
-def fault(text: str, language: int = PROFILE) -> Fault | None:
+def fault(text: str, language: int = PROFILE) -> LineFault | None:
     """Why a line, without label and dots, is not in a language; None if it is. A line's length is not looked at."""
     if found := OVER_PLACE.search(text):
-        return Fault("ZCHAR", found.start(), found.start(), OVER.name, OVER.advice)
+        return LineFault("ZCHAR", found.start(), found.start(), OVER.name, OVER.advice)
     outcome = reader(language).read(text)
     if outcome.end >= 0:
         return None
@@ -56,7 +56,7 @@ def fault(text: str, language: int = PROFILE) -> Fault | None:
     cause = next(cause for cause in CAUSES if _fits(cause, blank, outcome, language))
     place = argument_place(blank, outcome) - 1 if cause.reads == "argument" else max(outcome.place - cause.back, 0)
     command = place if cause.wanted == "command" and not cause.back else outcome.command
-    return Fault("ZSYNTAX", place, command, cause.name, cause.advice)
+    return LineFault("ZSYNTAX", place, command, cause.name, cause.advice)
 
 
 def _fits(cause: Cause, blank: str, outcome: Outcome, language: int) -> bool:
@@ -73,7 +73,7 @@ def _fits(cause: Cause, blank: str, outcome: Outcome, language: int) -> bool:
 
 
 def _reads(where: str, blank: str, outcome: Outcome, language: int) -> bool:
-    """Whether a command can be read at the place of a fault, or at the argument of the command that it stands in."""
+    """Whether a command can be read at the place of a fault, or at the argument of the command that it is in."""
     at = argument_place(blank, outcome) if where == "argument" else outcome.place
     return reader(language).read(blank, "command", at).end >= 0
 
@@ -90,12 +90,12 @@ def _pattern(pattern: str) -> re.Pattern[str]:
 
 
 def blanked(text: str) -> str:
-    """The text with what stands in its strings blanked out, and without its comment; places stay the same."""
+    """The text with what is in its strings blanked out, and without its comment; places stay the same."""
     text = STRING.sub(lambda found: '"' + "." * (len(found[0]) - 2) + '"' if len(found[0]) > 1 else '"', text)
     return text.partition(";")[0]
 
 
-def pointed(text: str, found: Fault) -> list[str]:
+def pointed(text: str, found: LineFault) -> list[str]:
     """The lines that show a fault to a person: the text, and below it the place with the cause, and what to write instead."""
     plain = text.replace("\t", " ")
     told = f"{' ' * found.place}^ {found.code}: {found.name}"

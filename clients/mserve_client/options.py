@@ -61,9 +61,9 @@ def add_place(words: argparse.ArgumentParser, arguments: list[str] | None, termi
 
 def front_url(text: str) -> str:
     """The URL of a front."""
-    from .front import Place
+    from .front import Address
     try:
-        Place.of(text)
+        Address.of(text)
     except ValueError as error:
         raise argparse.ArgumentTypeError(str(error)) from error
     return text

@@ -22,7 +22,7 @@ class BadFile(ClientError):
 
 @dataclass(frozen=True, slots=True)
 class SourceLine:
-    """A line of a routine: its label or nothing, what stands in brackets right after it and may be a formal list, the spaces and dots after
+    """A line of a routine: its label or nothing, what is in brackets right after it and may be a formal list, the spaces and dots after
     both, and the rest, which is a line of M."""
 
     label: str
@@ -81,7 +81,7 @@ def read_source(path: str) -> Source:
 
 
 def file_lines(path: str) -> list[str]:
-    """The lines that a file has, as they stand there."""
+    """The lines that a file has, as they are there."""
     with open(path, "rb") as file:
         data = file.read()
     lines = [line.removesuffix(b"\r").decode("utf-8", "surrogateescape") for line in data.split(b"\n")]

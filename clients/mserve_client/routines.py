@@ -138,6 +138,6 @@ def interrupts_later() -> Iterator[None]:
 
 
 def delete(connection: Connected, name: str) -> None:
-    """Deletes a routine with all that stands below ^ROUTINE("name"). NoRoutine if there is none."""
+    """Deletes a routine with all that is below ^ROUTINE("name"). NoRoutine if there is none."""
     texts_of(connection, name)
     asked(connection, f"K {reference(ROUTINE, (name,))}")

@@ -27,7 +27,7 @@ Table = dict[str, Any]
 
 
 @dataclass(frozen=True, slots=True)
-class Fault:
+class SettingsFault:
     """A fault: the word that the program has for it, the line from 1 or 0 if it has none, the key, what is wrong, and what to do."""
 
     kind: str
@@ -74,7 +74,7 @@ def places(text: str) -> Places:
 
 
 def statements(text: str) -> Iterator[tuple[int, str]]:
-    """The headers and the pairs of a document, each with the number of its first line. What stands in brackets belongs to its pair."""
+    """The headers and the pairs of a document, each with the number of its first line. What is in brackets belongs to its pair."""
     line, began, depth, parts = 1, 1, 0, list[str]()
     for token in _TOKEN.findall(text):
         if token == "\n" and depth <= 0:
@@ -89,15 +89,15 @@ def statements(text: str) -> Iterator[tuple[int, str]]:
         yield began, statement
 
 
-def faults(data: bytes) -> list[Fault]:
+def faults(data: bytes) -> list[SettingsFault]:
     """The faults of the bytes of a settings file, in the program's order; none if the program takes them."""
     if len(data) > MAX_BYTES:
-        return [Fault("Read", 0, "", f"it has {len(data):,} bytes", f"Settings have at most {MAX_BYTES:,}.")]
+        return [SettingsFault("Read", 0, "", f"it has {len(data):,} bytes", f"Settings have at most {MAX_BYTES:,}.")]
     data = data.removeprefix(codecs.BOM_UTF8)
     try:
         text = data.decode()
     except UnicodeDecodeError as error:
-        return [Fault("Toml", data.count(b"\n", 0, error.start) + 1, "", f"the byte {data[error.start]:02X} is no UTF-8", "Save the file as UTF-8.")]
+        return [SettingsFault("Toml", data.count(b"\n", 0, error.start) + 1, "", f"the byte {data[error.start]:02X} is no UTF-8", "Save the file as UTF-8.")]
     try:
         document = tomllib.loads(text)
     except (tomllib.TOMLDecodeError, RecursionError) as error:
@@ -109,57 +109,60 @@ def faults(data: bytes) -> list[Fault]:
     return shape or list(_values(document, where))
 
 
-def toml_fault(text: str, error: Exception) -> Fault:
+def toml_fault(text: str, error: Exception) -> SettingsFault:
     """What keeps a text from being a document of TOML."""
     at = _AT.search(str(error))
     line = int(at[1]) if at and at[1] else text.count("\n") + 1
     place = f", at column {at[2]}" if at and at[1] else ""
-    return Fault("Toml", line, "", f"no TOML{place}: {_AT.sub('', str(error))}", 'A line is [[account]], [[grant]], or a key, = and a value: name = "CLINIC".')
+    return SettingsFault("Toml", line, "", f"no TOML{place}: {_AT.sub('', str(error))}",
+                         'A line is [[account]], [[grant]], or a key, = and a value: name = "CLINIC".')
 
 
-def _large(document: object, where: Places, name: str = "", number: int = 0, key: str = "") -> Iterator[Fault]:
+def _large(document: object, where: Places, name: str = "", number: int = 0, key: str = "") -> Iterator[SettingsFault]:
     """The whole numbers that have more than 64 bits."""
     if type(document) is int and not -(1 << 63) <= document < 1 << 63:
-        yield Fault("Toml", where.of(name, number, key), key or name, f"{str(document)[:30]} has more than 64 bits", "Write a smaller number.")
+        yield SettingsFault("Toml", where.of(name, number, key), key or name, f"{str(document)[:30]} has more than 64 bits", "Write a smaller number.")
     for part, value in enumerate(document) if isinstance(document, list) else ():
         yield from _large(value, where, name, number if key else part, key)
     for part, value in document.items() if isinstance(document, dict) else ():
         yield from _large(value, where, name or str(part), number, str(part) if name else "")
 
 
-def _shape(document: Table, where: Places) -> Iterator[Fault]:
+def _shape(document: Table, where: Places) -> Iterator[SettingsFault]:
     """What is wrong with keys and types."""
     for key in document.keys() - {"account", "grant"}:
-        yield Fault("Shape", where.top.get(key, where.of(key, 0)), key, "there is no such key", "Settings have the lists [[account]] and [[grant]] alone.")
+        yield SettingsFault("Shape", where.top.get(key, where.of(key, 0)), key, "there is no such key",
+                            "Settings have the lists [[account]] and [[grant]] alone.")
     for name, wanted in (("account", ACCOUNT_KEYS), ("grant", GRANT_KEYS)):
         entries = document.get(name, [])
         if not isinstance(entries, list):
-            yield Fault("Shape", where.of(name, 0), name, "it is no list", f"Write [[{name}]], in double brackets, before each entry.")
+            yield SettingsFault("Shape", where.of(name, 0), name, "it is no list", f"Write [[{name}]], in double brackets, before each entry.")
             continue
         if len(entries) > MAX_ENTRIES:
-            yield Fault("Shape", where.of(name, MAX_ENTRIES), name, f"there are {len(entries):,} of them", f"There may be {MAX_ENTRIES:,}.")
+            yield SettingsFault("Shape", where.of(name, MAX_ENTRIES), name, f"there are {len(entries):,} of them", f"There may be {MAX_ENTRIES:,}.")
         for number, entry in enumerate(entries):
             yield from _entry(name, number, entry, wanted, where)
 
 
-def _entry(name: str, number: int, entry: object, wanted: dict[str, type], where: Places) -> Iterator[Fault]:
+def _entry(name: str, number: int, entry: object, wanted: dict[str, type], where: Places) -> Iterator[SettingsFault]:
     """What is wrong with the keys and types of an entry."""
     if not isinstance(entry, dict):
-        yield Fault("Shape", where.of(name, number), name, "an entry is no table", f"Write [[{name}]] before each entry.")
+        yield SettingsFault("Shape", where.of(name, number), name, "an entry is no table", f"Write [[{name}]] before each entry.")
         return
     known = [*wanted, *([LANGUAGE] if name == "account" else [])]
     for key in entry.keys() - set(known):
-        yield Fault("Shape", where.of(name, number, key), key, "there is no such key", f"[[{name}]] has the keys {', '.join(known)}.")
+        yield SettingsFault("Shape", where.of(name, number, key), key, "there is no such key", f"[[{name}]] has the keys {', '.join(known)}.")
     if LANGUAGE in entry and LANGUAGE in known and not is_language(entry[LANGUAGE]):
-        yield Fault("Shape", where.of(name, number, LANGUAGE), LANGUAGE, "is not 0 or 1", "Write language = 1, or leave it out: then it is 0, the profile.")
+        yield SettingsFault("Shape", where.of(name, number, LANGUAGE), LANGUAGE, "is not 0 or 1",
+                            "Write language = 1, or leave it out: then it is 0, the profile.")
     for key, kind in wanted.items():
         if key not in entry:
-            yield Fault("Shape", where.of(name, number), key, "is missing", f"Add {WANTED[key].partition(': ')[2]} below this [[{name}]].")
+            yield SettingsFault("Shape", where.of(name, number), key, "is missing", f"Add {WANTED[key].partition(': ')[2]} below this [[{name}]].")
         elif type(entry[key]) is not kind or kind is list and any(type(one) is not int for one in entry[key]):
-            yield Fault("Shape", where.of(name, number, key), key, "has another type", f"It is {WANTED[key]}.")
+            yield SettingsFault("Shape", where.of(name, number, key), key, "has another type", f"It is {WANTED[key]}.")
 
 
-def _values(document: Table, where: Places) -> Iterator[Fault]:
+def _values(document: Table, where: Places) -> Iterator[SettingsFault]:
     """What is wrong with the values, kind by kind."""
     accounts, grants = document.get("account", []), document.get("grant", [])
     yield from _names(accounts, where)
@@ -167,42 +170,42 @@ def _values(document: Table, where: Places) -> Iterator[Fault]:
     for number, account in enumerate(accounts):
         if not 1 <= account["steps"] <= MAX_STEPS:
             line = where.of("account", number, "steps")
-            yield Fault("Steps", line, "steps", f"{account['steps']} is not 1 to {MAX_STEPS:,}", "2000 is enough for most lines.")
+            yield SettingsFault("Steps", line, "steps", f"{account['steps']} is not 1 to {MAX_STEPS:,}", "2000 is enough for most lines.")
     known = {account["name"] for account in accounts}
     for number, grant in enumerate(grants):
         yield from _grant(grant, number, known, where)
 
 
-def _names(accounts: list[Table], where: Places) -> Iterator[Fault]:
+def _names(accounts: list[Table], where: Places) -> Iterator[SettingsFault]:
     """The names that no account can have, or that two have."""
     first: dict[str, int] = {}
     for number, account in enumerate(accounts):
         name, line = account["name"], where.of("account", number, "name")
         if not keys.is_account(name):
-            yield Fault("Name", line, "name", f"{name!r} is no name of an account", "A name has 1 to 16 letters or digits, without accents.")
+            yield SettingsFault("Name", line, "name", f"{name!r} is no name of an account", "A name has 1 to 16 letters or digits, without accents.")
         elif name in first:
-            yield Fault("Name", line, "name", f"{name} is an account already, of line {first[name]}", "Give each account a name of its own.")
+            yield SettingsFault("Name", line, "name", f"{name} is an account already, of line {first[name]}", "Give each account a name of its own.")
         first.setdefault(name, line)
 
 
-def _terminals(accounts: list[Table], where: Places) -> Iterator[Fault]:
+def _terminals(accounts: list[Table], where: Places) -> Iterator[SettingsFault]:
     """The numbers that no terminal can have, or that stand twice."""
     first: dict[int, int] = {}
     for number, account in enumerate(accounts):
         line = where.of("account", number, "terminals")
         for terminal in account["terminals"]:
             if not 1 <= terminal <= MAX_TERMINAL:
-                yield Fault("Terminal", line, "terminals", f"{terminal} is not 1 to {MAX_TERMINAL:,}", "Take another number.")
+                yield SettingsFault("Terminal", line, "terminals", f"{terminal} is not 1 to {MAX_TERMINAL:,}", "Take another number.")
             elif terminal in first:
-                yield Fault("Terminal", line, "terminals", f"{terminal} is a terminal already, of line {first[terminal]}",
-                            "A terminal is of one account, and stands once.")
+                yield SettingsFault("Terminal", line, "terminals", f"{terminal} is a terminal already, of line {first[terminal]}",
+                                    "A terminal is of one account, and stands once.")
             first.setdefault(terminal, line)
 
 
-def _grant(grant: dict[str, str], number: int, known: set[str], where: Places) -> Iterator[Fault]:
+def _grant(grant: dict[str, str], number: int, known: set[str], where: Places) -> Iterator[SettingsFault]:
     """What is wrong with a grant."""
-    def fault(key: str, text: str, remedy: str) -> Fault:
-        return Fault("Grant", where.of("grant", number, key), key, text, remedy)
+    def fault(key: str, text: str, remedy: str) -> SettingsFault:
+        return SettingsFault("Grant", where.of("grant", number, key), key, text, remedy)
 
     for key in ("from", "to"):
         if grant[key] not in known:

@@ -7,7 +7,7 @@ import tomllib
 
 from . import options, settings_check, store_check
 from .options import FOUND, counted
-from .settings_check import Fault
+from .settings_check import SettingsFault
 from .settings_file import MAX_BYTES
 
 NAME = "msettings"
@@ -35,7 +35,7 @@ def run(chosen: argparse.Namespace) -> int:
         with open(chosen.settings, "rb") as file:
             data = file.read(MAX_BYTES + 1)
     except OSError as error:
-        data, found = b"", [Fault("Read", 0, "", f"it cannot be read: {error.strerror}", "Name a file that is there and may be read.")]
+        data, found = b"", [SettingsFault("Read", 0, "", f"it cannot be read: {error.strerror}", "Name a file that is there and may be read.")]
     else:
         found = settings_check.faults(data)
     for fault in found[:SHOWN]:

@@ -24,7 +24,7 @@ from .options import FOUND, counted
 from .routine_command import write_whole
 from .routine_files import Source, file_name, file_text, refuse_over, sources, stored_source
 from .screen import Screen, history_file, is_person, pages, prompt
-from .walk import Refused, Walker, asked, routine_names
+from .walk import AnsweredByCode, Walker, asked, routine_names
 from .wire import ClientError, Connected, NoServer, Reply, ServerGone, TimedOut
 
 NAME = "mshell"
@@ -198,7 +198,7 @@ class Shell:
             self._screen.show(in_words(reply.code) + where, "code")
 
     def _visible(self, text: str) -> str:
-        """The text as it is written; controls, which a screen would obey, as they stand on the wire."""
+        """The text as it is written; controls, which a screen would obey, as they are on the wire."""
         text = escape.shown(text) if self._connection.in_utf_8 else text
         return _CONTROL.sub(lambda found: f"\\{ord(found[0]):02X}", text) if self._person else text
 
@@ -380,7 +380,7 @@ class Shell:
     def _routine_names(self) -> list[str]:
         try:
             return routine_names(self._connection)
-        except (TimedOut, Refused):
+        except (TimedOut, AnsweredByCode):
             return []
 
     def _global_names(self) -> list[str]:
@@ -389,7 +389,7 @@ class Shell:
             if not self._has_read_routines:
                 self._read_routines()
             return self._there()
-        except (TimedOut, Refused):
+        except (TimedOut, AnsweredByCode):
             return []
 
 

@@ -10,7 +10,7 @@ from contextlib import closing
 from pathlib import Path
 
 from .holder import opener
-from .settings_check import Fault
+from .settings_check import SettingsFault
 from .store_file import OURS, RULES, TABLES, VERSION
 
 MAGIC = b"SQLite format 3\0"
@@ -18,7 +18,7 @@ MAGIC = b"SQLite format 3\0"
 LOCK = "hhqqi"
 
 
-def fault(path: str) -> Fault | None:
+def fault(path: str) -> SettingsFault | None:
     """Why the program refuses the store at a path, or None if nothing is found."""
     folder = os.path.dirname(os.path.abspath(path))
     if not os.path.isdir(folder):
@@ -34,15 +34,15 @@ def fault(path: str) -> Fault | None:
     return _held(path) or _content(path)
 
 
-def _fault(text: str, remedy: str) -> Fault:
-    return Fault("Store", 0, "", text, remedy)
+def _fault(text: str, remedy: str) -> SettingsFault:
+    return SettingsFault("Store", 0, "", text, remedy)
 
 
 def _user() -> str:
     return f"the user {os.geteuid()}"
 
 
-def _held(path: str) -> Fault | None:
+def _held(path: str) -> SettingsFault | None:
     """Whether another process has the store: who, if that is known."""
     with open(path, "rb+") as file:
         asked = struct.pack(LOCK, fcntl.F_WRLCK, os.SEEK_SET, 0, 0, 0)
@@ -52,7 +52,7 @@ def _held(path: str) -> Fault | None:
     return _fault(f"it is in use: {opener(path) or 'another process'} has it", "One process has a store: stop that one, or go through it.")
 
 
-def _content(path: str) -> Fault | None:
+def _content(path: str) -> SettingsFault | None:
     """Whether a file is no store. What is in a log beside it is not looked at."""
     with open(path, "rb") as file:
         head = file.read(len(MAGIC))
@@ -70,11 +70,12 @@ def _content(path: str) -> Fault | None:
         return _fault(f"it is no store: {error}", "Put a snapshot back in its place, or name another file.")
 
 
-def _schema(base: sqlite3.Connection) -> Fault | None:
-    """What is wrong with the tables of a database and with its version. Tables of others may stand beside, and one without ours is given them."""
+def _schema(base: sqlite3.Connection) -> SettingsFault | None:
+    """What is wrong with the tables of a database and with its version. Tables of others may be beside, and one without ours is given them."""
     tables = tuple(row[0] for row in base.execute(OURS))
     if tables and len(tables) < len(TABLES):
-        return Fault("BadVersion", 0, "", "it is no store: of `node` and `meta` one is missing", "Put a snapshot back in its place, or name another file.")
+        return SettingsFault("BadVersion", 0, "", "it is no store: of `node` and `meta` one is missing",
+                             "Put a snapshot back in its place, or name another file.")
     if tables and tables != TABLES:
         return _fault("it is no store: its tables `node` and `meta` are others", "Name another file; one that does not exist is made.")
     if rule := base.execute(RULES).fetchone():
@@ -82,5 +83,5 @@ def _schema(base: sqlite3.Connection) -> Fault | None:
     version = base.execute("SELECT n FROM meta WHERE name = 'version'").fetchone() if tables else (VERSION,)
     if version is None or version[0] not in range(1, VERSION + 1):
         text = f"it is of version {version[0] if version else 'none'}, and this program is for {VERSION}"
-        return Fault("BadVersion", 0, "", text, "Take the program that made it, or a later one.")
+        return SettingsFault("BadVersion", 0, "", text, "Take the program that made it, or a later one.")
     return None

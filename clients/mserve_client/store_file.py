@@ -240,7 +240,7 @@ class StoreFile(Store):
 
 
 def refuse_journal(path: str) -> None:
-    """BadStore if a journal of another program stands beside the file. The log that a server leaves which was ended by a signal is no hindrance:
+    """BadStore if a journal of another program is beside the file. The log that a server leaves which was ended by a signal is no hindrance:
     it is read as the program reads it, and copied into the file."""
     journal = path + "-journal"
     if os.path.exists(journal) and os.path.getsize(journal):

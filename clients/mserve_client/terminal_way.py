@@ -146,7 +146,7 @@ def grouped(source: Iterator[Entry], most: int, local: str) -> Iterator[tuple[li
 
 
 def entry_lines(entry: Entry, local: str) -> list[str]:
-    """The lines that set a node: one, if that has room for it. Subscripts that are too long stand in the local variable."""
+    """The lines that set a node: one, if that has room for it. Subscripts that are too long are in the local variable."""
     target = reference(f"^{entry.name}", entry.subscripts)
     line = f"S {target}={quoted(entry.text)}"
     if len(line) <= LONGEST_LINE:

@@ -3,7 +3,7 @@
 
 One line asks for many children of a node, and the lines for the nodes below them are sent in one pipeline, so that a
 walk goes as fast as the server reads. Its lines use the local variables %i and %t, which NEW hides. Subscripts that are
-too long for a line stand in a local that the session does not have, which is killed afterwards. The session's naked
+too long for a line are in a local that the session does not have, which is killed afterwards. The session's naked
 indicator moves."""
 from __future__ import annotations
 
@@ -36,7 +36,7 @@ READING = 'W $D({again})," ",{index},! W:$D({again})#10 {again},!'
 COUNTING = "W 1 W:{turn}={most} !,{index}"
 
 
-class Refused(ClientError):
+class AnsweredByCode(ClientError):
     """A line of the client itself was answered by a code."""
 
     def __init__(self, line: str, code: str) -> None:
@@ -68,7 +68,7 @@ def asked(connection: Connected, line: str) -> Reply:
     """The reply of a line that must not be answered by a code."""
     reply = connection.send(line)
     if reply.code is not None:
-        raise Refused(line, reply.code)
+        raise AnsweredByCode(line, reply.code)
     return reply
 
 
@@ -79,7 +79,7 @@ def free_local(connection: Connected) -> str:
 
 
 def long_reference(name: str, subscripts: keys.Subscripts, local: str) -> tuple[list[str], str]:
-    """A node by subscripts that stand in a local variable, and the lines that set these."""
+    """A node by subscripts that are in a local variable, and the lines that set these."""
     before = [f"K {local}"]
     for number, part in enumerate(subscripts, 1):
         before += set_lines(f"{local}({number})", part)
@@ -131,7 +131,7 @@ class Walker:
                 if reply.code == "ZSTEPS" and most > 1:
                     most //= 2
                 elif reply.code is not None:
-                    raise Refused(line, reply.code)
+                    raise AnsweredByCode(line, reply.code)
                 elif not reply.lines:
                     return found + len(reply.rest)
                 else:
@@ -192,7 +192,7 @@ class Walker:
                 found.append(children_of(reply, count, lines[number]))
                 short = short or reply.code is not None
             elif reply.code is not None:
-                raise Refused(lines[number], reply.code)
+                raise AnsweredByCode(lines[number], reply.code)
         if short:
             self._count = max(1, count // 2)
         return found
@@ -217,7 +217,7 @@ class Walker:
 def children_of(reply: Reply, count: int, line: str) -> Children:
     """The children that a reply writes, of which up to `count` were asked for. A line whose steps were used up has written some first ones."""
     if reply.code is not None and reply.code != "ZSTEPS":
-        raise Refused(line, reply.code)
+        raise AnsweredByCode(line, reply.code)
     found, lines = [], iter(reply.lines)
     for head in lines:
         status, _, subscript = head.partition(" ")
@@ -226,7 +226,7 @@ def children_of(reply: Reply, count: int, line: str) -> Children:
             break
         found.append(Child(subscript, text, status in ("10", "11")))
     if reply.code and not found:
-        raise Refused(line, reply.code)
+        raise AnsweredByCode(line, reply.code)
     return Children(found, reply.code is None and len(found) < count)
 
 

@@ -1,5 +1,5 @@
 # SPDX-License-Identifier: Apache-2.0
-"""The examples of clients/README.md, run as they stand there."""
+"""The examples of clients/README.md, run as they are there."""
 from __future__ import annotations
 
 import os

@@ -1,5 +1,5 @@
 # SPDX-License-Identifier: Apache-2.0
-"""What the tests stand on: the built program, its settings and stores, and libraries that refuse its calls.
+"""What the tests depend on: the built program, its settings and stores, and libraries that refuse its calls.
 
 The programs are those that tools/running.py names. Helpers that are no fixtures are in tests/support.py."""
 from __future__ import annotations

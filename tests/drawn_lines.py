@@ -109,7 +109,7 @@ class Draw:
         return joined(["(", self.expression(depth - 1), operator, self.expression(depth - 1), ")"])
 
     def arguments(self, pairs: list[Pair]) -> Pair:
-        """A list of arguments, of which some may stand in a text."""
+        """A list of arguments, of which some may be in a text."""
         plain, other = joined(pairs, ",")
         form = self.drawn.randrange(4)
         if form == 0:

@@ -133,7 +133,7 @@ def blank_with_sums(path: str) -> None:
 
 
 def small_scene(folder: Path, has_sums: bool) -> Scene:
-    """Sixty nodes on nine pages. Of the lower ones some were changed in an earlier run, and stand in the file; of the upper ones some stand in the
+    """Sixty nodes on nine pages. Of the lower ones some were changed in an earlier run, and are in the file; of the upper ones some are in the
     log alone, which had been taken back to its start."""
     settings, numbers = str(folder / "settings.toml"), range(1, 61)
     Path(settings).write_text(SETTINGS, encoding="ascii")
@@ -170,7 +170,7 @@ MANY = 4600
 
 
 def large_scene(folder: Path, changes: int, session: list[Step]) -> Scene:
-    """A store of more pages than the program keeps. A node on each page was changed in an earlier run, and this many changes stand in the log, but for
+    """A store of more pages than the program keeps. A node on each page was changed in an earlier run, and this many changes are in the log, but for
     those before it was taken back to its start."""
     settings = str(folder / "settings.toml")
     Path(settings).write_text(SETTINGS, encoding="ascii")

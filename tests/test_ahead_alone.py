@@ -148,7 +148,7 @@ def in_store() -> list[str]:
 def test_a_fault_says_where(line: str, answer: str) -> None:
     given = [*in_store(), f"1 {line}"]
     assert answered(given, detail=True)[-1] == answer
-    # without details the reply is as it was: what stands before the first space after the code
+    # without details the reply is as it was: what comes before the first space after the code
     assert answered(given)[-1] == re.sub(r"(![A-Z][A-Z0-9]*) .*", r"\1", answer)
 
 

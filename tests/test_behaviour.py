@@ -26,7 +26,7 @@ FILES = {"tests/test_all.py": (6, 2), "clients/tests/test_some.py": (4, 2), "fro
 
 @pytest.fixture
 def top(tmp_path: Path, monkeypatch: pytest.MonkeyPatch) -> Path:
-    """A tree with tests, the settings of pytest, and what the tests' own conftest.py stands on."""
+    """A tree with tests, the settings of pytest, and what the tests' own conftest.py depends on."""
     real = Path(behaviour.TOP)
     for file in FILES:
         folder = (tmp_path / file).parent

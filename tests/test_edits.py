@@ -14,7 +14,7 @@ import gate_libraries
 import pytest
 import try_edits
 from edits import Row
-from try_edits import Note, Place, Refuser
+from try_edits import Note, Refusal, Refuser
 
 REFUSED = "refused, as it must be: "
 HOLDS = "it is not proved that what the function ensures holds when it returns"
@@ -33,28 +33,28 @@ def fault(crate: str, refusers: str, told: str) -> str | None:
 
 def test_place_of_an_answer() -> None:
     place = try_edits.place_of("mvalue", "./proofs/value/Value/number/Answers.antt:7:23: error: `returns-in-Number`: as printed, the two types differ")
-    assert place == Place("Value", "number", "returns-in-Number")
+    assert place == Refusal("Value", "number", "returns-in-Number")
 
 
 def test_place_of_an_answer_of_a_cycle() -> None:
     place = try_edits.place_of("meval", "./proofs/eval/Eval/+eval/Answers.antt:7:23: error: `with_tails-returns-in_err-tail`: as printed")
-    assert place == Place("Eval", "with_tails", "returns-in_err-tail")
+    assert place == Refusal("Eval", "with_tails", "returns-in_err-tail")
 
 
 def test_place_in_the_code() -> None:
     line = line_of("mvalue", "src/value.rt", "pub fn of_bytes")
     place = try_edits.place_of("mvalue", f"note: src/value.rt:{line + 5}:5: {HOLDS} (`returns`); the facts known there")
-    assert place == Place("Value", "of_bytes", "returns")
+    assert place == Refusal("Value", "of_bytes", "returns")
 
 
 def test_place_of_a_function_with_attributes() -> None:
     line = line_of("mnum", "src/whole.rt", "pub fn is_true")
-    assert try_edits.place_of("mnum", f"note: src/whole.rt:{line - 2}:5: {HOLDS} (`returns`)") == Place("Num", "is_true", "returns")
+    assert try_edits.place_of("mnum", f"note: src/whole.rt:{line - 2}:5: {HOLDS} (`returns`)") == Refusal("Num", "is_true", "returns")
 
 
 def test_a_line_that_was_cut_off() -> None:
     line = line_of("mvalue", "src/value.rt", "pub fn of_bytes")
-    assert try_edits.place_of("mvalue", f"note: src/value.rt:{line}:5: {HOLDS} (`returns-in-So") == Place("Value", "of_bytes", "returns-in-So")
+    assert try_edits.place_of("mvalue", f"note: src/value.rt:{line}:5: {HOLDS} (`returns-in-So") == Refusal("Value", "of_bytes", "returns-in-So")
 
 
 @pytest.mark.parametrize("refusers, goal", [

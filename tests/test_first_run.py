@@ -17,7 +17,7 @@ import pytest
 from running import TOP
 
 pytestmark = pytest.mark.alone
-# The folders of bash, python3 and find; the kit's command stands in none of them.
+# The folders of bash, python3 and find; the kit's command is in none of them.
 PATH = "/usr/bin:/bin"
 # Seconds, milliseconds, and how many starts are measured.
 FIRST_RUN, OVERHEAD, STARTS = 5.0, 50, 40

@@ -116,7 +116,7 @@ def test_command(place: int, printed: list[str]) -> None:
 
 
 def test_the_first_session() -> None:
-    """The session on the front page is answered as it stands there."""
+    """The session on the front page is answered as it is there."""
     rows = [text for kind, _, text in blocks(FRONT) if kind == "session"][0].splitlines()
     parted = [ROW.match(row) for row in rows]
     assert [row for row, found in zip(rows, parted) if found is None] == []

@@ -40,7 +40,7 @@ def labelled(text: str, line: str) -> str:
     return f"S ^ROUTINE({quoted('R')},1)={quoted(text)} {line}"
 
 
-# What stands in place of a line, or of a part of it.
+# What is in place of a line, or of a part of it.
 NESTED = [
     "W " + 41 * "(" + "1" + 41 * ")", 'S A="A" W ' + 41 * "@" + "A", "W " + 41 * "-(" + "1" + 41 * ")", 'S X="X X" X X', 'S X="D X^R" X X',
     'S A="@A" W @A', "F  F  F  F  X \"F  \"", 255 * "(", 255 * "@", 255 * '"',

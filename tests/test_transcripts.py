@@ -70,7 +70,7 @@ def test_in_pieces(block: Block, size: int) -> None:
 
 @each_block(*SERVED)
 def test_line_by_line(block: Block) -> None:
-    """Each case is answered with what stands below it, one reply for a line that is not empty, before the next one is sent."""
+    """Each case is answered with what is below it, one reply for a line that is not empty, before the next one is sent."""
     for case, given in block.cases:
         ends = [place for place, line in enumerate(given) if ENDING.fullmatch(line)]
         assert (case, ends) == (case, [] if line_bytes(case) in EMPTY else [len(given) - 1])

@@ -10,7 +10,7 @@ Name = tuple[bool, str, str, tuple[str, ...]]
 
 
 def conflict(one: Name, other: Name) -> bool:
-    """Whether two names are the same variable, or one stands below the other."""
+    """Whether two names are the same variable, or one is below the other."""
     depth = min(len(one[3]), len(other[3]))
     return one[:3] == other[:3] and one[3][:depth] == other[3][:depth]
 

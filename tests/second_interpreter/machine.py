@@ -278,7 +278,7 @@ class Machine(Places):
         value(self.value(tree))
 
     def loop(self, arguments: list[tuple] | None, body: tuple) -> tuple:
-        """FOR, with the rest of the line: its commands, and how many of them stand before."""
+        """FOR, with the rest of the line: its commands, and how many of them come before."""
         if arguments is None:
             while (completion := self.turn(body)) is None:
                 pass

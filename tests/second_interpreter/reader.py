@@ -49,7 +49,7 @@ def label_of(text: str, language: int) -> str:
 
 
 def formals_of(text: str, language: int) -> tuple[list[str] | None, str]:
-    """The names of the formal list after a line's label, or None, and what stands after both. What is no list stays there, as one with two equal names."""
+    """The names of the formal list after a line's label, or None, and what comes after both. What is no list stays there, as one with two equal names."""
     label = label_of(text, language)
     rest = text[len(label):]
     found = FORMALS.match(rest) if label and has(language, "parameters") else None
@@ -62,7 +62,7 @@ def formals_of(text: str, language: int) -> tuple[list[str] | None, str]:
 
 
 def dots_of(text: str, language: int) -> int:
-    """How many dots stand before a line's commands."""
+    """How many dots come before a line's commands."""
     rest = formals_of(text, language)[1]
     return re.match(r"[ .]*", rest)[0].count(".") if rest.startswith(" ") else 0
 
@@ -85,7 +85,7 @@ def line(text: str, language: int) -> Tree:
 
 
 def fault_at(text: str, language: int) -> int:
-    """How many characters stand before the first command of a line that is not in the grammar."""
+    """How many characters come before the first command of a line that is not in the grammar."""
     reader = Reader(text, language)
     try:
         reader.line()
@@ -454,7 +454,7 @@ class Reader:
         return self.refuse()
 
     def listing(self) -> Tree:
-        """What stands after `^$`: which names, whose, if that is said, and from where."""
+        """What comes after `^$`: which names, whose, if that is said, and from where."""
         environment = None
         if self.takes("|"):
             environment = self.inside(self.expression)

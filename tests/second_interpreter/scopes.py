@@ -16,7 +16,7 @@ class Tree:
 
     def __init__(self) -> None:
         self.texts: dict[Subscripts, str] = {}
-        # below a node: each next subscript by its place in the order, and how many texts stand at or below it
+        # below a node: each next subscript by its place in the order, and how many texts are at or below it
         self._order: dict[Subscripts, list[tuple]] = defaultdict(list)
         self._counts: dict[Subscripts, Counter[str]] = defaultdict(Counter)
 
@@ -62,7 +62,7 @@ class Tree:
         return written(front[place][1]) if front[place][0] == 1 else front[place][1]
 
     def following(self, subscripts: Subscripts, forward: bool) -> Subscripts | None:
-        """The next node that has a text, in the order of subscripts, or the one before; a node stands before those below it."""
+        """The next node that has a text, in the order of subscripts, or the one before; a node comes before those below it."""
         return self._after(subscripts) if forward else self._before(subscripts)
 
     def _after(self, at: Subscripts) -> Subscripts | None:

@@ -12,7 +12,7 @@ have the rest.
 `--quick` leaves out cases that are marked `long`. Each case that pytest finds has to be run once, so a mark that hides one from all stages, or puts
 it into two, is a failure.
 
-A case that failed is run once more at the very end, alone, if time may have been why: a process has a part in it, and it is not one of those that compute.
+A case that failed is run again at the very end, alone, if time may have been why: a process has a part in it, and it is not one of those that compute.
 If it passes then, it counts as passed, and is printed with why it failed. More than three such cases are a failure.
 
 It needs Debian's own python3 with python3-pytest and python3-hypothesis; the clients' tests and tools/python_rules.py need more packages, and the command
@@ -243,7 +243,7 @@ def run_stage(stage: Stage, totals: Totals) -> None:
 
 
 def try_again(folder: str, more: list[str], totals: Totals) -> None:
-    """Runs each case that failed, and may pass when the machine is less busy, once more by itself. What passes then counts as passed, and each is printed with
+    """Runs each case that failed, and may pass when the machine is less busy, again by itself. What passes then counts as passed, and each is printed with
     why it failed; where these are too many, that is a failure."""
     passed = 0
     for number, case in enumerate(totals.failed[:MOST_TRIED], 1):

@@ -6,7 +6,7 @@ of Python's own, which runs in the same pass. GT.M (Debian's `fis-gtm`) and SQLi
 do the same work beside it if they are installed.
 
     tools/bench.py [NAME ..]        times all workloads, or those whose names have one of these words
-        --passes 5                  how often each is timed; the best counts, the median stands beside it
+        --passes 5                  how often each is timed; the best counts, the median is beside it
         --growth                    times ten times the lines too, and tells by what each time grew
         --write                     puts the table into docs/PERFORMANCE.md
         --workloads FILE            reads others
@@ -282,11 +282,10 @@ def in_rounds(subjects: Subjects, jobs: dict[str, Job]) -> dict[str, dict[str, M
     """What each job's subjects took. A round makes one pass of each job, so that a slow minute of the machine meets all of them."""
     found: dict[str, dict[str, Measured]] = {name: {} for name in jobs}
     for done in range(max(job.passes for job in jobs.values())):
-        for name, job in jobs.items():
-            if done < job.passes:
-                subjects.names = list(job.names)
-                for subject, once in measured(subjects, job.work, 1, job.scale).items():
-                    found[name].setdefault(subject, Measured()).take(once)
+        for name, job in ((name, job) for name, job in jobs.items() if done < job.passes):
+            subjects.names = list(job.names)
+            for subject, once in measured(subjects, job.work, 1, job.scale).items():
+                found[name].setdefault(subject, Measured()).take(once)
     return found
 
 

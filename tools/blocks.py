@@ -26,7 +26,7 @@ INDENT = "    "
 
 @dataclass
 class Block:
-    """A block: the name of its file, its kind, its name, its text as it stands there, and each case with the lines that it gives."""
+    """A block: the name of its file, its kind, its name, its text as it is there, and each case with the lines that it gives."""
     file: str
     kind: str
     name: str
@@ -73,7 +73,7 @@ def text_bytes(case):
 
 
 def line_bytes(case):
-    """The bytes of a line of the wire: a line feed ends it, but where `{end}` stands at its end."""
+    """The bytes of a line of the wire: a line feed ends it, but where `{end}` is at its end."""
     unfinished = case.endswith("{end}")
     return text_bytes(case.removesuffix("{end}")) + (b"" if unfinished else b"\n")
 

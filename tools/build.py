@@ -3,7 +3,7 @@
 """Proves and builds the programs, unless they were built from what is there: `tools/build.py` writes crates/mserve/out/mserve and
 crates/mislands/out/mislands. It takes no words.
 
-The crates that they stand on are copied to a temporary folder, without their edits, and proved there side by side (tools/chain.py). What passes is
+The crates that they depend on are copied to a temporary folder, without their edits, and proved there side by side (tools/chain.py). What passes is
 kept by the kit, so a build that was cut off goes on from there, a later one proves only the crates that changed and those above them, and
 `./test` takes it over. A digest of what was copied is kept beside each program, so that a change made during the build is seen by the next call."""
 import os
@@ -28,16 +28,18 @@ def note_of(program: str) -> str:
     return f"{path_of(program)}.built"
 
 
+def noted(program: str) -> str:
+    """The digest of what a program was built from; empty if it is not noted."""
+    try:
+        with open(note_of(program), encoding="ascii") as file:
+            return file.read()
+    except OSError:
+        return ""
+
+
 def is_built(digest: str) -> bool:
     """Whether all programs are there, built from sources with this digest."""
-    try:
-        for program in PROGRAMS:
-            with open(note_of(program), encoding="ascii") as file:
-                if file.read() != digest or not os.path.exists(path_of(program)):
-                    return False
-    except OSError:
-        return False
-    return True
+    return all(noted(program) == digest and os.path.exists(path_of(program)) for program in PROGRAMS)
 
 
 def say(text: str) -> None:

@@ -25,7 +25,7 @@ from types import ModuleType
 
 import kit
 from processes import memory_below
-from sources import TOP, copy_crates, crates_with_below, edits_of
+from sources import TOP, copy_crates, crates_named, edits_of
 
 MOST_JOBS = 4
 # What a job more takes: this share of the memory of a check by one, and at most this many bytes, as the kit's texts have it.
@@ -226,10 +226,8 @@ def say(text: str) -> None:
 def main(words: list[str]) -> int:
     """Proves the crates that are named. The status is 0 if all passed, and 2 for words that it does not know."""
     names = [word for word in words if word != "--edits"]
-    try:
-        crates = crates_with_below(names)
-    except KeyError as lacking:
-        print(f"chain: {lacking.args[0]} is no crate of crates.txt\n\n{__doc__}", file=sys.stderr)
+    crates = crates_named(names, "chain", __doc__)
+    if crates is None:
         return 2
     with tempfile.TemporaryDirectory(prefix="mserve-chain-copy-") as room:
         copy_crates(crates, room, {crate: edits_of(crate, "must-fail") for crate in crates} if "--edits" in words else {})

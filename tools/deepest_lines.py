@@ -4,7 +4,7 @@
 operands of `@` one within the other. It is found by halving, under ever smaller bounds of the stack.
 
 Levels are frames in memory; the evaluation of an expression, and of what a text of name indirection names, takes the machine's stack. So of each way to nest
-there is a line whose 32 texts nest it as deep as a text may, each within the one before; that with brackets stands below 224 levels. What takes two steps
+there is a line whose 32 texts nest it as deep as a text may, each within the one before; that with brackets is below 224 levels. What takes two steps
 each time is nested in turn with brackets, so that the steps of a line suffice.
 
 tests/test_deepest_lines.py runs these lines with 4 MB of stack, half of what systems give. Status 1 if a reply is another than the values

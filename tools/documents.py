@@ -24,9 +24,15 @@ PHRASE = re.compile(r"\b(?:" + "|".join(PHRASES) + r")\b", re.IGNORECASE)
 SPAN = re.compile(r"`([^`\n]+)`")
 PATH = re.compile(r"^[\w./*-]+\.(?:rt|antt|edit|py|c|h|md|txt|toml|service|bash|1)$|^(?:[A-Za-z][\w.-]*/)+[\w.-]*$")
 NAME = re.compile(r"^[A-Za-z_]\w*(?:::[A-Za-z_]\w*)*(?:\(\))?$")
-# `<!-- gate_times.py -->` and `<!-- end -->`: what stands between is written by that script.
+# `<!-- gate_times.py -->` and `<!-- end -->`: what is between is written by that script.
 MARK = re.compile(r"^<!-- (end|\w+\.py) -->$")
 LINK = re.compile(r"\[[^\]]*\]\(([^)\s]+)\)")
+# What claims that isolation is proved, and what is beside it then.
+ENTRY = re.compile(r"\s*(?:[-*]|\d+\.) ")
+PROVED, ISOLATED = re.compile(r"\b(?:is|are|was|has been) proved\b|\bproves\b"), re.compile(r"\bisolat\w+|\baccount can learn\b|\bend to end\b", re.IGNORECASE)
+PREMISE = re.compile(r"\bmemory\b|\bdisk\b|\bdoubt\b|\bpremise\b|\bnot\s+proved\b")
+# Pages that say how it is proved, and not that it is.
+OF_PROOFS = ("docs/ARCHITECTURE.md", "docs/CONTRIBUTING.md", "docs/DECISIONS.md", "docs/RECIPES.md", "docs/RULES.md", "docs/TESTING.md")
 # Pages whose names of edits and wrong bodies another script checks, some of which only a test refuses: tools/edits.py.
 TABLES_OF_EDITS = {"docs/TESTING.md"}
 # Names that are not this tree's.
@@ -37,7 +43,7 @@ NOT_IN_THE_TREE = re.compile(r"^(?:crates/[\w*]+/out\b.*|release/?.*|/.*|\.git/.
 
 @dataclass
 class Page:
-    """A page: its path below the top, its lines, which of them stand in a fenced block, and which a script puts between its marks."""
+    """A page: its path below the top, its lines, which of them are in a fenced block, and which a script puts between its marks."""
     path: str
     lines: list[str]
     fenced: set[int] = field(default_factory=set)
@@ -157,9 +163,8 @@ def check_names(page: Page, files: dict[str, list[str]], words: set[str]) -> Non
             if not is_there(page, span, files):
                 fault(page, number, f"no file `{span}`")
         elif page.path not in TABLES_OF_EDITS and NAME.match(span) and ("_" in span or "::" in span or re.search(r"[a-z][A-Z]", span)):
-            for part in span.removesuffix("()").split("::"):
-                if part not in words | FOREIGN:
-                    fault(page, number, f"no name `{span}`")
+            if not words | FOREIGN >= set(span.removesuffix("()").split("::")):
+                fault(page, number, f"no name `{span}`")
 
 
 def check_section(page: Page, number: int, told: str, head: str) -> None:
@@ -174,17 +179,16 @@ def check_section(page: Page, number: int, told: str, head: str) -> None:
 
 
 def check_rules(page: Page) -> None:
-    """Each section is there, and of `file`: `name`, `name` each name stands in the file."""
-    for head, rows in tables(page):
-        for number, cells in rows if head[0] == "Rule" else []:
+    """Each section is there, and of `file`: `name`, `name` each name is in the file."""
+    for head, number, cells in rows_of(page):
+        if head[0] == "Rule":
             check_section(page, number, cells[1], head[1])
     for number, line in page.plain():
         for path, names in re.findall(r"`([\w/]+\.(?:rt|antt))`: ((?:`\w+`(?:, )?)+)", line):
             place = os.path.join("crates", path)
             text = read(place) if os.path.exists(os.path.join(TOP, place)) else ""
-            for name in SPAN.findall(names):
-                if not re.search(rf"\b{name}\b", text):
-                    fault(page, number, f"no `{name}` in `{path}`")
+            for name in (name for name in SPAN.findall(names) if not re.search(rf"\b{name}\b", text)):
+                fault(page, number, f"no `{name}` in `{path}`")
 
 
 # ---- tables
@@ -198,6 +202,11 @@ def tables(page: Page) -> Iterator[tuple[list[str], list[tuple[int, list[str]]]]
         elif rows:
             yield rows[0][1], rows[2:]
             rows = []
+
+
+def rows_of(page: Page) -> Iterator[tuple[list[str], int, list[str]]]:
+    """Each row of each table: the cells of the head, the line, and the cells."""
+    return ((head, number, cells) for head, rows in tables(page) for number, cells in rows)
 
 
 def source_of(crate: str) -> str:
@@ -218,27 +227,24 @@ def check_calls(page: Page, everything: str) -> None:
     """Each public call in a table of a crate is one of that crate's, and each contract that carries a law is a function's."""
     crate = page.path.split("/")[1] if page.path.startswith("crates/") else None
     source = source_of(crate) if crate else ""
-    for head, rows in tables(page):
-        for number, cells in rows:
-            names = SPAN.findall(cells[0]) if crate and head[0].startswith("Public call") else []
-            places = [(name, source) for name in names]
-            if "By the contract of" in head[-1]:
-                places = [(name, everything) for name in SPAN.findall(cells[-1]) if NAME.match(name)]
-            for name, code in places:
-                last = name.split("::")[-1]
-                if NAME.match(name) and last[0].islower() and not is_defined(last, code) and not re.search(rf"\bensures {last}\b", code):
-                    fault(page, number, f"no call `{name}`")
+    for head, number, cells in rows_of(page):
+        names = SPAN.findall(cells[0]) if crate and head[0].startswith("Public call") else []
+        places = [(name, source) for name in names]
+        if "By the contract of" in head[-1]:
+            places = [(name, everything) for name in SPAN.findall(cells[-1]) if NAME.match(name)]
+        for name, code in places:
+            last = name.split("::")[-1]
+            if NAME.match(name) and last[0].islower() and not is_defined(last, code) and not re.search(rf"\bensures {last}\b", code):
+                fault(page, number, f"no call `{name}`")
 
 
 def check_cells(page: Page) -> None:
     """No cell is too long, and each row has as many cells as the head."""
-    for head, rows in tables(page):
-        for number, cells in rows:
-            if len(cells) != len(head):
-                fault(page, number, f"{len(cells)} cells below a head of {len(head)}")
-            for cell in cells:
-                if len(cell) > LONGEST_CELL:
-                    fault(page, number, f"a cell of {len(cell)} characters: {cell[:40]}..")
+    for head, number, cells in rows_of(page):
+        if len(cells) != len(head):
+            fault(page, number, f"{len(cells)} cells below a head of {len(head)}")
+        for cell in (cell for cell in cells if len(cell) > LONGEST_CELL):
+            fault(page, number, f"a cell of {len(cell)} characters: {cell[:40]}..")
 
 
 # ---- wording
@@ -262,6 +268,37 @@ def check_phrases(page: Page) -> None:
             fault(page, number, f"'{found[0]}'")
 
 
+def check_order(page: Page) -> None:
+    """The words of a glossary's first table follow the alphabet."""
+    heads = ((head, rows) for head, rows in tables(page) if head[0] == "Word here")
+    for _, rows in heads:
+        words = [(number, re.sub(r"[`*]", "", cells[0]).lower()) for number, cells in rows]
+        for (_, above), (number, word) in zip(words, words[1:]):
+            if word < above:
+                fault(page, number, f"'{word}' stands below '{above}'")
+
+
+def claims(page: Page) -> Iterator[tuple[int, str]]:
+    """The paragraphs and the entries of lists that say of isolation, or of the program from end to end, that it is proved."""
+    begun = 0
+    for number, line in [*page.plain(), (len(page.lines) + 1, "")]:
+        if begun and (not line.strip() or line.startswith(("|", "#")) or ENTRY.match(line)):
+            text = " ".join(page.lines[begun - 1:number - 1])
+            plain = SPAN.sub("", text)
+            if PROVED.search(plain) and ISOLATED.search(plain):
+                yield begun, text
+            begun = 0
+        if not begun and line.strip() and not line.startswith(("|", "#")):
+            begun = number
+
+
+def check_premises(page: Page) -> None:
+    """Beside each such claim stands its premise: which store it is of, or that another part is not proved."""
+    for number, text in claims(page):
+        if not PREMISE.search(text):
+            fault(page, number, "says that isolation is proved, and not over which store")
+
+
 # ---- counts
 
 def cases(file: str, kind: str) -> int:
@@ -271,15 +308,18 @@ def cases(file: str, kind: str) -> int:
     return sum(not line.startswith(("    ", "# ")) for line in lines)
 
 
+def rattle_files(part: str, crates: tuple[str, ...]) -> Iterator[str]:
+    """The paths of the files of code, definitions and proofs in a part of crates."""
+    for crate in crates:
+        for folder, _, names in os.walk(os.path.join(TOP, "crates", crate, part)):
+            yield from (os.path.relpath(os.path.join(folder, name), TOP) for name in names if name.endswith((".rt", ".antt")))
+
+
 def size(part: str, crates: tuple[str, ...] = ()) -> int:
     """The lines of a part of crates, or of all crates, without blank lines and comments."""
     count = 0
-    for crate in crates or os.listdir(os.path.join(TOP, "crates")):
-        for folder, _, names in os.walk(os.path.join(TOP, "crates", crate, part)):
-            for name in names:
-                if name.endswith((".rt", ".antt")):
-                    lines = read(os.path.relpath(os.path.join(folder, name), TOP)).split("\n")
-                    count += sum(bool(line.strip()) and not line.lstrip().startswith(("//", "--")) for line in lines)
+    for path in rattle_files(part, crates or tuple(os.listdir(os.path.join(TOP, "crates")))):
+        count += sum(bool(line.strip()) and not line.lstrip().startswith(("//", "--")) for line in read(path).split("\n"))
     return count
 
 
@@ -387,6 +427,9 @@ def main() -> int:
         check_lines(page)
         check_cells(page)
         check_phrases(page)
+        check_order(page)
+        if page.path not in OF_PROOFS and not page.path.startswith("crates/"):
+            check_premises(page)
     check_crates({page.path: page for page in found})
     check_manual()
     check_completion()

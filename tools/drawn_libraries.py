@@ -43,7 +43,7 @@ def beginning() -> list[Sent]:
 
 
 def environment(drawn: Random, terminal: int) -> str:
-    """What stands before a routine's name: mostly the library, or nothing; now and then an account that is not there, or that lets nobody read."""
+    """What comes before a routine's name: mostly the library, or nothing; now and then an account that is not there, or that lets nobody read."""
     name = drawn.choice(["LIB"] * 12 + [None] * 4 + ["OLD"] * 3 + [OWN_NAMES[terminal]] * 2 + [drawn.choice(STRANGE)])
     return "" if name is None else f'|"{name}"|'
 

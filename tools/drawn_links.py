@@ -1,7 +1,7 @@
 #!/usr/bin/env python3
 # SPDX-License-Identifier: Apache-2.0
 """Puts variables with two names to GT.M: the blocks of transcripts/locals.txt that open a level with formal parameters, call by call, and
-drawn sessions of SET, KILL, NEW and DO with actuals, beside the definitions of crates/mspec/specs/Scopes.antt, written here once more.
+drawn sessions of SET, KILL, NEW and DO with actuals, beside the definitions of crates/mspec/specs/Scopes.antt, written here again.
 
     tools/drawn_links.py [--seed N] [--sessions N]
 """

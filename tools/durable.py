@@ -5,7 +5,7 @@ SET, SQLite's shell, and PostgreSQL with one client and with 64. A table says ho
 and what each has after a loss of power. What is not installed is left out, and named.
 
     tools/durable.py                run as root or as a user who may start PostgreSQL
-        --passes 9                  how often each is timed, all in turn; the median counts, the best stands beside it
+        --passes 9                  how often each is timed, all in turn; the median counts, the best is beside it
         --count 5000                SETs a pass; what waits for no disk gets twenty times as many
         --folder /var/tmp           where the files are: a disk that has nothing else to do
         --write                     puts the table into docs/PERFORMANCE.md
@@ -33,7 +33,7 @@ from running import require_program, run_words
 BEGIN = "<!-- durable.py -->\n"
 # Of a new node, and of the same node again: a system may see that nothing changes.
 TEXTS = ("hello world", "hello there")
-# This many SETs stand in one line of M, and an account has steps for them.
+# This many SETs are in one line of M, and an account has steps for them.
 A_LINE, STEPS = 1000, 1_000_000
 # By what a pass is longer where nothing waits for the disk.
 FAST = 20

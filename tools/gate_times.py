@@ -83,7 +83,7 @@ def print_change(revision):
 
 
 def print_scale(revision, before, now):
-    """Prints what the crates took before and now that have the sources of the revision, as has all that they stand on; and all crates by that."""
+    """Prints what the crates took before and now that have the sources of the revision, as has all that they depend on; and all crates by that."""
     same = [name for name in before if name in now and name != "together" and is_same(revision, name)]
     old, new = (sum(sum(it[name][:3]) for name in same) for it in (before, now))
     if new:
@@ -93,7 +93,7 @@ def print_scale(revision, before, now):
 
 
 def is_same(revision, name):
-    """Whether no source of the crate, nor of those that it stands on, changed since the revision."""
+    """Whether no source of the crate, nor of those that it depends on, changed since the revision."""
     with open(os.path.join(TOP, "crates.txt"), encoding="utf-8") as file:
         below = {line.partition(":")[0]: line.partition(":")[2].split() for line in file if not line.startswith("#")}
     paths = [f"crates/{it}/{part}" for it in [name, *below.get(name, [])] for part in ("src", "specs", "proofs")]

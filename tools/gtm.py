@@ -8,7 +8,7 @@ import subprocess
 from dataclasses import dataclass
 from pathlib import Path
 
-# A line's output ends by this character, its code stands before the next one.
+# A line's output ends by this character, its code comes before the next one.
 MARK = "\x1e"
 # Reads lines and runs each as a level of its own. An error unwinds to the level of the loop, so that nothing of the line goes on.
 LOOP = """against ;

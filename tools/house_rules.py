@@ -23,20 +23,30 @@ from dataclasses import dataclass
 
 from documents import LONGEST_SUBJECT, PHRASE, SPAN
 from licence_lines import PASSED_OVER
-from rattle_text import alike, functions, statements
+from rattle_text import alike, functions, names, statements, without_comment
+from script_text import functions_of_page, functions_of_python, names_of_page, names_of_python, without_docstring
 from sources import TOP, crates_with_below
 
 TABLE = "tools/house_rules.toml"
 LONGEST_FILE = 600
 LONGEST_FUNCTION = 40
 WIDEST_LINE = 160
-DEEPEST_BLOCK = 3
+DEEPEST_BLOCK, DEEPEST_OF_SCRIPTS = 3, 4
 MOST_LOOPS = 1
-CODE, PROOFS, PYTHON = ".rt", ".antt", ".py"
+CODE, PROOFS, PYTHON, PAGE = ".rt", ".antt", ".py", ".js"
 ENDINGS = (CODE, PROOFS, PYTHON, ".js", ".css", ".c", ".h", ".sh")
 # What begins a comment, up to the end of the line.
 COMMENTS = {PROOFS: "--", ".sh": "#"}
 SLASHES, BLOCK = re.compile(r"//(.*)"), re.compile(r"/\*.*?\*/", re.DOTALL)
+# Parts of names that are no whole words. Those that a language, the standard of M or a library has are not here, as `str`, `prev`, `env`, `ref`, `expr`.
+CUT_SHORT = frozenset("""acc addr attr btn buf calc cb cfg cnt conf ctx cur curr decl def dest dst elem elt err evt fmt func hdl idx impl info iter lang lst lvl
+    mgr mod msg nxt obj op opts param params pkg pred priv proc prop ptr pub pwd qty rec recv repl req resp ret sel seq src stmt sym tbl tmp tok txt usr util
+    utils val vals var""".split())
+# Names that a library has us give, as pytest's fixtures, std's variant and its name for what is read into.
+OF_LIBRARIES = frozenset({"tmp_path", "tmp_path_factory", "__iter__", "Err", "buf"})
+WORD = re.compile(r"[a-z0-9]+|[A-Z][a-z0-9]*")
+# The packages of Python whose public functions and classes have docstrings; those of scripts and tests are said by their module's.
+PACKAGES = ("front/mserve_front/", "clients/mserve_client/")
 # Files of proofs that state what the prover asks for, and nothing of their own.
 ANSWERS = ("Answers.antt", "Invariants.antt")
 CITES = re.compile(r"\b(?:issue|finding|paper)s? #?\d+\b|/work/\w+", re.IGNORECASE)
@@ -82,9 +92,9 @@ def kind_of(name: str, text: str) -> str:
 
 def files() -> Iterator[File]:
     """The files of code, proofs, scripts and the page that people wrote, and the documents."""
-    for folder, folders, names in os.walk(TOP):
+    for folder, folders, found_names in os.walk(TOP):
         folders[:] = sorted(set(folders) - PASSED_OVER)
-        for name in sorted(names):
+        for name in sorted(found_names):
             if "." in name and not name.endswith((*ENDINGS, ".md")):
                 continue
             with open(os.path.join(folder, name), encoding="utf-8", errors="replace") as file:
@@ -104,25 +114,22 @@ def long_files(found: list[File]) -> Iterator[Breach]:
             yield Breach(file.path, count, f"{count} lines")
 
 
-def of_python(text: str) -> Iterator[tuple[str, int, int]]:
-    """The functions of a file of Python: the name, the line, and how many lines the body has, its docstring among them."""
-    for node in ast.walk(ast.parse(text)):
-        if isinstance(node, ast.FunctionDef | ast.AsyncFunctionDef):
-            yield node.name, node.lineno, (node.end_lineno or 0) - node.body[0].lineno + 1
+MEASURES = {CODE: functions, PYTHON: functions_of_python, PAGE: functions_of_page}
 
 
 def long_functions(found: list[File]) -> Iterator[Breach]:
-    """Functions of Rattle and Python whose body has more than forty lines."""
-    for file in found:
-        measured = [(one.name, one.line, one.lines) for one in functions(file.text)] if file.kind == CODE else []
-        measured += of_python(file.text) if file.kind == PYTHON else []
-        yield from (Breach(file.path, line, f"{name}: {lines} lines") for name, line, lines in measured if lines > LONGEST_FUNCTION)
+    """Functions of Rattle, Python and the page whose body has more than forty lines."""
+    for file in (file for file in found if file.kind in MEASURES):
+        measured = MEASURES[file.kind](file.text)
+        yield from (Breach(file.path, one.line, f"{one.name}: {one.lines} lines") for one in measured if one.lines > LONGEST_FUNCTION)
 
 
 def nesting(found: list[File]) -> Iterator[Breach]:
-    """Functions of Rattle with more than three blocks within one another, the body being the first."""
-    for file in (file for file in found if file.kind == CODE):
-        yield from (Breach(file.path, one.line, f"{one.name}: {one.depth} blocks deep") for one in functions(file.text) if one.depth > DEEPEST_BLOCK)
+    """Functions with more than three blocks within one another, the body being the first; of Python and the page with more than four."""
+    for file in (file for file in found if file.kind in MEASURES):
+        deepest = DEEPEST_BLOCK if file.kind == CODE else DEEPEST_OF_SCRIPTS
+        measured = MEASURES[file.kind](file.text)
+        yield from (Breach(file.path, one.line, f"{one.name}: {one.depth} blocks deep") for one in measured if one.depth > deepest)
 
 
 def loops(found: list[File]) -> Iterator[Breach]:
@@ -181,6 +188,25 @@ def phrases(found: list[File]) -> Iterator[Breach]:
             yield from (Breach(file.path, number + plain.count("\n", 0, match.start()), f"'{match[0]}'") for match in PHRASE.finditer(plain))
 
 
+def undocumented(found: list[File]) -> Iterator[Breach]:
+    """Public items of Rattle without a doc comment, and public functions and classes of the packages of Python without a docstring."""
+    for file in found:
+        lacking = list(without_comment(file.text)) if file.kind == CODE else []
+        lacking += without_docstring(file.text) if file.kind == PYTHON and file.path.startswith(PACKAGES) else []
+        yield from (Breach(file.path, line, f"{name}: no doc comment") for name, line in lacking)
+
+
+GIVEN = {CODE: names, PYTHON: names_of_python, PAGE: names_of_page}
+
+
+def cut_names(found: list[File]) -> Iterator[Breach]:
+    """Names with a part that is no whole word."""
+    for file in (file for file in found if file.kind in GIVEN):
+        given = {name: line for name, line in GIVEN[file.kind](file.text) if name not in OF_LIBRARIES}
+        cut = {name: line for name, line in given.items() if CUT_SHORT.intersection(map(str.lower, WORD.findall(name)))}
+        yield from (Breach(file.path, line, f"the name {name}") for name, line in cut.items())
+
+
 def cites(found: list[File]) -> Iterator[Breach]:
     """Numbers of papers, and folders of one machine: the repository stands alone."""
     for file in found:
@@ -190,15 +216,23 @@ def cites(found: list[File]) -> Iterator[Breach]:
 
 RULES: dict[str, Callable[[list[File]], Iterable[Breach]]] = {
     "files": long_files, "functions": long_functions, "nesting": nesting, "loops": loops,
-    "width": width, "repeats": repeats, "phrases": phrases, "cites": cites,
+    "width": width, "repeats": repeats, "phrases": phrases, "cites": cites, "comments": undocumented, "names": cut_names,
 }
 
 
-def subjects(since: str) -> list[str]:
-    """What is wrong with the subjects of the commits since one, if the clone has it. Merges have those that git gives them."""
-    done = subprocess.run(["git", "log", "--no-merges", "--format=%h %s", f"{since}..HEAD"], cwd=TOP, capture_output=True, encoding="utf-8")
-    rows = [line.partition(" ") for line in done.stdout.splitlines()]
-    return [f"commit {name}: a subject of {len(subject)} characters" for name, _, subject in rows if len(subject) > LONGEST_SUBJECT]
+def commits(since: str, top: str = TOP) -> Iterator[tuple[str, str, str]]:
+    """The commits since one, if the clone has it: name, subject and body. Merges have those that git gives them."""
+    done = subprocess.run(["git", "log", "--no-merges", "-z", "--format=%h%n%s%n%b", f"{since}..HEAD"], cwd=top, capture_output=True, encoding="utf-8")
+    for commit in filter(None, done.stdout.split("\0")):
+        name, subject, body = commit.split("\n", 2)
+        yield name, subject, body.strip()
+
+
+def of_commits(since: str, bodies_since: str, top: str = TOP) -> list[str]:
+    """What is wrong with the subjects of the commits since one, and with the bodies of those since another."""
+    long = [(name, subject) for name, subject, _ in commits(since, top) if len(subject) > LONGEST_SUBJECT]
+    said = [f"commit {name}: a subject of {len(subject)} characters" for name, subject in long]
+    return said + [f"commit {name}: no body that says why" for name, _, body in commits(bodies_since, top) if not body]
 
 
 # ---- the table
@@ -224,7 +258,7 @@ def compared(counts: Table, table: Table) -> Iterator[str]:
 
 
 def lowered(text: str, counts: Table) -> str:
-    """The table's text with the counts that fell. A row that came to nothing goes; whatever stands beside a row stays."""
+    """The table's text with the counts that fell. A row that came to nothing goes; whatever is beside a row stays."""
     rule, lines = "", []
     for line in text.splitlines():
         rule = found[1] if (found := re.match(r"\[(\w+)\]", line)) else rule
@@ -256,8 +290,8 @@ def main(words: list[str]) -> int:
         with open(os.path.join(TOP, TABLE), "w", encoding="utf-8") as file:
             file.write(lowered(text, counted(breaches)))
         return 0
-    since = table.pop("commits")["since"]
-    said = [*compared(counted(breaches), table), *subjects(since)]
+    since = table.pop("commits")
+    said = [*compared(counted(breaches), table), *of_commits(since["subjects"], since["bodies"])]
     for line in said:
         print(f"house_rules: {line}")
     return 1 if said else 0

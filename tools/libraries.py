@@ -7,7 +7,7 @@
 
 `rt ci` and the chain keep what they prove for the gate alone: in a clone that has just been made, `rt check` of a high crate would prove all crates
 below it a second time, an hour's work. A crate whose sources differ from what was kept, and each above it, gets none: `rt check` proves these. What
-stands in a crate's `out/rlib` is replaced, and what `rt check` keeps beside it stays. The status is 0, also if some crates got none."""
+is in a crate's `out/rlib` is replaced, and what `rt check` keeps beside it stays. The status is 0, also if some crates got none."""
 import functools
 import os
 import shutil
@@ -15,7 +15,7 @@ import sys
 from collections.abc import Callable, Sequence
 
 import kit
-from sources import TOP, crates_with_below
+from sources import TOP, crates_named
 
 
 def place(crates: Sequence, kept, stamp_of: Callable[[object], str]) -> tuple[list[str], list[str]]:
@@ -37,10 +37,8 @@ def place(crates: Sequence, kept, stamp_of: Callable[[object], str]) -> tuple[li
 
 def main(words: list[str]) -> int:
     """Places the libraries of the crates that are named. The status is 2 for words that it does not know, and 1 if this kit keeps nothing."""
-    try:
-        names = crates_with_below(words)
-    except KeyError as lacking:
-        print(f"libraries: {lacking.args[0]} is no crate of crates.txt\n\n{__doc__}", file=sys.stderr)
+    names = crates_named(words, "libraries", __doc__)
+    if names is None:
         return 2
     module = kit.load()
     if module is None:

@@ -13,7 +13,7 @@ import sys
 from types import ModuleType
 
 import kit
-from sources import TOP, crates_with_below
+from sources import TOP, crates_named
 
 # The files of a function's proof, in place of which a hole stands.
 PROOFS = frozenset({"Answers.antt", "Invariants.antt", "Proof.antt"})
@@ -24,7 +24,7 @@ def hole(crate: str, function: str) -> str:
     """The proof of a function, or of a cycle of them, as a hole: of the path of its folder below `proofs/`."""
     name = os.path.basename(function)
     module = ".".join(["Rattle", crate, "proofs", *function.split("/")])
-    # the statement of a cycle stands in the cycle's own module
+    # the statement of a cycle is in the cycle's own module
     module += "" if name.startswith("+") else ".Statement"
     return f"use {module}.{{statement}}\n\npub {name}_spec : {{M : Type 1}} → statement M\n{name}_spec = ?\n"
 
@@ -41,12 +41,10 @@ def contract_files(crate: str, folder: str) -> dict[str, str]:
     for part in PARTS:
         for place, _, files in os.walk(os.path.join(folder, part)):
             path = os.path.relpath(place, folder)
-            is_proof = part == "proofs" and not PROOFS.isdisjoint(files)
-            if is_proof:
+            left_out = set(PROOFS).intersection(files) if part == "proofs" else set()
+            if left_out:
                 texts[f"{path}/Proof.antt"] = hole(crate, os.path.relpath(place, os.path.join(folder, part)))
-            for name in files:
-                if not (is_proof and name in PROOFS):
-                    texts[f"{path}/{name}"] = text_at(os.path.join(place, name))
+            texts |= {f"{path}/{name}": text_at(os.path.join(place, name)) for name in files if name not in left_out}
     return texts
 
 
@@ -87,10 +85,7 @@ def words(rtlib: ModuleType, crate, room: str) -> list[str]:
 
 def main(arguments: list[str]) -> int:
     """Runs the check in place of this process. The status is 2 for a crate that is not there, and 1 if this kit has another form."""
-    try:
-        crates_with_below(arguments[:1])
-    except KeyError as lacking:
-        print(f"over_contracts: {lacking.args[0]} is no crate of crates.txt\n\n{__doc__}", file=sys.stderr)
+    if crates_named(arguments[:1], "over_contracts", __doc__) is None:
         return 2
     module = kit.load()
     if module is None:

@@ -7,7 +7,7 @@ from typing import NamedTuple
 
 TICKS = os.sysconf("SC_CLK_TCK")
 PAGE = os.sysconf("SC_PAGE_SIZE")
-# A crate's proof; that of its tests; a check of the crate as it stands before and after its edits; and its edits.
+# A crate's proof; that of its tests; a check of the crate as it is before and after its edits; and its edits.
 PARTS = ("proof", "tests", "seed", "edits")
 
 
@@ -23,14 +23,13 @@ class Process(NamedTuple):
 def processes() -> dict[int, Process]:
     """All processes, by their numbers."""
     found = {}
-    for name in os.listdir("/proc"):
-        if name.isdigit():
-            try:
-                with open(f"/proc/{name}/stat", encoding="utf-8", errors="replace") as file:
-                    fields = file.read().rpartition(")")[2].split()
-                found[int(name)] = Process(int(fields[1]), int(fields[19]), (int(fields[11]) + int(fields[12])) / TICKS, int(fields[21]) * PAGE)
-            except OSError:
-                pass
+    for name in filter(str.isdigit, os.listdir("/proc")):
+        try:
+            with open(f"/proc/{name}/stat", encoding="utf-8", errors="replace") as file:
+                fields = file.read().rpartition(")")[2].split()
+            found[int(name)] = Process(int(fields[1]), int(fields[19]), (int(fields[11]) + int(fields[12])) / TICKS, int(fields[21]) * PAGE)
+        except OSError:
+            pass
     return found
 
 
@@ -88,12 +87,10 @@ class Watch(threading.Thread):
     def run(self) -> None:
         while not self.ended.wait(0.2):
             found = processes()
-            for pid in below(self.top, found):
-                if pid in found:
-                    key = pid, found[pid].began
-                    if self.tasks.get(key) is None:
-                        self.tasks[key] = task_of(pid)
-                    self.times[key] = found[pid].seconds
+            for pid in found.keys() & below(self.top, found):
+                key = pid, found[pid].began
+                self.tasks[key] = self.tasks.get(key) or task_of(pid)
+                self.times[key] = found[pid].seconds
 
     def end(self) -> None:
         self.ended.set()

@@ -1,11 +1,13 @@
 #!/usr/bin/env python3
 # SPDX-License-Identifier: Apache-2.0
-"""Whether the Python of this tree keeps the rules of pyproject.toml: flake8 over all files, mypy over the clients and the front, and that no file edits
-`sys.path` but a script that is run by its name, which begins with `#!`. It needs Debian's flake8 and mypy.
+"""Whether the Python of this tree keeps the rules of pyproject.toml: flake8 over all files, mypy over the clients and the front, that no file edits
+`sys.path` but a script that is run by its name, which begins with `#!`, and that a line lets a rule through by its name alone, and one that pyproject.toml
+has with its reason. It needs Debian's flake8 and mypy.
 
 Each breach is a line; status 1 if there is one. What pyproject.toml lets through has its reason beside it."""
 import ast
 import os
+import re
 import shutil
 import subprocess
 import sys
@@ -16,6 +18,8 @@ from licence_lines import PASSED_OVER
 from sources import TOP
 
 INSTALL = "apt-get install flake8 mypy"
+# A comment that lets rules through, with their names.
+LETS = re.compile(r"#\s*(?:noqa(?::\s*([A-Z]\d+(?:[,\s]+[A-Z]\d+)*))?|type:\s*ignore(?:\[([\w, -]+)\])?)")
 # What changes a list.
 CHANGES = ("insert", "append", "extend", "remove", "clear", "pop", "__setitem__")
 
@@ -61,6 +65,17 @@ def of_path(files: dict[str, bool], let_through: list[str]) -> list[str]:
             if not is_entry and path not in let_through for line in edits_of_path(path)]
 
 
+def let_through(path: str, reasons: dict[str, str]) -> list[str]:
+    """The comments of a file that let a rule through without its name, or one that has no reason."""
+    found = []
+    with open(os.path.join(TOP, path), encoding="utf-8") as file:
+        for number, line in enumerate(file, 1):
+            for match in LETS.finditer(line):
+                unknown = [name for name in re.split(r"[,\s]+", match[1] or match[2] or "") if name not in reasons]
+                found += [f"{path}:{number}: it lets {name or 'all rules'} through, without a reason in pyproject.toml" for name in unknown]
+    return found
+
+
 def said_by(*words: str) -> list[str]:
     """What a linter says."""
     done = subprocess.run(words, cwd=TOP, stdin=subprocess.DEVNULL, capture_output=True, encoding="utf-8")
@@ -87,7 +102,9 @@ def main() -> int:
     with open(os.path.join(TOP, "pyproject.toml"), "rb") as file:
         rules = tomllib.load(file)["tool"]
     files = dict(scripts())
-    found = [*of_path(files, rules["python_rules"]["edits_of_sys_path"]), *of_flake8(files, rules["flake8"]), *of_mypy()]
+    own = rules["python_rules"]
+    found = [*of_path(files, own["edits_of_sys_path"]), *(line for path in files for line in let_through(path, own["let_through"])),
+             *of_flake8(files, rules["flake8"]), *of_mypy()]
     for line in found:
         print(f"python_rules: {line}")
     return 1 if found else 0

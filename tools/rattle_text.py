@@ -1,5 +1,5 @@
 # SPDX-License-Identifier: Apache-2.0
-"""Files of Rattle read as text: the functions of code, how deep their blocks stand within one another, and the statements of proofs. It knows the layout
+"""Files of Rattle read as text: the functions of code, how deep their blocks are within one another, and the statements of proofs. It knows the layout
 of `rt fmt` and no more of the language than it needs."""
 import re
 from collections.abc import Iterator
@@ -22,7 +22,7 @@ RELATION = re.compile(r"[≡≢≤<↔]|\b(?:Is|Are|Fits|Has|All|On|If)[A-Z]\w*"
 
 @dataclass(frozen=True)
 class Function:
-    """A function of code: where it stands, how many lines its body has, how deep blocks stand within one another, the body being the first, and how many
+    """A function of code: where it stands, how many lines its body has, how deep blocks are within one another, the body being the first, and how many
     loops it has."""
     name: str
     line: int
@@ -49,7 +49,7 @@ class Tokens:
         return at
 
     def body_of(self, at: int) -> int | None:
-        """The place of the brace that opens the body of the function whose `fn` stands at a place, if it has one."""
+        """The place of the brace that opens the body of the function whose `fn` is at a place, if it has one."""
         inner, clause = 0, False
         while at < len(self.words):
             word = self.words[at]
@@ -64,7 +64,7 @@ class Tokens:
 
 
 def depth_of(words: list[str]) -> int:
-    """How many blocks of a body stand within one another at most, the body among them. An arm of a match is one, and so is the match; the braces of a
+    """How many blocks of a body are within one another at most, the body among them. An arm of a match is one, and so is the match; the braces of a
     value are none."""
     open_blocks: list[bool] = []
     deepest, control = 0, False
@@ -92,6 +92,28 @@ def functions(text: str) -> Iterator[Function]:
         loops = sum(word in LOOPS and words[place + 1] != "<" for place, word in enumerate(words))
         yield Function(tokens.words[at + 1], text.count("\n", 0, tokens.places[at]) + 1, lines, depth_of(words), loops)
         at = end
+
+
+# A public item: one that other crates may have, or other modules of its own.
+PUBLIC = re.compile(r"^ *pub (?:(?:const|unsafe) (?=fn))?(?:fn|struct|enum|trait|const|type|static) (\w+)", re.MULTILINE)
+# A name that code gives: of an item, a variable or a parameter.
+GIVEN = re.compile(r"\b(?:fn|struct|enum|trait|const|type|mod|let(?: mut)?) (\w+)|\b(?:mut )?([a-z_]\w*): (?!:)")
+
+
+def without_comment(text: str) -> Iterator[tuple[str, int]]:
+    """The public items of a file of code without a doc comment, each with its line. Attributes are between the two."""
+    for match in PUBLIC.finditer(text):
+        above = [line.strip() for line in text[:match.start()].splitlines()]
+        while above and above[-1].startswith("#["):
+            above.pop()
+        if not above or not above[-1].startswith("///"):
+            yield match[1], text.count("\n", 0, match.start()) + 1
+
+
+def names(text: str) -> Iterator[tuple[str, int]]:
+    """The names that a file of code gives, each with its line, without those in comments."""
+    for number, line in enumerate(text.splitlines(), 1):
+        yield from ((match[1] or match[2], number) for match in GIVEN.finditer(line.partition("//")[0]))
 
 
 def alike(statement: str) -> str:

@@ -1,11 +1,12 @@
 # SPDX-License-Identifier: Apache-2.0
 """What the programs are built from: their crates, the files of these, one digest of them all, and copies of crates to prove.
 
-The digest covers crates.txt and, of each crate that a program stands on, the folders src/, specs/ and proofs/. A change to a document,
+The digest covers crates.txt and, of each crate that a program depends on, the folders src/, specs/ and proofs/. A change to a document,
 a tool, a test or another crate's files leaves it as it is."""
 import hashlib
 import os
 import shutil
+import sys
 from collections.abc import Iterator, Mapping, Sequence
 
 TOP = os.path.realpath(os.path.join(os.path.dirname(os.path.abspath(__file__)), ".."))
@@ -18,7 +19,7 @@ RUN = ("args", "stdin", "stdout", "status", "data")
 
 
 def crates_with_below(names: Sequence[str] = ()) -> dict[str, str]:
-    """These crates, or all if none is named, and those that they stand on, each with its line of crates.txt, in the order of that file.
+    """These crates, or all if none is named, and those that they depend on, each with its line of crates.txt, in the order of that file.
     Raises KeyError with the name of one that is none."""
     with open(os.path.join(TOP, CRATES), encoding="utf-8") as file:
         lines = [line.strip() for line in file if line.strip() and not line.startswith("#")]
@@ -35,8 +36,17 @@ def crates_with_below(names: Sequence[str] = ()) -> dict[str, str]:
     return {crate: line for crate, line in lines_by_crate.items() if crate in wanted}
 
 
+def crates_named(words: Sequence[str], script: str, page: str | None) -> dict[str, str] | None:
+    """The crates that a script's words name, with those below them. None if one is no crate: then that is said, with the script's page."""
+    try:
+        return crates_with_below(words)
+    except KeyError as lacking:
+        print(f"{script}: {lacking.args[0]} is no crate of crates.txt\n\n{page}", file=sys.stderr)
+        return None
+
+
 def program_crates() -> dict[str, str]:
-    """The crates that the programs stand on, themselves among them."""
+    """The crates that the programs depend on, themselves among them."""
     return crates_with_below(PROGRAMS)
 
 

@@ -50,7 +50,7 @@ class Refuser:
 
 
 @dataclass(frozen=True)
-class Place:
+class Refusal:
     """Where the prover refused an edit: the type and the name of a function, and the answer that failed."""
 
     owner: str
@@ -75,13 +75,11 @@ class Note:
 def refusers_of(rows: list[Row], crate: str, stem: str) -> list[Refuser]:
     """What the rows of an edit name. If a row has several edits, its parts are theirs in turn."""
     found = []
-    for row in rows:
-        named = WORD.findall(row.edits)
-        if row.crate == crate and stem in named:
-            parts = [part.strip() for part in row.refusers.split(";")]
-            for part in [parts[named.index(stem)]] if len(parts) == len(named) else parts:
-                if said := PART.match(part):
-                    found.append(Refuser(said[1], tuple(re.findall(r"\w+", said[2] or "")), said[3] or ""))
+    for row in (row for row in rows if row.crate == crate and stem in WORD.findall(row.edits)):
+        parts, named = [part.strip() for part in row.refusers.split(";")], WORD.findall(row.edits)
+        for part in [parts[named.index(stem)]] if len(parts) == len(named) else parts:
+            if said := PART.match(part):
+                found.append(Refuser(said[1], tuple(re.findall(r"\w+", said[2] or "")), said[3] or ""))
     return found
 
 
@@ -102,7 +100,7 @@ def function_at(path: str, line: int) -> tuple[str, str]:
     return owner, function
 
 
-def place_of(crate: str, told: str) -> Place | None:
+def place_of(crate: str, told: str) -> Refusal | None:
     """Where the prover refused, by the first line of what it said; None if that says no place."""
     if found := ANSWER.search(told):
         *above, name = found[1].split("/")
@@ -110,13 +108,13 @@ def place_of(crate: str, told: str) -> Place | None:
         if name.startswith("+"):
             # the answers of a cycle of calls begin with the function's name
             name, _, goal = goal.partition("-")
-        return Place(above[-1] if above else "", name, goal)
+        return Refusal(above[-1] if above else "", name, goal)
     if found := IN_CODE.search(told):
-        return Place(*function_at(os.path.join(TOP, "crates", crate, found[1]), int(found[2])), found[3])
+        return Refusal(*function_at(os.path.join(TOP, "crates", crate, found[1]), int(found[2])), found[3])
     return None
 
 
-def is_by(refuser: Refuser, place: Place) -> bool:
+def is_by(refuser: Refuser, place: Refusal) -> bool:
     """Whether a row's refuser is the one that refused. A loop's invariant carries the clauses of its function."""
     owner, _, name = refuser.function.rpartition("::")
     if place.function != name or not place.owner.startswith(owner):

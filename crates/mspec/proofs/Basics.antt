@@ -1,6 +1,9 @@
 -- SPDX-License-Identifier: Apache-2.0
 -- What proofs of several crates need of tests, orders, results and characters, and std does not have.
-use Rattle.mspec.proofs.SpecWords.{◌≡◌, ℕ, zero, suc, ◌^◌, ◌<◌, ◌≤◌, Bool, true, false, ◌&&◌, Option, None, Some, List, [], ◌∷◌, length, length-append, refl, ap, arith, if◌then◌else◌, T, Result, Ok, Err, IsErr, IsErrAnd, is_some, option_map, Ordering, Less, Equal, Greater, nat_cmp, is_lt, slice_cmp, IsAntisymmetric, nat_cmp-IsAntisymmetric, slice_cmp-IsAntisymmetric, and_from, nat_tests, one-le-pow, is_name_start, is_name_rest, copied}
+use Rattle.mspec.proofs.SpecWords.{◌≡◌, ℕ, zero, suc, ◌^◌, ◌<◌, ◌≤◌, Bool, true, false, ◌&&◌, Option, None, Some, List, [], ◌∷◌, length, length-append, refl}
+use Rattle.mspec.proofs.SpecWords.{ap, arith, if◌then◌else◌, T, Result, Ok, Err, IsErr, IsErrAnd, is_some, option_map, Ordering, Less, Equal, Greater, nat_cmp}
+use Rattle.mspec.proofs.SpecWords.{is_lt, slice_cmp, IsAntisymmetric, nat_cmp-IsAntisymmetric, slice_cmp-IsAntisymmetric, and_from, nat_tests, one-le-pow}
+use Rattle.mspec.proofs.SpecWords.{is_name_start, is_name_rest, copied}
 
 -- ---- tests
 

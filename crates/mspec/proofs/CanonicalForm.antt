@@ -1,6 +1,12 @@
 -- SPDX-License-Identifier: Apache-2.0
 -- The text of a number has the canonical form, and no two literals of that form have one value.
-use Rattle.mspec.proofs.SpecWords.{ℕ, zero, suc, ◌≡◌, ◌≢◌, ◌+◌, ◌-◌, ◌*◌, ◌/◌, ◌%◌, ◌^◌, ◌<◌, ◌≤◌, true, false, Option, Some, None, List, [], ◌∷◌, ◌++◌, length, get_or, All, refl, sym, ◌∙◌, ap, subst, arith, inl, inr, ⊎_elim, append_assoc, length-append, pos, negsuc, decimal, same_from_place, mod_below, div-add-mod', mul-le-mul_right, cases_lt, nat_tests, append-nil, append_cancel_right, length-replicate, replicate-append-replicate, All-nil, All-head, All-tail, All-append, All-replicate, fold-append, first_decimal, decimal_nonempty, with_digit, digits_after, Literal, spell_fraction, spell_exponent, spell_literal, IsMantissa, fraction_of, raised_by, lowered_by, numerator, denominator, fraction_text, whole_text, point_text, size_text, NoZeroInFront, NoZeroAtEnd, IsPlain, HasCanonicalForm, TextHasCanonicalForm, PlainLiteralIsUnique, replicate}
+use Rattle.mspec.proofs.SpecWords.{ℕ, zero, suc, ◌≡◌, ◌≢◌, ◌+◌, ◌-◌, ◌*◌, ◌/◌, ◌%◌, ◌^◌, ◌<◌, ◌≤◌, true, false, Option, Some, None, List, [], ◌∷◌, ◌++◌, length}
+use Rattle.mspec.proofs.SpecWords.{get_or, All, refl, sym, ◌∙◌, ap, subst, arith, inl, inr, ⊎_elim, append_assoc, length-append, pos, negsuc, decimal}
+use Rattle.mspec.proofs.SpecWords.{same_from_place, mod_below, div-add-mod', mul-le-mul_right, cases_lt, nat_tests, append-nil, append_cancel_right}
+use Rattle.mspec.proofs.SpecWords.{length-replicate, replicate-append-replicate, All-nil, All-head, All-tail, All-append, All-replicate, fold-append}
+use Rattle.mspec.proofs.SpecWords.{first_decimal, decimal_nonempty, with_digit, digits_after, Literal, spell_fraction, spell_exponent, spell_literal}
+use Rattle.mspec.proofs.SpecWords.{IsMantissa, fraction_of, raised_by, lowered_by, numerator, denominator, fraction_text, whole_text, point_text, size_text}
+use Rattle.mspec.proofs.SpecWords.{NoZeroInFront, NoZeroAtEnd, IsPlain, HasCanonicalForm, TextHasCanonicalForm, PlainLiteralIsUnique, replicate}
 use Rattle.mspec.proofs.Powers.{ten_pos, ten_monotone}
 use Rattle.mspec.proofs.TextLaws.{Digit, ten_more, whole_some, point_some, size_some, whole_all, fraction_all, fraction_some, size_parts}
 

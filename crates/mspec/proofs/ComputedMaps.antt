@@ -1,6 +1,9 @@
 -- SPDX-License-Identifier: Apache-2.0
 -- Maps of examples: what was put into an empty map, as rules by which `simp` computes what is asked of it.
-use Rattle.mspec.proofs.SpecWords.{◌≡◌, ℕ, Bool, true, false, cond, List, [], Option, Some, None, refl, sym, ap, ◌∙◌, Ordering, nat_cmp, eq_by_cmp, IsTotalOrder, nat_cmp_total, nil_from_length, slice_cmp, nat_list_cmp_total, FinMap, get, insert, empty, retain_keys, entries, get-insert, get-empty, entries-insert, len-empty, len-entries, same_map, IsAntisymmetric, nat_cmp-IsAntisymmetric, put, Text, significant_digits, subscripts_cmp, Tree}
+use Rattle.mspec.proofs.SpecWords.{◌≡◌, ℕ, Bool, true, false, cond, List, [], Option, Some, None, refl, sym, ap, ◌∙◌, Ordering, nat_cmp, eq_by_cmp}
+use Rattle.mspec.proofs.SpecWords.{IsTotalOrder, nat_cmp_total, nil_from_length, slice_cmp, nat_list_cmp_total, FinMap, get, insert, empty, retain_keys}
+use Rattle.mspec.proofs.SpecWords.{entries, get-insert, get-empty, entries-insert, len-empty, len-entries, same_map, IsAntisymmetric, nat_cmp-IsAntisymmetric}
+use Rattle.mspec.proofs.SpecWords.{put, Text, significant_digits, subscripts_cmp, Tree}
 use Rattle.mspec.proofs.MapCuts.{equal_of, get_cut, cut_drops}
 use Rattle.mspec.proofs.NodeOrders.{subscripts_cmp_total, subscripts_cmp_exact}
 use Rattle.mspec.proofs.Basics.{texts_exact}

@@ -1,7 +1,10 @@
 -- SPDX-License-Identifier: Apache-2.0
 -- Numbers of examples: values, sums and texts of numbers that are known, as rules by which `simp` computes them. To unfold the words
 -- themselves would open them too where a number is not known yet, which takes long.
-use Rattle.mspec.proofs.SpecWords.{◌≡◌, ℕ, zero, suc, ◌+◌, ◌-◌, ◌*◌, cond, List, [], ◌∷◌, ◌++◌, length, Option, Some, None, refl, Bool, true, pos, negsuc, option_map, unsigned_abs, nat_le, codes, digits_after, significant_digits, signed, is_below_zero, digits_before, rounding_unit, nearest, round_size, round, front_digits, after_digits, fraction_digits, after_fraction, front_exponent, literal_size, is_negated, after_signs, numeric_value, size_text, canonical_value, ◌^◌, ◌/◌}
+use Rattle.mspec.proofs.SpecWords.{◌≡◌, ℕ, zero, suc, ◌+◌, ◌-◌, ◌*◌, cond, List, [], ◌∷◌, ◌++◌, length, Option, Some, None, refl, Bool, true, pos, negsuc}
+use Rattle.mspec.proofs.SpecWords.{option_map, unsigned_abs, nat_le, codes, digits_after, significant_digits, signed, is_below_zero, digits_before}
+use Rattle.mspec.proofs.SpecWords.{rounding_unit, nearest, round_size, round, front_digits, after_digits, fraction_digits, after_fraction, front_exponent}
+use Rattle.mspec.proofs.SpecWords.{literal_size, is_negated, after_signs, numeric_value, size_text, canonical_value, ◌^◌, ◌/◌}
 use Rattle.std.specs.Fmt.{digits}
 
 -- one name for all that numbers unfold: an example that is computed unfolds it

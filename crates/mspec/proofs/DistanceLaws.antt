@@ -1,6 +1,10 @@
 -- SPDX-License-Identifier: Apache-2.0
 -- What is rounded is the nearest multiple of its unit, there is one such multiple, and each fraction has digits.
-use Rattle.mspec.proofs.SpecWords.{ℕ, zero, suc, ◌≡◌, ◌+◌, ◌*◌, ◌-◌, ◌/◌, ◌^◌, ◌<◌, ◌≤◌, ◌⊎◌, Bool, true, false, Option, refl, sym, ◌∙◌, ap, subst, arith, inl, inr, ⊎_elim, ℤ, pos, negsuc, ◌-ℤ◌, ◌*ℤ◌, neg_ℤ, option_map, unsigned_abs, MatchOption, mul-pos, zero-mul, mul-le-mul_left, mul-le-mul_right, mul-lt-mul_of_pos_right, le_of_mul-le-mul_right, lt_of_mul-lt-mul_right, div-mul-le_self, lt-div-mul-add, pow-suc, cases_lt, nat_tests, digits_before, nearest, rounding_unit, round_size, round, signed, HasDigits, IsMultiple, IsNearest, distance, RoundingIsNearest, NearestIsUnique, EachHasDigits}
+use Rattle.mspec.proofs.SpecWords.{ℕ, zero, suc, ◌≡◌, ◌+◌, ◌*◌, ◌-◌, ◌/◌, ◌^◌, ◌<◌, ◌≤◌, ◌⊎◌, Bool, true, false, Option, refl, sym, ◌∙◌, ap, subst, arith, inl}
+use Rattle.mspec.proofs.SpecWords.{inr, ⊎_elim, ℤ, pos, negsuc, ◌-ℤ◌, ◌*ℤ◌, neg_ℤ, option_map, unsigned_abs, MatchOption, mul-pos, zero-mul, mul-le-mul_left}
+use Rattle.mspec.proofs.SpecWords.{mul-le-mul_right, mul-lt-mul_of_pos_right, le_of_mul-le-mul_right, lt_of_mul-lt-mul_right, div-mul-le_self, lt-div-mul-add}
+use Rattle.mspec.proofs.SpecWords.{pow-suc, cases_lt, nat_tests, digits_before, nearest, rounding_unit, round_size, round, signed, HasDigits, IsMultiple}
+use Rattle.mspec.proofs.SpecWords.{IsNearest, distance, RoundingIsNearest, NearestIsUnique, EachHasDigits}
 use Rattle.std.proofs.lemmas.Int.{ints}
 use Rattle.mspec.proofs.Powers.{ten_pos, ten_add, ten_monotone}
 use Rattle.mspec.proofs.Rounding.{digits_before_is, rounding_unit_is, round_none, round_up_none, round_some}

@@ -1,6 +1,7 @@
 -- SPDX-License-Identifier: Apache-2.0
 -- The first place of a text in another is where it stands first.
-use Rattle.mspec.proofs.SpecWords.{◌≡◌, ℕ, suc, ◌≤◌, Bool, true, false, List, [], ◌∷◌, ◌++◌, length, Option, Some, None, refl, ap, arith, option_map, MatchOption, Lacks, begins_with, StandsFirst, FirstPlace, first_place, cond}
+use Rattle.mspec.proofs.SpecWords.{◌≡◌, ℕ, suc, ◌≤◌, Bool, true, false, List, [], ◌∷◌, ◌++◌, length, Option, Some, None, refl, ap, arith, option_map}
+use Rattle.mspec.proofs.SpecWords.{MatchOption, Lacks, begins_with, StandsFirst, FirstPlace, first_place, cond}
 use Rattle.mspec.proofs.PieceLists.{begins_split, not_begun, lacks_more}
 
 at_front : (t s : List ℕ) → begins_with t s ≡ true → StandsFirst t s 0

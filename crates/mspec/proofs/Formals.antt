@@ -1,10 +1,12 @@
 -- SPDX-License-Identifier: Apache-2.0
 -- The scope of a level with formal parameters.
-use Rattle.mspec.proofs.SpecWords.{◌≡◌, Bool, true, false, cond, ◌||◌, List, [], ◌∷◌, ◌++◌, length, Some, None, refl, sym, ap, ◌∙◌, unwrap_or, lookup, bytes_decides, insert, empty, Text, text_eq}
+use Rattle.mspec.proofs.SpecWords.{◌≡◌, Bool, true, false, cond, ◌||◌, List, [], ◌∷◌, ◌++◌, length, Some, None, refl, sym, ap, ◌∙◌, unwrap_or, lookup}
+use Rattle.mspec.proofs.SpecWords.{bytes_decides, insert, empty, Text, text_eq}
 use Rattle.std.proofs.lemmas.List.Folds.{list_any-append}
 use Rattle.std.proofs.Math.Bool.{or-true, or-false}
 use Rattle.std.specs.Map.{keys_of}
-use Rattle.mspec.specs.Scopes.{Scope, has, is_among, is_other, linked, tree_in, tree_of, entered, set_in, Binding, valued, linked_to, unset, named, bind, formals}
+use Rattle.mspec.specs.Scopes.{Scope, has, is_among, is_other, linked, tree_in, tree_of, entered, set_in, Binding, valued, linked_to, unset, named, bind}
+use Rattle.mspec.specs.Scopes.{formals}
 use Rattle.mspec.specs.ScopeLaws.{home_of, FormalsAreBound}
 use Rattle.mspec.proofs.ComputedMaps.{tree_none}
 use Rattle.mspec.proofs.ScopeFacts.{other-tree}

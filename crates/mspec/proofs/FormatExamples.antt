@@ -1,6 +1,7 @@
 -- SPDX-License-Identifier: Apache-2.0
--- The definitions of numbers with so many places, and in formats, on examples, as proved equations. The values are GT.M's.
-use Rattle.mspec.proofs.SpecWords.{◌≡◌, List, ℕ, Some, rules, ℤ, pos, negsuc, codes, Result, Ok, Err, Option, option_map, numeric_value, significant_digits, None, justify_number, format_number, fixed_text, rounded_to, grouped}
+-- The definitions of numbers with this many places, and in formats, on examples, as proved equations. The values are GT.M's.
+use Rattle.mspec.proofs.SpecWords.{◌≡◌, List, ℕ, Some, rules, ℤ, pos, negsuc, codes, Result, Ok, Err, Option, option_map, numeric_value, significant_digits}
+use Rattle.mspec.proofs.SpecWords.{None, justify_number, format_number, fixed_text, rounded_to, grouped}
 use Rattle.mspec.specs.Code.{Code, M2, Zarg, Zlong}
 use Rattle.mspec.proofs.ComputedNumbers.{computes}
 

@@ -1,6 +1,7 @@
 -- SPDX-License-Identifier: Apache-2.0
 -- What is asked of globals on examples, as proved equations.
-use Rattle.mspec.proofs.SpecWords.{◌≡◌, List, [], ◌∷◌, map, ap, codes, filter, T, from_sorted, is_sorted, entries-from_sorted, Text, Node, significant_digits, node_cmp, is_beside, is_line_of, routines_of, lines_of, ◌&&◌}
+use Rattle.mspec.proofs.SpecWords.{◌≡◌, List, [], ◌∷◌, map, ap, codes, filter, T, from_sorted, is_sorted, entries-from_sorted, Text, Node, significant_digits}
+use Rattle.mspec.proofs.SpecWords.{node_cmp, is_beside, is_line_of, routines_of, lines_of, ◌&&◌}
 use Rattle.mspec.proofs.ComputedNumbers.{computes}
 
 abbrev Rows : Type 0

@@ -1,6 +1,8 @@
 -- SPDX-License-Identifier: Apache-2.0
 -- What calls of a map without an order do to the finite map that it stands for.
-use Rattle.mspec.proofs.SpecWords.{◌≡◌, Bool, true, false, cond, List, [], ◌∷◌, Option, Some, None, map, refl, sym, ap, ◌∙◌, option_map, lookup, Ordering, is_eq, IsTotalOrder, eq_by_cmp_equiv, get, insert, remove, get-insert, get-remove, get-from_entries, same_map, IsAntisymmetric, find, hash_map_of}
+use Rattle.mspec.proofs.SpecWords.{◌≡◌, Bool, true, false, cond, List, [], ◌∷◌, Option, Some, None, map, refl, sym, ap, ◌∙◌, option_map, lookup, Ordering}
+use Rattle.mspec.proofs.SpecWords.{is_eq, IsTotalOrder, eq_by_cmp_equiv, get, insert, remove, get-insert, get-remove, get-from_entries, same_map}
+use Rattle.mspec.proofs.SpecWords.{IsAntisymmetric, find, hash_map_of}
 use Rattle.std.specs.HashMap as hash
 use Rattle.std.specs.HashMap.{HashMap}
 

@@ -1,6 +1,8 @@
 -- SPDX-License-Identifier: Apache-2.0
 -- Where variables are, and what a change of one leaves of all.
-use Rattle.mspec.proofs.SpecWords.{ℕ, suc, ◌≡◌, ◌<◌, Bool, true, false, not, cond, List, [], ◌∷◌, length, map, Option, Some, None, refl, sym, ap, ◌∙◌, arith, nat_tests, nat_eq, subst, unwrap_or, lookup, bytes_decides, nat_list_cmp_total, tied_itself, get, insert, empty, retain_keys, get-insert, is_eq, entries, Text, Tree, text_eq, without, is_within}
+use Rattle.mspec.proofs.SpecWords.{ℕ, suc, ◌≡◌, ◌<◌, Bool, true, false, not, cond, List, [], ◌∷◌, length, map, Option, Some, None, refl, sym, ap, ◌∙◌, arith}
+use Rattle.mspec.proofs.SpecWords.{nat_tests, nat_eq, subst, unwrap_or, lookup, bytes_decides, nat_list_cmp_total, tied_itself, get, insert, empty, retain_keys}
+use Rattle.mspec.proofs.SpecWords.{get-insert, is_eq, entries, Text, Tree, text_eq, without, is_within}
 use Rattle.std.proofs.Math.Nat.{lt_irrefl}
 use Rattle.std.specs.FinMap.{same_entries_map}
 use Rattle.mspec.specs.Scopes.{Scope, Scopes, has, linked, tree_in, tree_of, with_tree, at_home, is_bare, set_in, kill_in}

@@ -1,6 +1,7 @@
 -- SPDX-License-Identifier: Apache-2.0
 -- The order of nodes and the bytes of keys on examples, as proved equations.
-use Rattle.mspec.proofs.SpecWords.{◌≡◌, ℕ, List, [], ◌∷◌, refl, rules, codes, Ordering, Less, Greater, significant_digits, text_cmp, node_cmp, key_bytes, number_bytes, replicate}
+use Rattle.mspec.proofs.SpecWords.{◌≡◌, ℕ, List, [], ◌∷◌, refl, rules, codes, Ordering, Less, Greater, significant_digits, text_cmp, node_cmp, key_bytes}
+use Rattle.mspec.proofs.SpecWords.{number_bytes, replicate}
 use Rattle.mspec.proofs.ComputedNumbers.{computes}
 
 -- the key of account A, global B and one subscript, after its two names

@@ -1,6 +1,11 @@
 -- SPDX-License-Identifier: Apache-2.0
 -- Bytes of keys stand in the order of their nodes, and a key begins with the keys of its node's ancestors and no others.
-use Rattle.mspec.proofs.SpecWords.{ℕ, zero, suc, ◌≡◌, ◌+◌, ◌*◌, ◌/◌, ◌%◌, ◌^◌, ◌<◌, ◌≤◌, Bool, true, false, cond, Option, Some, None, List, [], ◌∷◌, ◌++◌, length, refl, sym, ◌∙◌, ap, subst, arith, ◌⊎◌, inl, inr, ℤ, pos, negsuc, unsigned_abs, slice_cmp, nat_cmp_is, Ordering, Less, Equal, Greater, nat_cmp, int_cmp, ordering_then, cases_order, nat_tests, mod_below, All-head, All-tail, div-add-mod', mul-le-mul_right, round_size, nearest, rounding_unit, signed, numeric_value, literal_size, is_negated, canonical_value, place_by, place_cmp, text_cmp, subscripts_cmp, text_bytes, raised, number_bytes, subscript_by, subscript_bytes, subscripts_bytes, local_bytes, NoneEmpty, KeysKeepOrder, LocalsKeepOrder, option_map, nat_le, Text}
+use Rattle.mspec.proofs.SpecWords.{ℕ, zero, suc, ◌≡◌, ◌+◌, ◌*◌, ◌/◌, ◌%◌, ◌^◌, ◌<◌, ◌≤◌, Bool, true, false, cond, Option, Some, None, List, [], ◌∷◌, ◌++◌}
+use Rattle.mspec.proofs.SpecWords.{length, refl, sym, ◌∙◌, ap, subst, arith, ◌⊎◌, inl, inr, ℤ, pos, negsuc, unsigned_abs, slice_cmp, nat_cmp_is, Ordering, Less}
+use Rattle.mspec.proofs.SpecWords.{Equal, Greater, nat_cmp, int_cmp, ordering_then, cases_order, nat_tests, mod_below, All-head, All-tail, div-add-mod'}
+use Rattle.mspec.proofs.SpecWords.{mul-le-mul_right, round_size, nearest, rounding_unit, signed, numeric_value, literal_size, is_negated, canonical_value}
+use Rattle.mspec.proofs.SpecWords.{place_by, place_cmp, text_cmp, subscripts_cmp, text_bytes, raised, number_bytes, subscript_by, subscript_bytes}
+use Rattle.mspec.proofs.SpecWords.{subscripts_bytes, local_bytes, NoneEmpty, KeysKeepOrder, LocalsKeepOrder, option_map, nat_le, Text}
 use Rattle.mspec.specs.KeyBytes.{big_endian}
 use Rattle.mspec.proofs.NodeOrders.{canonical_of_value}
 use Rattle.mspec.proofs.Basics.{byte_pos}

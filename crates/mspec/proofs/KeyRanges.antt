@@ -1,6 +1,11 @@
 -- SPDX-License-Identifier: Apache-2.0
 -- A key begins with the keys of its node's ancestors and with no others, and ranges of keys are subtrees.
-use Rattle.mspec.proofs.SpecWords.{ℕ, ◌≡◌, ◌⊎◌, inl, inr, ◌<◌, true, false, List, [], ◌∷◌, ◌++◌, length, refl, sym, ◌∙◌, ap, subst, arith, append_assoc, slice_cmp, nat_list_cmp_total, nat_cmp_is, Less, Equal, Greater, nat_cmp, ordering_then, is_le, cases_order, tied_itself, nat_cmp_total, All-head, All-tail, canonical_value, text_cmp, IsAncestor, text_bytes, subscript_bytes, subscripts_bytes, local_bytes, key_bytes, children_start, subtree_end, NoneEmpty, IsWithin, IsBetween, KeysAreInjective, KeysOfSubtreesBeginAlike, SubtreesAreRanges, DescendantsAreRanges, IsLocalWithin, LocalSubtreesAreRanges, LocalDescendantsAreRanges, append-nil, Text, Node}
+use Rattle.mspec.proofs.SpecWords.{ℕ, ◌≡◌, ◌⊎◌, inl, inr, ◌<◌, true, false, List, [], ◌∷◌, ◌++◌, length, refl, sym, ◌∙◌, ap, subst, arith, append_assoc}
+use Rattle.mspec.proofs.SpecWords.{slice_cmp, nat_list_cmp_total, nat_cmp_is, Less, Equal, Greater, nat_cmp, ordering_then, is_le, cases_order, tied_itself}
+use Rattle.mspec.proofs.SpecWords.{nat_cmp_total, All-head, All-tail, canonical_value, text_cmp, IsAncestor, text_bytes, subscript_bytes, subscripts_bytes}
+use Rattle.mspec.proofs.SpecWords.{local_bytes, key_bytes, children_start, subtree_end, NoneEmpty, IsWithin, IsBetween, KeysAreInjective}
+use Rattle.mspec.proofs.SpecWords.{KeysOfSubtreesBeginAlike, SubtreesAreRanges, DescendantsAreRanges, IsLocalWithin, LocalSubtreesAreRanges}
+use Rattle.mspec.proofs.SpecWords.{LocalDescendantsAreRanges, append-nil, Text, Node}
 use Rattle.std.proofs.lemmas.List.Concat.{flat_map-append}
 use Rattle.mspec.specs.KeyLaws.{BeginsWith}
 use Rattle.mspec.proofs.NodeOrders.{text_cmp_exact, node_cmp_exact, both_Equal, same_node}

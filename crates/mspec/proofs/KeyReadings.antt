@@ -1,6 +1,9 @@
 -- SPDX-License-Identifier: Apache-2.0
 -- The node of a node's key is the node.
-use Rattle.mspec.proofs.SpecWords.{ℕ, zero, suc, ◌≡◌, ◌+◌, ◌*◌, ◌/◌, ◌%◌, ◌^◌, ◌<◌, ◌≤◌, Option, Some, None, List, [], ◌∷◌, ◌++◌, length, take, drop, refl, sym, ◌∙◌, ap, ap₂, subst, arith, add-one, ℤ, pos, negsuc, unsigned_abs, div-add-mod', pow-suc, mod_below, Text, number_text, canonical_value, text_bytes, raised, number_bytes, subscript_by, subscript_bytes, subscripts_bytes, local_bytes, key_bytes, length-append}
+use Rattle.mspec.proofs.SpecWords.{ℕ, zero, suc, ◌≡◌, ◌+◌, ◌*◌, ◌/◌, ◌%◌, ◌^◌, ◌<◌, ◌≤◌, Option, Some, None, List, [], ◌∷◌, ◌++◌, length, take, drop, refl, sym}
+use Rattle.mspec.proofs.SpecWords.{◌∙◌, ap, ap₂, subst, arith, add-one, ℤ, pos, negsuc, unsigned_abs, div-add-mod', pow-suc, mod_below, Text, number_text}
+use Rattle.mspec.proofs.SpecWords.{canonical_value, text_bytes, raised, number_bytes, subscript_by, subscript_bytes, subscripts_bytes, local_bytes, key_bytes}
+use Rattle.mspec.proofs.SpecWords.{length-append}
 use Rattle.std.specs.Slice.Scan.{big_endian}
 use Rattle.mspec.specs.KeyBytes as Bytes
 use Rattle.mspec.specs.KeyReading.{text_of, behind_text, lowered, text_of_number, subscripts_of, node_of, KeysAreRead}
@@ -28,7 +31,7 @@ dropped : (k n : ℕ) (rest : List ℕ) → drop k (Bytes.big_endian k n ++ rest
 dropped zero n rest = refl
 dropped (suc k) n rest = dropped k (n % 256 ^ k) rest
 
--- the bytes of n, behind a number
+-- the bytes of n, after a number
 spelled : (k a n : ℕ) → n < 256 ^ k → big_endian a (Bytes.big_endian k n) ≡ a * 256 ^ k + n
 spelled zero a n below = omega arith
 spelled (suc k) a n below =

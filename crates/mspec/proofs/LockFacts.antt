@@ -1,6 +1,9 @@
 -- SPDX-License-Identifier: Apache-2.0
 -- What taking, giving back and releasing do to counts, and what they leave to other terminals.
-use Rattle.mspec.proofs.SpecWords.{◌≡◌, ℕ, ◌+◌, ◌-◌, Bool, true, false, cond, not, List, [], ◌∷◌, length, Option, Some, None, refl, sym, ap, ◌∙◌, arith, nat_eq, nat_lt, unwrap_or, if◌then◌else◌, nat_tests, list_any, filter, Ordering, Less, Equal, Greater, nat_cmp, is_eq, eq_by_cmp, ordering_then, get, insert, remove, get-insert, LockName, lock_name_cmp, Locks, held, count, max_count, has_conflict, one_more, counted, released}
+use Rattle.mspec.proofs.SpecWords.{◌≡◌, ℕ, ◌+◌, ◌-◌, Bool, true, false, cond, not, List, [], ◌∷◌, length, Option, Some, None, refl, sym, ap, ◌∙◌, arith, nat_eq}
+use Rattle.mspec.proofs.SpecWords.{nat_lt, unwrap_or, if◌then◌else◌, nat_tests, list_any, filter, Ordering, Less, Equal, Greater, nat_cmp, is_eq, eq_by_cmp}
+use Rattle.mspec.proofs.SpecWords.{ordering_then, get, insert, remove, get-insert, LockName, lock_name_cmp, Locks, held, count, max_count, has_conflict}
+use Rattle.mspec.proofs.SpecWords.{one_more, counted, released}
 use Rattle.mspec.specs.LockLaws.{times, CountsGoUp, OthersKeepLocks}
 use Rattle.mspec.proofs.LockOrders.{lock_name_cmp_exact, held_cmp_total, held_cmp_exact}
 use Rattle.mspec.proofs.MapCuts.{equal_of, cut_drops, cut_removed, cut_twice}

@@ -1,6 +1,7 @@
 -- SPDX-License-Identifier: Apache-2.0
 -- The orders of names of locks and of locks are total, and in them only equal values tie.
-use Rattle.mspec.proofs.SpecWords.{true, false, refl, IsTotalOrder, bool_cmp_total, IsAntisymmetric, nat_cmp-IsAntisymmetric, bool_cmp, nat_cmp_total, on_total, then_total, lock_name_cmp, held_cmp, significant_digits}
+use Rattle.mspec.proofs.SpecWords.{true, false, refl, IsTotalOrder, bool_cmp_total, IsAntisymmetric, nat_cmp-IsAntisymmetric, bool_cmp, nat_cmp_total, on_total}
+use Rattle.mspec.proofs.SpecWords.{then_total, lock_name_cmp, held_cmp, significant_digits}
 use Rattle.mspec.proofs.NodeOrders.{node_cmp_total, node_cmp_exact, both_Equal}
 
 pub lock_name_cmp_total : IsTotalOrder lock_name_cmp

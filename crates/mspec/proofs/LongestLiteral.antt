@@ -1,6 +1,12 @@
 -- SPDX-License-Identifier: Apache-2.0
 -- The literal that a text begins with, and that it is the longest.
-use Rattle.mspec.proofs.SpecWords.{ℕ, suc, ◌≡◌, ◌≢◌, ◌+◌, ◌*◌, ◌^◌, ◌≤◌, ◌⊎◌, Bool, true, false, cond, eqb, Option, Some, None, List, [], ◌∷◌, ◌++◌, drop, length, refl, sym, ◌∙◌, ap, subst, arith, inl, inr, ⊎_elim, append_assoc, take-append-drop, length-append, drop-append_seam, eqb-true, nat_tests, take_while-cons, All-nil, All-cons, All-head, All-tail, prefix_len, round_size, is_digit, digits_after, ExponentSign, Unsigned, Plus, Minus, Exponent, Literal, spell_sign, spell_fraction, spell_exponent, spell_literal, IsDigits, IsFraction, IsExponent, IsMantissa, IsLiteral, raise, fraction_of, raised_by, lowered_by, numerator, denominator, front_digits, after_digits, fraction_digits, after_fraction, signed_digits, front_exponent, literal_size, BeginsWith, ReadsLongestLiteral, append-nil, All}
+use Rattle.mspec.proofs.SpecWords.{ℕ, suc, ◌≡◌, ◌≢◌, ◌+◌, ◌*◌, ◌^◌, ◌≤◌, ◌⊎◌, Bool, true, false, cond, eqb, Option, Some, None, List, [], ◌∷◌, ◌++◌, drop}
+use Rattle.mspec.proofs.SpecWords.{length, refl, sym, ◌∙◌, ap, subst, arith, inl, inr, ⊎_elim, append_assoc, take-append-drop, length-append, drop-append_seam}
+use Rattle.mspec.proofs.SpecWords.{eqb-true, nat_tests, take_while-cons, All-nil, All-cons, All-head, All-tail, prefix_len, round_size, is_digit, digits_after}
+use Rattle.mspec.proofs.SpecWords.{ExponentSign, Unsigned, Plus, Minus, Exponent, Literal, spell_sign, spell_fraction, spell_exponent, spell_literal, IsDigits}
+use Rattle.mspec.proofs.SpecWords.{IsFraction, IsExponent, IsMantissa, IsLiteral, raise, fraction_of, raised_by, lowered_by, numerator, denominator}
+use Rattle.mspec.proofs.SpecWords.{front_digits, after_digits, fraction_digits, after_fraction, signed_digits, front_exponent, literal_size, BeginsWith}
+use Rattle.mspec.proofs.SpecWords.{ReadsLongestLiteral, append-nil, All}
 use Rattle.std.proofs.Math.Dec.{eqb-suc-zero}
 use Rattle.mspec.specs.Literal.{lower}
 use Rattle.mspec.proofs.Powers.{ten_pos}

@@ -1,6 +1,7 @@
 -- SPDX-License-Identifier: Apache-2.0
 -- Maps cut by a test of their keys.
-use Rattle.mspec.proofs.SpecWords.{◌≡◌, Bool, true, false, cond, Option, Some, None, refl, sym, ap, ◌∙◌, Ordering, Less, Equal, Greater, eq_by_cmp, is_eq, IsTotalOrder, FinMap, get, insert, remove, retain_keys, get-insert, get-remove, get-retain_keys, same_map, IsAntisymmetric}
+use Rattle.mspec.proofs.SpecWords.{◌≡◌, Bool, true, false, cond, Option, Some, None, refl, sym, ap, ◌∙◌, Ordering, Less, Equal, Greater, eq_by_cmp, is_eq}
+use Rattle.mspec.proofs.SpecWords.{IsTotalOrder, FinMap, get, insert, remove, retain_keys, get-insert, get-remove, get-retain_keys, same_map, IsAntisymmetric}
 
 pub equal_of : (o : Ordering) → is_eq o ≡ true → o ≡ Equal
 equal_of Less e = absurd (cc)

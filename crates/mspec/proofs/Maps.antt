@@ -1,6 +1,8 @@
 -- SPDX-License-Identifier: Apache-2.0
 -- What calls of an ordered map do to the finite map that it stands for.
-use Rattle.mspec.proofs.SpecWords.{◌≡◌, Bool, true, false, cond, List, [], ◌∷◌, Option, Some, None, map, refl, sym, ap, ◌∙◌, option_map, lookup, Ordering, is_eq, IsTotalOrder, eq_by_cmp_equiv, FinMap, get, insert, remove, get-insert, get-remove, get-from_entries, same_map, IsAntisymmetric, find, map_of}
+use Rattle.mspec.proofs.SpecWords.{◌≡◌, Bool, true, false, cond, List, [], ◌∷◌, Option, Some, None, map, refl, sym, ap, ◌∙◌, option_map, lookup, Ordering}
+use Rattle.mspec.proofs.SpecWords.{is_eq, IsTotalOrder, eq_by_cmp_equiv, FinMap, get, insert, remove, get-insert, get-remove, get-from_entries, same_map}
+use Rattle.mspec.proofs.SpecWords.{IsAntisymmetric, find, map_of}
 use Rattle.std.specs.BTreeMap as tree
 use Rattle.std.specs.BTreeMap.{BTreeMap}
 

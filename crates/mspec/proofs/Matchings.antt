@@ -1,6 +1,7 @@
 -- SPDX-License-Identifier: Apache-2.0
 -- The test of pattern match is the definition.
-use Rattle.std.proofs.Common.{◌≡◌, ℕ, zero, suc, ◌+◌, ◌≤◌, Bool, true, false, List, [], ◌∷◌, length, take, drop, Option, Some, None, refl, sym, ap, subst, ◌∙◌, arith, length-append}
+use Rattle.std.proofs.Common.{◌≡◌, ℕ, zero, suc, ◌+◌, ◌≤◌, Bool, true, false, List, [], ◌∷◌, length, take, drop, Option, Some, None, refl, sym, ap, subst, ◌∙◌}
+use Rattle.std.proofs.Common.{arith, length-append}
 use Rattle.std.specs.Prelude.{◌&&◌, ◌||◌, max, nat_le, nat_eq, Decides}
 use Rattle.std.specs.List.{list_all}
 use Rattle.std.proofs.lemmas.Bool.{and_parts, eqb-true, leb-true, leb-false, le-leb}
@@ -85,7 +86,7 @@ one_left_out test zero text few (front, c ∷ last, joined, first, pass) = absur
 one_left_out test (suc n) text few (front, c ∷ last, joined, first, pass) =
     (front, c ∷ last, joined, one_left_out test n front (omega (arith, few, ap length joined, length-append front (c ∷ last))) first, pass)
 
--- so many that there are no more than characters, or than wanted
+-- few enough that there are no more than characters, or than wanted
 pub record FewJoined (test : List ℕ → Bool) (least most : ℕ) (text : List ℕ) : Type 0 where
   pub number : ℕ
   pub enough : least ≤ number

@@ -1,6 +1,9 @@
 -- SPDX-License-Identifier: Apache-2.0
 -- A number is rounded to itself, and what is rounded is a number.
-use Rattle.mspec.proofs.SpecWords.{ℕ, zero, suc, ◌≡◌, ◌+◌, ◌*◌, ◌-◌, ◌/◌, ◌^◌, ◌<◌, ◌≤◌, Bool, true, false, Option, Some, None, refl, sym, ◌∙◌, ap, subst, arith, inl, inr, ⊎_elim, ℤ, pos, negsuc, option_map, unsigned_abs, mul_assoc, mul-pos, mul-lt-mul_of_pos_right, lt_of_mul-lt-mul_right, div-mul-le_self, cases_lt, nat_tests, digits_before, nearest, rounding_unit, round_size, round, signed, is_below_zero, IsNumber, NumberRoundsToItself, RoundedIsNumber, ZeroRoundsToZero}
+use Rattle.mspec.proofs.SpecWords.{ℕ, zero, suc, ◌≡◌, ◌+◌, ◌*◌, ◌-◌, ◌/◌, ◌^◌, ◌<◌, ◌≤◌, Bool, true, false, Option, Some, None, refl, sym, ◌∙◌, ap, subst}
+use Rattle.mspec.proofs.SpecWords.{arith, inl, inr, ⊎_elim, ℤ, pos, negsuc, option_map, unsigned_abs, mul_assoc, mul-pos, mul-lt-mul_of_pos_right}
+use Rattle.mspec.proofs.SpecWords.{lt_of_mul-lt-mul_right, div-mul-le_self, cases_lt, nat_tests, digits_before, nearest, rounding_unit, round_size, round}
+use Rattle.mspec.proofs.SpecWords.{signed, is_below_zero, IsNumber, NumberRoundsToItself, RoundedIsNumber, ZeroRoundsToZero}
 use Rattle.mspec.proofs.Powers.{ten_pos, ten_add, ten_monotone}
 use Rattle.mspec.proofs.Rounding.{digits_before_le, rounding_unit_is, nearest_exact, round_none, round_up_none, round_some, round_zero, round_is}
 
@@ -11,7 +14,7 @@ ten_split j k h = sym (ten_add (k - j) j) ∙ ap (λ x. 10 ^ x) (back j k h)
     back : (j k : ℕ) → j ≤ k → k - j + j ≡ k
     back j k h = omega arith
 
--- few digits and a power of ten behind them are below a power of ten
+-- few digits and a power of ten after them are below a power of ten
 few_below : (kept k m u q P : ℕ) → 0 < q → m < 10 ^ kept → u ≡ m * 10 ^ k → u * q ≡ P → P < 10 ^ (kept + k) * q
 few_below kept k m u q P some few parts e =
     let pos_k : 0 < 10 ^ k = ten_pos k in

@@ -1,6 +1,11 @@
 -- SPDX-License-Identifier: Apache-2.0
 -- The order of texts, of lists of subscripts and of nodes is total, and in it only equal values tie.
-use Rattle.mspec.proofs.SpecWords.{ℕ, ◌≡◌, Bool, true, false, cond, Option, Some, None, [], ◌∷◌, refl, sym, ◌∙◌, ap, subst, ℤ, pos, option_and_then, nat_eq, IsTotalOrder, pointwise, slice_cmp, lists_total, nat_list_cmp_total, bytes_decides, Ordering, Less, Equal, Greater, IsAntisymmetric, int_cmp-IsAntisymmetric, slice_cmp-IsAntisymmetric, nat_cmp, int_cmp, on, then_cmp, ordering_then, nat_cmp_total, int_cmp_total, on_total, then_total, numeric_value, number_text, IsCanonical, where_text, canonical_value, Place, Empty, Numeric, Other, place_by, place, place_cmp, text_cmp, subscripts_cmp, node_cmp, CanonicalValueIsTold, NodesAreOrdered, MatchOption, Text, Node}
+use Rattle.mspec.proofs.SpecWords.{ℕ, ◌≡◌, Bool, true, false, cond, Option, Some, None, [], ◌∷◌, refl, sym, ◌∙◌, ap, subst, ℤ, pos, option_and_then, nat_eq}
+use Rattle.mspec.proofs.SpecWords.{IsTotalOrder, pointwise, slice_cmp, lists_total, nat_list_cmp_total, bytes_decides, Ordering, Less, Equal, Greater}
+use Rattle.mspec.proofs.SpecWords.{IsAntisymmetric, int_cmp-IsAntisymmetric, slice_cmp-IsAntisymmetric, nat_cmp, int_cmp, on, then_cmp, ordering_then}
+use Rattle.mspec.proofs.SpecWords.{nat_cmp_total, int_cmp_total, on_total, then_total, numeric_value, number_text, IsCanonical, where_text, canonical_value}
+use Rattle.mspec.proofs.SpecWords.{Place, Empty, Numeric, Other, place_by, place, place_cmp, text_cmp, subscripts_cmp, node_cmp, CanonicalValueIsTold}
+use Rattle.mspec.proofs.SpecWords.{NodesAreOrdered, MatchOption, Text, Node}
 use Rattle.mspec.proofs.Basics.{texts_exact}
 
 -- ---- the canonical value

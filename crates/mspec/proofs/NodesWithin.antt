@@ -1,6 +1,7 @@
 -- SPDX-License-Identifier: Apache-2.0
 -- The test of what is within a node tells it.
-use Rattle.mspec.proofs.SpecWords.{◌≡◌, true, ◌&&◌, [], ◌∷◌, length, drop, inl, inr, refl, sym, subst, bytes_decides, and_parts, is_node_within, IsWithin, Node, text_eq, is_within, append-nil}
+use Rattle.mspec.proofs.SpecWords.{◌≡◌, true, ◌&&◌, [], ◌∷◌, length, drop, inl, inr, refl, sym, subst, bytes_decides, and_parts, is_node_within, IsWithin, Node}
+use Rattle.mspec.proofs.SpecWords.{text_eq, is_within, append-nil}
 use Rattle.std.proofs.lemmas.Slice.Eq.{starts_is}
 use Rattle.mspec.proofs.Basics.{all_true}
 use Rattle.mspec.proofs.KeyRanges.{within}

@@ -1,6 +1,9 @@
 -- SPDX-License-Identifier: Apache-2.0
 -- The definitions of numbers on examples, as proved equations.
-use Rattle.mspec.proofs.SpecWords.{◌≡◌, ℕ, ◌+◌, ◌*◌, ◌^◌, ◌≤◌, List, ◌∷◌, Some, None, ◌∙◌, ap, arith, lit≤, rules, pow-le-pow_right, zero-mul, ℤ, pos, codes, option_map, option_and_then, round, round_size, significant_digits, signed, sum_of, product_of, quotient_of, whole_quotient_of, remainder_of, digits_after, front_digits, signed_digits, numeric_value, literal_size, number_text, size_text, false, Option, cond}
+use Rattle.mspec.proofs.SpecWords.{◌≡◌, ℕ, ◌+◌, ◌*◌, ◌^◌, ◌≤◌, List, ◌∷◌, Some, None, ◌∙◌, ap, arith, lit≤, rules, pow-le-pow_right, zero-mul, ℤ, pos, codes}
+use Rattle.mspec.proofs.SpecWords.{option_map, option_and_then, round, round_size, significant_digits, signed, sum_of, product_of, quotient_of}
+use Rattle.mspec.proofs.SpecWords.{whole_quotient_of, remainder_of, digits_after, front_digits, signed_digits, numeric_value, literal_size, number_text}
+use Rattle.mspec.proofs.SpecWords.{size_text, false, Option, cond}
 use Rattle.mspec.proofs.Powers.{ten_pos}
 use Rattle.mspec.proofs.Rounding.{round_zero, round_small}
 use Rattle.mspec.proofs.ComputedNumbers.{computes}

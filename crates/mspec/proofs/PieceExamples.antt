@@ -1,6 +1,8 @@
 -- SPDX-License-Identifier: Apache-2.0
 -- The definitions of pieces and of the text functions on examples, as proved equations.
-use Rattle.mspec.proofs.SpecWords.{◌≡◌, [], ◌∷◌, Some, None, rules, pos, negsuc, codes, Ok, Err, pieces_of, piece_of, extract_of, find_of, piece_count, contains, follows, translate_of, justify_of, set_piece_of, has_places, set_extract_of, set_pieces_of, first_place, with_piece, true, false}
+use Rattle.mspec.proofs.SpecWords.{◌≡◌, [], ◌∷◌, Some, None, rules, pos, negsuc, codes, Ok, Err, pieces_of, piece_of, extract_of, find_of, piece_count}
+use Rattle.mspec.proofs.SpecWords.{contains, follows, translate_of, justify_of, set_piece_of, has_places, set_extract_of, set_pieces_of, first_place}
+use Rattle.mspec.proofs.SpecWords.{with_piece, true, false}
 use Rattle.mspec.specs.Code.{Zarg}
 
 record Texts : Type 0 where

@@ -1,6 +1,9 @@
 -- SPDX-License-Identifier: Apache-2.0
 -- A text has one list of pieces, and the leftmost cut gives it.
-use Rattle.mspec.proofs.SpecWords.{◌≡◌, ◌≢◌, ℕ, zero, suc, ◌-◌, ◌≤◌, ◌<◌, Bool, true, false, List, [], ◌∷◌, ◌++◌, length, drop, refl, sym, ap, subst, ◌∙◌, ◌⊎◌, inl, inr, arith, onto_first, eqb, and_parts, eqb-true, eq-eqb, cases_lt, append_cancel_left, append_cancel_right, append-nil, drop-append_seam, join, Lacks, OnlyAtEnd, AreCut, ArePieces, begins_with, cut_after, pieces_of, OneList, cond, append_assoc, length-append}
+use Rattle.mspec.proofs.SpecWords.{◌≡◌, ◌≢◌, ℕ, zero, suc, ◌-◌, ◌≤◌, ◌<◌, Bool, true, false, List, [], ◌∷◌, ◌++◌, length, drop, refl, sym, ap, subst, ◌∙◌, ◌⊎◌}
+use Rattle.mspec.proofs.SpecWords.{inl, inr, arith, onto_first, eqb, and_parts, eqb-true, eq-eqb, cases_lt, append_cancel_left, append_cancel_right, append-nil}
+use Rattle.mspec.proofs.SpecWords.{drop-append_seam, join, Lacks, OnlyAtEnd, AreCut, ArePieces, begins_with, cut_after, pieces_of, OneList, cond, append_assoc}
+use Rattle.mspec.proofs.SpecWords.{length-append}
 
 -- ---- texts
 

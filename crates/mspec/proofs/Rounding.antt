@@ -1,6 +1,8 @@
 -- SPDX-License-Identifier: Apache-2.0
 -- What the parts of rounding are, and what it gives.
-use Rattle.mspec.proofs.SpecWords.{ℕ, zero, suc, ◌≡◌, ◌+◌, ◌*◌, ◌-◌, ◌^◌, ◌<◌, ◌≤◌, ◌⊎◌, Bool, true, false, Some, None, refl, sym, ◌∙◌, ap, subst, arith, inl, inr, ⊎_elim, option_map, div-eq_of_lt-le, div-eq_of_lt, mul-pos, cases_lt, nat_tests, digits_before, nearest, rounding_unit, round_size, round, signed}
+use Rattle.mspec.proofs.SpecWords.{ℕ, zero, suc, ◌≡◌, ◌+◌, ◌*◌, ◌-◌, ◌^◌, ◌<◌, ◌≤◌, ◌⊎◌, Bool, true, false, Some, None, refl, sym, ◌∙◌, ap, subst, arith, inl}
+use Rattle.mspec.proofs.SpecWords.{inr, ⊎_elim, option_map, div-eq_of_lt-le, div-eq_of_lt, mul-pos, cases_lt, nat_tests, digits_before, nearest, rounding_unit}
+use Rattle.mspec.proofs.SpecWords.{round_size, round, signed}
 use Rattle.mspec.proofs.Powers.{ten_pos, ten_monotone}
 
 pub digits_before_le : (m k p q : ℕ) → p < 10 ^ k * q → digits_before m p q ≤ k

@@ -1,6 +1,8 @@
 -- SPDX-License-Identifier: Apache-2.0
 -- What the calls leave of the scopes.
-use Rattle.mspec.proofs.SpecWords.{◌≡◌, Bool, true, false, not, cond, ◌&&◌, ◌||◌, List, [], ◌∷◌, Option, Some, None, refl, sym, ap, ◌∙◌, unwrap_or, slice_cmp, bytes_decides, nat_list_cmp_total, get, empty, retain_keys, get-insert, get-retain_keys, filter, nat_cmp, is_eq, or_right, Text, Tree, text_eq}
+use Rattle.mspec.proofs.SpecWords.{◌≡◌, Bool, true, false, not, cond, ◌&&◌, ◌||◌, List, [], ◌∷◌, Option, Some, None, refl, sym, ap, ◌∙◌, unwrap_or, slice_cmp}
+use Rattle.mspec.proofs.SpecWords.{bytes_decides, nat_list_cmp_total, get, empty, retain_keys, get-insert, get-retain_keys, filter, nat_cmp, is_eq, or_right}
+use Rattle.mspec.proofs.SpecWords.{Text, Tree, text_eq}
 use Rattle.std.proofs.lemmas.List.Folds.{list_any-append}
 use Rattle.std.proofs.Math.Bool.{and-true, or-true}
 use Rattle.mspec.specs.Scopes.{Scope, Scopes, has, is_among, is_other, linked, tree_in, tree_of, with_tree, hide, hide_others, common, without_level}

@@ -1,13 +1,17 @@
 -- SPDX-License-Identifier: Apache-2.0
 -- What KILL of all but some names leaves, and that hidden variables come back.
-use Rattle.mspec.proofs.SpecWords.{ℕ, zero, suc, ◌≡◌, Bool, true, false, not, cond, ◌&&◌, ◌||◌, All, All-head, All-tail, List, [], ◌∷◌, ◌++◌, length, Option, Some, None, refl, sym, ap, ◌∙◌, unwrap_or, lookup, is_some, option_and_then, bytes_decides, get, empty, list_any, or_right, Text, Tree, text_eq}
+use Rattle.mspec.proofs.SpecWords.{ℕ, zero, suc, ◌≡◌, Bool, true, false, not, cond, ◌&&◌, ◌||◌, All, All-head, All-tail, List, [], ◌∷◌, ◌++◌, length, Option}
+use Rattle.mspec.proofs.SpecWords.{Some, None, refl, sym, ap, ◌∙◌, unwrap_or, lookup, is_some, option_and_then, bytes_decides, get, empty, list_any, or_right}
+use Rattle.mspec.proofs.SpecWords.{Text, Tree, text_eq}
 use Rattle.std.proofs.lemmas.List.Folds.{list_any-append}
 use Rattle.std.proofs.lemmas.Map.Made.{is_some-lookup}
 use Rattle.std.proofs.Math.Bool.{or-true, or-false}
 use Rattle.std.specs.List.{flat_map}
 use Rattle.std.specs.Map.{keys_of}
-use Rattle.mspec.specs.Scopes.{Scope, Scopes, has, is_among, linked, tree_in, tree_of, at_home, set_in, kill_in, emptied, passed, known_below, is_name, leads_to, ways, stays, killed_but, on_top, hide, hide_others, without_level}
-use Rattle.mspec.specs.ScopeLaws.{home_of, NamesStayJoined, KillExceptSpares, HiddenVariablesStay, HiddenVariablesComeBack, Call, Assign, Kill, KillExcept, New, NewExcept, Enter, EnterBound, Leave, after_all, is_nested}
+use Rattle.mspec.specs.Scopes.{Scope, Scopes, has, is_among, linked, tree_in, tree_of, at_home, set_in, kill_in, emptied, passed, known_below, is_name}
+use Rattle.mspec.specs.Scopes.{leads_to, ways, stays, killed_but, on_top, hide, hide_others, without_level}
+use Rattle.mspec.specs.ScopeLaws.{home_of, NamesStayJoined, KillExceptSpares, HiddenVariablesStay, HiddenVariablesComeBack, Call, Assign, Kill, KillExcept, New}
+use Rattle.mspec.specs.ScopeLaws.{NewExcept, Enter, EnterBound, Leave, after_all, is_nested}
 use Rattle.mspec.proofs.Basics.{by_test}
 use Rattle.mspec.proofs.ScopeFacts.{tree-retain, has-hide, others_among, others_else}
 use Rattle.mspec.proofs.Homes.{Changes, home_stays, other_home, set_changes, kill_changes, same_name, no_home, not_linked, text_itself}

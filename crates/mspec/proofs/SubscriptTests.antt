@@ -1,6 +1,8 @@
 -- SPDX-License-Identifier: Apache-2.0
 -- The tests of names and subscripts decide what can be the account and the subscripts of a node.
-use Rattle.mspec.proofs.SpecWords.{◌≡◌, ◌-◌, Bool, true, false, List, length, All, refl, sym, arith, ◌↔◌, IsTrue, nat_lt, nat_le, list_all, and_parts, and_from, ltb-true, leb-true, lt-ltb, le-leb, AllPass-from_list_all, list_all-from_AllPass, length-take-le, Text, is_name_rest, IsAccountName, IsSubscript, AreSubscripts, front, last, AreOrderSubscripts, ◌&&◌}
+use Rattle.mspec.proofs.SpecWords.{◌≡◌, ◌-◌, Bool, true, false, List, length, All, refl, sym, arith, ◌↔◌, IsTrue, nat_lt, nat_le, list_all, and_parts, and_from}
+use Rattle.mspec.proofs.SpecWords.{ltb-true, leb-true, lt-ltb, le-leb, AllPass-from_list_all, list_all-from_AllPass, length-take-le, Text, is_name_rest}
+use Rattle.mspec.proofs.SpecWords.{IsAccountName, IsSubscript, AreSubscripts, front, last, AreOrderSubscripts, ◌&&◌}
 use Rattle.mspec.specs.Subscripts.{is_account_name, is_subscript, are_subscripts, are_order_subscripts}
 
 pub account_name_is : (t : Text) → is_account_name t ≡ true → IsAccountName t

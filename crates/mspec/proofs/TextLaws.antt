@@ -1,6 +1,12 @@
 -- SPDX-License-Identifier: Apache-2.0
 -- The text of a number has that number as its value, and it is the one canonical text.
-use Rattle.mspec.proofs.SpecWords.{ℕ, zero, suc, ◌≡◌, ◌+◌, ◌*◌, ◌/◌, ◌%◌, ◌^◌, ◌<◌, ◌≤◌, Bool, true, false, cond, not, Option, Some, List, [], ◌∷◌, ◌++◌, take, drop, length, All, refl, sym, ◌∙◌, ap, subst, arith, one-add, ◌==◌, option_map, ℤ, pos, negsuc, decimal, prefix_len, div-add-mod', take-append_seam, drop-append_seam, drop-length, mod_below, div_below, cond-true, cond-false, nat_tests, append-nil, All-nil, All-cons, All-head, All-tail, All-push, fold-append, fold_push, decimal_by_steps, round_size, signed, IsNumber, is_digit, with_digit, digits_after, is_sign, front_digits, after_digits, fraction_digits, after_fraction, front_exponent, literal_size, is_negated, after_signs, numeric_value, fraction_text, whole_text, point_text, size_text, number_text, TextHasValue, CanonicalIsText, CanonicalByMoreDigits}
+use Rattle.mspec.proofs.SpecWords.{ℕ, zero, suc, ◌≡◌, ◌+◌, ◌*◌, ◌/◌, ◌%◌, ◌^◌, ◌<◌, ◌≤◌, Bool, true, false, cond, not, Option, Some, List, [], ◌∷◌, ◌++◌, take}
+use Rattle.mspec.proofs.SpecWords.{drop, length, All, refl, sym, ◌∙◌, ap, subst, arith, one-add, ◌==◌, option_map, ℤ, pos, negsuc, decimal, prefix_len}
+use Rattle.mspec.proofs.SpecWords.{div-add-mod', take-append_seam, drop-append_seam, drop-length, mod_below, div_below, cond-true, cond-false, nat_tests}
+use Rattle.mspec.proofs.SpecWords.{append-nil, All-nil, All-cons, All-head, All-tail, All-push, fold-append, fold_push, decimal_by_steps, round_size, signed}
+use Rattle.mspec.proofs.SpecWords.{IsNumber, is_digit, with_digit, digits_after, is_sign, front_digits, after_digits, fraction_digits, after_fraction}
+use Rattle.mspec.proofs.SpecWords.{front_exponent, literal_size, is_negated, after_signs, numeric_value, fraction_text, whole_text, point_text, size_text}
+use Rattle.mspec.proofs.SpecWords.{number_text, TextHasValue, CanonicalIsText, CanonicalByMoreDigits}
 use Rattle.mspec.proofs.Powers.{ten_pos, ten_add, ten_monotone}
 use Rattle.mspec.proofs.Rounding.{round_is}
 use Rattle.mspec.proofs.NearestLaws.{exact_number, rounded_is_number}

@@ -1,6 +1,8 @@
 -- SPDX-License-Identifier: Apache-2.0
 -- Texts of at most eighteen digits and nothing else.
-use Rattle.mspec.proofs.SpecWords.{ℕ, zero, suc, ◌≡◌, ◌≢◌, ◌+◌, ◌*◌, ◌/◌, ◌%◌, ◌^◌, ◌<◌, ◌≤◌, ◌⊎◌, false, Some, List, [], ◌∷◌, ◌++◌, length, All, refl, sym, ◌∙◌, ap, subst, arith, inl, inr, option_map, pos, decimal, pow-le-pow_right, append-nil, All-nil, All-cons, All-head, signed, digits_after, numeric_value, whole_text, point_text, number_text, size_text, IsCanonical, NoZeroInFront}
+use Rattle.mspec.proofs.SpecWords.{ℕ, zero, suc, ◌≡◌, ◌≢◌, ◌+◌, ◌*◌, ◌/◌, ◌%◌, ◌^◌, ◌<◌, ◌≤◌, ◌⊎◌, false, Some, List, [], ◌∷◌, ◌++◌, length, All, refl, sym}
+use Rattle.mspec.proofs.SpecWords.{◌∙◌, ap, subst, arith, inl, inr, option_map, pos, decimal, pow-le-pow_right, append-nil, All-nil, All-cons, All-head, signed}
+use Rattle.mspec.proofs.SpecWords.{digits_after, numeric_value, whole_text, point_text, number_text, size_text, IsCanonical, NoZeroInFront}
 use Rattle.mspec.proofs.Powers.{ten_pos}
 use Rattle.mspec.proofs.NearestLaws.{exact_number}
 use Rattle.mspec.proofs.TextLaws.{Digit, whole_some, whole_all, whole_value, size_some, size_of_whole, IsUnsigned, digits_unsigned, unsigned_value}

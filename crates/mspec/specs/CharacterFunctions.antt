@@ -2,7 +2,8 @@
 -- The functions between characters and their codes.
 --
 -- Restates "$ASCII" and "$CHAR" of ISO/IEC 11756:1999. Places are counted from 1, and the place of $ASCII may be left out.
-use Rattle.std.specs.Prelude.{ℕ, zero, suc, ℤ, pos, negsuc, Bool, false, nat_le, List, [], ◌∷◌, slice_get, Option, Some, None, unwrap_or, Result, Err, if◌then◌else◌}
+use Rattle.std.specs.Prelude.{ℕ, zero, suc, ℤ, pos, negsuc, Bool, false, nat_le, List, [], ◌∷◌, slice_get, Option, Some, None, unwrap_or, Result, Err}
+use Rattle.std.specs.Prelude.{if◌then◌else◌}
 use Rattle.std.specs.List.{list_any, flat_map}
 use Rattle.mspec.specs.Code.{Code, Zchar}
 use Rattle.mspec.specs.TextFunctions.{made}

@@ -21,6 +21,7 @@ pub data Code : Type 0 where
   M20 : Code
   M28 : Code
   M58 : Code
+  M90 : Code
   M94 : Code
   Zlong : Code
   Zsyntax : Code
@@ -69,6 +70,7 @@ code_text M17 = codes "M17"
 code_text M20 = codes "M20"
 code_text M28 = codes "M28"
 code_text M58 = codes "M58"
+code_text M90 = codes "M90"
 code_text M94 = codes "M94"
 code_text Zlong = codes "ZLONG"
 code_text Zsyntax = codes "ZSYNTAX"

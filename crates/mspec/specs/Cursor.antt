@@ -1,7 +1,7 @@
 -- SPDX-License-Identifier: Apache-2.0
 -- Where the output of a terminal is: $X and $Y.
 --
--- Restates "$X", "$Y" and "Write" of ISO/IEC 11756:1999: $X counts the characters that were written since the last line ended, whichever
+-- Restates "$X", "$Y" and "Write" of ISO/IEC 11756:1999: $X counts the characters that were written since the last line ended, whatever
 -- they are, and $Y the lines that ended since the page began. Neither depends on the width or the length of a device, which there is none of.
 use Rattle.std.specs.Prelude.{ℕ, ◌+◌, ◌-◌, min, ℤ, pos, negsuc, Bool, true, nat_le, if◌then◌else◌, ◌==◌, List, [], ◌∷◌, replicate}
 use Rattle.mspec.specs.Limits.{max_text, max_position}

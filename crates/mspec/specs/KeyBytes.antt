@@ -4,7 +4,8 @@
 -- Bytes of keys are in the order of their nodes, and a key begins with the keys of its node's ancestors: each byte of a text is
 -- raised by one and a byte 0 ends it, and a number has a fixed length. The digits that a number keeps are a parameter, since old
 -- stores kept fewer.
-use Rattle.std.specs.Prelude.{◌≡◌, ℕ, zero, suc, ◌+◌, ◌/◌, ◌%◌, ◌^◌, ◌<◌, ◌≤◌, true, ◌||◌, List, [], ◌∷◌, ◌++◌, length, All, Option, Some, None, ℤ, pos, ◌+ℤ◌, unsigned_abs}
+use Rattle.std.specs.Prelude.{◌≡◌, ℕ, zero, suc, ◌+◌, ◌/◌, ◌%◌, ◌^◌, ◌<◌, ◌≤◌, true, ◌||◌, List, [], ◌∷◌, ◌++◌, length, All, Option, Some, None, ℤ, pos, ◌+ℤ◌}
+use Rattle.std.specs.Prelude.{unsigned_abs}
 use Rattle.std.specs.List.{flat_map}
 use Rattle.mspec.specs.Limits.{max_account_name, max_subscript, max_subscripts}
 use Rattle.mspec.specs.Node.{Text, Node}

@@ -5,7 +5,8 @@
 -- the precision and the range of numbers to the implementor. Here a number is a whole count of units of
 -- 10 ^ -18, it is below 10 ^ 18 in size, and it has at most as many significant digits as are kept: 18 in the
 -- language. Arithmetic is exact on fractions, and its result is rounded once.
-use Rattle.std.specs.Prelude.{◌≡◌, ℕ, zero, suc, ◌+◌, ◌-◌, ◌*◌, ◌/◌, ◌^◌, ◌<◌, Bool, true, false, cond, nat_le, Option, option_map, Some, None, ℤ, pos, negsuc, ◌+ℤ◌, ◌-ℤ◌, ◌*ℤ◌, neg_ℤ, unsigned_abs, int_div}
+use Rattle.std.specs.Prelude.{◌≡◌, ℕ, zero, suc, ◌+◌, ◌-◌, ◌*◌, ◌/◌, ◌^◌, ◌<◌, Bool, true, false, cond, nat_le, Option, option_map, Some, None, ℤ, pos, negsuc}
+use Rattle.std.specs.Prelude.{◌+ℤ◌, ◌-ℤ◌, ◌*ℤ◌, neg_ℤ, unsigned_abs, int_div}
 use Rattle.std.specs.Int.{int_div_euclid}
 
 -- the significant digits of a number of the language

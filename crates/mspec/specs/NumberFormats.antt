@@ -1,30 +1,31 @@
 -- SPDX-License-Identifier: Apache-2.0
--- Numbers as texts with so many digits after the point, and in formats.
+-- Numbers as texts with this many digits after the point, and in formats.
 --
 -- Restates "$JUSTIFY" of three arguments and "$FNUMBER" of ISO/IEC 11756:1999. Numbers are counted in units of 10 ^ -18. The standard
 -- leaves a negative number of places open, and has no code for a character that is no letter of a format: both are refused as arguments
 -- out of their range. What bounds the places is the length of a text.
-use Rattle.std.specs.Prelude.{ℕ, zero, suc, ◌-◌, ◌/◌, ◌%◌, ◌^◌, Bool, not, ◌&&◌, ◌||◌, ◌==◌, nat_lt, if◌then◌else◌, ℤ, pos, negsuc, unsigned_abs, List, [], ◌∷◌, ◌++◌, length, replicate, decimal, Option, Some, None, Result, Err}
+use Rattle.std.specs.Prelude.{ℕ, zero, suc, ◌-◌, ◌/◌, ◌%◌, ◌^◌, Bool, not, ◌&&◌, ◌||◌, ◌==◌, nat_lt, if◌then◌else◌, ℤ, pos, negsuc, unsigned_abs, List, [], ◌∷◌}
+use Rattle.std.specs.Prelude.{◌++◌, length, replicate, decimal, Option, Some, None, Result, Err}
 use Rattle.std.specs.List.{list_all, list_any}
 use Rattle.mspec.specs.Number.{signed, is_below_zero, nearest}
 use Rattle.mspec.specs.NumberText.{fraction_text, point_text}
 use Rattle.mspec.specs.TextFunctions.{justify_of, made}
 use Rattle.mspec.specs.Code.{Code, M2, Zarg}
 
--- the nearest number with so many places after the point; of two, the one farther from 0
+-- the nearest number with this many places after the point; of two, the one farther from 0
 unfoldable pub rounded_to : ℕ → ℤ → ℤ
 rounded_to places u = signed (is_below_zero u) (nearest (10 ^ (18 - places)) (unsigned_abs u) 1)
 
--- digits, and behind them zeros, up to so many
+-- digits, and after them zeros, up to this many
 abbrev pub filled : ℕ → List ℕ → List ℕ
 filled count digits = digits ++ replicate (count - length digits) 48
 
--- the point and so many digits of a fraction; no point if they are none
+-- the point and this many digits of a fraction; no point if they are none
 abbrev pub places_text : ℕ → ℕ → List ℕ
 places_text zero n = []
 places_text (suc k) n = 46 ∷ filled (suc k) (fraction_text 18 n)
 
--- a size that has at most so many places, with all of these, and with a digit before the point
+-- a size that has at most this many places, with all of these, and with a digit before the point
 unfoldable pub fixed_text : ℕ → ℕ → List ℕ
 fixed_text places n = decimal (n / 10 ^ 18) ++ places_text places (n % 10 ^ 18)
 
@@ -110,7 +111,7 @@ formatted format u digits rest =
 abbrev pub digits_of : ℕ → List ℕ
 digits_of n = if (n / 10 ^ 18 == 0) && nat_lt 0 (n % 10 ^ 18) then [] else decimal (n / 10 ^ 18)
 
--- $FNUMBER: the canonical text in a format, or the text with so many places
+-- $FNUMBER: the canonical text in a format, or the text with this many places
 abbrev pub format_number : ℤ → List ℕ → Option ℤ → Result (List ℕ) Code
 format_number u format None = formatted format u (digits_of (unsigned_abs u)) (point_text (unsigned_abs u % 10 ^ 18))
 format_number u format (Some (pos places)) =

@@ -1,6 +1,7 @@
 -- SPDX-License-Identifier: Apache-2.0
 -- The laws of numbers and of their texts, in the subject's own words. The functions of src/ named after them carry them.
-use Rattle.std.specs.Prelude.{◌≡◌, ◌≢◌, ℕ, ◌+◌, ◌-◌, ◌*◌, ◌^◌, ◌<◌, ◌≤◌, ◌⊎◌, Bool, cond, List, [], ◌∷◌, ◌++◌, length, MatchOption, None, Some, ℤ, pos, ◌-ℤ◌, ◌*ℤ◌, unsigned_abs}
+use Rattle.std.specs.Prelude.{◌≡◌, ◌≢◌, ℕ, ◌+◌, ◌-◌, ◌*◌, ◌^◌, ◌<◌, ◌≤◌, ◌⊎◌, Bool, cond, List, [], ◌∷◌, ◌++◌, length, MatchOption, None, Some, ℤ, pos, ◌-ℤ◌}
+use Rattle.std.specs.Prelude.{◌*ℤ◌, unsigned_abs}
 use Rattle.mspec.specs.Number.{round, round_size, IsNumber}
 use Rattle.mspec.specs.Literal.{Literal, IsLiteral, spell_literal, fraction_of, numerator, denominator}
 use Rattle.mspec.specs.NumberText.{literal_size, numeric_value, number_text, IsCanonical}

@@ -5,7 +5,8 @@
 -- signs in front are taken off, each `-` negating, and the value is that of the longest head that is a numeric literal,
 -- or 0 if no head is one. Missing digits count as 0, so that `1.`, `1E`, `.E5` and a text without a literal need no
 -- case of their own; NumberLaws says what is read in the words of the grammar.
-use Rattle.std.specs.Prelude.{◌≡◌, ℕ, zero, suc, ◌+◌, ◌/◌, ◌%◌, ◌*◌, ◌^◌, Bool, true, false, not, cond, ◌||◌, ◌==◌, List, [], ◌∷◌, ◌++◌, drop, length, take_while, Option, option_map, Some, ℤ, pos, negsuc, decimal}
+use Rattle.std.specs.Prelude.{◌≡◌, ℕ, zero, suc, ◌+◌, ◌/◌, ◌%◌, ◌*◌, ◌^◌, Bool, true, false, not, cond, ◌||◌, ◌==◌, List, [], ◌∷◌, ◌++◌, drop, length}
+use Rattle.std.specs.Prelude.{take_while, Option, option_map, Some, ℤ, pos, negsuc, decimal}
 use Rattle.std.specs.List.{prefix_len}
 use Rattle.mspec.specs.Number.{round_size, signed}
 use Rattle.mspec.specs.Literal.{is_digit, digits_after}

@@ -28,7 +28,7 @@ abbrev pub any_up_to : ℕ → (ℕ → Bool) → Bool
 any_up_to zero test = test 0
 any_up_to (suc n) test = any_up_to n test || test (suc n)
 
--- a joining of so many texts, each of which passes the test
+-- a joining of this many texts, each of which passes the test
 abbrev pub is_joined : (List ℕ → Bool) → ℕ → List ℕ → Bool
 is_joined test zero text = length text == 0
 is_joined test (suc n) text = any_up_to (length text) (λ k. is_joined test n (take k text) && test (drop k text))
@@ -54,6 +54,6 @@ abbrev pub at_most : Option ℕ → ℕ → ℕ
 at_most None n = n
 at_most (Some most) n = min most n
 
--- the greatest number of texts that an atom has to join, of a text with so many characters
+-- the greatest number of texts that an atom has to join, of a text with this many characters
 abbrev pub turns : Count → ℕ → ℕ
 turns count characters = at_most count.most (count.least + characters)

@@ -6,7 +6,8 @@ use Rattle.std.specs.FinMap.{insert, empty}
 use Rattle.std.specs.List.{list_any}
 use Rattle.std.specs.Map.{keys_of}
 use Rattle.mspec.specs.Node.{Text}
-use Rattle.mspec.specs.Scopes.{Scope, Scopes, has, is_among, linked, tree_in, tree_of, at_home, assigned, killed, stays, killed_except, newed, newed_except, with_level, Binding, valued, linked_to, unset, bound, without_level}
+use Rattle.mspec.specs.Scopes.{Scope, Scopes, has, is_among, linked, tree_in, tree_of, at_home, assigned, killed, stays, killed_except, newed, newed_except}
+use Rattle.mspec.specs.Scopes.{with_level, Binding, valued, linked_to, unset, bound, without_level}
 use Rattle.mspec.specs.Trees.{without}
 
 -- ---- one call

@@ -4,7 +4,8 @@
 -- Restates "$PIECE", "$EXTRACT", "$FIND", "$LENGTH", "$REVERSE", "$TRANSLATE" and "$JUSTIFY", SET of a "$PIECE" and of an "$EXTRACT",
 -- and the relations "Contains" and "Follows" of ISO/IEC 11756:1999, over characters and pieces. Places are counted from 1. An argument
 -- that may be left out is an option.
-use Rattle.std.specs.Prelude.{ℕ, zero, suc, ℤ, pos, negsuc, ◌+◌, ◌-◌, Bool, true, false, ◌&&◌, ◌==◌, nat_le, nat_lt, max, List, [], ◌∷◌, ◌++◌, reverse, length, take, drop, slice_get, Option, Some, None, option_map, unwrap_or, is_some, replicate, Result, Ok, Err, if◌then◌else◌}
+use Rattle.std.specs.Prelude.{ℕ, zero, suc, ℤ, pos, negsuc, ◌+◌, ◌-◌, Bool, true, false, ◌&&◌, ◌==◌, nat_le, nat_lt, max, List, [], ◌∷◌, ◌++◌, reverse, length}
+use Rattle.std.specs.Prelude.{take, drop, slice_get, Option, Some, None, option_map, unwrap_or, is_some, replicate, Result, Ok, Err, if◌then◌else◌}
 use Rattle.std.specs.List.{flat_map}
 use Rattle.std.specs.Option.{option_to_list}
 pub use Rattle.mspec.specs.Limits.{max_text, max_place}

@@ -3,7 +3,8 @@
 --
 -- Restates what "Local variable handling", "$DATA", "$ORDER" and "KILL" of ISO/IEC 11756:1999 say of one variable. Its own
 -- text lies where there are no subscripts.
-use Rattle.std.specs.Prelude.{◌-◌, ◌<◌, ◌≤◌, Bool, true, false, not, ◌&&◌, ◌||◌, nat_lt, nat_eq, List, [], ◌∷◌, length, take, slice_get, slice_index_or, Option, None, is_some, if◌then◌else◌, reverse}
+use Rattle.std.specs.Prelude.{◌-◌, ◌<◌, ◌≤◌, Bool, true, false, not, ◌&&◌, ◌||◌, nat_lt, nat_eq, List, [], ◌∷◌, length, take, slice_get, slice_index_or, Option}
+use Rattle.std.specs.Prelude.{None, is_some, if◌then◌else◌, reverse}
 use Rattle.std.specs.List.{list_any, find, flat_map, starts_with}
 use Rattle.std.specs.Option.{option_to_list}
 use Rattle.std.specs.Ordering.{is_lt}

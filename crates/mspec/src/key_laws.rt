@@ -1,7 +1,8 @@
 // SPDX-License-Identifier: Apache-2.0
 // The laws of the order of nodes and of the bytes of keys. Each function's contract is the law, and its body is empty: the
 // code never calls them.
-ghost use Rattle.mspec.specs.KeyLaws.{CanonicalValueIsTold, NodesAreOrdered, KeysKeepOrder, KeysAreInjective, KeysOfSubtreesBeginAlike, SubtreesAreRanges, DescendantsAreRanges, LocalsKeepOrder, LocalSubtreesAreRanges, LocalDescendantsAreRanges};
+ghost use Rattle.mspec.specs.KeyLaws.{CanonicalValueIsTold, NodesAreOrdered, KeysKeepOrder, KeysAreInjective, KeysOfSubtreesBeginAlike, SubtreesAreRanges};
+ghost use Rattle.mspec.specs.KeyLaws.{DescendantsAreRanges, LocalsKeepOrder, LocalSubtreesAreRanges, LocalDescendantsAreRanges};
 
 /// The canonical value of a text is the number whose canonical text it is, and the text has none exactly when it is no
 /// canonical text.
@@ -10,7 +11,7 @@ pub fn canonical_value_is_told()
     ensures { CanonicalValueIsTold }
 {}
 
-/// Texts, lists of subscripts and nodes each have a total order, in which only equal ones tie.
+/// Texts, lists of subscripts and nodes each have a total order, in which none stand at one place but equal ones.
 pub fn nodes_are_ordered()
     ensures { NodesAreOrdered }
 {}

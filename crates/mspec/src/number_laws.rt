@@ -1,7 +1,8 @@
 // SPDX-License-Identifier: Apache-2.0
 // The laws of numbers and of their texts. Each function's contract is the law, and its body is empty: the code never
 // calls them.
-ghost use Rattle.mspec.specs.NumberLaws.{RoundingIsNearest, EachHasDigits, NearestIsUnique, ZeroRoundsToZero, RoundedIsNumber, NumberRoundsToItself, ReadsLongestLiteral, TextHasValue, CanonicalIsText, TextHasCanonicalForm, PlainLiteralIsUnique, CanonicalByMoreDigits};
+ghost use Rattle.mspec.specs.NumberLaws.{RoundingIsNearest, EachHasDigits, NearestIsUnique, ZeroRoundsToZero, RoundedIsNumber, NumberRoundsToItself};
+ghost use Rattle.mspec.specs.NumberLaws.{ReadsLongestLiteral, TextHasValue, CanonicalIsText, TextHasCanonicalForm, PlainLiteralIsUnique, CanonicalByMoreDigits};
 
 /// A fraction with d digits before its point is rounded to the nearest multiple of 10^(d - kept), or of 10^-18 if that is
 /// larger; of two nearest ones, to the one larger in size. There is no number exactly when the fraction or the multiple reaches 10^18.

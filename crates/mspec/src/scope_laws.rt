@@ -1,6 +1,7 @@
 // SPDX-License-Identifier: Apache-2.0
 // The laws of scopes. Each function's contract is the law, and its body is empty: the code never calls them.
-ghost use Rattle.mspec.specs.ScopeLaws.{LeavingRestores, TopVariablesStandAlone, NewKeepsBelow, NewHides, NewExceptHides, NamesOfOneHome, NamesOfTwoHomes, NamesStayJoined, KillExceptSpares, FormalsAreBound, ScopesWithoutLinks, HiddenVariablesStay, HiddenVariablesComeBack};
+ghost use Rattle.mspec.specs.ScopeLaws.{LeavingRestores, TopVariablesStandAlone, NewKeepsBelow, NewHides, NewExceptHides, NamesOfOneHome, NamesOfTwoHomes};
+ghost use Rattle.mspec.specs.ScopeLaws.{NamesStayJoined, KillExceptSpares, FormalsAreBound, ScopesWithoutLinks, HiddenVariablesStay, HiddenVariablesComeBack};
 
 /// Leaving a level that was just entered gives back what was there.
 #[tactic(auto, using(crate::proofs::ScopeFacts::leaving_restores))]

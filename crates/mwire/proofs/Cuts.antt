@@ -1,6 +1,9 @@
 -- SPDX-License-Identifier: Apache-2.0
 -- The finished lines of a stream that comes in parts, and what is kept of its rest.
-use Rattle.mwire.proofs.WireWords.{◌≡◌, ◌++◌, ◌+◌, ◌-◌, ◌<◌, ◌≤◌, ◌==◌, List, [], ◌∷◌, ℕ, refl, sym, ◌∙◌, ap, true, false, append_assoc, append-nil, length, take, map, arith, inl, inr, slice_index, flat_map, lines, lines_of_parts, strip_carriage_return, take_all, length-take-le, map-append, All-append, All-nil, slice_split_at, slice_split_none, length-slice_split, TooLong, classify, parts_of, but_last, finished_lines, IsOpen, AreOpen, IsCut, if◌then◌else◌}
+use Rattle.mwire.proofs.WireWords.{◌≡◌, ◌++◌, ◌+◌, ◌-◌, ◌<◌, ◌≤◌, ◌==◌, List, [], ◌∷◌, ℕ, refl, sym, ◌∙◌, ap, true, false, append_assoc, append-nil, length}
+use Rattle.mwire.proofs.WireWords.{take, map, arith, inl, inr, slice_index, flat_map, lines, lines_of_parts, strip_carriage_return, take_all, length-take-le}
+use Rattle.mwire.proofs.WireWords.{map-append, All-append, All-nil, slice_split_at, slice_split_none, length-slice_split, TooLong, classify, parts_of, but_last}
+use Rattle.mwire.proofs.WireWords.{finished_lines, IsOpen, AreOpen, IsCut, if◌then◌else◌}
 use Rattle.std.proofs.lemmas.List.Concat.{flat_map-append}
 use Rattle.std.proofs.lemmas.Bool.{cases_lt}
 use Rattle.mwire.proofs.Fronts.{take-take_append}

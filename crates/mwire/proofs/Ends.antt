@@ -1,6 +1,9 @@
 -- SPDX-License-Identifier: Apache-2.0
 -- How far `serve` comes, and how it ends.
-use Rattle.mwire.proofs.WireWords.{Bool, false, ◌≡◌, ◌≢◌, ◌++◌, List, [], ◌∷◌, ℕ, refl, sym, ◌∙◌, ap, subst, Ok, Err, Result, Option, append-nil, take, IfErr, is_ok, inl, inr, arith, Appends-nil, Appends-trans, Consumes-nil, Consumes-trans, lines_of_parts, strip_carriage_return, Keeps, Consumes, IsAtEnd, Text, Settings, Seen, Ghosts, classify, LinesAnswered, LineAnswered, AnswersCutShort, EachAnswered, TakesOn, LineSent, HasServed, Outcome, ServeCutShort, EndsBy, Serves, WireFault, Read, map}
+use Rattle.mwire.proofs.WireWords.{Bool, false, ◌≡◌, ◌≢◌, ◌++◌, List, [], ◌∷◌, ℕ, refl, sym, ◌∙◌, ap, subst, Ok, Err, Result, Option, append-nil, take, IfErr}
+use Rattle.mwire.proofs.WireWords.{is_ok, inl, inr, arith, Appends-nil, Appends-trans, Consumes-nil, Consumes-trans, lines_of_parts, strip_carriage_return}
+use Rattle.mwire.proofs.WireWords.{Keeps, Consumes, IsAtEnd, Text, Settings, Seen, Ghosts, classify, LinesAnswered, LineAnswered, AnswersCutShort, EachAnswered}
+use Rattle.mwire.proofs.WireWords.{TakesOn, LineSent, HasServed, Outcome, ServeCutShort, EndsBy, Serves, WireFault, Read, map}
 use Rattle.mwire.proofs.Cuts.{classify-kept, lines-cut, finished_lines-cut, last_part}
 use Rattle.mwire.proofs.LineAnswers.{LineAnswered-same, EachAnswered-more, LinesAnswered-each, AnswersCutShort-at}
 use Rattle.mwire.proofs.Progresses.{Stands-start}

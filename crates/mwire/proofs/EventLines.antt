@@ -1,6 +1,11 @@
 -- SPDX-License-Identifier: Apache-2.0
 -- Events have a stream.
-use Rattle.mwire.proofs.WireWords.{◌≡◌, ℕ, suc, ◌+◌, ◌^◌, ◌<◌, ◌≤◌, Bool, true, false, List, [], ◌∷◌, ◌++◌, length, get_or, slice_index, map, ◌-◌, ◌==◌, append-nil, length-append, refl, sym, ap, ◌∙◌, arith, if◌then◌else◌, list_all, before_first, after_first, position_or_len, flat_map, decimal, strip_carriage_return, length-take-le, get_or-append-add, All-head, All-tail, All-nil, All-push, All-append, nat_tests, Text, is_digit, digits_after, Event, max_line, Ignored, TooLong, Unreadable, Runs, is_space, is_terminal, is_event, classify, before_events, events_of, IsOpen, AreOpen, IsCut, line_of, HasLine, EventsHaveStream, take, drop}
+use Rattle.mwire.proofs.WireWords.{◌≡◌, ℕ, suc, ◌+◌, ◌^◌, ◌<◌, ◌≤◌, Bool, true, false, List, [], ◌∷◌, ◌++◌, length, get_or, slice_index, map, ◌-◌, ◌==◌}
+use Rattle.mwire.proofs.WireWords.{append-nil, length-append, refl, sym, ap, ◌∙◌, arith, if◌then◌else◌, list_all, before_first, after_first, position_or_len}
+use Rattle.mwire.proofs.WireWords.{flat_map, decimal, strip_carriage_return, length-take-le, get_or-append-add, All-head, All-tail, All-nil, All-push}
+use Rattle.mwire.proofs.WireWords.{All-append, nat_tests, Text, is_digit, digits_after, Event, max_line, Ignored, TooLong, Unreadable, Runs, is_space}
+use Rattle.mwire.proofs.WireWords.{is_terminal, is_event, classify, before_events, events_of, IsOpen, AreOpen, IsCut, line_of, HasLine, EventsHaveStream, take}
+use Rattle.mwire.proofs.WireWords.{drop}
 use Rattle.std.proofs.Common.{All}
 use Rattle.std.proofs.lemmas.List.Folds.{flat_map-map}
 use Rattle.std.proofs.Math.Seq.{take-append_seam, drop-append-add}

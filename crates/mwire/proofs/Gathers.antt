@@ -1,6 +1,8 @@
 -- SPDX-License-Identifier: Apache-2.0
 -- The events of the lines of a stream, gathered as its bytes come.
-use Rattle.mwire.proofs.WireWords.{◌≡◌, ◌++◌, List, [], ◌∷◌, refl, ◌∙◌, ap, subst, Option, append_assoc, take, arith, Consumes-nil, Consumes-trans, Consumes, lines, lines_of_parts, strip_carriage_return, map-append, Text, Event, WireLine, classify, before_events, events_of, Gathered, HasGathered, IsOpen, map}
+use Rattle.mwire.proofs.WireWords.{◌≡◌, ◌++◌, List, [], ◌∷◌, refl, ◌∙◌, ap, subst, Option, append_assoc, take, arith, Consumes-nil, Consumes-trans, Consumes}
+use Rattle.mwire.proofs.WireWords.{lines, lines_of_parts, strip_carriage_return, map-append, Text, Event, WireLine, classify, before_events, events_of}
+use Rattle.mwire.proofs.WireWords.{Gathered, HasGathered, IsOpen, map}
 use Rattle.mwire.proofs.Cuts.{length-strip, classify-kept, IsCut-nil, IsCut-open, IsCut-line, lines-cut}
 
 before_events-append : (wire_line : WireLine) (xs ys : List Event) → before_events wire_line (xs ++ ys) ≡ before_events wire_line xs ++ ys

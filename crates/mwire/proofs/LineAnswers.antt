@@ -1,6 +1,10 @@
 -- SPDX-License-Identifier: Apache-2.0
 -- How lines are answered, one after another.
-use Rattle.mwire.proofs.WireWords.{not, IsTrue, is_failure, Doubts, arith, LineSent, Option, Bool, ◌≡◌, ◌≢◌, ◌++◌, List, [], ◌∷◌, refl, sym, ◌∙◌, ap, subst, append_assoc, append-nil, Text, Settings, Seen, Event, Reply, Transition, Ghosts, Zstore, Ended, Fault, reply_of, WireLine, Ignored, TooLong, Unreadable, Runs, classify, before_events, events_of, too_long_text, unreadable_text, reply_text, line_text, replies_behind, answer_text, LinesAnswered, RunAnswered, WireLineAnswered, LineAnswered, EachAnswered, AnswersCutShort, map}
+use Rattle.mwire.proofs.WireWords.{not, IsTrue, is_failure, Doubts, arith, LineSent, Option, Bool, ◌≡◌, ◌≢◌, ◌++◌, List, [], ◌∷◌, refl, sym, ◌∙◌, ap, subst}
+use Rattle.mwire.proofs.WireWords.{append_assoc, append-nil, Text, Settings, Seen, Event, Reply, Transition, Ghosts, Zstore, Ended, Fault, reply_of, WireLine}
+use Rattle.mwire.proofs.WireWords.{Ignored, TooLong, Unreadable, Runs, classify, before_events, events_of, too_long_text, unreadable_text, reply_text}
+use Rattle.mwire.proofs.WireWords.{line_text, replies_behind, answer_text, LinesAnswered, RunAnswered, WireLineAnswered, LineAnswered, EachAnswered}
+use Rattle.mwire.proofs.WireWords.{AnswersCutShort, map}
 use Rattle.mworld.specs.declared.reply.Reply.{Reply as CodeReply}
 use Rattle.mexec.specs.Runs.{ending_of, is_kept_by}
 use Rattle.mexec.specs.declared.text.Ended.TheVariants.{Done, Halt}

@@ -1,6 +1,8 @@
 -- SPDX-License-Identifier: Apache-2.0
 -- How an output is shown, one line after another.
-use Rattle.mwire.proofs.WireWords.{◌≡◌, ◌++◌, ◌+◌, ◌<◌, ◌≤◌, List, [], ◌∷◌, ℕ, sym, ap, ◌∙◌, append_assoc, length, take, drop, Result, OnOk, arith, slice_split, position_or_len, slice_split_first, slice_split_none, length-slice_split, fails_before_first, Text, shown, output_text, is_line_end}
+use Rattle.mwire.proofs.WireWords.{◌≡◌, ◌++◌, ◌+◌, ◌<◌, ◌≤◌, List, [], ◌∷◌, ℕ, sym, ap, ◌∙◌, append_assoc, length, take, drop, Result, OnOk, arith, slice_split}
+use Rattle.mwire.proofs.WireWords.{position_or_len, slice_split_first, slice_split_none, length-slice_split, fails_before_first, Text, shown, output_text}
+use Rattle.mwire.proofs.WireWords.{is_line_end}
 use Rattle.mwire.proofs.Results.{on_ok_then}
 
 output_text-line : (digits line : Text) (parts : List Text) (n : ℕ) → length parts ≡ n + 1

@@ -1,6 +1,8 @@
 -- SPDX-License-Identifier: Apache-2.0
 -- How the lines of a stream are answered as its bytes come.
-use Rattle.mwire.proofs.WireWords.{◌≡◌, ◌++◌, List, [], ◌∷◌, refl, sym, ◌∙◌, ap, subst, Bool, true, Ok, Err, Result, Option, append_assoc, append-nil, ◌==◌, length, take, is_ok, nat_tests, arith, Appends-nil, Appends-trans, strip_carriage_return, map-append, Text, Settings, Seen, Ghosts, classify, finished_lines, LineAnswered, AnswersCutShort, EachAnswered, Stands, TakesOn, LineSent, IsOpen, map}
+use Rattle.mwire.proofs.WireWords.{◌≡◌, ◌++◌, List, [], ◌∷◌, refl, sym, ◌∙◌, ap, subst, Bool, true, Ok, Err, Result, Option, append_assoc, append-nil, ◌==◌}
+use Rattle.mwire.proofs.WireWords.{length, take, is_ok, nat_tests, arith, Appends-nil, Appends-trans, strip_carriage_return, map-append, Text, Settings, Seen}
+use Rattle.mwire.proofs.WireWords.{Ghosts, classify, finished_lines, LineAnswered, AnswersCutShort, EachAnswered, Stands, TakesOn, LineSent, IsOpen, map}
 use Rattle.mwire.proofs.Cuts.{classify-kept, IsCut-nil, IsCut-open, IsCut-line, finished_lines-cut_more, length-strip}
 use Rattle.mwire.proofs.LineAnswers.{LineAnswered-same, EachAnswered-more, AnswersCutShort-at}
 use Rattle.mwire.proofs.Sends.{FrontSent-whole}

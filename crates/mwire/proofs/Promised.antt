@@ -1,6 +1,8 @@
 -- SPDX-License-Identifier: Apache-2.0
 -- The lines that were run are a history, so their replies keep the promise.
-use Rattle.mwire.proofs.WireWords.{◌≡◌, List, [], ◌∷◌, Option, Result, Ok, Err, inl, inr, refl, Text, Settings, Seen, Ghosts, AreSteps, WireLine, Ignored, TooLong, Unreadable, Runs, classify, finished_lines, lines, WireLineAnswered, AnswersCutShort, ServeCutShort, EndsBy, Serves, WireFault, Read, Write, Memory, Visit, AreServed}
+use Rattle.mwire.proofs.WireWords.{◌≡◌, List, [], ◌∷◌, Option, Result, Ok, Err, inl, inr, refl, Text, Settings, Seen, Ghosts, AreSteps, WireLine, Ignored}
+use Rattle.mwire.proofs.WireWords.{TooLong, Unreadable, Runs, classify, finished_lines, lines, WireLineAnswered, AnswersCutShort, ServeCutShort, EndsBy, Serves}
+use Rattle.mwire.proofs.WireWords.{WireFault, Read, Write, Memory, Visit, AreServed}
 use Rattle.std.specs.Io.KnownBytes.{Appends, Consumes}
 use Rattle.mworld.specs.Promises.{KeepsPromise}
 use Rattle.mwire.proofs.StepsTaken.{steps_none, steps_one, steps_on}

@@ -1,7 +1,11 @@
 -- SPDX-License-Identifier: Apache-2.0
--- The replies that one account is told, sent one after another.
+-- The replies that one account is shown, sent one after another.
 use Rattle.mworld.specs.Sufficed.{StoreSufficedForTold}
-use Rattle.mwire.proofs.WireWords.{IsTrue, doubt_of, DoubtsOver, Doubts-same, false, arith, ◌≡◌, ℕ, ◌+◌, ◌<◌, Bool, true, List, [], ◌∷◌, ◌++◌, Option, map, take, drop, length, get_or, refl, sym, ap, ◌∙◌, subst, append_assoc, inl, map-append, take-append-drop, Appends-trans, Appends-nil, Appends, Consumes, IsAtEnd, lines, Text, Event, Ghosts, settings_of, world_of, IsTold, IsEquallyTold, IsToldEach, IsToldUntilShut, RanFirst, RanUntilShut, events_of, reply_text, told_text, RanOnly, ServeOnlyCutShort, ServesOnly, FrontSent, WireFault, Read, Write, Memory, ◌≢◌, Ok, Err}
+use Rattle.mwire.proofs.WireWords.{IsTrue, doubt_of, DoubtsOver, Doubts-same, false, arith, ◌≡◌, ℕ, ◌+◌, ◌<◌, Bool, true, List, [], ◌∷◌, ◌++◌, Option, map}
+use Rattle.mwire.proofs.WireWords.{take, drop, length, get_or, refl, sym, ap, ◌∙◌, subst, append_assoc, inl, map-append, take-append-drop, Appends-trans}
+use Rattle.mwire.proofs.WireWords.{Appends-nil, Appends, Consumes, IsAtEnd, lines, Text, Event, Ghosts, settings_of, world_of, IsTold, IsEquallyTold}
+use Rattle.mwire.proofs.WireWords.{IsToldEach, IsToldUntilShut, RanFirst, RanUntilShut, events_of, reply_text, told_text, RanOnly, ServeOnlyCutShort}
+use Rattle.mwire.proofs.WireWords.{ServesOnly, FrontSent, WireFault, Read, Write, Memory, ◌≢◌, Ok, Err}
 use Rattle.std.proofs.lemmas.List.{append-nil}
 use Rattle.std.proofs.lemmas.Grind.{flat_map-append}
 use Rattle.mspec.specs.Access.{name_at}
@@ -74,7 +78,7 @@ module _ {S : Type 0} (g : Ghosts S) (old new : World S g) (account : ℕ) (left
         λ before now. absurd (omega (arith, before, now, ap (doubt_of g) same)),
       )
 
-  -- out of memory for what is told
+  -- out of memory for what is shown
   pub untold : (es : List Event) → es ≡ events_of (lines read) → (doubt_of g new ≡ 0 → RanFirst (settings_of old) (world_of g old) es (world_of g new))
       → (doubt_of g old ≡ 0 → doubt_of g new ≡ 1 → RanUntilShut (settings_of old) (world_of g old) es)
       → DoubtsOver g old.store new.store false → held' ≡ held → ServesOnly g old account left left' held held' (Err Memory) new

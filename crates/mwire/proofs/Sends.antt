@@ -1,6 +1,7 @@
 -- SPDX-License-Identifier: Apache-2.0
 -- Bytes that are sent bit by bit.
-use Rattle.mwire.proofs.WireWords.{◌≡◌, ◌++◌, ◌-◌, [], ℕ, refl, Bool, true, Option, length, take, drop, Appends-nil, Appends-trans, Appends, Text, SentUpTo, FrontSent, ap, ◌∙◌, append-nil}
+use Rattle.mwire.proofs.WireWords.{◌≡◌, ◌++◌, ◌-◌, [], ℕ, refl, Bool, true, Option, length, take, drop, Appends-nil, Appends-trans, Appends, Text, SentUpTo}
+use Rattle.mwire.proofs.WireWords.{FrontSent, ap, ◌∙◌, append-nil}
 use Rattle.mwire.proofs.Fronts.{rest_after}
 
 pub SentUpTo-start : (bytes : Text) (before : Option Text) → SentUpTo bytes bytes before before

@@ -1,6 +1,9 @@
 -- SPDX-License-Identifier: Apache-2.0
 -- The answers of a history of normal steps.
-use Rattle.mwire.proofs.WireWords.{Doubts-same, arith, ◌≡◌, ◌++◌, List, [], ◌∷◌, true, false, refl, sym, ap, ◌∙◌, lines, Text, Settings, World, Event, Reply, normal, is_failure, replies, world_after, answered, opening, Ghosts, WireLine, classify, before_events, events_of, line_served, lines_served, StoreSufficed, StoreSufficedForEach, line_text, replies_behind, answer_text, NormalAnswersAreServed, NormalStreamsAreServed, LinesHaveAnswers, map}
+use Rattle.mwire.proofs.WireWords.{Doubts-same, arith, ◌≡◌, ◌++◌, List, [], ◌∷◌, true, false, refl, sym, ap, ◌∙◌, lines, Text, Settings, World, Event, Reply}
+use Rattle.mwire.proofs.WireWords.{normal, is_failure, replies, world_after, answered, opening, Ghosts, WireLine, classify, before_events, events_of}
+use Rattle.mwire.proofs.WireWords.{line_served, lines_served, StoreSufficed, StoreSufficedForEach, line_text, replies_behind, answer_text}
+use Rattle.mwire.proofs.WireWords.{NormalAnswersAreServed, NormalStreamsAreServed, LinesHaveAnswers, map}
 use Rattle.mmeaning.proofs.Histories.{normal_never_fails, normal_transitions_are_history, history_is_normal}
 
 line_is_served : (settings : Settings) (world : World) (more : List Text) (wire_line : WireLine)

@@ -1,6 +1,7 @@
 -- SPDX-License-Identifier: Apache-2.0
 -- How a text is shown, block by block.
-use Rattle.mwire.proofs.WireWords.{ℕ, ◌≡◌, ◌++◌, ◌∙◌, [], ◌∷◌, Bool, true, false, refl, sym, ap, arith, append_assoc, list_all, Text, shown, shown_character, is_escaped, Result, Ok, Err, OnOk, is_ok}
+use Rattle.mwire.proofs.WireWords.{ℕ, ◌≡◌, ◌++◌, ◌∙◌, [], ◌∷◌, Bool, true, false, refl, sym, ap, arith, append_assoc, list_all, Text, shown, shown_character}
+use Rattle.mwire.proofs.WireWords.{is_escaped, Result, Ok, Err, OnOk, is_ok}
 use Rattle.std.specs.Prelude.{not, if◌then◌else◌}
 use Rattle.std.proofs.lemmas.List.Concat.{flat_map-append}
 

@@ -1,6 +1,8 @@
 -- SPDX-License-Identifier: Apache-2.0
 -- Lines that are steps, one after another.
-use Rattle.mwire.proofs.WireWords.{◌≡◌, ◌++◌, ℕ, zero, suc, Bool, false, not, List, [], ◌∷◌, refl, sym, ap, ◌∙◌, subst, arith, append_assoc, IsTrue, Settings, World, Event, Reply, Transition, History, is_failure, Ghosts, Doubts, Doubts-on, Doubts-same, undoubted, Seen, AreSteps, StepsUntilShut, StoreSufficed, StoreSufficedForEach}
+use Rattle.mwire.proofs.WireWords.{◌≡◌, ◌++◌, ℕ, zero, suc, Bool, false, not, List, [], ◌∷◌, refl, sym, ap, ◌∙◌, subst, arith, append_assoc, IsTrue, Settings}
+use Rattle.mwire.proofs.WireWords.{World, Event, Reply, Transition, History, is_failure, Ghosts, Doubts, Doubts-on, Doubts-same, undoubted, Seen, AreSteps}
+use Rattle.mwire.proofs.WireWords.{StepsUntilShut, StoreSufficed, StoreSufficedForEach}
 use Rattle.misolation.proofs.RunsTold.{history_on}
 
 -- a fault shut the store at a later line

@@ -1,6 +1,8 @@
 -- SPDX-License-Identifier: Apache-2.0
 -- Connections after connections.
-use Rattle.mwire.proofs.WireWords.{◌≡◌, ◌++◌, ◌+◌, ℕ, List, [], ◌∷◌, length, refl, sym, ap, subst, ◌∙◌, Option, Some, Result, Err, arith, map-append, All-append, All-cons, All-nil, Text, Settings, Seen, Ghosts, Serves, Visit, AreServed, AreOfPeers, HasServedEach, ServesEach, WireFault, map}
+use Rattle.mwire.proofs.WireWords.{◌≡◌, ◌++◌, ◌+◌, ℕ, List, [], ◌∷◌, length, refl, sym, ap, subst, ◌∙◌, Option, Some, Result, Err, arith, map-append}
+use Rattle.mwire.proofs.WireWords.{All-append, All-cons, All-nil, Text, Settings, Seen, Ghosts, Serves, Visit, AreServed, AreOfPeers, HasServedEach, ServesEach}
+use Rattle.mwire.proofs.WireWords.{WireFault, map}
 use Rattle.std.proofs.lemmas.List.{append_assoc, append-nil, length-append}
 use Rattle.mwire.specs.declared.fault.AcceptFault.{AcceptFault}
 use Rattle.mwire.proofs.Promised.{each_promised, each_steps}

@@ -1,5 +1,5 @@
 -- SPDX-License-Identifier: Apache-2.0
--- What connections do to a world, one after another, and, if a listener tells who comes, which they are.
+-- What connections change in a world, one after another, and, if a listener tells who comes, which they are.
 use Rattle.std.specs.Prelude.{◌≡◌, ◌<◌, ℕ, List, [], ◌∷◌, ◌++◌, length, map, Option, Some, Result, MatchResult}
 use Rattle.std.specs.List.{All}
 use Rattle.mspec.specs.Act.{Text}

@@ -1,5 +1,5 @@
 -- SPDX-License-Identifier: Apache-2.0
--- What `serve_only` does: a stream is read to its end, its events are run, and one account is told of its replies.
+-- What `serve_only` does: a stream is read to its end, its events are run, and one account is shown its replies.
 use Rattle.std.specs.Prelude.{◌≡◌, ◌⊎◌, ℕ, Bool, false, IsTrue, List, [], ◌++◌, MatchResult, Result, Option}
 use Rattle.std.specs.List.{flat_map}
 use Rattle.std.specs.Io.KnownBytes.{Appends, Consumes, IsAtEnd}

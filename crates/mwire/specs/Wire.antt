@@ -1,7 +1,8 @@
 -- SPDX-License-Identifier: Apache-2.0
 -- The wire form: the lines of a byte stream, what becomes of each, and the bytes that answer them. It is mserve's own;
 -- ISO/IEC 11756:1999 leaves to an implementation how a line comes to it.
-use Rattle.std.specs.Prelude.{ℕ, ◌+◌, ◌/◌, ◌%◌, Bool, ◌==◌, ◌&&◌, ◌||◌, not, nat_lt, nat_le, List, [], ◌∷◌, ◌++◌, length, map, slice_index, if◌then◌else◌, codes}
+use Rattle.std.specs.Prelude.{ℕ, ◌+◌, ◌/◌, ◌%◌, Bool, ◌==◌, ◌&&◌, ◌||◌, not, nat_lt, nat_le, List, [], ◌∷◌, ◌++◌, length, map, slice_index, if◌then◌else◌}
+use Rattle.std.specs.Prelude.{codes}
 use Rattle.std.specs.List.{list_all, before_first, after_first, position_or_len, slice_split, flat_map}
 use Rattle.std.specs.Fmt.{decimal}
 use Rattle.std.specs.Str.Lines.{lines, strip_carriage_return}

@@ -43,6 +43,7 @@ fn code_name(code: Code) -> &'static [u8]
         Code::M20 => b"M20",
         Code::M28 => b"M28",
         Code::M58 => b"M58",
+        Code::M90 => b"M90",
         Code::M94 => b"M94",
         Code::Zlong => b"ZLONG",
         Code::Zsyntax => b"ZSYNTAX",

@@ -1,5 +1,5 @@
 // SPDX-License-Identifier: Apache-2.0
-// A stream, run to its end, of which one account is told.
+// A stream, run to its end, of which one account is shown its replies.
 ghost use Rattle.std.specs.Prelude.{◌≡◌, ◌≢◌, ◌+◌, ◌≤◌, false, map, IfErr, is_ok, Ok, Err};
 ghost use Rattle.mworld.specs.View.{settings_of, reply_of};
 ghost use Rattle.mworld.specs.Isolated.{told_of};
@@ -20,14 +20,14 @@ use std::io::{Read, Write};
 
 /// Reads a stream to its end, runs its lines, and writes the replies at the terminals of one account of the world's settings. It
 /// returns whether no line of an account that reaches this one was answered ZMEM or ZSTORE. If none was, the replies are those
-/// that the account is told where there is nothing but the accounts that reach it, as `isolated_replies` says; if a fault shut the
+/// that the account is shown if there is nothing but the accounts that reach it, as `isolated_replies` says; if a fault shut the
 /// store on the way, up to the line at which it did.
 ///
 /// The faults:
 /// - `Read`: a read failed, or there were 1,000,000,000 reads. No line is run.
 /// - `Write`: a write failed, or took nothing. A write that took nothing before this call doesn't count. All lines are run, and
 ///   a front of the replies' bytes is written.
-/// - `Memory`: out of memory for the lines, for what is told, or for a reply's bytes. Either some first lines are run, and nothing is
+/// - `Memory`: out of memory for the lines, for what is shown, or for a reply's bytes. Either some first lines are run, and nothing is
 ///   written; or all lines are run, and a front of the replies' bytes is written.
 ///
 /// The condition: no call of the reader or the writer has failed yet, as `failed` says.
@@ -89,7 +89,8 @@ fn write_reply<W: Write>(
     told: &Told,
     writer: &mut Watched<W>,
 ) -> Result<(), WireFault>
-    ensures sent { FrontSent (reply_text told.now.terminal (reply_of told.now.reply)) (W.contents (inner_of writer.old)) (W.contents (inner_of writer.new)) (is_ok result) }
+    ensures sent { FrontSent (reply_text told.now.terminal (reply_of told.now.reply)) (W.contents (inner_of writer.old)) (W.contents (inner_of writer.new))
+        (is_ok result) }
     ensures fault { IfErr result (λ e. (e ≢ WireFault.Read) × (e ≡ WireFault.Write → WriteFailed writer.old writer.new)) }
     ensures works { result ≢ Err WireFault.Write → failed_of writer.new ≡ failed_of writer.old }
     ensures no_stall { result ≢ Err WireFault.Write → stalls_of writer.new ≡ stalls_of writer.old }

@@ -102,7 +102,8 @@ fn take_line<S: NodeStore, W: Write>(
     writer: &mut Watched<W>,
 ) -> Result<(), WireFault>
     requires { IsOpen bytes.now }
-    ensures passes { TakesOn S.NodeStore (settings_of world.old) (seen_of S.NodeStore world.old) line.old (bytes.now ++ 10 ∷ []) (seen_of S.NodeStore world.new) line.new
+    ensures passes { TakesOn S.NodeStore (settings_of world.old) (seen_of S.NodeStore world.old) line.old (bytes.now ++ 10 ∷ [])
+        (seen_of S.NodeStore world.new) line.new
         (W.contents (inner_of writer.old)) (W.contents (inner_of writer.new)) result }
     ensures settings { settings_of world.new ≡ settings_of world.old }
     ensures fault { IfErr result (λ e. (e ≢ WireFault.Read) × (e ≡ WireFault.Write → WriteFailed writer.old writer.new)) }

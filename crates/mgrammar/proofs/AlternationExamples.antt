@@ -1,6 +1,7 @@
 -- SPDX-License-Identifier: Apache-2.0
 -- Groups of patterns on examples: their trees, what they match, which counts are reversed, and how many turns they take.
-use Rattle.mgrammar.proofs.GrammarWords.{◌≡◌, ℕ, zero, suc, Bool, true, false, List, [], ◌∷◌, ◌++◌, map, Option, Some, None, rules, codes, list_any, AtomTree, RepeatedTree, classes, copies, group, patterns_of, pattern_of}
+use Rattle.mgrammar.proofs.GrammarWords.{◌≡◌, ℕ, zero, suc, Bool, true, false, List, [], ◌∷◌, ◌++◌, map, Option, Some, None, rules, codes, list_any, AtomTree}
+use Rattle.mgrammar.proofs.GrammarWords.{RepeatedTree, classes, copies, group, patterns_of, pattern_of}
 use Rattle.std.specs.Prelude.{option_map, is_some}
 use Rattle.mspec.specs.PatternTests.{is_match}
 use Rattle.mgrammar.specs.Matching.{atom_of, atom_reversed, turns_of}
@@ -9,7 +10,7 @@ use Rattle.mgrammar.proofs.Computing.{reads}
 abbrev texts_are_patterns : List (List ℕ) → List Bool
 texts_are_patterns ts = map (λ t. is_some (pattern_of t)) ts
 
--- so many brackets around a pattern
+-- this many brackets around a pattern
 abbrev in_groups : ℕ → List ℕ
 in_groups zero = codes "1N"
 in_groups (suc n) = codes "1(" ++ in_groups n ++ codes ")"
@@ -59,7 +60,7 @@ are_reversed : AreReversed
 unfolding reads
 are_reversed = search rules
 
--- the turns of a pattern that is written so, of a text with so many characters
+-- the turns of a pattern that is written so, of a text with this many characters
 abbrev turned : ℕ × List ℕ → Option ℕ
 turned x = option_map (turns_of x.0) (pattern_of x.1)
 

@@ -1,6 +1,14 @@
 -- SPDX-License-Identifier: Apache-2.0
 -- One name for all that reads: an example that is computed unfolds it.
-use Rattle.mgrammar.proofs.GrammarWords.{special_of, keyword_of, function_of, args_at, set_argument_at, command_at, comment_at, if_argument_at, destination_at, do_argument_at, entry_at, xecute_argument_at, new_argument_at, goto_argument_at, line_at, lock_ref_with, locked_at, lock_argument_at, hang_argument_at, quit_argument_at, names_at, write_argument_at, parameter_at, part_with, postcondition_at, kill_argument_at, for_argument_at, spaced_at, target_with, atom_with, count_at, group_at, exponent_at, list_at, many, name_at, number_at, operator_at, pattern_at, pattern_with, point_at, repeated_with, truth_at, actual_with, actuals_with, attached_with, bracket_with, call_with, called_with, choice_with, dollar_with, expr_with, extended_with, indirect_with, operand_with, primary_with, readers_at, refer_with, reference_with, routine_at, select_with, shared_at, tail_by, tail_with, subscripts_with, args_of, name_of, ref_at, pattern_of, body_at, dot_at, dots_at, formals_at, label_at, routine_line_at, Bool, true}
+use Rattle.mgrammar.proofs.GrammarWords.{special_of, keyword_of, function_of, args_at, set_argument_at, command_at, comment_at, if_argument_at, destination_at}
+use Rattle.mgrammar.proofs.GrammarWords.{do_argument_at, entry_at, xecute_argument_at, new_argument_at, goto_argument_at, line_at, lock_ref_with, locked_at}
+use Rattle.mgrammar.proofs.GrammarWords.{lock_argument_at, hang_argument_at, quit_argument_at, names_at, write_argument_at, parameter_at, part_with}
+use Rattle.mgrammar.proofs.GrammarWords.{postcondition_at, kill_argument_at, for_argument_at, spaced_at, target_with, atom_with, count_at, group_at}
+use Rattle.mgrammar.proofs.GrammarWords.{exponent_at, list_at, many, name_at, number_at, operator_at, pattern_at, pattern_with, point_at, repeated_with}
+use Rattle.mgrammar.proofs.GrammarWords.{truth_at, actual_with, actuals_with, attached_with, bracket_with, call_with, called_with, choice_with, dollar_with}
+use Rattle.mgrammar.proofs.GrammarWords.{expr_with, extended_with, indirect_with, operand_with, primary_with, readers_at, refer_with, reference_with}
+use Rattle.mgrammar.proofs.GrammarWords.{routine_at, select_with, shared_at, tail_by, tail_with, subscripts_with, args_of, name_of, ref_at, pattern_of, body_at}
+use Rattle.mgrammar.proofs.GrammarWords.{dot_at, dots_at, formals_at, label_at, routine_line_at, Bool, true}
 use Rattle.mgrammar.specs.Functions.{since_function}
 use Rattle.mgrammar.specs.Specials.{since_special}
 use Rattle.mgrammar.specs.Languages.{line_in, routine_line_in, ref_in, args_in}

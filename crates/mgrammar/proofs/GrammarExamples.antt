@@ -1,6 +1,12 @@
 -- SPDX-License-Identifier: Apache-2.0
 -- The grammar on examples, as proved equations: texts with their trees, and how deep brackets may lie.
-use Rattle.mgrammar.proofs.GrammarWords.{ℕ, zero, suc, List, [], ◌∷◌, ◌++◌, Option, Some, None, rules, codes, plus, minus, negate, equals, less, greater, contains, follows, sorts_after, both, either, add, subtract, multiply, divide, divide_whole, remainder, join, is, is_not, CountTree, RepeatedTree, classes, copies, AtomTree, OperandTree, ExprTree, expr, TailTree, tails_of, apply, matches, matches_not, raise, operand, number, text, special, reference, bracket, call, select, refer, ReferenceTree, local, global, naked, no_exprs, exprs_of, choices_of, variable, part, DestinationTree, one, several, once, onward, until, assign, formats, shown, kill_one, kill_others, new_one, new_others, tested, loop, set_word, kill_word, new_word, if_word, else_word, for_word, quit_word, write_word, LineTree, line_at, replicate}
+use Rattle.mgrammar.proofs.GrammarWords.{ℕ, zero, suc, List, [], ◌∷◌, ◌++◌, Option, Some, None, rules, codes, plus, minus, negate, equals, less, greater}
+use Rattle.mgrammar.proofs.GrammarWords.{contains, follows, sorts_after, both, either, add, subtract, multiply, divide, divide_whole, remainder, join, is}
+use Rattle.mgrammar.proofs.GrammarWords.{is_not, CountTree, RepeatedTree, classes, copies, AtomTree, OperandTree, ExprTree, expr, TailTree, tails_of, apply}
+use Rattle.mgrammar.proofs.GrammarWords.{matches, matches_not, raise, operand, number, text, special, reference, bracket, call, select, refer, ReferenceTree}
+use Rattle.mgrammar.proofs.GrammarWords.{local, global, naked, no_exprs, exprs_of, choices_of, variable, part, DestinationTree, one, several, once, onward}
+use Rattle.mgrammar.proofs.GrammarWords.{until, assign, formats, shown, kill_one, kill_others, new_one, new_others, tested, loop, set_word, kill_word, new_word}
+use Rattle.mgrammar.proofs.GrammarWords.{if_word, else_word, for_word, quit_word, write_word, LineTree, line_at, replicate}
 use Rattle.mgrammar.proofs.Computing.{reads}
 use Rattle.mgrammar.proofs.ShortTrees.{IsRead, HaveNone, plain, named, command, conditional, of_commands}
 

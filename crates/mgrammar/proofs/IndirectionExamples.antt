@@ -1,6 +1,11 @@
 -- SPDX-License-Identifier: Apache-2.0
 -- Indirection on examples, as proved equations: texts with their trees, and texts that have none.
-use Rattle.mgrammar.proofs.GrammarWords.{◌≡◌, ℕ, zero, suc, ◌≢◌, List, [], ◌∷◌, ◌++◌, Some, None, refl, rules, codes, plus, add, apply, expr, no_tails, tail, operand, PrimaryTree, number, text, reference, bracket, ReferenceTree, local, naked, indirect, no_exprs, exprs, variable, one, several, set_argument, kill_argument, new_argument, if_argument, write_argument, do_argument, goto_argument, xecute_argument, assign, formats, shown, kill_one, do_one, no_actuals, executed, indirect_args, set_word, kill_word, new_word, if_word, write_word, do_word, goto_word, execute_word, line_at, ref_at, args_of, replicate}
+use Rattle.mgrammar.proofs.GrammarWords.{◌≡◌, ℕ, zero, suc, ◌≢◌, List, [], ◌∷◌, ◌++◌, Some, None, refl, rules, codes, plus, add, apply, expr, no_tails, tail}
+use Rattle.mgrammar.proofs.GrammarWords.{operand, PrimaryTree, number, text, reference, bracket, ReferenceTree, local, naked, indirect, no_exprs, exprs}
+use Rattle.mgrammar.proofs.GrammarWords.{variable, one, several, set_argument, kill_argument, new_argument, if_argument, write_argument, do_argument}
+use Rattle.mgrammar.proofs.GrammarWords.{goto_argument, xecute_argument, assign, formats, shown, kill_one, do_one, no_actuals, executed, indirect_args}
+use Rattle.mgrammar.proofs.GrammarWords.{set_word, kill_word, new_word, if_word, write_word, do_word, goto_word, execute_word, line_at, ref_at, args_of}
+use Rattle.mgrammar.proofs.GrammarWords.{replicate}
 use Rattle.mgrammar.proofs.Computing.{reads}
 use Rattle.mgrammar.proofs.ShortTrees.{IsRead, HaveNone, only, own_label, named, of_one}
 

@@ -1,6 +1,9 @@
 -- SPDX-License-Identifier: Apache-2.0
 -- Languages on examples, as proved equations: which of them has a text, wherever in it the form stands that is not of all.
-use Rattle.mgrammar.proofs.GrammarWords.{◌≡◌, ℕ, List, [], ◌∷◌, Some, None, Bool, true, false, map, rules, codes, text, call, expr, exprs, no_exprs, tail, no_tails, reference, matches_indirect, matches_not_indirect, extrinsic, EntryTree, at_label_in, at_routine, shared_routine, do_one, go_to, do_word, goto_word, actuals, name_actual, value_actual, no_actuals, number, coded, formats, shown, set_argument, write_word}
+use Rattle.mgrammar.proofs.GrammarWords.{◌≡◌, ℕ, List, [], ◌∷◌, Some, None, Bool, true, false, map, rules, codes, text, call, expr, exprs, no_exprs, tail}
+use Rattle.mgrammar.proofs.GrammarWords.{no_tails, reference, matches_indirect, matches_not_indirect, extrinsic, EntryTree, at_label_in, at_routine}
+use Rattle.mgrammar.proofs.GrammarWords.{shared_routine, do_one, go_to, do_word, goto_word, actuals, name_actual, value_actual, no_actuals, number, coded}
+use Rattle.mgrammar.proofs.GrammarWords.{formats, shown, set_argument, write_word}
 use Rattle.std.specs.Prelude.{is_some}
 use Rattle.mgrammar.specs.Languages.{line_in, routine_line_in, ref_in, args_in}
 use Rattle.mgrammar.specs.IndirectTexts.{pattern_of}
@@ -53,7 +56,7 @@ record IsMatched : Type 0 where
 
 -- and of a call
 record IsCalled : Type 0 where
-  called : line_in 2 (codes "W $$F^R(.A,1)")
+  called : line_in 1 (codes "W $$F^R(.A,1)")
       ≡ Some (of_one write_word (codes "W") (
       shown (only (extrinsic (own_label (codes "F") (codes "R")) (actuals (name_actual (codes "A")) (actuals (value_actual the_one) no_actuals)))) ∷ []))
 
@@ -73,7 +76,7 @@ record AreShared : Type 0 where
   left_for : line_in 1 (codes "G L^|\"LIB\"|R:1") ≡ Some (of_one goto_word (codes "G") (go_to shared_label (Some the_one) ∷ []))
   quotes : line_in 1 (codes "G ^|\"A\"\"B\"|R")
       ≡ Some (of_one goto_word (codes "G") (go_to (at_routine (shared_routine (codes "A\"B") (codes "R"))) None ∷ []))
-  called : line_in 2 (codes "W $$L^|\"LIB\"|R(.A)")
+  called : line_in 1 (codes "W $$L^|\"LIB\"|R(.A)")
       ≡ Some (of_one write_word (codes "W") (shown (only (extrinsic shared_label (actuals (name_actual (codes "A")) no_actuals))) ∷ []))
 
 are_shared : AreShared
@@ -113,15 +116,24 @@ record Languages : Type 0 where
   -- actuals of DO, with a form in them or none
   actuals_of_do : AreOfOne has_line (
       codes "D A(1)" ∷ codes "D A()" ∷ codes "D A^R(.B,,C)" ∷ codes "D ^R(.@B):C" ∷ codes "D A($RE(1))" ∷ codes "D A,B(1)" ∷ codes "d A(1) W 1" ∷ [])
-  -- calls of functions, wherever a value stands, with actuals or without a list
-  calls : AreOfTwo has_line (
-      codes "W $$A" ∷ codes "W $$A()" ∷ codes "W $$A^R(1)" ∷ codes "W $$^R(.B,,C)" ∷ codes "S A=-$$A(1)+$$B" ∷ codes "W A($$B(1))" ∷ codes "D A($$B,.C)" ∷ codes "Q $$A($$A(1))" ∷
-      codes "I $$A" ∷ codes "W @$$A(1)" ∷ codes "W 1?@$$A" ∷ codes "S @A@($$B)=1" ∷ codes "D A:$$B(1)" ∷ codes "W $S($$A:$$B)" ∷ codes "W $L($$A)" ∷ [])
+  -- calls of functions, with actuals or without a list, where they can be carried out a step at a time
+  calls : AreOfOne has_line (
+      codes "W $$A" ∷ codes "W $$A()" ∷ codes "W $$A^R(1)" ∷ codes "W $$^R(.B,,C)" ∷ codes "S A=-$$A(1)+$$B" ∷ codes "S A(1)=$$A,(B,C)=$$A" ∷ codes "W ($$A_1)**$$B" ∷
+      codes "W $L($$A),!,*$$A,?$$A" ∷ codes "D A($$B,.C)" ∷ codes "D A(.@$$B)" ∷ codes "D A:$$B(1)" ∷ codes "G A:$$B" ∷ codes "X $$A:$$B" ∷ codes "I $$A,'$$A" ∷
+      codes "H $$A" ∷ codes "Q $$A($$A(1))" ∷ codes "Q:$$A  W 1" ∷ codes "F A=1:1 Q:$$B" ∷ [])
+  -- and elsewhere: in subscripts, in functions of a variable, in $SELECT and in indirection
+  calls_in_operands : AreOfTwo has_line (
+      codes "W A($$B(1))" ∷ codes "W ^A($$B)" ∷ codes "W ^($$B)" ∷ codes "W ^|$$A|B" ∷ codes "W $G(A($$B))" ∷ codes "W $G(A,$$B)" ∷ codes "W $S($$A:$$B)" ∷
+      codes "W $S(A:$$B)" ∷ codes "W @$$A(1)" ∷ codes "W @A@($$B)" ∷ codes "W 1?@$$A" ∷ codes "W $$A(B($$C))" ∷ codes "Q:A($$B)  W 1" ∷ codes "Q:'$S($$B:1)" ∷ [])
+  -- in a target of SET, in the parameters of FOR, in what KILL and LOCK name, and in a timeout
+  calls_in_arguments : AreOfTwo has_line (
+      codes "S A($$B)=1" ∷ codes "S (A,B($$C))=$$C" ∷ codes "S $P(A,$$B)=1" ∷ codes "S @A@($$B)=1" ∷ codes "S @$$A" ∷ codes "F A=$$B" ∷ codes "F A=1:$$B" ∷ codes "F A=$$B:1:2" ∷
+      codes "F A=1:1:$$B" ∷ codes "K A($$B)" ∷ codes "L A($$B)" ∷ codes "L (A,B($$C))" ∷ codes "L A:$$B" ∷ codes "D @$$A" ∷ codes "W 1,A($$B),2 Q" ∷ [])
   -- routines of another account, whose environment is a string
   shared : AreOfOne has_line (
       codes "D L^|\"LIB\"|R(X)" ∷ codes "D ^|\"LIB\"|R" ∷ codes "G L^|\"LIB\"|R" ∷ codes "G ^|\"LIB\"|R:A" ∷
       codes "D A,^|\"\"|R:A,B" ∷ codes "D ^|\"A\"\"B\"|R" ∷ codes "G:A ^|\"1 2\"|%R" ∷ [])
-  shared_calls : AreOfTwo has_line (codes "W $$L^|\"LIB\"|R(X)" ∷ codes "W $$^|\"LIB\"|R" ∷ codes "D L^|\"LIB\"|R($$^|\"LIB\"|R)" ∷ [])
+  shared_calls : AreOfOne has_line (codes "W $$L^|\"LIB\"|R(X)" ∷ codes "W $$^|\"LIB\"|R" ∷ codes "D L^|\"LIB\"|R($$^|\"LIB\"|R)" ∷ [])
   no_shared : AreOfNone has_line (
       codes "D ^|LIB|R" ∷ codes "G L^|A|R" ∷ codes "D ^||R" ∷ codes "D ^|\"LIB\"R" ∷ codes "D ^|\"LIB|R" ∷ codes "D ^|\"LIB\"|" ∷
       codes "G ^|\"A\"_\"B\"|R" ∷ codes "D |\"LIB\"|R" ∷
@@ -152,13 +164,17 @@ record Languages : Type 0 where
   no_groups : AreOfNone has_line (codes "W A?1()" ∷ codes "W A?1(1N" ∷ codes "W A?1(1N,)" ∷ codes "W A?(1N)" ∷ codes "W A?1(@B)" ∷ codes "W A?1N(1N)" ∷ [])
   -- in each kind of argument, in a condition, and in whichever command of a line
   arguments : AreOfOne has_line (
+      codes "W $QL(A)" ∷ codes "W $qlength(A)" ∷ codes "W $QS(A,1)" ∷ codes "W $QSUBSCRIPT(A,-1)" ∷
       codes "S A=$RE(A)" ∷ codes "S A($RE(A))=1" ∷ codes "S $P(A,$RE(A))=1" ∷ codes "S $P(A,1,$RE(A))=1" ∷ codes "S (A,B($RE(A)))=1" ∷ codes "K A($RE(A))" ∷
       codes "I $RE(A)" ∷ codes "F I=$RE(A)" ∷ codes "F I=1:$RE(A)" ∷ codes "F I=1:1:$RE(A)" ∷ codes "D A:$RE(A)" ∷ codes "G A:$RE(A)" ∷ codes "X $RE(A)" ∷
       codes "X A:$RE(A)" ∷ codes "L A($RE(A))" ∷ codes "L (A,B($RE(A)))" ∷ codes "L A:$RE(A)" ∷ codes "Q:$RE(A)" ∷ codes "S @$RE(A)" ∷
       codes "W 1 W 2,$RE(A) Q" ∷ [])
-  routine_lines : AreOfOne has_routine_line (codes "T W $RE(A)" ∷ codes " . . W $RE(A)" ∷ codes "L(A) W 1" ∷ codes "L()" ∷ [])
-  references : AreOfOne has_ref (codes "A($RE(A))" ∷ codes "@$RE(A)" ∷ [])
-  argument_texts : AreOfOne has_args (codes "A=$RE(A)" ∷ codes "A=1,B=$RE(A)" ∷ [])
+  routine_lines : AreOfOne has_routine_line (codes "T W $RE(A)" ∷ codes " . . W $RE(A)" ∷ codes "L(A) W 1" ∷ codes "L()" ∷ codes "L Q $$A" ∷ [])
+  later_routine_lines : AreOfTwo has_routine_line (codes "L Q A($$B)" ∷ codes " . K A($$B)" ∷ [])
+  -- the text of a name has a tree with calls too, which fail once they are reached
+  references : AreOfOne has_ref (codes "A($RE(A))" ∷ codes "@$RE(A)" ∷ codes "A($$B)" ∷ codes "@$$A" ∷ [])
+  argument_texts : AreOfOne has_args (codes "A=$RE(A)" ∷ codes "A=1,B=$RE(A)" ∷ codes "A=$$B" ∷ [])
+  later_argument_texts : AreOfTwo has_args (codes "A($$B)=1" ∷ codes "A=1,B=$S($$A:1)" ∷ codes "@$$A" ∷ [])
   -- in a string and in a comment it is no form
   all_the_same : AreOfBoth has_line (
       codes "W \"$RE(A)\"" ∷ codes "W 1 ;$RE(A)" ∷ codes "S RE=1,REVERSE=2" ∷ codes "W $J(A,1),$J($P(A,B,1,2),3)" ∷ codes "W !!,1#2,1*2,!" ∷
@@ -168,6 +184,7 @@ record Languages : Type 0 where
   -- of one value, by either of its words; a word before a bracket is a function's
   no_forms : AreOfNone has_line (
       codes "W $I(1)" ∷ codes "W $JO" ∷ codes "W $IOS" ∷ codes "S $I=1" ∷ codes "S $J=1" ∷ codes "HANG" ∷ codes "HANG:A" ∷ codes "HALT 1" ∷ codes "H 1," ∷ codes "H 1:A" ∷
+      codes "W $QL(1,2)" ∷ codes "W $QS(1)" ∷ codes "W $QS(1,2,3)" ∷ codes "S $QS(A,1)=1" ∷
       codes "W $J(A)" ∷ codes "W $J(A,1,2,3)" ∷ codes "W $FN(A)" ∷ codes "W $FN(A,B,1,2)" ∷ codes "W $RE()" ∷ codes "W $RE(1,2)" ∷ codes "W $RE" ∷ codes "W $REV(1)" ∷ codes "S $RE(A)=1" ∷
       codes "W 2**" ∷ codes "W **2" ∷ codes "W 2***3" ∷ codes "W 2** 3" ∷ codes "W 2* *3" ∷ codes "W 2'**3" ∷
       codes "W ?5!" ∷ codes "W ?" ∷ codes "W !?" ∷ codes "W !*1" ∷ codes "W *" ∷ codes "W *1!" ∷ codes "W #A" ∷ codes "W !A" ∷ codes "W *1#" ∷ codes "W #@A" ∷ [])

@@ -22,6 +22,7 @@ pub mod ReadingRoutines
 pub mod ReadingLoops
 pub mod Computing
 pub mod ShortTrees
+pub mod NameExamples
 pub mod GrammarExamples
 pub mod GrammarRefusals
 pub mod RoutineExamples
@@ -32,3 +33,4 @@ pub mod LanguageExamples
 pub mod AlternationExamples
 pub mod ProfileCalls
 pub mod StepsUncalled
+pub mod StepsEarly

@@ -1,6 +1,9 @@
 -- SPDX-License-Identifier: Apache-2.0
 -- Environments, LOCK and HALT on examples, as proved equations: texts with their trees, and texts that have none.
-use Rattle.mgrammar.proofs.GrammarWords.{◌≡◌, ◌≢◌, ℕ, List, [], ◌∷◌, ◌++◌, Option, Some, None, refl, rules, codes, ExprTree, text, reference, global, indirect, extended, no_exprs, exprs, anew, adding, giving_back, lock_one, lock_several, lock_argument, ArgTree, shown, locked, indirect_args, KeywordTree, write_word, lock_word, halt_word, halt_or_hang_word, hang_word, hang_for, hang_argument, SpacedTree, line_at, ref_at, args_of, replicate}
+use Rattle.mgrammar.proofs.GrammarWords.{◌≡◌, ◌≢◌, ℕ, List, [], ◌∷◌, ◌++◌, Option, Some, None, refl, rules, codes, ExprTree, text, reference, global, indirect}
+use Rattle.mgrammar.proofs.GrammarWords.{extended, no_exprs, exprs, anew, adding, giving_back, lock_one, lock_several, lock_argument, ArgTree, shown, locked}
+use Rattle.mgrammar.proofs.GrammarWords.{indirect_args, KeywordTree, write_word, lock_word, halt_word, halt_or_hang_word, hang_word, hang_for, hang_argument}
+use Rattle.mgrammar.proofs.GrammarWords.{SpacedTree, line_at, ref_at, args_of, replicate}
 use Rattle.mgrammar.proofs.Computing.{reads}
 use Rattle.mgrammar.proofs.ShortTrees.{IsRead, HaveNone, only, the_one, named, of_commands, of_one}
 

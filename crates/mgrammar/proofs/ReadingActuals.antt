@@ -1,8 +1,14 @@
 -- SPDX-License-Identifier: Apache-2.0
 -- What is read of an entry and of a list of actuals is spelled so, and what is spelled so is read.
-use Rattle.mgrammar.proofs.GrammarWords.{◌≡◌, ℕ, Bool, false, true, eqb, List, [], ◌∷◌, ◌++◌, Option, Some, None, inl, inr, refl, sym, ap, subst, ◌∙◌, append_assoc, eqb-true, arith, nat_tests, is_name_start, is_name_rest, IsName, RoutineTree, own_routine, shared_routine, EntryTree, at_label, at_label_in, at_routine, ActualTree, ActualsTree, no_actuals, actuals, actuals_of, quoted, spell_string, spell_routine, spell_entry, spell_actual, spell_actuals, spell_called, spell_list, spell_more, AllAre, is_character, WellRoutine, WellEntry, WellActuals, WellCalled, WellList, ◌>>=◌, name_at, text_from, past, list_at, routine_by, routine_at, shared_at, entry_by, entry_at, is_actual_end, Readers, actuals_with, called_with}
+use Rattle.mgrammar.proofs.GrammarWords.{◌≡◌, ℕ, Bool, false, true, eqb, List, [], ◌∷◌, ◌++◌, Option, Some, None, inl, inr, refl, sym, ap, subst, ◌∙◌}
+use Rattle.mgrammar.proofs.GrammarWords.{append_assoc, eqb-true, arith, nat_tests, is_name_start, is_name_rest, IsName, RoutineTree, own_routine}
+use Rattle.mgrammar.proofs.GrammarWords.{shared_routine, EntryTree, at_label, at_label_in, at_routine, ActualTree, ActualsTree, no_actuals, actuals, actuals_of}
+use Rattle.mgrammar.proofs.GrammarWords.{quoted, spell_string, spell_routine, spell_entry, spell_actual, spell_actuals, spell_called, spell_list, spell_more}
+use Rattle.mgrammar.proofs.GrammarWords.{AllAre, is_character, WellRoutine, WellEntry, WellActuals, WellCalled, WellList, ◌>>=◌, name_at, text_from, past}
+use Rattle.mgrammar.proofs.GrammarWords.{list_at, routine_by, routine_at, shared_at, entry_by, entry_at, is_actual_end, Readers, actuals_with, called_with}
 use Rattle.mgrammar.specs.Reading.{label_by}
-use Rattle.mgrammar.proofs.ReadingBasics.{IsRead, Takes, Again, Stops, Stops-weaker, Begins, Begins-append, goes_on, bind_some, chosen, some_is, past_takes, not_past, name_takes, name_again, text_takes, text_again}
+use Rattle.mgrammar.proofs.ReadingBasics.{IsRead, Takes, Again, Stops, Stops-weaker, Begins, Begins-append, goes_on, bind_some, chosen, some_is, past_takes}
+use Rattle.mgrammar.proofs.ReadingBasics.{not_past, name_takes, name_again, text_takes, text_again}
 use Rattle.mgrammar.proofs.ReadingOperators.{is_operator}
 use Rattle.mgrammar.proofs.ReadingLists.{joined, joined_by, enclosed, list_takes, list_again}
 use Rattle.mgrammar.proofs.ReadingReferences.{Ends, is_open, name_or_open, named, name_in_front}

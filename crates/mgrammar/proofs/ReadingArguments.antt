@@ -1,12 +1,22 @@
 -- SPDX-License-Identifier: Apache-2.0
 -- What is read of an argument of each form is spelled so, and what is spelled so is read. Those of SET stand in ReadingTargets.
-use Rattle.mgrammar.proofs.GrammarWords.{FormTree, Read, cond, ◌≡◌, ℕ, zero, suc, ◌<◌, Bool, true, false, eqb, List, [], ◌∷◌, ◌++◌, length, Option, Some, None, refl, ap, subst, ◌∙◌, append_assoc, arith, replicate, eqb-true, nat_tests, is_name_rest, AllAre, IsName, ExprTree, ReferenceTree, ParameterTree, once, onward, until, ArgTree, formats, coded, shown, kill_one, kill_others, new_one, new_others, tested, hang_for, returned, loop, kill_argument, new_argument, if_argument, hang_argument, quit_argument, for_argument, write_argument, spell_expr, spell_reference, spell_list, spell_names, spell_parameter, spell_arg, max_depth, WellExpr, WellReference, WellList, WellParameter, WellPlain, ◌>>=◌, run_of, after_run, name_at, past, list_at, expr_at, readers_at, reference_with, write_argument_by, write_argument_at, names_at, kill_argument_at, new_argument_at, if_argument_at, hang_argument_at, quit_argument_at, limit_by, increment_by, parameter_at, for_argument_at, is_format, value_by, sym, append-nil}
-use Rattle.mgrammar.proofs.ReadingBasics.{IsRead, Takes, Again, Stops, Begins, Begins-stops, Begins-append, Begins-weaker, bind_some, some_is, run_parts, run_again, past_takes, not_past, name_takes, name_again, Stops-weaker}
+use Rattle.mgrammar.proofs.GrammarWords.{FormTree, Read, cond, ◌≡◌, ℕ, zero, suc, ◌<◌, Bool, true, false, eqb, List, [], ◌∷◌, ◌++◌, length, Option, Some, None}
+use Rattle.mgrammar.proofs.GrammarWords.{refl, ap, subst, ◌∙◌, append_assoc, arith, replicate, eqb-true, nat_tests, is_name_rest, AllAre, IsName, ExprTree}
+use Rattle.mgrammar.proofs.GrammarWords.{ReferenceTree, ParameterTree, once, onward, until, ArgTree, formats, coded, shown, kill_one, kill_others, new_one}
+use Rattle.mgrammar.proofs.GrammarWords.{new_others, tested, hang_for, returned, loop, kill_argument, new_argument, if_argument, hang_argument, quit_argument}
+use Rattle.mgrammar.proofs.GrammarWords.{for_argument, write_argument, spell_expr, spell_reference, spell_list, spell_names, spell_parameter, spell_arg}
+use Rattle.mgrammar.proofs.GrammarWords.{max_depth, WellExpr, WellReference, WellList, WellParameter, WellPlain, ◌>>=◌, run_of, after_run, name_at, past}
+use Rattle.mgrammar.proofs.GrammarWords.{list_at, expr_at, readers_at, reference_with, write_argument_by, write_argument_at, names_at, kill_argument_at}
+use Rattle.mgrammar.proofs.GrammarWords.{new_argument_at, if_argument_at, hang_argument_at, quit_argument_at, limit_by, increment_by, parameter_at}
+use Rattle.mgrammar.proofs.GrammarWords.{for_argument_at, is_format, value_by, sym, append-nil}
+use Rattle.mgrammar.proofs.ReadingBasics.{IsRead, Takes, Again, Stops, Begins, Begins-stops, Begins-append, Begins-weaker, bind_some, some_is, run_parts}
+use Rattle.mgrammar.proofs.ReadingBasics.{run_again, past_takes, not_past, name_takes, name_again, Stops-weaker}
 use Rattle.mgrammar.proofs.ReadingActuals.{is_caret}
 use Rattle.mgrammar.proofs.ReadingLists.{joined_by, listed_or_one, bracketed_again, is_comma, list_takes, list_again}
 use Rattle.mgrammar.proofs.ReadingReferences.{OperandEnds, Ends, begins_reference, name_begins_reference, reference_takes, reference_again, reference_begins}
 use Rattle.mgrammar.proofs.ReadingPrimaries.{reference_tests}
-use Rattle.mgrammar.proofs.ReadingExprs.{begins_operand, expr_begins, inner_takes, within_takes, below_takes, handed_takes, handed_again, inner_again, within_again, below_again, expr_takes, expr_again, read_pattern_takes, read_pattern_again}
+use Rattle.mgrammar.proofs.ReadingExprs.{begins_operand, expr_begins, inner_takes, within_takes, below_takes, handed_takes, handed_again, inner_again}
+use Rattle.mgrammar.proofs.ReadingExprs.{within_again, below_again, expr_takes, expr_again, read_pattern_takes, read_pattern_again}
 use Rattle.mgrammar.proofs.ReadingOperators.{is_operator, no_format, no_match}
 use Rattle.mgrammar.proofs.ReadingTargets.{variable_begins, is_equals}
 

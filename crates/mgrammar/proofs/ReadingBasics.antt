@@ -1,6 +1,8 @@
 -- SPDX-License-Identifier: Apache-2.0
 -- What is read of a run, a name or a string is spelled so, and what is spelled so is read.
-use Rattle.mgrammar.proofs.GrammarWords.{◌≡◌, ℕ, ◌<◌, ◌≤◌, Bool, true, false, cond, eqb, List, [], ◌∷◌, ◌++◌, length, Option, Some, None, ◌⊎◌, inl, inr, refl, sym, ◌∙◌, ap, subst, arith, ◌↔◌, nat_le, ◌&&◌, ◌||◌, eqb-true, nat_tests, is_name_start, is_name_rest, is_character, AllAre, IsName, quoted, Read, ◌>>=◌, run_of, after_run, name_at, with_front, text_from, past}
+use Rattle.mgrammar.proofs.GrammarWords.{◌≡◌, ℕ, ◌<◌, ◌≤◌, Bool, true, false, cond, eqb, List, [], ◌∷◌, ◌++◌, length, Option, Some, None, ◌⊎◌, inl, inr, refl}
+use Rattle.mgrammar.proofs.GrammarWords.{sym, ◌∙◌, ap, subst, arith, ◌↔◌, nat_le, ◌&&◌, ◌||◌, eqb-true, nat_tests, is_name_start, is_name_rest, is_character}
+use Rattle.mgrammar.proofs.GrammarWords.{AllAre, IsName, quoted, Read, ◌>>=◌, run_of, after_run, name_at, with_front, text_from, past}
 
 -- ---- the two laws of a reader
 

@@ -1,16 +1,33 @@
 -- SPDX-License-Identifier: Apache-2.0
 -- What is read as a command is spelled so, and what is spelled so is read.
-use Rattle.mgrammar.proofs.GrammarWords.{◌≡◌, ℕ, ◌≤◌, Bool, true, false, not, eqb, cond, List, [], ◌∷◌, ◌++◌, length, Option, Some, None, inl, inr, refl, sym, ap, subst, ◌∙◌, append_assoc, arith, drop, ◌||◌, eqb-true, and_parts, nat_tests, is_letter, is_name_rest, AllAre, ExprTree, expr, no_tails, operand, PrimaryTree, reference, indirect, no_exprs, ArgTree, formats, coded, shown, kill_one, tested, loop, executed, locked, hang_for, returned, indirect_args, anew, lock_one, CommandTree, KeywordTree, for_word, FormTree, set_argument, kill_argument, new_argument, if_argument, for_argument, write_argument, do_argument, goto_argument, xecute_argument, lock_argument, hang_argument, quit_argument, no_argument, spell_expr, spell_arg, spell_args, spell_condition, spell_list, spell_more, spell_command, keyword_of, form_of, takes_args, takes_condition, max_depth, bare_arg, WellAll, WellList, WellExpr, WellBelow, WellOptional, WellPlain, WellArg, WellCondition, WellCommand, ◌>>=◌, run_of, after_run, past, list_at, kill_argument_at, new_argument_at, if_argument_at, write_argument_at, do_argument_at, goto_argument_at, xecute_argument_at, lock_argument_at, hang_argument_at, arg_at, has_args, args_at, postcondition_by, postcondition_at, command_by, command_at, is_format}
-use Rattle.mgrammar.proofs.ReadingBasics.{Takes, Again, Stops, Stops-weaker, Begins, Begins-append, Begins-weaker, goes_on, bind_some, chosen, some_is, run_parts, run_again, not_past}
+use Rattle.mgrammar.proofs.GrammarWords.{◌≡◌, ℕ, ◌≤◌, Bool, true, false, not, eqb, cond, List, [], ◌∷◌, ◌++◌, length, Option, Some, None, inl, inr, refl, sym}
+use Rattle.mgrammar.proofs.GrammarWords.{ap, subst, ◌∙◌, append_assoc, arith, drop, ◌||◌, eqb-true, and_parts, nat_tests, is_letter, is_name_rest, AllAre}
+use Rattle.mgrammar.proofs.GrammarWords.{ExprTree, expr, no_tails, operand, PrimaryTree, reference, indirect, no_exprs, ArgTree, formats, coded, shown}
+use Rattle.mgrammar.proofs.GrammarWords.{kill_one, tested, loop, executed, locked, hang_for, returned, indirect_args, anew, lock_one, CommandTree, KeywordTree}
+use Rattle.mgrammar.proofs.GrammarWords.{for_word, FormTree, set_argument, kill_argument, new_argument, if_argument, for_argument, write_argument, do_argument}
+use Rattle.mgrammar.proofs.GrammarWords.{goto_argument, xecute_argument, lock_argument, hang_argument, quit_argument, no_argument, spell_expr, spell_arg}
+use Rattle.mgrammar.proofs.GrammarWords.{spell_args, spell_condition, spell_list, spell_more, spell_command, keyword_of, form_of, takes_args, takes_condition}
+use Rattle.mgrammar.proofs.GrammarWords.{max_depth, bare_arg, WellAll, WellList, WellExpr, WellBelow, WellOptional, WellPlain, WellArg, WellCondition}
+use Rattle.mgrammar.proofs.GrammarWords.{WellCommand, ◌>>=◌, run_of, after_run, past, list_at, kill_argument_at, new_argument_at, if_argument_at}
+use Rattle.mgrammar.proofs.GrammarWords.{write_argument_at, do_argument_at, goto_argument_at, xecute_argument_at, lock_argument_at, hang_argument_at, arg_at}
+use Rattle.mgrammar.proofs.GrammarWords.{has_args, args_at, postcondition_by, postcondition_at, command_by, command_at, is_format}
+use Rattle.mgrammar.proofs.ReadingBasics.{Takes, Again, Stops, Stops-weaker, Begins, Begins-append, Begins-weaker, goes_on, bind_some, chosen, some_is}
+use Rattle.mgrammar.proofs.ReadingBasics.{run_parts, run_again, not_past}
 use Rattle.mgrammar.proofs.ReadingLists.{is_comma, one_again, list_takes, list_again}
 use Rattle.mgrammar.proofs.ReadingReferences.{Ends, operand_ends, name_or_open, bare_well}
 use Rattle.mgrammar.proofs.ReadingPrimaries.{not_on}
 use Rattle.mgrammar.proofs.ReadingExprs.{begins_operand, expr_begins}
 use Rattle.mgrammar.proofs.ReadingTargets.{set_argument_takes, set_argument_again, set_argument_begins}
-use Rattle.mgrammar.proofs.ReadingArguments.{is_colon, Follows, write_argument_takes, write_argument_again, kill_argument_takes, kill_argument_again, kill_argument_begins, new_argument_takes, new_argument_again, new_argument_begins, if_argument_takes, if_argument_again, if_argument_begins, hang_argument_takes, hang_argument_again, hang_argument_begins, quit_argument_takes, quit_argument_again, quit_argument_begins, for_argument_takes, for_argument_again, for_argument_begins}
+use Rattle.mgrammar.proofs.ReadingArguments.{is_colon, Follows, write_argument_takes, write_argument_again, kill_argument_takes, kill_argument_again}
+use Rattle.mgrammar.proofs.ReadingArguments.{kill_argument_begins, new_argument_takes, new_argument_again, new_argument_begins, if_argument_takes}
+use Rattle.mgrammar.proofs.ReadingArguments.{if_argument_again, if_argument_begins, hang_argument_takes, hang_argument_again, hang_argument_begins}
+use Rattle.mgrammar.proofs.ReadingArguments.{quit_argument_takes, quit_argument_again, quit_argument_begins, for_argument_takes, for_argument_again}
+use Rattle.mgrammar.proofs.ReadingArguments.{for_argument_begins}
 use Rattle.mgrammar.proofs.ReadingLocks.{lock_argument_takes, lock_argument_again, lock_argument_begins}
-use Rattle.mgrammar.proofs.ReadingIndirection.{plain_well, which, settled_takes, settled_again, operand_takes, operand_again, hiding_apart, entrance_apart, leap_apart}
-use Rattle.mgrammar.proofs.ReadingEntries.{condition_read, condition_spelled, do_argument_takes, do_argument_again, do_argument_begins, goto_argument_takes, goto_argument_again, goto_argument_begins, xecute_argument_takes, xecute_argument_again, xecute_argument_begins}
+use Rattle.mgrammar.proofs.ReadingIndirection.{plain_well, which, settled_takes, settled_again, operand_takes, operand_again, hiding_apart, entrance_apart}
+use Rattle.mgrammar.proofs.ReadingIndirection.{leap_apart}
+use Rattle.mgrammar.proofs.ReadingEntries.{condition_read, condition_spelled, do_argument_takes, do_argument_again, do_argument_begins, goto_argument_takes}
+use Rattle.mgrammar.proofs.ReadingEntries.{goto_argument_again, goto_argument_begins, xecute_argument_takes, xecute_argument_again, xecute_argument_begins}
 
 -- ---- the laws of each form
 

@@ -1,6 +1,10 @@
 -- SPDX-License-Identifier: Apache-2.0
 -- What is read of an argument of DO, GOTO or XECUTE is spelled so, and what is spelled so is read.
-use Rattle.mgrammar.proofs.GrammarWords.{◌≡◌, ℕ, List, ◌∷◌, ◌++◌, Option, Some, None, refl, ap, subst, ◌∙◌, append_assoc, ExprTree, EntryTree, at_label, at_label_in, at_routine, ArgTree, do_one, go_to, executed, do_argument, goto_argument, xecute_argument, spell_expr, spell_condition, spell_routine, spell_entry, spell_actuals, spell_called, spell_arg, max_depth, WellExpr, WellOptional, WellEntry, WellCalled, WellPlain, Read, ◌>>=◌, past, expr_at, postcondition_by, entry_at, doing_called, called_with, readers_at, conditioned, do_argument_at, goto_argument_at, xecute_argument_at}
+use Rattle.mgrammar.proofs.GrammarWords.{◌≡◌, ℕ, List, ◌∷◌, ◌++◌, Option, Some, None, refl, ap, subst, ◌∙◌, append_assoc, ExprTree, EntryTree, at_label}
+use Rattle.mgrammar.proofs.GrammarWords.{at_label_in, at_routine, ArgTree, do_one, go_to, executed, do_argument, goto_argument, xecute_argument, spell_expr}
+use Rattle.mgrammar.proofs.GrammarWords.{spell_condition, spell_routine, spell_entry, spell_actuals, spell_called, spell_arg, max_depth, WellExpr, WellOptional}
+use Rattle.mgrammar.proofs.GrammarWords.{WellEntry, WellCalled, WellPlain, Read, ◌>>=◌, past, expr_at, postcondition_by, entry_at, doing_called, called_with}
+use Rattle.mgrammar.proofs.GrammarWords.{readers_at, conditioned, do_argument_at, goto_argument_at, xecute_argument_at}
 use Rattle.mgrammar.proofs.ReadingBasics.{IsRead, Takes, Again, Stops, Begins, Begins-append, goes_on, bind_some, some_is, past_takes, not_past}
 use Rattle.mgrammar.proofs.ReadingLists.{joined}
 use Rattle.mgrammar.proofs.ReadingReferences.{Ends, operand_ends}

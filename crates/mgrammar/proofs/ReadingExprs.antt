@@ -1,15 +1,28 @@
 -- SPDX-License-Identifier: Apache-2.0
 -- What is read as an expression is spelled so, and what is spelled so is read.
 use Rattle.std.specs.Prelude.{is_none}
-use Rattle.mgrammar.proofs.GrammarWords.{inl, inr, and_parts, eqb-true, ◌&&◌, is_digit, is_name_start, minus, negate, number, text, special, reference, bracket, call, select, refer, extrinsic, ActualTree, missing_actual, value_actual, name_actual, indirect_actual, spell_actual, WellActual, run_of, name_at, number_at, point_at, is_actual_end, is_reference_point, name_actual_by, actual_with, ◌≡◌, ℕ, zero, suc, ◌<◌, ◌-◌, Bool, true, false, List, [], ◌∷◌, ◌++◌, length, Option, Some, None, refl, sym, ap, subst, ◌∙◌, append_assoc, arith, ◌||◌, nat_tests, append-nil, plus, BinaryTree, AtomTree, PrimaryTree, ExprTree, expr, TailTree, apply, matches, matches_not, raise, matches_indirect, matches_not_indirect, TailsTree, no_tails, tail, tails_of, OperandTree, operand, spell_signs, spell_binary, spell_atoms, spell_expr, spell_tails, spell_tail, spell_operand, spell_primary, spell_reference, bare_primary, WellExpr, WellTails, WellTail, WellOperand, WellPrimary, WellReference, WellBelow, WellList, WellAtom, eqb, ◌>>=◌, past, is_digit_or_point, matches_by, matches_not_by, many, pattern_at, signs_of, after_signs, OperatorTree, between, matching, matching_not, raising, operator_at, Readers, primary_with, operand_with, tail_by, tail_behind, tail_with, expr_with, readers_at, inner_at}
-use Rattle.mgrammar.proofs.ReadingBasics.{IsRead, Takes, Again, Begins, Begins-stops, Begins-append, Begins-weaker, Begins-long, Stops, Stops-weaker, goes_on, goes_further, bind_some, chosen, some_is, past_takes, not_past, name_takes, name_again}
+use Rattle.mgrammar.proofs.GrammarWords.{inl, inr, and_parts, eqb-true, ◌&&◌, is_digit, is_name_start, minus, negate, number, text, special, reference, bracket}
+use Rattle.mgrammar.proofs.GrammarWords.{call, select, refer, extrinsic, ActualTree, missing_actual, value_actual, name_actual, indirect_actual, spell_actual}
+use Rattle.mgrammar.proofs.GrammarWords.{WellActual, run_of, name_at, number_at, point_at, is_actual_end, is_reference_point, name_actual_by, actual_with, ◌≡◌}
+use Rattle.mgrammar.proofs.GrammarWords.{ℕ, zero, suc, ◌<◌, ◌-◌, Bool, true, false, List, [], ◌∷◌, ◌++◌, length, Option, Some, None, refl, sym, ap, subst, ◌∙◌}
+use Rattle.mgrammar.proofs.GrammarWords.{append_assoc, arith, ◌||◌, nat_tests, append-nil, plus, BinaryTree, AtomTree, PrimaryTree, ExprTree, expr, TailTree}
+use Rattle.mgrammar.proofs.GrammarWords.{apply, matches, matches_not, raise, matches_indirect, matches_not_indirect, TailsTree, no_tails, tail, tails_of}
+use Rattle.mgrammar.proofs.GrammarWords.{OperandTree, operand, spell_signs, spell_binary, spell_atoms, spell_expr, spell_tails, spell_tail, spell_operand}
+use Rattle.mgrammar.proofs.GrammarWords.{spell_primary, spell_reference, bare_primary, WellExpr, WellTails, WellTail, WellOperand, WellPrimary, WellReference}
+use Rattle.mgrammar.proofs.GrammarWords.{WellBelow, WellList, WellAtom, eqb, ◌>>=◌, past, is_digit_or_point, matches_by, matches_not_by, many, pattern_at}
+use Rattle.mgrammar.proofs.GrammarWords.{signs_of, after_signs, OperatorTree, between, matching, matching_not, raising, operator_at, Readers, primary_with}
+use Rattle.mgrammar.proofs.GrammarWords.{operand_with, tail_by, tail_behind, tail_with, expr_with, readers_at, inner_at}
+use Rattle.mgrammar.proofs.ReadingBasics.{IsRead, Takes, Again, Begins, Begins-stops, Begins-append, Begins-weaker, Begins-long, Stops, Stops-weaker, goes_on}
+use Rattle.mgrammar.proofs.ReadingBasics.{goes_further, bind_some, chosen, some_is, past_takes, not_past, name_takes, name_again}
 use Rattle.mgrammar.proofs.ReadingNumbers.{number_again, goes_on_number}
 use Rattle.mgrammar.proofs.ReadingActuals.{ActualEnds, actual_ends, entry_ends}
 use Rattle.mgrammar.proofs.ReadingLists.{each, ItemTakes, many_takes, many_again, count_le, joined}
 use Rattle.mgrammar.proofs.ReadingPatterns.{pattern_at_takes, pattern_at_again, pattern_begins}
-use Rattle.mgrammar.proofs.ReadingOperators.{is_sign, signs_parts, signs_again, is_doubled, spell_operator, operator_takes, operator_again, is_operator, operator_begins, no_operator}
+use Rattle.mgrammar.proofs.ReadingOperators.{is_sign, signs_parts, signs_again, is_doubled, spell_operator, operator_takes, operator_again, is_operator}
+use Rattle.mgrammar.proofs.ReadingOperators.{operator_begins, no_operator}
 use Rattle.mgrammar.proofs.ReadingTrees.{tails_list, tails_back, spell_tails-each, tails_well, list_well, WellInner, WellHanded}
-use Rattle.mgrammar.proofs.ReadingReferences.{OperandEnds, Ends, TakesFree, AgainFree, operand_ends, greedy_ends, WellWithin, named, name_in_front, begins_reference, reference_begins, reference_takes, reference_again}
+use Rattle.mgrammar.proofs.ReadingReferences.{OperandEnds, Ends, TakesFree, AgainFree, operand_ends, greedy_ends, WellWithin, named, name_in_front}
+use Rattle.mgrammar.proofs.ReadingReferences.{begins_reference, reference_begins, reference_takes, reference_again}
 use Rattle.mgrammar.proofs.ReadingPrimaries.{not_on, begins_primary, primary_begins, primary_takes_free, primary_takes, primary_again_free, primary_again}
 
 -- ---- what is read is spelled so, below some depth

@@ -1,6 +1,9 @@
 -- SPDX-License-Identifier: Apache-2.0
 -- What is read of a whole text of indirection is spelled so, and what is spelled so is read.
-use Rattle.mgrammar.proofs.GrammarWords.{◌≡◌, ◌↔◌, ℕ, true, false, List, [], ◌∷◌, ◌++◌, length, Some, refl, sym, ap, subst, ◌∙◌, append-nil, ReferenceTree, ArgTree, AtomTree, FormTree, for_argument, may_be_indirect, spell_reference, spell_list, spell_arg, spell_atoms, max_depth, WellReference, WellList, WellArg, WellAtom, Read, ◌>>=◌, IsName, name_at, name_of, list_at, pattern_at, readers_at, reference_with, arg_at, whole_by, ref_at, args_of, pattern_of}
+use Rattle.mgrammar.proofs.GrammarWords.{◌≡◌, ◌↔◌, ℕ, true, false, List, [], ◌∷◌, ◌++◌, length, Some, refl, sym, ap, subst, ◌∙◌, append-nil, ReferenceTree}
+use Rattle.mgrammar.proofs.GrammarWords.{ArgTree, AtomTree, FormTree, for_argument, may_be_indirect, spell_reference, spell_list, spell_arg, spell_atoms}
+use Rattle.mgrammar.proofs.GrammarWords.{max_depth, WellReference, WellList, WellArg, WellAtom, Read, ◌>>=◌, IsName, name_at, name_of, list_at, pattern_at}
+use Rattle.mgrammar.proofs.GrammarWords.{readers_at, reference_with, arg_at, whole_by, ref_at, args_of, pattern_of}
 use Rattle.mgrammar.proofs.ReadingBasics.{Takes, bind_some, some_is, unique, told, name_takes, name_again}
 use Rattle.mgrammar.proofs.ReadingLists.{list_takes}
 use Rattle.mgrammar.proofs.ReadingPatterns.{pattern_at_takes, pattern_at_again}

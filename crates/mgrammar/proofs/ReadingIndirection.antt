@@ -1,6 +1,14 @@
 -- SPDX-License-Identifier: Apache-2.0
 -- What is read of argument indirection is spelled so, and what is spelled so is read.
-use Rattle.mgrammar.proofs.GrammarWords.{◌≡◌, ℕ, true, false, eqb, List, [], ◌∷◌, ◌++◌, Option, Some, None, ◌⊎◌, inl, inr, refl, sym, ap, subst, ◌∙◌, arith, nat_tests, append-nil, append_assoc, spell_actuals, is_name_start, IsName, ExprTree, expr, no_tails, tail, operand, PrimaryTree, reference, EntryTree, at_label, at_label_in, at_routine, FormTree, set_argument, kill_argument, new_argument, if_argument, for_argument, write_argument, do_argument, goto_argument, xecute_argument, lock_argument, hang_argument, quit_argument, ArgTree, assign, formats, coded, shown, kill_one, kill_others, new_one, new_others, tested, loop, do_one, go_to, executed, locked, hang_for, returned, indirect_args, anew, adding, giving_back, lock_one, lock_several, may_be_indirect, spell_expr, spell_reference, spell_primary, spell_routine, spell_entry, spell_condition, spell_arg, bare_primary, bare_expr, bare_arg, settled, max_depth, WellExpr, WellBelow, WellEntry, WellPlain, WellArg, Read, past, readers_at, settled_with, operand_by, operand_or}
+use Rattle.mgrammar.proofs.GrammarWords.{◌≡◌, ℕ, true, false, eqb, List, [], ◌∷◌, ◌++◌, Option, Some, None, ◌⊎◌, inl, inr, refl, sym, ap, subst, ◌∙◌, arith}
+use Rattle.mgrammar.proofs.GrammarWords.{nat_tests, append-nil, append_assoc, spell_actuals, is_name_start, IsName, ExprTree, expr, no_tails, tail, operand}
+use Rattle.mgrammar.proofs.GrammarWords.{PrimaryTree, reference, EntryTree, at_label, at_label_in, at_routine, FormTree, set_argument, kill_argument}
+use Rattle.mgrammar.proofs.GrammarWords.{new_argument, if_argument, for_argument, write_argument, do_argument, goto_argument, xecute_argument, lock_argument}
+use Rattle.mgrammar.proofs.GrammarWords.{hang_argument, quit_argument, ArgTree, assign, formats, coded, shown, kill_one, kill_others, new_one, new_others}
+use Rattle.mgrammar.proofs.GrammarWords.{tested, loop, do_one, go_to, executed, locked, hang_for, returned, indirect_args, anew, adding, giving_back, lock_one}
+use Rattle.mgrammar.proofs.GrammarWords.{lock_several, may_be_indirect, spell_expr, spell_reference, spell_primary, spell_routine, spell_entry, spell_condition}
+use Rattle.mgrammar.proofs.GrammarWords.{spell_arg, bare_primary, bare_expr, bare_arg, settled, max_depth, WellExpr, WellBelow, WellEntry, WellPlain, WellArg}
+use Rattle.mgrammar.proofs.GrammarWords.{Read, past, readers_at, settled_with, operand_by, operand_or}
 use Rattle.mgrammar.proofs.ReadingBasics.{Takes, Again, Stops, Begins-stops, Begins-append, bind_some, some_is, past_takes, not_past}
 use Rattle.mgrammar.proofs.ReadingReferences.{operand_ends, greedy_ends, named, bare_reference_is}
 use Rattle.mgrammar.proofs.ReadingExprs.{below_takes, below_again}

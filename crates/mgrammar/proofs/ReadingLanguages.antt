@@ -1,6 +1,9 @@
 -- SPDX-License-Identifier: Apache-2.0
 -- What is read in a language is what is read, if the language has all its forms.
-use Rattle.mgrammar.proofs.GrammarWords.{◌≡◌, ℕ, ◌≤◌, ◌↔◌, true, List, Option, Some, None, nat_le, leb-true, le-leb, arith, inl, inr, refl, sym, ap, ◌∙◌, spell, well, spell_routine_line, well_routine_line, spell_reference, WellReference, max_depth, spell_list, spell_arg, WellList, WellArg, may_be_indirect, FormTree, ArgTree, ReferenceTree, LineTree, RoutineLineTree, line_at, routine_line_at, ref_at, args_of}
+use Rattle.mgrammar.proofs.GrammarWords.{◌≡◌, ℕ, ◌≤◌, ◌↔◌, true, List, Option, Some, None, nat_le, leb-true, le-leb, arith, inl, inr, refl, sym, ap, ◌∙◌, spell}
+use Rattle.mgrammar.proofs.GrammarWords.{well, spell_routine_line, well_routine_line, spell_reference, WellReference, max_depth, spell_list, spell_arg}
+use Rattle.mgrammar.proofs.GrammarWords.{WellList, WellArg, may_be_indirect, FormTree, ArgTree, ReferenceTree, LineTree, RoutineLineTree, line_at}
+use Rattle.mgrammar.proofs.GrammarWords.{routine_line_at, ref_at, args_of}
 use Rattle.mgrammar.specs.Languages.{kept_in, since_line, since_routine_line, since_reference, since_args, line_in, routine_line_in, ref_in, args_in}
 use Rattle.mgrammar.proofs.ReadingBasics.{chosen, some_is}
 use Rattle.mgrammar.proofs.ReadingLines.{reads_its_tree}

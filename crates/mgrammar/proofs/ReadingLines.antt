@@ -1,6 +1,10 @@
 -- SPDX-License-Identifier: Apache-2.0
 -- What is read as a line is spelled so, and what is spelled so is read.
-use Rattle.mgrammar.proofs.GrammarWords.{◌≡◌, ◌↔◌, ℕ, zero, suc, ◌≤◌, Bool, true, false, eqb, List, [], ◌∷◌, ◌++◌, length, Option, Some, None, inl, inr, refl, sym, ap, subst, ◌∙◌, append_assoc, arith, replicate, length-append, nat_le, ◌||◌, eqb-true, nat_tests, append-nil, length-replicate, is_letter, is_character, AllAre, ArgTree, CommandTree, SpacedTree, LineTree, spell_command, spell_commands, spell_comment, spell, least_gap, WellCommand, WellCommands, WellComment, well, ◌>>=◌, run_of, after_run, many, more_by, has_args, command_at, is_space, at_end, spaced, spaced_at, comment_by, comment_at, line_at}
+use Rattle.mgrammar.proofs.GrammarWords.{◌≡◌, ◌↔◌, ℕ, zero, suc, ◌≤◌, Bool, true, false, eqb, List, [], ◌∷◌, ◌++◌, length, Option, Some, None, inl, inr, refl}
+use Rattle.mgrammar.proofs.GrammarWords.{sym, ap, subst, ◌∙◌, append_assoc, arith, replicate, length-append, nat_le, ◌||◌, eqb-true, nat_tests, append-nil}
+use Rattle.mgrammar.proofs.GrammarWords.{length-replicate, is_letter, is_character, AllAre, ArgTree, CommandTree, SpacedTree, LineTree, spell_command}
+use Rattle.mgrammar.proofs.GrammarWords.{spell_commands, spell_comment, spell, least_gap, WellCommand, WellCommands, WellComment, well, ◌>>=◌, run_of}
+use Rattle.mgrammar.proofs.GrammarWords.{after_run, many, more_by, has_args, command_at, is_space, at_end, spaced, spaced_at, comment_by, comment_at, line_at}
 use Rattle.mgrammar.proofs.ReadingBasics.{IsRead, Stops, Begins, Begins-append, Begins-long, bind_some, chosen, some_is, run_parts, run_again, unique, told}
 use Rattle.mgrammar.proofs.ReadingArguments.{all_copies, copies_are}
 use Rattle.mgrammar.proofs.ReadingCommands.{Closes, After, command_takes, command_again, command_letter}

@@ -1,6 +1,8 @@
 -- SPDX-License-Identifier: Apache-2.0
 -- The laws of reading a list of items.
-use Rattle.mgrammar.proofs.GrammarWords.{cond, inl, inr, eqb-true, ◌≡◌, ℕ, zero, suc, ◌<◌, ◌≤◌, Bool, eqb, List, [], ◌∷◌, ◌++◌, length, Option, Some, None, refl, sym, ap, subst, ◌∙◌, append_assoc, arith, length-append, spell_more, spell_list, WellAll, WellList, Read, ◌>>=◌, past, many, more_by, comma_by, after_comma, list_at}
+use Rattle.mgrammar.proofs.GrammarWords.{cond, inl, inr, eqb-true, ◌≡◌, ℕ, zero, suc, ◌<◌, ◌≤◌, Bool, eqb, List, [], ◌∷◌, ◌++◌, length, Option, Some, None}
+use Rattle.mgrammar.proofs.GrammarWords.{refl, sym, ap, subst, ◌∙◌, append_assoc, arith, length-append, spell_more, spell_list, WellAll, WellList, Read, ◌>>=◌}
+use Rattle.mgrammar.proofs.GrammarWords.{past, many, more_by, comma_by, after_comma, list_at}
 use Rattle.mgrammar.proofs.ReadingBasics.{chosen, Takes, Again, Stops, bind_some, some_is, past_takes}
 
 -- the texts of the items, one after another

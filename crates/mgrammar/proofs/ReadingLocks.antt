@@ -1,6 +1,10 @@
 -- SPDX-License-Identifier: Apache-2.0
 -- What is read of an argument of LOCK is spelled so, and what is spelled so is read.
-use Rattle.mgrammar.proofs.GrammarWords.{◌≡◌, ℕ, ◌-◌, Bool, true, false, cond, eqb, List, [], ◌∷◌, ◌++◌, Option, Some, None, inl, inr, refl, sym, ap, subst, ◌∙◌, append_assoc, arith, ◌||◌, eqb-true, nat_tests, ExprTree, ReferenceTree, LockKindTree, anew, adding, giving_back, LockedTree, lock_one, lock_several, ArgTree, locked, lock_argument, spell_reference, spell_kind, spell_locked, spell_condition, spell_arg, max_depth, is_named, WellLockRef, WellLocked, WellPlain, ◌>>=◌, after_sign, readers_at, reference_with, conditioned, lock_ref_with, locked_at, kind_of, lock_argument_at}
+use Rattle.mgrammar.proofs.GrammarWords.{◌≡◌, ℕ, ◌-◌, Bool, true, false, cond, eqb, List, [], ◌∷◌, ◌++◌, Option, Some, None, inl, inr, refl, sym, ap, subst}
+use Rattle.mgrammar.proofs.GrammarWords.{◌∙◌, append_assoc, arith, ◌||◌, eqb-true, nat_tests, ExprTree, ReferenceTree, LockKindTree, anew, adding, giving_back}
+use Rattle.mgrammar.proofs.GrammarWords.{LockedTree, lock_one, lock_several, ArgTree, locked, lock_argument, spell_reference, spell_kind, spell_locked}
+use Rattle.mgrammar.proofs.GrammarWords.{spell_condition, spell_arg, max_depth, is_named, WellLockRef, WellLocked, WellPlain, ◌>>=◌, after_sign, readers_at}
+use Rattle.mgrammar.proofs.GrammarWords.{reference_with, conditioned, lock_ref_with, locked_at, kind_of, lock_argument_at}
 use Rattle.mgrammar.proofs.ReadingBasics.{IsRead, Takes, Again, Begins, Begins-append, Begins-weaker, bind_some, chosen, some_is}
 use Rattle.mgrammar.proofs.ReadingLists.{listed_or_one, bracketed_again}
 use Rattle.mgrammar.proofs.ReadingReferences.{OperandEnds, begins_reference, reference_takes, reference_again, reference_begins}

@@ -1,6 +1,7 @@
 -- SPDX-License-Identifier: Apache-2.0
 -- A loop that reads items does as the reading of them. The loop holds the items so far, of which count - i more may come.
-use Rattle.mgrammar.proofs.GrammarWords.{◌≡◌, ℕ, suc, ◌-◌, ◌+◌, ◌≤◌, ◌<◌, List, [], ◌∷◌, ◌++◌, length, Option, Some, None, refl, sym, ap, ◌∙◌, append_assoc, arith, append-nil, Read, with_front, past, many, after_comma, list_at}
+use Rattle.mgrammar.proofs.GrammarWords.{◌≡◌, ℕ, suc, ◌-◌, ◌+◌, ◌≤◌, ◌<◌, List, [], ◌∷◌, ◌++◌, length, Option, Some, None, refl, sym, ap, ◌∙◌, append_assoc}
+use Rattle.mgrammar.proofs.GrammarWords.{arith, append-nil, Read, with_front, past, many, after_comma, list_at}
 
 regroup : {A : Type 0} (front : List A) (x : A) (read : Read (List A)) → with_front front (with_front (x ∷ []) read) ≡ with_front (front ++ x ∷ []) read
 regroup front x (Some r) = ap (λ (xs : List _). Some (xs, r.1)) (simp append_assoc)

@@ -1,6 +1,10 @@
 -- SPDX-License-Identifier: Apache-2.0
 -- What is read of a number is spelled so, and what is spelled so is read.
-use Rattle.mgrammar.proofs.GrammarWords.{◌≡◌, ◌≢◌, ℕ, Bool, true, false, cond, eqb, List, [], ◌∷◌, ◌++◌, All, Option, Some, None, refl, sym, ap, subst, ◌∙◌, append_assoc, arith, ◌||◌, eqb-true, nat_tests, is_digit, ExponentSign, Unsigned, Plus, Minus, Exponent, Literal, spell_sign, spell_fraction, spell_exponent, spell_literal, IsDigits, IsFraction, IsExponent, IsMantissa, IsLiteral, AllAre, SpellsNumber, run_of, after_run, is_plus_or_minus, one_sign, after_sign, point_by, point_at, exponent_by, exponent_at, number_by, number_at, is_digit_or_point}
+use Rattle.mgrammar.proofs.GrammarWords.{◌≡◌, ◌≢◌, ℕ, Bool, true, false, cond, eqb, List, [], ◌∷◌, ◌++◌, All, Option, Some, None, refl, sym, ap, subst, ◌∙◌}
+use Rattle.mgrammar.proofs.GrammarWords.{append_assoc, arith, ◌||◌, eqb-true, nat_tests, is_digit, ExponentSign, Unsigned, Plus, Minus, Exponent, Literal}
+use Rattle.mgrammar.proofs.GrammarWords.{spell_sign, spell_fraction, spell_exponent, spell_literal, IsDigits, IsFraction, IsExponent, IsMantissa, IsLiteral}
+use Rattle.mgrammar.proofs.GrammarWords.{AllAre, SpellsNumber, run_of, after_run, is_plus_or_minus, one_sign, after_sign, point_by, point_at, exponent_by}
+use Rattle.mgrammar.proofs.GrammarWords.{exponent_at, number_by, number_at, is_digit_or_point}
 use Rattle.std.proofs.lemmas.List.Elements.{All-from_recursion, All-head, All-tail}
 use Rattle.mgrammar.proofs.ReadingBasics.{Takes, Again, Stops, Stops-weaker, Begins, some_is, run_parts, run_again}
 

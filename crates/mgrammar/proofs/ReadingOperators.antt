@@ -1,6 +1,10 @@
 -- SPDX-License-Identifier: Apache-2.0
 -- What is read of signs and of an operator is spelled so, and what is spelled so is read.
-use Rattle.mgrammar.proofs.GrammarWords.{◌≡◌, ℕ, Bool, true, false, cond, eqb, List, [], ◌∷◌, ◌++◌, Option, Some, None, inl, inr, refl, sym, ap, subst, ◌∙◌, arith, ◌||◌, list_any, eqb-true, false_from_ne_true, nat_tests, SignTree, plus, minus, negate, TruthTree, equals, follows, sorts_after, BinaryTree, multiply, is, is_not, spell_signs, spell_truth, spell_binary, ◌>>=◌, signs_of, after_signs, found, truths, arithmetic, follows_at, times_at, truth_at, OperatorTree, between, matching, matching_not, raising, negated_at, plain_by, operator_at, is_format}
+use Rattle.mgrammar.proofs.GrammarWords.{◌≡◌, ℕ, Bool, true, false, cond, eqb, List, [], ◌∷◌, ◌++◌, Option, Some, None, inl, inr, refl, sym, ap, subst, ◌∙◌}
+use Rattle.mgrammar.proofs.GrammarWords.{arith, ◌||◌, list_any, eqb-true, false_from_ne_true, nat_tests, SignTree, plus, minus, negate, TruthTree, equals}
+use Rattle.mgrammar.proofs.GrammarWords.{follows, sorts_after, BinaryTree, multiply, is, is_not, spell_signs, spell_truth, spell_binary, ◌>>=◌, signs_of}
+use Rattle.mgrammar.proofs.GrammarWords.{after_signs, found, truths, arithmetic, follows_at, times_at, truth_at, OperatorTree, between, matching, matching_not}
+use Rattle.mgrammar.proofs.GrammarWords.{raising, negated_at, plain_by, operator_at, is_format}
 use Rattle.mgrammar.proofs.ReadingBasics.{Stops, Begins, bind_some, chosen, some_is}
 
 -- ---- signs

@@ -1,7 +1,15 @@
 -- SPDX-License-Identifier: Apache-2.0
 -- What is read of a pattern is spelled so, and what is spelled so is read.
-use Rattle.mgrammar.proofs.GrammarWords.{Read, ◌≡◌, ℕ, ◌<◌, ◌≤◌, Bool, true, false, cond, eqb, List, [], ◌∷◌, ◌++◌, length, Option, Some, None, inl, inr, refl, sym, ap, subst, ◌∙◌, append_assoc, arith, ◌||◌, eqb-true, nat_tests, append-nil, is_digit, is_letter, AllAre, zero, suc, ◌-◌, CountTree, RepeatedTree, classes, copies, group, AtomsTree, no_atoms, more_atoms, PatternsTree, no_patterns, more_patterns, patterns_of, atoms_of, AtomTree, quoted, spell_string, spell_behind, spell_repeated, spell_run, spell_patterns, spell_more_patterns, spell_list, spell_more, spell_atom, spell_atoms, is_pattern_letter, IsCount, WellCount, HasAtom, HasPattern, WellRepeated, WellRun, WellPatterns, WellAtom, WellAll, WellList, past, list_at, ◌>>=◌, run_of, after_run, text_from, many, behind_of, after_behind, is_count, count_at, classes_by, repeated_with, is_digit_or_point, atom_with, pattern_by, pattern_with, group_at, pattern_at}
-use Rattle.mgrammar.proofs.ReadingBasics.{Takes, Again, Stops, Stops-weaker, Begins, Begins-stops, Begins-long, goes_on, bind_some, chosen, some_is, past_takes, run_parts, run_again, text_takes, text_again}
+use Rattle.mgrammar.proofs.GrammarWords.{Read, ◌≡◌, ℕ, ◌<◌, ◌≤◌, Bool, true, false, cond, eqb, List, [], ◌∷◌, ◌++◌, length, Option, Some, None, inl, inr, refl}
+use Rattle.mgrammar.proofs.GrammarWords.{sym, ap, subst, ◌∙◌, append_assoc, arith, ◌||◌, eqb-true, nat_tests, append-nil, is_digit, is_letter, AllAre, zero}
+use Rattle.mgrammar.proofs.GrammarWords.{suc, ◌-◌, CountTree, RepeatedTree, classes, copies, group, AtomsTree, no_atoms, more_atoms, PatternsTree, no_patterns}
+use Rattle.mgrammar.proofs.GrammarWords.{more_patterns, patterns_of, atoms_of, AtomTree, quoted, spell_string, spell_behind, spell_repeated, spell_run}
+use Rattle.mgrammar.proofs.GrammarWords.{spell_patterns, spell_more_patterns, spell_list, spell_more, spell_atom, spell_atoms, is_pattern_letter, IsCount}
+use Rattle.mgrammar.proofs.GrammarWords.{WellCount, HasAtom, HasPattern, WellRepeated, WellRun, WellPatterns, WellAtom, WellAll, WellList, past, list_at, ◌>>=◌}
+use Rattle.mgrammar.proofs.GrammarWords.{run_of, after_run, text_from, many, behind_of, after_behind, is_count, count_at, classes_by, repeated_with}
+use Rattle.mgrammar.proofs.GrammarWords.{is_digit_or_point, atom_with, pattern_by, pattern_with, group_at, pattern_at}
+use Rattle.mgrammar.proofs.ReadingBasics.{Takes, Again, Stops, Stops-weaker, Begins, Begins-stops, Begins-long, goes_on, bind_some, chosen, some_is, past_takes}
+use Rattle.mgrammar.proofs.ReadingBasics.{run_parts, run_again, text_takes, text_again}
 use Rattle.mgrammar.proofs.ReadingLists.{each, ItemTakes, many_takes, many_again, count_le, list_takes, list_again}
 use Rattle.mgrammar.proofs.ReadingNumbers.{digit_first}
 

@@ -1,12 +1,24 @@
 -- SPDX-License-Identifier: Apache-2.0
 -- What is read of a primary is spelled so, and what is spelled so is read.
-use Rattle.mgrammar.proofs.GrammarWords.{◌≡◌, ℕ, ◌<◌, Bool, true, false, cond, eqb, List, [], ◌∷◌, ◌++◌, length, Option, Some, None, inl, inr, refl, sym, ap, subst, ◌∙◌, append_assoc, arith, ◌||◌, eqb-true, nat_tests, is_letter, is_character, AllAre, ExprTree, PrimaryTree, number, text, special, reference, bracket, call, select, refer, extrinsic, EntryTree, ActualsTree, spell_actual, spell_called, called_with, dollars_by, ReferenceTree, ExprsTree, exprs_of, ChoicesTree, choices_of, quoted, spell_expr, spell_primary, spell_reference, spell_exprs, spell_more_exprs, spell_more, spell_choices, spell_list, SpecialTree, special_of, ValueFunctionTree, VariableFunctionTree, FunctionTree, of_values, of_variable, of_choices, function_of, takes, IsReferring, exprs_count, IsCall, bare_primary, WellPrimary, WellBelow, WellAll, WellList, ◌>>=◌, run_of, after_run, number_at, is_digit_or_point, text_from, past, many, after_comma, list_at, Readers, reference_with, bracket_with, choice_with, select_with, call_with, refer_with, function_by, special_by, dollar_by, dollar_with, primary_with, nat_le}
-use Rattle.mgrammar.proofs.ReadingBasics.{Takes, Again, Stops, Stops-weaker, Begins, Begins-weaker, Begins-append, goes_on, bind_some, chosen, some_is, run_parts, run_again, past_takes, not_past, text_takes, text_again}
+use Rattle.mgrammar.proofs.GrammarWords.{◌≡◌, ℕ, ◌<◌, Bool, true, false, cond, eqb, List, [], ◌∷◌, ◌++◌, length, Option, Some, None, inl, inr, refl, sym, ap}
+use Rattle.mgrammar.proofs.GrammarWords.{subst, ◌∙◌, append_assoc, arith, ◌||◌, eqb-true, nat_tests, is_letter, is_character, AllAre, ExprTree, PrimaryTree}
+use Rattle.mgrammar.proofs.GrammarWords.{number, text, special, reference, bracket, call, select, refer, extrinsic, EntryTree, ActualsTree, spell_actual}
+use Rattle.mgrammar.proofs.GrammarWords.{spell_called, called_with, dollars_by, ReferenceTree, ExprsTree, exprs_of, ChoicesTree, choices_of, quoted, spell_expr}
+use Rattle.mgrammar.proofs.GrammarWords.{spell_primary, spell_reference, spell_exprs, spell_more_exprs, spell_more, spell_choices, spell_list, SpecialTree}
+use Rattle.mgrammar.proofs.GrammarWords.{special_of, ValueFunctionTree, VariableFunctionTree, FunctionTree, of_values, of_variable, of_choices, function_of}
+use Rattle.mgrammar.proofs.GrammarWords.{takes, IsReferring, exprs_count, IsCall, bare_primary, WellPrimary, WellBelow, WellAll, WellList, ◌>>=◌, run_of}
+use Rattle.mgrammar.proofs.GrammarWords.{after_run, number_at, is_digit_or_point, text_from, past, many, after_comma, list_at, Readers, reference_with}
+use Rattle.mgrammar.proofs.GrammarWords.{bracket_with, choice_with, select_with, call_with, refer_with, function_by, special_by, dollar_by, dollar_with}
+use Rattle.mgrammar.proofs.GrammarWords.{primary_with, nat_le}
+use Rattle.mgrammar.proofs.ReadingBasics.{Takes, Again, Stops, Stops-weaker, Begins, Begins-weaker, Begins-append, goes_on, bind_some, chosen, some_is}
+use Rattle.mgrammar.proofs.ReadingBasics.{run_parts, run_again, past_takes, not_past, text_takes, text_again}
 use Rattle.mgrammar.proofs.ReadingActuals.{ActualEnds, called_takes, called_again}
 use Rattle.mgrammar.proofs.ReadingNumbers.{number_takes, number_again, number_begins, goes_on_number}
 use Rattle.mgrammar.proofs.ReadingLists.{each, joined_by, spell_more-each, many_takes, comma_takes, more_again, list_takes, list_again}
-use Rattle.mgrammar.proofs.ReadingReferences.{OperandEnds, Ends, Greedy, TakesFree, AgainFree, operand_ends, greedy_ends, WellWithin, is_open, begins_reference, reference_takes_free, reference_again_free, reference_begins}
-use Rattle.mgrammar.proofs.ReadingTrees.{WellInner, exprs_list, exprs_back, more_exprs-list, spell_exprs-list, count-length, exprs_well, exprs_inner, spell_choice, WellChoice, choices_list, choices_back, spell_choices-list, choices_well, choices_inner, WellHanded}
+use Rattle.mgrammar.proofs.ReadingReferences.{OperandEnds, Ends, Greedy, TakesFree, AgainFree, operand_ends, greedy_ends, WellWithin, is_open, begins_reference}
+use Rattle.mgrammar.proofs.ReadingReferences.{reference_takes_free, reference_again_free, reference_begins}
+use Rattle.mgrammar.proofs.ReadingTrees.{WellInner, exprs_list, exprs_back, more_exprs-list, spell_exprs-list, count-length, exprs_well, exprs_inner}
+use Rattle.mgrammar.proofs.ReadingTrees.{spell_choice, WellChoice, choices_list, choices_back, spell_choices-list, choices_well, choices_inner, WellHanded}
 
 pub not_on : (c : ℕ) → goes_on c ≡ false → (goes_on_number c ≡ false) × (is_letter c ≡ false) × (eqb c 34 ≡ false) × (is_open c ≡ false)
 not_on c h = (grind (arith, nat_tests), grind (arith, nat_tests), grind (arith, nat_tests), grind (arith, nat_tests))

@@ -1,7 +1,14 @@
 -- SPDX-License-Identifier: Apache-2.0
 -- What is read of a variable is spelled so, and what is spelled so is read.
-use Rattle.mgrammar.proofs.GrammarWords.{◌≡◌, ℕ, ◌<◌, ◌-◌, Bool, true, false, eqb, List, [], ◌∷◌, ◌++◌, Option, Some, None, inl, inr, refl, sym, ap, subst, ◌∙◌, append_assoc, arith, eqb-true, nat_tests, append-nil, ◌||◌, is_name_start, is_name_rest, IsName, ExprTree, PrimaryTree, ExprsTree, no_exprs, exprs, exprs_of, ReferenceTree, local, global, naked, indirect, extended, spell_expr, spell_primary, spell_more, spell_list, spell_more_exprs, spell_subscripts, spell_attached, spell_reference, HasExpr, bare_reference, bare_primary, IsAttached, WellSubscripts, WellReference, WellBelow, WellList, Read, ◌>>=◌, name_at, past, list_at, Readers, attached_at, subscripts_with, attached_by, attached_with, indirect_with, local_by, extended_with, owned_by, global_by, reference_by, reference_with}
-use Rattle.mgrammar.proofs.ReadingBasics.{IsRead, Takes, Again, Stops, Stops-weaker, Begins, Begins-stops, Begins-append, Begins-weaker, goes_on, goes_further, bind_some, chosen, some_is, past_takes, not_past, name_takes, name_again}
+use Rattle.mgrammar.proofs.GrammarWords.{◌≡◌, ℕ, ◌<◌, ◌-◌, Bool, true, false, eqb, List, [], ◌∷◌, ◌++◌, Option, Some, None, inl, inr, refl, sym, ap, subst, ◌∙◌}
+use Rattle.mgrammar.proofs.GrammarWords.{append_assoc, arith, eqb-true, nat_tests, append-nil, ◌||◌, is_name_start, is_name_rest, IsName, ExprTree, PrimaryTree}
+use Rattle.mgrammar.proofs.GrammarWords.{ExprsTree, no_exprs, exprs, exprs_of, ReferenceTree, local, global, naked, indirect, extended, spell_expr}
+use Rattle.mgrammar.proofs.GrammarWords.{spell_primary, spell_more, spell_list, spell_more_exprs, spell_subscripts, spell_attached, spell_reference, HasExpr}
+use Rattle.mgrammar.proofs.GrammarWords.{bare_reference, bare_primary, IsAttached, WellSubscripts, WellReference, WellBelow, WellList, Read, ◌>>=◌, name_at}
+use Rattle.mgrammar.proofs.GrammarWords.{past, list_at, Readers, attached_at, subscripts_with, attached_by, attached_with, indirect_with, local_by}
+use Rattle.mgrammar.proofs.GrammarWords.{extended_with, owned_by, global_by, reference_by, reference_with}
+use Rattle.mgrammar.proofs.ReadingBasics.{IsRead, Takes, Again, Stops, Stops-weaker, Begins, Begins-stops, Begins-append, Begins-weaker, goes_on, goes_further}
+use Rattle.mgrammar.proofs.ReadingBasics.{bind_some, chosen, some_is, past_takes, not_past, name_takes, name_again}
 use Rattle.mgrammar.proofs.ReadingOperators.{is_operator}
 use Rattle.mgrammar.proofs.ReadingLists.{joined, enclosed, list_takes, list_again}
 use Rattle.mgrammar.proofs.ReadingTrees.{WellInner, exprs_list, exprs_back, more_exprs-list, exprs_well, exprs_inner}

@@ -1,9 +1,18 @@
 -- SPDX-License-Identifier: Apache-2.0
 -- What is read as a line of a routine is spelled so, and what is spelled so is read.
-use Rattle.mgrammar.proofs.GrammarWords.{◌≡◌, ◌↔◌, ℕ, zero, suc, ◌<◌, ◌≤◌, le-leb, inl, inr, is_name_start, Bool, true, false, cond, eqb, List, [], ◌∷◌, ◌++◌, length, Option, Some, None, refl, sym, ap, subst, ◌∙◌, append_assoc, arith, replicate, length-append, filter, eqb-true, nat_tests, length-replicate, is_letter, is_name_rest, IsName, SpacedTree, LineTree, spell_command, spell_commands, spell_comment, spell, spell_list, spell_more, spell_names, WellCommands, WellAll, WellList, well, ◌>>=◌, run_of, after_run, name_at, list_at, names_at, past, is_space, at_end, comment_at, line_at, BodyTree, short, spaced_out, RoutineLineTree, dots_of_body, spell_dot, spell_dots, spell_body, spell_label, spell_formals, spell_routine_line, WellLabel, WellFormals, WellBody, are_distinct, well_routine_line, has_formals, label_ends, label_by, label_at, unlike, formals_by, listed_by, formals_at, formals_of, formals_behind, is_dot, is_space_or_dot, dots_in, dot_by, dot_at, dots_at, body_by, body_at, routine_line_at}
+use Rattle.mgrammar.proofs.GrammarWords.{◌≡◌, ◌↔◌, ℕ, zero, suc, ◌<◌, ◌≤◌, le-leb, inl, inr, is_name_start, Bool, true, false, cond, eqb, List, [], ◌∷◌, ◌++◌}
+use Rattle.mgrammar.proofs.GrammarWords.{length, Option, Some, None, refl, sym, ap, subst, ◌∙◌, append_assoc, arith, replicate, length-append, filter, eqb-true}
+use Rattle.mgrammar.proofs.GrammarWords.{nat_tests, length-replicate, is_letter, is_name_rest, IsName, SpacedTree, LineTree, spell_command, spell_commands}
+use Rattle.mgrammar.proofs.GrammarWords.{spell_comment, spell, spell_list, spell_more, spell_names, WellCommands, WellAll, WellList, well, ◌>>=◌, run_of}
+use Rattle.mgrammar.proofs.GrammarWords.{after_run, name_at, list_at, names_at, past, is_space, at_end, comment_at, line_at, BodyTree, short, spaced_out}
+use Rattle.mgrammar.proofs.GrammarWords.{RoutineLineTree, dots_of_body, spell_dot, spell_dots, spell_body, spell_label, spell_formals, spell_routine_line}
+use Rattle.mgrammar.proofs.GrammarWords.{WellLabel, WellFormals, WellBody, are_distinct, well_routine_line, has_formals, label_ends, label_by, label_at, unlike}
+use Rattle.mgrammar.proofs.GrammarWords.{formals_by, listed_by, formals_at, formals_of, formals_behind, is_dot, is_space_or_dot, dots_in, dot_by, dot_at}
+use Rattle.mgrammar.proofs.GrammarWords.{dots_at, body_by, body_at, routine_line_at}
 use Rattle.mgrammar.specs.GrammarLaws.{TellsRoutineLine}
 use Rattle.mgrammar.specs.Languages.{since_formals}
-use Rattle.mgrammar.proofs.ReadingBasics.{IsRead, Stops, Stops-weaker, Begins-stops, Begins-append, bind_some, chosen, some_is, run_parts, run_again, past_takes, not_past, name_takes, name_again, unique, told}
+use Rattle.mgrammar.proofs.ReadingBasics.{IsRead, Stops, Stops-weaker, Begins-stops, Begins-append, bind_some, chosen, some_is, run_parts, run_again}
+use Rattle.mgrammar.proofs.ReadingBasics.{past_takes, not_past, name_takes, name_again, unique, told}
 use Rattle.mgrammar.proofs.ReadingLists.{each, many_takes, many_again, count_le, enclosed, list_takes, list_again}
 use Rattle.mgrammar.proofs.ReadingArguments.{all_copies, copies_are}
 use Rattle.mgrammar.proofs.ReadingCommands.{command_letter}
@@ -268,7 +277,7 @@ one_routine_tree = unique spell_routine_line well_routine_line routine_line_at r
 pub reads_its_routine_tree : (text : List ℕ) (l : RoutineLineTree) → (routine_line_at text ≡ Some l) ↔ ((spell_routine_line l ≡ text) × well_routine_line l)
 reads_its_routine_tree = told spell_routine_line well_routine_line routine_line_at routine_line_again routine_line_takes
 
--- ---- what is told of a line
+-- ---- what is read of a line
 
 spaces_told : (n : ℕ) (rest : List ℕ) → length (filter is_dot (run_of is_space_or_dot (replicate n 32 ++ rest))) ≡ length (filter is_dot (run_of is_space_or_dot rest))
 spaces_told zero rest = refl

@@ -1,12 +1,23 @@
 -- SPDX-License-Identifier: Apache-2.0
 -- What is read of the left side of a set_argument is spelled so, and what is spelled so is read.
-use Rattle.mgrammar.proofs.GrammarWords.{◌≡◌, ℕ, suc, ◌<◌, ◌-◌, Bool, true, eqb, cond, List, [], ◌∷◌, ◌++◌, length, Option, Some, None, inl, inr, refl, sym, ap, subst, ◌∙◌, append_assoc, arith, eqb-true, nat_tests, is_letter, AllAre, ExprTree, PrimaryTree, no_exprs, ReferenceTree, indirect, ExprsTree, exprs_of, TargetTree, variable, part, DestinationTree, one, several, ArgTree, assign, indirect_args, FormTree, spell_expr, spell_primary, spell_reference, spell_more, spell_more_exprs, spell_target, spell_destination, spell_arg, set_argument, ValueFunctionTree, FunctionTree, of_values, of_variable, of_choices, function_of, takes, is_part, IsPart, exprs_count, max_depth, bare_primary, bare_destination, WellBelow, WellReference, WellTarget, WellDestination, WellArg, Read, ◌>>=◌, run_of, after_run, past, Readers, reference_with, expr_at, readers_at, many, after_comma, part_with, part_by, target_with, destination_at, given_by, set_argument_by, set_argument_at}
-use Rattle.mgrammar.proofs.ReadingBasics.{IsRead, Takes, Again, Stops, Begins, Begins-append, Begins-stops, Begins-weaker, bind_some, chosen, some_is, run_parts, run_again, past_takes, not_past}
+use Rattle.mgrammar.proofs.GrammarWords.{◌≡◌, ℕ, suc, ◌<◌, ◌-◌, Bool, true, eqb, cond, List, [], ◌∷◌, ◌++◌, length, Option, Some, None, inl, inr, refl, sym, ap}
+use Rattle.mgrammar.proofs.GrammarWords.{subst, ◌∙◌, append_assoc, arith, eqb-true, nat_tests, is_letter, AllAre, ExprTree, PrimaryTree, no_exprs}
+use Rattle.mgrammar.proofs.GrammarWords.{ReferenceTree, indirect, ExprsTree, exprs_of, TargetTree, variable, part, DestinationTree, one, several, ArgTree}
+use Rattle.mgrammar.proofs.GrammarWords.{assign, indirect_args, FormTree, spell_expr, spell_primary, spell_reference, spell_more, spell_more_exprs}
+use Rattle.mgrammar.proofs.GrammarWords.{spell_target, spell_destination, spell_arg, set_argument, ValueFunctionTree, FunctionTree, of_values, of_variable}
+use Rattle.mgrammar.proofs.GrammarWords.{of_choices, function_of, takes, is_part, IsPart, exprs_count, max_depth, bare_primary, bare_destination, WellBelow}
+use Rattle.mgrammar.proofs.GrammarWords.{WellReference, WellTarget, WellDestination, WellArg, Read, ◌>>=◌, run_of, after_run, past, Readers, reference_with}
+use Rattle.mgrammar.proofs.GrammarWords.{expr_at, readers_at, many, after_comma, part_with, part_by, target_with, destination_at, given_by, set_argument_by}
+use Rattle.mgrammar.proofs.GrammarWords.{set_argument_at}
+use Rattle.mgrammar.proofs.ReadingBasics.{IsRead, Takes, Again, Stops, Begins, Begins-append, Begins-stops, Begins-weaker, bind_some, chosen, some_is}
+use Rattle.mgrammar.proofs.ReadingBasics.{run_parts, run_again, past_takes, not_past}
 use Rattle.mgrammar.proofs.ReadingLists.{each, joined_by, listed_or_one, bracketed_again, spell_more-each, many_takes, comma_takes, more_again}
 use Rattle.mgrammar.proofs.ReadingTrees.{WellInner, exprs_list, exprs_back, more_exprs-list, count-length, exprs_well, exprs_inner}
-use Rattle.mgrammar.proofs.ReadingReferences.{OperandEnds, Ends, TakesFree, AgainFree, WellWithin, begins_reference, reference_takes, reference_again, reference_begins, bare_spelled, bare_well, bare_reference_is}
+use Rattle.mgrammar.proofs.ReadingReferences.{OperandEnds, Ends, TakesFree, AgainFree, WellWithin, begins_reference, reference_takes, reference_again}
+use Rattle.mgrammar.proofs.ReadingReferences.{reference_begins, bare_spelled, bare_well, bare_reference_is}
 use Rattle.mgrammar.proofs.ReadingPrimaries.{reference_tests, refer_cells, refer_spread, more_ends}
-use Rattle.mgrammar.proofs.ReadingExprs.{begins_operand, inner_takes, within_takes, below_takes, handed_takes, handed_again, inner_again, within_again, below_again, expr_takes, expr_again, read_pattern_takes, read_pattern_again}
+use Rattle.mgrammar.proofs.ReadingExprs.{begins_operand, inner_takes, within_takes, below_takes, handed_takes, handed_again, inner_again, within_again}
+use Rattle.mgrammar.proofs.ReadingExprs.{below_again, expr_takes, expr_again, read_pattern_takes, read_pattern_again}
 
 -- ---- what is read is spelled so
 

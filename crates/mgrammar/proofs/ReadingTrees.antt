@@ -1,6 +1,10 @@
 -- SPDX-License-Identifier: Apache-2.0
 -- Runs of steps, of arguments, of choices and of actuals, as lists.
-use Rattle.mgrammar.proofs.GrammarWords.{◌≡◌, ℕ, suc, ◌<◌, ◌-◌, List, [], ◌∷◌, ◌++◌, length, refl, sym, ap, ◌∙◌, append_assoc, ExprTree, TailTree, TailsTree, no_tails, tail, tails_of, ExprsTree, no_exprs, exprs, exprs_of, ChoicesTree, no_choices, choice, choices_of, ActualTree, ActualsTree, no_actuals, actuals, actuals_of, spell_actual, spell_more_actuals, spell_tail, spell_tails, spell_expr, spell_exprs, spell_more_exprs, spell_choices, spell_more_choices, spell_list, spell_more, exprs_count, HasChoice, WellExpr, WellTail, WellTails, WellExprs, WellChoices, WellActual, WellMoreActuals, WellAll, WellList}
+use Rattle.mgrammar.proofs.GrammarWords.{◌≡◌, ℕ, suc, ◌<◌, ◌-◌, List, [], ◌∷◌, ◌++◌, length, refl, sym, ap, ◌∙◌, append_assoc, ExprTree, TailTree, TailsTree}
+use Rattle.mgrammar.proofs.GrammarWords.{no_tails, tail, tails_of, ExprsTree, no_exprs, exprs, exprs_of, ChoicesTree, no_choices, choice, choices_of}
+use Rattle.mgrammar.proofs.GrammarWords.{ActualTree, ActualsTree, no_actuals, actuals, actuals_of, spell_actual, spell_more_actuals, spell_tail, spell_tails}
+use Rattle.mgrammar.proofs.GrammarWords.{spell_expr, spell_exprs, spell_more_exprs, spell_choices, spell_more_choices, spell_list, spell_more, exprs_count}
+use Rattle.mgrammar.proofs.GrammarWords.{HasChoice, WellExpr, WellTail, WellTails, WellExprs, WellChoices, WellActual, WellMoreActuals, WellAll, WellList}
 use Rattle.mgrammar.proofs.ReadingLists.{each}
 
 -- ---- steps

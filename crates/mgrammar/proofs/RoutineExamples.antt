@@ -1,6 +1,9 @@
 -- SPDX-License-Identifier: Apache-2.0
 -- DO, GOTO, XECUTE and the lines of routines on examples, as proved equations: texts with their trees, and texts that have none.
-use Rattle.mgrammar.proofs.GrammarWords.{◌≡◌, ℕ, List, [], ◌∷◌, Some, None, replicate, rules, codes, ExprTree, number, text, reference, actuals, missing_actual, value_actual, name_actual, indirect_actual, at_label, ArgTree, shown, do_one, no_actuals, go_to, executed, KeywordTree, do_word, goto_word, execute_word, write_word, SpacedTree, LineTree, name_at, RoutineLineTree, short, spaced_out, spell_routine_line, formals_at, formals_of, label_at, label_of, dots_of, names_at, list_at, many, routine_line_at}
+use Rattle.mgrammar.proofs.GrammarWords.{◌≡◌, ℕ, List, [], ◌∷◌, Some, None, replicate, rules, codes, ExprTree, number, text, reference, actuals, missing_actual}
+use Rattle.mgrammar.proofs.GrammarWords.{value_actual, name_actual, indirect_actual, at_label, ArgTree, shown, do_one, no_actuals, go_to, executed, KeywordTree}
+use Rattle.mgrammar.proofs.GrammarWords.{do_word, goto_word, execute_word, write_word, SpacedTree, LineTree, name_at, RoutineLineTree, short, spaced_out}
+use Rattle.mgrammar.proofs.GrammarWords.{spell_routine_line, formals_at, formals_of, label_at, label_of, dots_of, names_at, list_at, many, routine_line_at}
 use Rattle.mgrammar.proofs.Computing.{reads}
 use Rattle.mgrammar.proofs.ShortTrees.{IsRead, HaveNone, only, the_one, own_label, own, named, command, conditional, of_commands, of_one}
 

@@ -1,6 +1,8 @@
 -- SPDX-License-Identifier: Apache-2.0
 -- Trees written shortly, and what examples say of texts: that they have a tree, or none.
-use Rattle.mgrammar.proofs.GrammarWords.{◌≡◌, ℕ, List, [], ◌∷◌, Some, None, map, codes, OperandTree, operand, PrimaryTree, ExprTree, expr, no_tails, number, ReferenceTree, local, no_exprs, EntryTree, at_label_in, at_routine, own_routine, KeywordTree, ArgTree, CommandTree, SpacedTree, LineTree, spell, line_at}
+use Rattle.mgrammar.proofs.GrammarWords.{◌≡◌, ℕ, List, [], ◌∷◌, Some, None, map, codes, OperandTree, operand, PrimaryTree, ExprTree, expr, no_tails, number}
+use Rattle.mgrammar.proofs.GrammarWords.{ReferenceTree, local, no_exprs, EntryTree, at_label_in, at_routine, own_routine, KeywordTree, ArgTree, CommandTree}
+use Rattle.mgrammar.proofs.GrammarWords.{SpacedTree, LineTree, spell, line_at}
 
 -- the text has this tree
 abbrev pub IsRead : List ℕ → LineTree → Type 0

@@ -20,7 +20,7 @@ pub neither : (a b : Bool) → a || b ≡ false → (a ≡ false) × (b ≡ fals
 neither true b h = absurd (let clash : true ≡ false = h in cc)
 neither false b h = (refl, h)
 
-both : (a b : Bool) → a ≡ true → b ≡ true → a && b ≡ true
+pub both : (a b : Bool) → a ≡ true → b ≡ true → a && b ≡ true
 both a b p q = rw (p, q) refl
 
 mutual
@@ -75,11 +75,11 @@ actuals_steps (actuals a rest) h =
     let n = neither (has_call_actual a) (has_call_actuals rest) h in
     both (in_steps_actual a) (in_steps_actuals rest) (actual_steps a n.0) (actuals_steps rest n.1)
 
-optional_steps : (o : Option ExprTree) → has_call_optional o ≡ false → in_steps_optional o ≡ true
+pub optional_steps : (o : Option ExprTree) → has_call_optional o ≡ false → in_steps_optional o ≡ true
 optional_steps None h = refl
 optional_steps (Some e) h = expr_steps e h
 
-arg_steps : (a : ArgTree) → has_call_arg a ≡ false → in_steps_arg a ≡ true
+pub arg_steps : (a : ArgTree) → has_call_arg a ≡ false → in_steps_arg a ≡ true
 arg_steps (assign d e) h =
     let n = neither (has_call_destination d) (has_call e) h in
     both (not (has_call_destination d)) (in_steps e) (ap not n.0) (expr_steps e n.1)

@@ -5,8 +5,10 @@
 -- Restates "Command definitions" of ISO/IEC 11756:1999, of those that some language has. `H` without arguments is HALT, and with some it is
 -- HANG: so it has a row of its own, which has no other word, and each of the two has its whole word alone.
 use Rattle.std.specs.Prelude.{ℕ, Bool, true, false, ◌&&◌, nat_le, if◌then◌else◌, Option, Some, None, List, [], ◌∷◌, codes}
-use Rattle.mgrammar.specs.Grammar.{is_at_most, is_either, KeywordTree, set_word, kill_word, new_word, if_word, else_word, for_word, quit_word, write_word, do_word, goto_word, execute_word, lock_word, halt_word, hang_word, halt_or_hang_word}
-use Rattle.mgrammar.specs.Grammar.{FormTree, set_argument, kill_argument, new_argument, if_argument, for_argument, write_argument, do_argument, goto_argument, xecute_argument, lock_argument, hang_argument, quit_argument, no_argument}
+use Rattle.mgrammar.specs.Grammar.{is_at_most, is_either, KeywordTree, set_word, kill_word, new_word, if_word, else_word, for_word, quit_word, write_word}
+use Rattle.mgrammar.specs.Grammar.{do_word, goto_word, execute_word, lock_word, halt_word, hang_word, halt_or_hang_word}
+use Rattle.mgrammar.specs.Grammar.{FormTree, set_argument, kill_argument, new_argument, if_argument, for_argument, write_argument, do_argument, goto_argument}
+use Rattle.mgrammar.specs.Grammar.{xecute_argument, lock_argument, hang_argument, quit_argument, no_argument}
 
 pub record CommandRow : Type 0 where
   pub short : List ℕ
@@ -63,7 +65,7 @@ takes_args k n = nat_le (command_row k).least n && is_at_most (command_row k).mo
 abbrev pub takes_condition : KeywordTree → Bool
 takes_condition k = (command_row k).is_conditioned
 
--- the first language that has the command with so many arguments: QUIT has its value later
+-- the first language that has the command with this many arguments: QUIT has its value later
 abbrev pub since_keyword : KeywordTree → ℕ → ℕ
 since_keyword quit_word n = if nat_le 1 n then 1 else 0
 since_keyword halt_or_hang_word n = if nat_le 1 n then (command_row hang_word).since else (command_row halt_word).since

@@ -14,6 +14,8 @@ pub data ValueFunctionTree : Type 0 where
   format_number_function : ValueFunctionTree
   justify_function : ValueFunctionTree
   length_function : ValueFunctionTree
+  name_length_function : ValueFunctionTree
+  name_subscript_function : ValueFunctionTree
   piece_function : ValueFunctionTree
   reverse_function : ValueFunctionTree
   translate_function : ValueFunctionTree
@@ -52,6 +54,8 @@ function_rows =
     ∷ row (codes "l") (codes "length") (of_values length_function 1 (Some 2)) 0
     ∷ row (codes "o") (codes "order") (of_variable order_function 1) 0
     ∷ row (codes "p") (codes "piece") (of_values piece_function 2 (Some 4)) 0
+    ∷ row (codes "ql") (codes "qlength") (of_values name_length_function 1 (Some 1)) 1
+    ∷ row (codes "qs") (codes "qsubscript") (of_values name_subscript_function 2 (Some 2)) 1
     ∷ row (codes "re") (codes "reverse") (of_values reverse_function 1 (Some 1)) 1
     ∷ row (codes "s") (codes "select") of_choices 0
     ∷ row (codes "tr") (codes "translate") (of_values translate_function 2 (Some 3)) 0
@@ -73,7 +77,7 @@ since_named w (r ∷ rs) = if is_either r.short r.whole w then r.since else sinc
 unfoldable pub since_function : List ℕ → ℕ
 since_function w = since_named w function_rows
 
--- the first language in which the function of a word takes so many values, if that is later: $JUSTIFY takes a third one
+-- the first language in which the function of a word takes this many values, if that is later: $JUSTIFY takes a third one
 abbrev pub since_values : List ℕ → ℕ → ℕ
 since_values w n = if is_either (codes "j") (codes "justify") w && nat_le 3 n then 1 else 0
 
@@ -90,10 +94,12 @@ is_part find_function = false
 is_part format_number_function = false
 is_part justify_function = false
 is_part length_function = false
+is_part name_length_function = false
+is_part name_subscript_function = false
 is_part piece_function = true
 is_part reverse_function = false
 is_part translate_function = false
 
--- the first language in which the call of a function that is one may be a target, with so many values after the variable
+-- the first language in which the call of a function that is one may be a target, with this many values after the variable
 abbrev pub since_part : List ℕ → ℕ → ℕ
 since_part w n = if is_either (codes "p") (codes "piece") w && nat_le n 2 then 0 else 1

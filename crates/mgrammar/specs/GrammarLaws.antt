@@ -2,7 +2,8 @@
 -- The laws of the grammar. The functions of src/ named after them carry them.
 use Rattle.std.specs.Prelude.{◌≡◌, ◌≤◌, ◌↔◌, ℕ, true, false, List, Some, None}
 use Rattle.mspec.specs.Names.{IsName}
-use Rattle.mgrammar.specs.Grammar.{ReferenceTree, ArgTree, AtomTree, FormTree, may_be_indirect, LineTree, spell_reference, spell_list, spell_arg, spell_atoms, spell}
+use Rattle.mgrammar.specs.Grammar.{ReferenceTree, ArgTree, AtomTree, FormTree, may_be_indirect, LineTree, spell_reference, spell_list, spell_arg, spell_atoms}
+use Rattle.mgrammar.specs.Grammar.{spell}
 use Rattle.mgrammar.specs.WellFormed.{max_depth, WellReference, WellList, WellArg, WellAtom, well}
 use Rattle.mgrammar.specs.Reading.{line_at}
 use Rattle.mgrammar.specs.IndirectTexts.{ref_at, args_of, pattern_of, name_of}
@@ -27,7 +28,7 @@ OneRoutineTree = (s t : RoutineLineTree) → well_routine_line s → well_routin
 abbrev pub ReadsItsRoutineTree : Type 0
 ReadsItsRoutineTree = (text : List ℕ) (l : RoutineLineTree) → (routine_line_at text ≡ Some l) ↔ ((spell_routine_line l ≡ text) × well_routine_line l)
 
--- what is told in a language of a text that has a tree, without reading it whole
+-- what is read in a language of a text that has a tree, without reading it whole
 pub record TellsRoutineLine (n : ℕ) (text : List ℕ) (l : RoutineLineTree) : Type 0 where
   pub label : label_of n text ≡ l.label
   pub formals : formals_of n text ≡ l.formals
@@ -104,3 +105,7 @@ ProfileHasNoList = (text : List ℕ) → formals_of 0 text ≡ None
 -- a line in which no function is called has none where it could not stand
 abbrev pub UncalledIsInSteps : Type 0
 UncalledIsInSteps = (l : LineTree) → has_call_line l ≡ false → in_steps_line l ≡ true
+
+-- in language 1 each call of a line stands where it can be carried out a step at a time
+abbrev pub FirstIsInSteps : Type 0
+FirstIsInSteps = (l : LineTree) → since_line l ≤ 1 → in_steps_line l ≡ true

@@ -4,9 +4,15 @@
 -- There is one grammar, that of all languages together. A tree needs the first language that has all its forms, which is counted from
 -- the rows of its words: 0 is the profile, and each later language has all that those before it have. A text whose tree needs a later
 -- language is as a text that has no tree.
-use Rattle.std.specs.Prelude.{ℕ, nat_le, max, if◌then◌else◌, List, [], ◌∷◌, length, Option, Some, None}
-use Rattle.mgrammar.specs.Grammar.{RepeatedTree, classes, copies, group, AtomTree, ExprTree, expr, TailsTree, no_tails, tail, TailTree, apply, matches, matches_not, raise, matches_indirect, matches_not_indirect, OperandTree, operand, RoutineTree, own_routine, shared_routine, EntryTree, at_label, at_label_in, at_routine, PrimaryTree, number, text, special, reference, bracket, call, select, refer, extrinsic, ReferenceTree, local, global, naked, indirect, extended, ExprsTree, no_exprs, exprs, ChoicesTree, no_choices, choice, ActualTree, missing_actual, value_actual, name_actual, indirect_actual, ActualsTree, no_actuals, actuals}
-use Rattle.mgrammar.specs.Grammar.{TargetTree, variable, part, DestinationTree, one, several, ParameterTree, once, onward, until, LockedTree, lock_one, lock_several, FormTree, ArgTree, assign, formats, coded, shown, kill_one, kill_others, new_one, new_others, tested, loop, do_one, go_to, executed, locked, hang_for, returned, indirect_args, CommandTree, SpacedTree, LineTree, is_bang}
+use Rattle.std.specs.Prelude.{ℕ, Bool, nat_le, max, if◌then◌else◌, List, [], ◌∷◌, length, Option, Some, None}
+use Rattle.mgrammar.specs.Grammar.{RepeatedTree, classes, copies, group, AtomTree, ExprTree, expr, TailsTree, no_tails, tail, TailTree, apply, matches}
+use Rattle.mgrammar.specs.Grammar.{matches_not, raise, matches_indirect, matches_not_indirect, OperandTree, operand, RoutineTree, own_routine, shared_routine}
+use Rattle.mgrammar.specs.Grammar.{EntryTree, at_label, at_label_in, at_routine, PrimaryTree, number, text, special, reference, bracket, call, select, refer}
+use Rattle.mgrammar.specs.Grammar.{extrinsic, ReferenceTree, local, global, naked, indirect, extended, ExprsTree, no_exprs, exprs, ChoicesTree, no_choices}
+use Rattle.mgrammar.specs.Grammar.{choice, ActualTree, missing_actual, value_actual, name_actual, indirect_actual, ActualsTree, no_actuals, actuals}
+use Rattle.mgrammar.specs.Grammar.{TargetTree, variable, part, DestinationTree, one, several, ParameterTree, once, onward, until, LockedTree, lock_one}
+use Rattle.mgrammar.specs.Grammar.{lock_several, FormTree, ArgTree, assign, formats, coded, shown, kill_one, kill_others, new_one, new_others, tested, loop}
+use Rattle.mgrammar.specs.Grammar.{do_one, go_to, executed, locked, hang_for, returned, indirect_args, CommandTree, SpacedTree, LineTree, is_bang}
 use Rattle.mgrammar.specs.Functions.{since_function, since_values, since_part}
 use Rattle.mgrammar.specs.WellFormed.{exprs_count}
 use Rattle.mgrammar.specs.Commands.{since_keyword}
@@ -14,6 +20,7 @@ use Rattle.mgrammar.specs.Specials.{since_special}
 use Rattle.mgrammar.specs.Reading.{line_at}
 use Rattle.mgrammar.specs.RoutineLine.{BodyTree, short, spaced_out, RoutineLineTree, routine_line_at}
 use Rattle.mgrammar.specs.IndirectTexts.{ref_at, args_of}
+use Rattle.mgrammar.specs.ProgramsIn.{in_steps_arg, in_steps_optional}
 
 -- ---- the first language that has all forms of a tree
 
@@ -71,7 +78,7 @@ abbrev mutual
   since_primary (call word args) = max (max (since_function word) (since_values word (exprs_count args))) (since_exprs args)
   since_primary (select word choices) = max (since_function word) (since_choices choices)
   since_primary (refer word r more) = max (since_function word) (max (since_reference r) (since_exprs more))
-  since_primary (extrinsic e xs) = max 2 (max (since_entry e) (since_actuals xs))
+  since_primary (extrinsic e xs) = max 1 (max (since_entry e) (since_actuals xs))
 
   pub since_reference : ReferenceTree → ℕ
   since_reference (local name subscripts) = since_exprs subscripts
@@ -119,31 +126,43 @@ since_locked (lock_several rs) = since_all since_reference rs
 abbrev pub since_format : ℕ → ℕ
 since_format c = if is_bang c then 0 else 1
 
+-- that of the forms of an argument, wherever functions are called in it
+abbrev pub since_forms : ArgTree → ℕ
+since_forms (assign d e) = max (since_destination d) (since_expr e)
+since_forms (formats run None) = since_all since_format run
+since_forms (formats run (Some e)) = max 1 (since_expr e)
+since_forms (coded e) = max 1 (since_expr e)
+since_forms (shown e) = since_expr e
+since_forms (kill_one r) = since_reference r
+since_forms (kill_others names) = 0
+since_forms (new_one name) = 0
+since_forms (new_others names) = 0
+since_forms (tested e) = since_expr e
+since_forms (loop index parameters) = since_all since_parameter parameters
+since_forms (do_one entry xs c) = max (max (since_entry entry) (since_actuals xs)) (since_optional since_expr c)
+since_forms (go_to entry c) = max (since_entry entry) (since_optional since_expr c)
+since_forms (executed e c) = max (since_expr e) (since_optional since_expr c)
+since_forms (locked k names t) = max (since_locked names) (since_optional since_expr t)
+since_forms (hang_for e) = since_expr e
+since_forms (returned e) = since_expr e
+since_forms (indirect_args f p) = since_primary p
+
+-- that of the places where functions are called, from whether these can be reached a step at a time
+abbrev pub since_calls : Bool → ℕ
+since_calls stepped = if stepped then 0 else 2
+
 abbrev pub since_arg : ArgTree → ℕ
-since_arg (assign d e) = max (since_destination d) (since_expr e)
-since_arg (formats run None) = since_all since_format run
-since_arg (formats run (Some e)) = max 1 (since_expr e)
-since_arg (coded e) = max 1 (since_expr e)
-since_arg (shown e) = since_expr e
-since_arg (kill_one r) = since_reference r
-since_arg (kill_others names) = 0
-since_arg (new_one name) = 0
-since_arg (new_others names) = 0
-since_arg (tested e) = since_expr e
-since_arg (loop index parameters) = since_all since_parameter parameters
-since_arg (do_one entry xs c) = max (max (since_entry entry) (since_actuals xs)) (since_optional since_expr c)
-since_arg (go_to entry c) = max (since_entry entry) (since_optional since_expr c)
-since_arg (executed e c) = max (since_expr e) (since_optional since_expr c)
-since_arg (locked k names t) = max (since_locked names) (since_optional since_expr t)
-since_arg (hang_for e) = since_expr e
-since_arg (returned e) = since_expr e
-since_arg (indirect_args f p) = since_primary p
+since_arg a = max (since_calls (in_steps_arg a)) (since_forms a)
 
 abbrev pub since_args : List ArgTree → ℕ
 since_args = since_all since_arg
 
+-- that of the condition of a command, if there is one
+abbrev pub since_condition : Option ExprTree → ℕ
+since_condition c = max (since_calls (in_steps_optional c)) (since_optional since_expr c)
+
 abbrev pub since_command : CommandTree → ℕ
-since_command c = max (since_keyword c.keyword (length c.args)) (max (since_optional since_expr c.condition) (since_args c.args))
+since_command c = max (since_keyword c.keyword (length c.args)) (max (since_condition c.condition) (since_args c.args))
 
 abbrev pub since_spaced : SpacedTree → ℕ
 since_spaced c = since_command c.0
@@ -175,7 +194,7 @@ line_in language cs = kept_in since_line language (line_at cs)
 unfoldable pub routine_line_in : ℕ → List ℕ → Option RoutineLineTree
 routine_line_in language cs = kept_in since_routine_line language (routine_line_at cs)
 
--- as the text of a name indirection
+-- as the text of a name indirection, where a call fails once it is reached
 unfoldable pub ref_in : ℕ → List ℕ → Option ReferenceTree
 ref_in language cs = kept_in since_reference language (ref_at cs)
 

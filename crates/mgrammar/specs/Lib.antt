@@ -7,6 +7,7 @@ pub mod WellFormed
 pub mod Reading
 pub mod ReadingExpressions
 pub mod ReadingWords
+pub mod NameValues
 pub mod IndirectTexts
 pub mod RoutineLine
 pub mod Languages

@@ -3,7 +3,8 @@
 use Rattle.std.specs.Prelude.{ℕ, suc, ◌+◌, ◌*◌, Bool, false, ◌||◌, ◌==◌, List, [], ◌∷◌, map, Option, Some, None, if◌then◌else◌}
 use Rattle.mspec.specs.Literal.{digits_after}
 use Rattle.mspec.specs.Names.{upper_case}
-use Rattle.mgrammar.specs.Grammar.{CountTree, RepeatedTree, classes, copies as copies_tree, group, AtomsTree, no_atoms, more_atoms, PatternsTree, no_patterns, more_patterns, AtomTree}
+use Rattle.mgrammar.specs.Grammar.{CountTree, RepeatedTree, classes, copies as copies_tree, group, AtomsTree, no_atoms, more_atoms, PatternsTree, no_patterns}
+use Rattle.mgrammar.specs.Grammar.{more_patterns, AtomTree}
 use Rattle.mspec.specs.Pattern.{PatternCode, letter, control, everything, lower, numeral, punctuation, upper, Count, Repeated, members, copies, passing, Atom}
 use Rattle.mspec.specs.PatternTests.{is_reversed, is_match, turns}
 
@@ -73,7 +74,7 @@ atom_reversed a = is_reversed (count_of a.count) || has_reversed a.repeated
 
 -- ---- turns
 
--- The turns that an atom takes at most, with so many turns of its own, of a text with so many characters: each turn of a group is one, and
+-- The turns that an atom takes at most, with this many turns of its own, of a text with this many characters: each turn of a group is one, and
 -- in each turn there are those of all atoms of its patterns.
 abbrev mutual
   pub turns_of_repeated : ℕ → ℕ → RepeatedTree → ℕ

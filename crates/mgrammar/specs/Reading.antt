@@ -3,7 +3,12 @@
 -- the grammar, which a reader checks in its place.
 use Rattle.std.specs.Prelude.{ℕ, suc, ◌-◌, Bool, true, false, not, ◌&&◌, ◌||◌, ◌==◌, nat_le, if◌then◌else◌, List, [], ◌∷◌, length, drop, Option, Some, None}
 use Rattle.mspec.specs.Names.{is_letter, is_character}
-use Rattle.mgrammar.specs.Grammar.{ExprTree, exprs_of, PrimaryTree, ReferenceTree, TargetTree, variable, part, DestinationTree, one, several, ParameterTree, once, onward, until, EntryTree, ActualsTree, ArgTree, assign, formats, coded, shown, kill_one, kill_others, new_one, new_others, tested, loop, do_one, go_to, executed, locked, hang_for, returned, indirect_args, LockKindTree, anew, adding, giving_back, LockedTree, lock_one, lock_several, CommandTree, SpacedTree, LineTree, KeywordTree, FormTree, set_argument, kill_argument, new_argument, if_argument, for_argument, write_argument, do_argument, goto_argument, xecute_argument, lock_argument, hang_argument, quit_argument, no_argument, is_format}
+use Rattle.mgrammar.specs.Grammar.{ExprTree, exprs_of, PrimaryTree, ReferenceTree, TargetTree, variable, part, DestinationTree, one, several, ParameterTree}
+use Rattle.mgrammar.specs.Grammar.{once, onward, until, EntryTree, ActualsTree, ArgTree, assign, formats, coded, shown, kill_one, kill_others, new_one}
+use Rattle.mgrammar.specs.Grammar.{new_others, tested, loop, do_one, go_to, executed, locked, hang_for, returned, indirect_args, LockKindTree, anew, adding}
+use Rattle.mgrammar.specs.Grammar.{giving_back, LockedTree, lock_one, lock_several, CommandTree, SpacedTree, LineTree, KeywordTree, FormTree, set_argument}
+use Rattle.mgrammar.specs.Grammar.{kill_argument, new_argument, if_argument, for_argument, write_argument, do_argument, goto_argument, xecute_argument}
+use Rattle.mgrammar.specs.Grammar.{lock_argument, hang_argument, quit_argument, no_argument, is_format}
 use Rattle.mgrammar.specs.Commands.{keyword_of, form_of, takes_args, takes_condition}
 use Rattle.mgrammar.specs.Functions.{FunctionTree, of_values, of_variable, of_choices, function_of, takes, is_part}
 use Rattle.mgrammar.specs.WellFormed.{bare_destination, is_named, bare_arg, settled, least_gap, max_depth}

@@ -2,10 +2,15 @@
 -- How expressions are read: references, calls with their actuals, brackets and what operators tie.
 use Rattle.std.specs.Prelude.{ℕ, zero, suc, Bool, false, ◌&&◌, ◌||◌, is_none, ◌==◌, nat_le, if◌then◌else◌, List, [], ◌∷◌, length, Option, Some, None}
 use Rattle.mspec.specs.Names.{is_letter}
-use Rattle.mgrammar.specs.Grammar.{AtomTree, ExprTree, expr, TailTree, apply, matches, matches_not, raise, matches_indirect, matches_not_indirect, tails_of, OperandTree, operand, PrimaryTree, number, text, special, reference, bracket, call, select, refer, extrinsic, ReferenceTree, local, global, naked, indirect, extended, ExprsTree, no_exprs, exprs_of, choices_of, RoutineTree, own_routine, shared_routine, EntryTree, at_label, at_label_in, at_routine, ActualTree, missing_actual, value_actual, name_actual, indirect_actual, ActualsTree, no_actuals, actuals_of}
+use Rattle.mgrammar.specs.Grammar.{AtomTree, ExprTree, expr, TailTree, apply, matches, matches_not, raise, matches_indirect, matches_not_indirect, tails_of}
+use Rattle.mgrammar.specs.Grammar.{OperandTree, operand, PrimaryTree, number, text, special, reference, bracket, call, select, refer, extrinsic, ReferenceTree}
+use Rattle.mgrammar.specs.Grammar.{local, global, naked, indirect, extended, ExprsTree, no_exprs, exprs_of, choices_of, RoutineTree, own_routine}
+use Rattle.mgrammar.specs.Grammar.{shared_routine, EntryTree, at_label, at_label_in, at_routine, ActualTree, missing_actual, value_actual, name_actual}
+use Rattle.mgrammar.specs.Grammar.{indirect_actual, ActualsTree, no_actuals, actuals_of}
 use Rattle.mgrammar.specs.Specials.{SpecialTree, special_of}
 use Rattle.mgrammar.specs.Functions.{FunctionTree, of_values, of_variable, of_choices, function_of, takes}
-use Rattle.mgrammar.specs.ReadingWords.{Read, ◌>>=◌, run_of, after_run, is_digit_or_point, number_at, name_at, text_from, past, many, after_comma, list_at, pattern_at, signs_of, after_signs, OperatorTree, operator_at, between, matching, matching_not, raising}
+use Rattle.mgrammar.specs.ReadingWords.{Read, ◌>>=◌, run_of, after_run, is_digit_or_point, number_at, name_at, text_from, past, many, after_comma, list_at}
+use Rattle.mgrammar.specs.ReadingWords.{pattern_at, signs_of, after_signs, OperatorTree, operator_at, between, matching, matching_not, raising}
 
 -- ---- expressions
 

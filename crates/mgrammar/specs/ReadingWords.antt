@@ -1,10 +1,13 @@
 -- SPDX-License-Identifier: Apache-2.0
 -- How words are read: numbers, names, strings, lists, patterns, signs and operators.
-use Rattle.std.specs.Prelude.{ℕ, zero, suc, Bool, true, false, ◌&&◌, ◌||◌, ◌==◌, nat_le, nat_lt, if◌then◌else◌, List, [], ◌∷◌, ◌++◌, length, drop, Option, Some, None}
+use Rattle.std.specs.Prelude.{ℕ, zero, suc, Bool, true, false, ◌&&◌, ◌||◌, ◌==◌, nat_le, nat_lt, if◌then◌else◌, List, [], ◌∷◌, ◌++◌, length, drop, Option, Some}
+use Rattle.std.specs.Prelude.{None}
 use Rattle.mspec.specs.Limits.{max_name_rest}
 use Rattle.mspec.specs.Literal.{is_digit}
 use Rattle.mspec.specs.Names.{is_name_start, is_name_rest, is_character}
-use Rattle.mgrammar.specs.Grammar.{SignTree, plus, minus, negate, TruthTree, equals, less, greater, contains, follows, sorts_after, both, either, BinaryTree, add, subtract, multiply, divide, divide_whole, remainder, join, is, is_not, CountTree, RepeatedTree, classes, copies, group, PatternsTree, patterns_of, AtomTree, is_pattern_letter}
+use Rattle.mgrammar.specs.Grammar.{SignTree, plus, minus, negate, TruthTree, equals, less, greater, contains, follows, sorts_after, both, either, BinaryTree}
+use Rattle.mgrammar.specs.Grammar.{add, subtract, multiply, divide, divide_whole, remainder, join, is, is_not, CountTree, RepeatedTree, classes, copies, group}
+use Rattle.mgrammar.specs.Grammar.{PatternsTree, patterns_of, AtomTree, is_pattern_letter}
 
 -- what was read, and the text after it
 abbrev pub Read : Type 0 → Type 0

@@ -1,6 +1,9 @@
 // SPDX-License-Identifier: Apache-2.0
 // The laws of the grammar. Each function's contract is the law, and its body is empty: the code never calls them.
-ghost use Rattle.mgrammar.specs.GrammarLaws.{OneTree, ReadsItsTree, OneRoutineTree, ReadsItsRoutineTree, ToldOfItsTree, OneReference, ReadsItsReference, OneArgumentList, ReadsItsArguments, OnePattern, ReadsItsPattern, ReadsItsName, ReadsItsTreeIn, ReadsItsRoutineTreeIn, ReadsItsReferenceIn, ReadsItsArgumentsIn, LaterLanguagesRead, ProfileHasNoCall, ProfileHasNoList, UncalledIsInSteps};
+ghost use Rattle.mgrammar.specs.GrammarLaws.{OneTree, ReadsItsTree, OneRoutineTree, ReadsItsRoutineTree, ToldOfItsTree, OneReference, ReadsItsReference};
+ghost use Rattle.mgrammar.specs.GrammarLaws.{OneArgumentList, ReadsItsArguments, OnePattern, ReadsItsPattern, ReadsItsName, ReadsItsTreeIn};
+ghost use Rattle.mgrammar.specs.GrammarLaws.{ReadsItsRoutineTreeIn, ReadsItsReferenceIn, ReadsItsArgumentsIn, LaterLanguagesRead, ProfileHasNoCall};
+ghost use Rattle.mgrammar.specs.GrammarLaws.{ProfileHasNoList, UncalledIsInSteps, FirstIsInSteps};
 
 /// No text has two trees.
 #[tactic(auto, using(crate::proofs::ReadingLines::one_tree))]
@@ -24,7 +27,7 @@ pub fn reads_its_routine_tree()
     ensures { ReadsItsRoutineTree }
 {}
 
-/// The label, the formal list and the dots that are told of a text without reading it whole are those of its tree, if it has one.
+/// The label, the formal list and the dots that are read of a text without reading it whole are those of its tree, if it has one.
 /// Labels are searched for, and lines passed over, by these alone.
 pub fn told_of_its_tree()
     ensures { ToldOfItsTree }
@@ -69,7 +72,7 @@ pub fn reads_its_name()
 {}
 
 /// In a language, a text is read as a tree exactly when the tree is the well-formed one that spells it, and the language has all
-/// its forms. So each language has trees of the one grammar alone, and which these are is told by the tree.
+/// its forms. So each language has trees of the one grammar alone, and which these are the tree says.
 pub fn reads_its_tree_in()
     ensures { ReadsItsTreeIn }
 {}
@@ -107,4 +110,9 @@ pub fn profile_has_no_list()
 /// A line that calls no function has no call where none can stand in a language that has programs.
 pub fn uncalled_is_in_steps()
     ensures { UncalledIsInSteps }
+{}
+
+/// In language 1 each call of a line stands where it can be carried out a step at a time.
+pub fn first_is_in_steps()
+    ensures { FirstIsInSteps }
 {}

@@ -1,6 +1,9 @@
 -- SPDX-License-Identifier: Apache-2.0
 -- What may be done, among the members of a closed set and past them.
-use Rattle.misolation.proofs.IsolationWords.{◌≡◌, Bool, true, false, cond, ◌&&◌, ◌||◌, List, [], ◌∷◌, sym, ap, ◌∙◌, ⊎_elim, or_cases, and_parts, and_from, or_left, or_right, false_from_ne_true, any-filter_same, bytes_decides, list_any, Text, text_eq, carries, LockName, may_write, may_lock, Accounts, IsClosed, is_between, cut_settings, by_test, Mode, Write, Grant, Settings, allows, lets, may}
+use Rattle.misolation.proofs.IsolationWords.{◌≡◌, Bool, true, false, cond, ◌&&◌, ◌||◌, List, [], ◌∷◌, sym, ap, ◌∙◌, ⊎_elim, or_cases, and_parts, and_from}
+use Rattle.misolation.proofs.IsolationWords.{or_left, or_right, false_from_ne_true, any-filter_same, bytes_decides, list_any, Text, text_eq, carries, LockName}
+use Rattle.misolation.proofs.IsolationWords.{may_write, may_lock, Accounts, IsClosed, is_between, cut_settings, by_test, Mode, Write, Grant, Settings, allows}
+use Rattle.misolation.proofs.IsolationWords.{lets, may}
 
 pub any_more : {X : Type 0} (p q : X → Bool) → ((x : X) → p x ≡ true → q x ≡ true) → (xs : List X) → list_any p xs ≡ true → list_any q xs ≡ true
 any_more p q h [] e = e

@@ -1,6 +1,9 @@
 -- SPDX-License-Identifier: Apache-2.0
 -- What a cut keeps of a map, whatever was done to it before.
-use Rattle.misolation.proofs.IsolationWords.{◌≡◌, Bool, true, false, cond, List, [], ◌∷◌, Option, Some, None, map, refl, sym, ap, ◌∙◌, filter, list_any, eq_by_cmp, by_test, Ordering, IsTotalOrder, FinMap, get, insert, remove, retain_keys, entries, keys, entries_sorted, from_sorted, entries-from_sorted, get-from_sorted, get-entries, get-insert, get-remove, same_map, IsAntisymmetric, where_key, is_sorted-where_key, find-where_key, equal_of, get_cut}
+use Rattle.misolation.proofs.IsolationWords.{◌≡◌, Bool, true, false, cond, List, [], ◌∷◌, Option, Some, None, map, refl, sym, ap, ◌∙◌, filter, list_any}
+use Rattle.misolation.proofs.IsolationWords.{eq_by_cmp, by_test, Ordering, IsTotalOrder, FinMap, get, insert, remove, retain_keys, entries, keys}
+use Rattle.misolation.proofs.IsolationWords.{entries_sorted, from_sorted, entries-from_sorted, get-from_sorted, get-entries, get-insert, get-remove, same_map}
+use Rattle.misolation.proofs.IsolationWords.{IsAntisymmetric, where_key, is_sorted-where_key, find-where_key, equal_of, get_cut}
 use Rattle.std.specs.declared.cmp.Ordering.TheVariants.{Equal}
 
 -- ---- lists

@@ -1,6 +1,9 @@
 -- SPDX-License-Identifier: Apache-2.0
 -- How a line ends, over the cut: the only place that reads what becomes of a session.
-use Rattle.misolation.proofs.IsolationWords.{◌≡◌, ℕ, true, false, sym, ap, ◌∙◌, FinMap, insert, remove, retain_keys, nat_cmp-IsAntisymmetric, nat_cmp, nat_cmp_total, Settings, State, Outcome, Completion, Shared, Accounts, is_inside, cut_shared, cut_world, IsFit, cut_drops, cut_removed, Session, World, Ending, Finished, Halted, Faulted, settled, ended, kept, state_of, reply_of}
+use Rattle.misolation.proofs.IsolationWords.{◌≡◌, ℕ, true, false, sym, ap, ◌∙◌, FinMap, insert, remove, retain_keys, nat_cmp-IsAntisymmetric, nat_cmp}
+use Rattle.misolation.proofs.IsolationWords.{nat_cmp_total, Settings, State, Outcome, Completion, Shared, Accounts, is_inside, cut_shared, cut_world, IsFit}
+use Rattle.misolation.proofs.IsolationWords.{cut_drops, cut_removed, Session, World, Ending, Finished, Halted, Faulted, settled, ended, kept, state_of}
+use Rattle.misolation.proofs.IsolationWords.{reply_of}
 use Rattle.misolation.proofs.CutMaps.{cut_insert, cut_remove}
 use Rattle.misolation.proofs.FittingLocks.{released_fits}
 use Rattle.misolation.proofs.LockCuts.{released_cut, released_outside}

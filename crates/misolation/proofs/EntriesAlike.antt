@@ -1,6 +1,11 @@
 -- SPDX-License-Identifier: Apache-2.0
 -- Settings of the same entries allow the same, also between the members of a set, and the same accounts reach each.
-use Rattle.misolation.proofs.IsolationWords.{◌≡◌, ℕ, Bool, true, false, cond, ◌&&◌, ◌||◌, List, [], ◌∷◌, Option, None, refl, sym, ap, ◌∙◌, subst, ⊎_elim, or_cases, and_parts, and_from, or_left, or_right, nat_cmp_total, any-filter_same, bytes_decides, get, retain_keys, nat_cmp-IsAntisymmetric, filter, list_any, Text, text_eq, carries, Reaches, itself, through, get_cut, Session, session_or_new, World, Event, Accounts, reachers, is_member, is_inside, is_between, cut_settings, cut_world, cut_events, one_truth, Mode, Read, Write, Account, Grant, Settings, allows, lets, may, AlikeSettings, AlikeWorlds, AllowsAll, SameEntries, SameEntriesAgree}
+use Rattle.misolation.proofs.IsolationWords.{◌≡◌, ℕ, Bool, true, false, cond, ◌&&◌, ◌||◌, List, [], ◌∷◌, Option, None, refl, sym, ap, ◌∙◌, subst, ⊎_elim}
+use Rattle.misolation.proofs.IsolationWords.{or_cases, and_parts, and_from, or_left, or_right, nat_cmp_total, any-filter_same, bytes_decides, get, retain_keys}
+use Rattle.misolation.proofs.IsolationWords.{nat_cmp-IsAntisymmetric, filter, list_any, Text, text_eq, carries, Reaches, itself, through, get_cut, Session}
+use Rattle.misolation.proofs.IsolationWords.{session_or_new, World, Event, Accounts, reachers, is_member, is_inside, is_between, cut_settings, cut_world}
+use Rattle.misolation.proofs.IsolationWords.{cut_events, one_truth, Mode, Read, Write, Account, Grant, Settings, allows, lets, may, AlikeSettings, AlikeWorlds}
+use Rattle.misolation.proofs.IsolationWords.{AllowsAll, SameEntries, SameEntriesAgree}
 use Rattle.misolation.proofs.Access.{any_more, let_by}
 use Rattle.misolation.proofs.Reaching.{reach_is_chains}
 

@@ -1,6 +1,10 @@
 -- SPDX-License-Identifier: Apache-2.0
 -- Locks that fit stay so, whatever is done for a terminal of the settings.
-use Rattle.misolation.proofs.IsolationWords.{◌≡◌, ℕ, ◌+◌, ◌-◌, Bool, true, false, cond, List, [], ◌∷◌, Option, Some, None, refl, sym, ap, ◌∙◌, subst, unwrap_or, nat_lt, nat_eq, if◌then◌else◌, and_parts, get, insert, remove, retain_keys, get-insert, get-remove, list_all, list_any, eq_by_cmp, Account, Settings, held_cmp_total, held_cmp_exact, may_lock, LockName, Held, held_cmp, Locks, held, count, max_count, has_conflict, one_more, counted, taken, given_back, released, by_test, unopposed, holds_by, may_hold, AreFit}
+use Rattle.misolation.proofs.IsolationWords.{◌≡◌, ℕ, ◌+◌, ◌-◌, Bool, true, false, cond, List, [], ◌∷◌, Option, Some, None, refl, sym, ap, ◌∙◌, subst, unwrap_or}
+use Rattle.misolation.proofs.IsolationWords.{nat_lt, nat_eq, if◌then◌else◌, and_parts, get, insert, remove, retain_keys, get-insert, get-remove, list_all}
+use Rattle.misolation.proofs.IsolationWords.{list_any, eq_by_cmp, Account, Settings, held_cmp_total, held_cmp_exact, may_lock, LockName, Held, held_cmp, Locks}
+use Rattle.misolation.proofs.IsolationWords.{held, count, max_count, has_conflict, one_more, counted, taken, given_back, released, by_test, unopposed, holds_by}
+use Rattle.misolation.proofs.IsolationWords.{may_hold, AreFit}
 use Rattle.std.specs.Prelude.{not}
 use Rattle.misolation.proofs.CutMaps.{tied_true, had}
 

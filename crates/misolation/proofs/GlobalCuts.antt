@@ -1,6 +1,9 @@
 -- SPDX-License-Identifier: Apache-2.0
 -- What globals answer, over the cut to a set of accounts that has the account asked about.
-use Rattle.misolation.proofs.IsolationWords.{◌≡◌, ◌&&◌, true, map, sym, ap, ◌∙◌, is_some, and_parts, bytes_decides, get, retain_keys, keys, entries, list_any, filter, Text, Node, significant_digits, node_cmp_total, node_cmp_exact, Accounts, text_eq, is_below, Direction, neighbour, children_in, front, last, Globals, is_beside, subscripts_under, status, order_at, routines_of, is_line_of, lines_of}
+use Rattle.misolation.proofs.IsolationWords.{◌≡◌, ◌&&◌, true, map, sym, ap, ◌∙◌, is_some, and_parts, bytes_decides, get, retain_keys, keys, entries, list_any}
+use Rattle.misolation.proofs.IsolationWords.{filter, Text, Node, significant_digits, node_cmp_total, node_cmp_exact, Accounts, text_eq, is_below, Direction}
+use Rattle.misolation.proofs.IsolationWords.{neighbour, children_in, front, last, Globals, is_beside, subscripts_under, status, order_at, routines_of}
+use Rattle.misolation.proofs.IsolationWords.{is_line_of, lines_of}
 use Rattle.misolation.proofs.CutMaps.{get_kept, keys_cut, entries_cut, filter_absorbed}
 
 module _ (s : Accounts) where

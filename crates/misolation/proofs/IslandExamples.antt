@@ -1,6 +1,7 @@
 -- SPDX-License-Identifier: Apache-2.0
 -- Who may be kept apart, of the host of three customers: the bank, as long as nobody grants it anything.
-use Rattle.misolation.proofs.IsolationWords.{◌≡◌, true, false, ◌&&◌, refl, sym, ap, subst₂, ⊎_elim, nat_eq, if◌then◌else◌, bytes_decides, or_cases, and_parts, Text, text_eq, carries, Placement, KeepsTies}
+use Rattle.misolation.proofs.IsolationWords.{◌≡◌, true, false, ◌&&◌, refl, sym, ap, subst₂, ⊎_elim, nat_eq, if◌then◌else◌, bytes_decides, or_cases, and_parts}
+use Rattle.misolation.proofs.IsolationWords.{Text, text_eq, carries, Placement, KeepsTies}
 use Rattle.misolation.proofs.IsolationExamples.{clinic, laboratory, bank, results_read, apart, let_in}
 
 -- the bank on a machine of its own, and all others on another one

@@ -1,6 +1,12 @@
 -- SPDX-License-Identifier: Apache-2.0
 -- The laws of islands: the whole comes apart, and machines run together.
-use Rattle.misolation.proofs.IsolationWords.{◌≡◌, ℕ, Bool, true, false, List, [], ◌∷◌, Option, Some, None, refl, sym, ap, ◌∙◌, subst, subst₂, nat_cmp_total, nat_eq, get, remove, nat_cmp-IsAntisymmetric, significant_digits, held, released, Account, Settings, Outcome, Plan, cut_short, held_cmp_total, held_cmp_exact, node_cmp_total, node_cmp_exact, by_test, line_in, Completion, Accounts, IsClosed, is_member, is_inside, cut_settings, cut_shared, cut_world, cut_events, part, IsFit, Actor, ops_of, cut_ops, InsidePlan, OutsideTransition, eqb-true, eq-eqb, IsIsland, Session, session_or_new, World, Event, Reply, plan_of, at_account, normal, FailedTransition, is_failure, TransitionBy, Transition, History, opening, world_after, answered, events_of, IsAlone, Placement, on, KeepsTies, refusal, StrangersRefused, LaidTogether}
+use Rattle.misolation.proofs.IsolationWords.{◌≡◌, ℕ, Bool, true, false, List, [], ◌∷◌, Option, Some, None, refl, sym, ap, ◌∙◌, subst, subst₂, nat_cmp_total}
+use Rattle.misolation.proofs.IsolationWords.{nat_eq, get, remove, nat_cmp-IsAntisymmetric, significant_digits, held, released, Account, Settings, Outcome, Plan}
+use Rattle.misolation.proofs.IsolationWords.{cut_short, held_cmp_total, held_cmp_exact, node_cmp_total, node_cmp_exact, by_test, line_in, Completion, Accounts}
+use Rattle.misolation.proofs.IsolationWords.{IsClosed, is_member, is_inside, cut_settings, cut_shared, cut_world, cut_events, part, IsFit, Actor, ops_of}
+use Rattle.misolation.proofs.IsolationWords.{cut_ops, InsidePlan, OutsideTransition, eqb-true, eq-eqb, IsIsland, Session, session_or_new, World, Event, Reply}
+use Rattle.misolation.proofs.IsolationWords.{plan_of, at_account, normal, FailedTransition, is_failure, TransitionBy, Transition, History, opening, world_after}
+use Rattle.misolation.proofs.IsolationWords.{answered, events_of, IsAlone, Placement, on, KeepsTies, refusal, StrangersRefused, LaidTogether}
 use Rattle.misolation.specs.IslandLaws.{IslandRunsAlone, MachinesAreIslands, WholeComesApart, MachinesRunTogether, MovedIslandGoesOn}
 use Rattle.misolation.proofs.CutMaps.{get_kept}
 use Rattle.misolation.proofs.LockCuts.{released_cut}

@@ -2,7 +2,15 @@
 -- The laws on a host of three customers, as proved equations: they are not empty, and they claim no more than is so.
 --
 -- The laboratory lets the clinic read its results. The bank has no tie to either, or else the clinic lets it write its bills.
-use Rattle.misolation.proofs.IsolationWords.{◌≡◌, ℕ, Bool, true, false, cond, List, [], ◌∷◌, Option, Some, None, refl, sym, ap, ◌∙◌, subst, subst₂, nat_cmp, eq_by_cmp, nat_cmp_total, Text, Node, significant_digits, LockName, held, held_cmp, released, Read, Write, Account, Grant, Settings, cut_drops, held_cmp_total, held_cmp_exact, node_cmp_total, node_cmp_exact, Put, Take, Value, Shared, act, History, NoneFailed, Accounts, IsClosed, reachers, IsLeastClosed, is_member, is_inside, cut_settings, cut_shared, cut_world, cut_events, part, holds_by, IsFit, only, codes, FinMap, get, insert, remove, retain_keys, empty, entries, from_sorted, same_map, get-empty, get-insert, get-from_sorted, entries-from_sorted, entries-insert, gets, nat_cmp-IsAntisymmetric, put, Session, new_session, session_or_new, World, Event, Reply, Faulted, is_too_long, is_ascii, normal, FailedTransition, lost, TransitionBy, Transition, normal_never_fails, Actor, ops_of, cut_ops, InsideOperation, AlikeWorlds, SameEntries, Run, Agree, Answered, SameReplies, rules}
+use Rattle.misolation.proofs.IsolationWords.{◌≡◌, ℕ, Bool, true, false, cond, List, [], ◌∷◌, Option, Some, None, refl, sym, ap, ◌∙◌, subst, subst₂, nat_cmp}
+use Rattle.misolation.proofs.IsolationWords.{eq_by_cmp, nat_cmp_total, Text, Node, significant_digits, LockName, held, held_cmp, released, Read, Write, Account}
+use Rattle.misolation.proofs.IsolationWords.{Grant, Settings, cut_drops, held_cmp_total, held_cmp_exact, node_cmp_total, node_cmp_exact, Put, Take, Value}
+use Rattle.misolation.proofs.IsolationWords.{Shared, act, History, NoneFailed, Accounts, IsClosed, reachers, IsLeastClosed, is_member, is_inside, cut_settings}
+use Rattle.misolation.proofs.IsolationWords.{cut_shared, cut_world, cut_events, part, holds_by, IsFit, only, codes, FinMap, get, insert, remove, retain_keys}
+use Rattle.misolation.proofs.IsolationWords.{empty, entries, from_sorted, same_map, get-empty, get-insert, get-from_sorted, entries-from_sorted, entries-insert}
+use Rattle.misolation.proofs.IsolationWords.{gets, nat_cmp-IsAntisymmetric, put, Session, new_session, session_or_new, World, Event, Reply, Faulted}
+use Rattle.misolation.proofs.IsolationWords.{is_too_long, is_ascii, normal, FailedTransition, lost, TransitionBy, Transition, normal_never_fails, Actor, ops_of}
+use Rattle.misolation.proofs.IsolationWords.{cut_ops, InsideOperation, AlikeWorlds, SameEntries, Run, Agree, Answered, SameReplies, rules}
 use Rattle.mspec.specs.Code.{Lost, Memory, Store}
 use Rattle.misolation.proofs.CutMaps.{get_kept}
 use Rattle.misolation.proofs.FittingLocks.{fit_insert}

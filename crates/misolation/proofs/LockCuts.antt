@@ -1,6 +1,11 @@
 -- SPDX-License-Identifier: Apache-2.0
 -- What is taken, given back and released for a terminal, over the cut to a closed set.
-use Rattle.misolation.proofs.IsolationWords.{◌≡◌, ℕ, ◌+◌, ◌-◌, ◌||◌, Bool, true, false, not, List, [], ◌∷◌, Option, Some, None, refl, sym, ap, ◌∙◌, ⊎_elim, unwrap_or, option_map, nat_lt, nat_eq, if◌then◌else◌, or_cases, and_parts, eqb-true, bytes_decides, get, insert, remove, keys, list_all, list_any, filter, Text, text_eq, Account, Settings, held_cmp_total, held_cmp_exact, may_lock, Accounts, IsClosed, is_node_within, LockName, Held, Locks, held, count, max_count, is_within, is_conflict, has_conflict, one_more, counted, taken, given_back, released, cut_drops, cut_removed, by_test, unopposed, is_member, is_inside, cut_locks, holds_by, may_hold, AreFit}
+use Rattle.misolation.proofs.IsolationWords.{◌≡◌, ℕ, ◌+◌, ◌-◌, ◌||◌, Bool, true, false, not, List, [], ◌∷◌, Option, Some, None, refl, sym, ap, ◌∙◌, ⊎_elim}
+use Rattle.misolation.proofs.IsolationWords.{unwrap_or, option_map, nat_lt, nat_eq, if◌then◌else◌, or_cases, and_parts, eqb-true, bytes_decides, get, insert}
+use Rattle.misolation.proofs.IsolationWords.{remove, keys, list_all, list_any, filter, Text, text_eq, Account, Settings, held_cmp_total, held_cmp_exact}
+use Rattle.misolation.proofs.IsolationWords.{may_lock, Accounts, IsClosed, is_node_within, LockName, Held, Locks, held, count, max_count, is_within}
+use Rattle.misolation.proofs.IsolationWords.{is_conflict, has_conflict, one_more, counted, taken, given_back, released, cut_drops, cut_removed, by_test}
+use Rattle.misolation.proofs.IsolationWords.{unopposed, is_member, is_inside, cut_locks, holds_by, may_hold, AreFit}
 use Rattle.misolation.proofs.CutMaps.{any_absorbed, get_kept, cut_cut, cut_absorbs, cut_insert, cut_remove, keys_cut, own_cut}
 use Rattle.misolation.proofs.Access.{locked_inside, locker_inside}
 

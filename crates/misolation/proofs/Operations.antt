@@ -1,6 +1,11 @@
 -- SPDX-License-Identifier: Apache-2.0
 -- The two laws, operation by operation.
-use Rattle.misolation.proofs.IsolationWords.{◌≡◌, Bool, true, false, not, List, [], Option, Some, None, refl, sym, ap, ◌∙◌, bytes_decides, and_parts, retain_keys, list_all, routines_of, Node, text_eq, significant_digits, Read, Write, Settings, LockName, Locks, taken, given_back, released, Op, May, Value, Status, Neighbour, Routine, Put, Kill, Take, Give_back, Release, cut_drops, node_cmp_total, node_cmp_exact, by_test, Accounts, IsClosed, is_member, is_inside, cut_settings, cut_locks, cut_shared, IsFit, AreFit, option_map, is_node_within, Shared, guarded, may_call, may_read, may_write, may_lock, took, Actor, ops_of, cut_ops, InsideOperations, OutsideOperations}
+use Rattle.misolation.proofs.IsolationWords.{◌≡◌, Bool, true, false, not, List, [], Option, Some, None, refl, sym, ap, ◌∙◌, bytes_decides, and_parts}
+use Rattle.misolation.proofs.IsolationWords.{retain_keys, list_all, routines_of, Node, text_eq, significant_digits, Read, Write, Settings, LockName, Locks}
+use Rattle.misolation.proofs.IsolationWords.{taken, given_back, released, Op, May, Value, Status, Neighbour, Routine, Put, Kill, Take, Give_back, Release}
+use Rattle.misolation.proofs.IsolationWords.{cut_drops, node_cmp_total, node_cmp_exact, by_test, Accounts, IsClosed, is_member, is_inside, cut_settings}
+use Rattle.misolation.proofs.IsolationWords.{cut_locks, cut_shared, IsFit, AreFit, option_map, is_node_within, Shared, guarded, may_call, may_read, may_write}
+use Rattle.misolation.proofs.IsolationWords.{may_lock, took, Actor, ops_of, cut_ops, InsideOperations, OutsideOperations}
 use Rattle.misolation.proofs.CutMaps.{cut_cut, cut_absorbs, cut_insert}
 use Rattle.misolation.proofs.Access.{giver_inside, written_outside, may_cut, lock_cut}
 use Rattle.misolation.proofs.FittingLocks.{taken_fits, given_back_fits, released_fits}

@@ -1,6 +1,14 @@
 -- SPDX-License-Identifier: Apache-2.0
 -- The two laws for histories of different length, and the isolation theorem.
-use Rattle.misolation.proofs.IsolationWords.{◌≡◌, Bool, true, false, cond, List, [], ◌∷◌, Option, Some, None, map, refl, sym, ap, ◌∙◌, subst, subst₂, nat_cmp_total, Text, Settings, held_cmp, held_cmp_total, held_cmp_exact, get_cut, by_test, World, Event, Reply, normal, Accounts, reachers, is_member, is_inside, cut_settings, cut_world, cut_events, part, IsFit, AlikeWorlds, IsLeastClosed, filter_agree, IsTotalOrder, Ordering, empty, retain_keys, get-empty, same_map, IsAntisymmetric, nat_cmp-IsAntisymmetric, History, opening, replies, world_after, answered, NoneFailed, normal_never_fails, normal_transitions_are_history, history_is_normal, alone, only, Run, Agree, InsideTransition, OutsideTransition, events_of, PartIsHistory, HistoryHasTrace, PartOfTrace, PartIsTrace, OpeningIsFit, HistoriesKeepFit, IsAlone, PartIsAlone, InterpreterIsolates, Isolation, OpeningIsCut, Answered, SameReplies, AgreeingReplies, sent_to, PromiseIsKept}
+use Rattle.misolation.proofs.IsolationWords.{◌≡◌, Bool, true, false, cond, List, [], ◌∷◌, Option, Some, None, map, refl, sym, ap, ◌∙◌, subst, subst₂}
+use Rattle.misolation.proofs.IsolationWords.{nat_cmp_total, Text, Settings, held_cmp, held_cmp_total, held_cmp_exact, get_cut, by_test, World, Event, Reply}
+use Rattle.misolation.proofs.IsolationWords.{normal, Accounts, reachers, is_member, is_inside, cut_settings, cut_world, cut_events, part, IsFit, AlikeWorlds}
+use Rattle.misolation.proofs.IsolationWords.{IsLeastClosed, filter_agree, IsTotalOrder, Ordering, empty, retain_keys, get-empty, same_map, IsAntisymmetric}
+use Rattle.misolation.proofs.IsolationWords.{nat_cmp-IsAntisymmetric, History, opening, replies, world_after, answered, NoneFailed, normal_never_fails}
+use Rattle.misolation.proofs.IsolationWords.{normal_transitions_are_history, history_is_normal, alone, only, Run, Agree, InsideTransition, OutsideTransition}
+use Rattle.misolation.proofs.IsolationWords.{events_of, PartIsHistory, HistoryHasTrace, PartOfTrace, PartIsTrace, OpeningIsFit, HistoriesKeepFit, IsAlone}
+use Rattle.misolation.proofs.IsolationWords.{PartIsAlone, InterpreterIsolates, Isolation, OpeningIsCut, Answered, SameReplies, AgreeingReplies, sent_to}
+use Rattle.misolation.proofs.IsolationWords.{PromiseIsKept}
 use Rattle.misolation.specs.Trace.{Moment, Trace, lines_of, left_by, cut_trace}
 use Rattle.misolation.proofs.CutMaps.{map_filter}
 use Rattle.misolation.proofs.Reaching.{reach_is_least_closed}

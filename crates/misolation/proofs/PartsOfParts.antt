@@ -1,6 +1,8 @@
 -- SPDX-License-Identifier: Apache-2.0
 -- The part of a history at a smaller set of accounts, before and after the cut to a greater one.
-use Rattle.misolation.proofs.IsolationWords.{◌≡◌, ℕ, true, false, cond, List, Option, Some, None, refl, sym, ap, ◌∙◌, nat_cmp_total, false_from_ne_true, bytes_decides, get, nat_cmp-IsAntisymmetric, Text, Account, Settings, get_cut, by_test, Event, Reply, Accounts, is_member, is_inside, cut_settings, part, only, filter_agree}
+use Rattle.misolation.proofs.IsolationWords.{◌≡◌, ℕ, true, false, cond, List, Option, Some, None, refl, sym, ap, ◌∙◌, nat_cmp_total, false_from_ne_true}
+use Rattle.misolation.proofs.IsolationWords.{bytes_decides, get, nat_cmp-IsAntisymmetric, Text, Account, Settings, get_cut, by_test, Event, Reply, Accounts}
+use Rattle.misolation.proofs.IsolationWords.{is_member, is_inside, cut_settings, part, only, filter_agree}
 use Rattle.misolation.proofs.CutMaps.{filter_absorbed}
 
 module _ (r s : Accounts) (settings : Settings) (among : (x : Text) → r x ≡ true → s x ≡ true) where

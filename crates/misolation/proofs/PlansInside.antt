@@ -1,6 +1,9 @@
 -- SPDX-License-Identifier: Apache-2.0
 -- The two laws for every plan, by one induction each over what its operations keep.
-use Rattle.misolation.proofs.IsolationWords.{◌≡◌, true, false, ◌∷◌, Option, Some, None, refl, ap, ◌∙◌, subst, Account, Settings, get, nat_cmp-IsAntisymmetric, nat_cmp_total, Held, held_cmp_total, held_cmp_exact, Shared, Accounts, IsClosed, is_member, is_inside, cut_settings, cut_shared, holds_by, IsFit, Plan, Done, Ask, Ops, exchanges, Actor, ops_of, cut_ops, InsidePlan, InsidePlans, OutsidePlan, OutsidePlans, PlansKeepFit, CutIsFit}
+use Rattle.misolation.proofs.IsolationWords.{◌≡◌, true, false, ◌∷◌, Option, Some, None, refl, ap, ◌∙◌, subst, Account, Settings, get, nat_cmp-IsAntisymmetric}
+use Rattle.misolation.proofs.IsolationWords.{nat_cmp_total, Held, held_cmp_total, held_cmp_exact, Shared, Accounts, IsClosed, is_member, is_inside}
+use Rattle.misolation.proofs.IsolationWords.{cut_settings, cut_shared, holds_by, IsFit, Plan, Done, Ask, Ops, exchanges, Actor, ops_of, cut_ops, InsidePlan}
+use Rattle.misolation.proofs.IsolationWords.{InsidePlans, OutsidePlan, OutsidePlans, PlansKeepFit, CutIsFit}
 use Rattle.mspec.proofs.Plans.{Respects, respects, respects_short, keeps, keeps_short}
 use Rattle.misolation.proofs.CutMaps.{had, get_kept}
 use Rattle.misolation.proofs.Access.{lock_cut}

@@ -1,6 +1,8 @@
 -- SPDX-License-Identifier: Apache-2.0
 -- Over the cut to a closed set, the same accounts reach its members.
-use Rattle.misolation.proofs.IsolationWords.{◌≡◌, Bool, true, ◌&&◌, List, [], ◌∷◌, sym, ap, ◌∙◌, ⊎_elim, or_cases, and_parts, and_from, or_left, or_right, any-filter_same, bytes_decides, list_any, filter, Text, text_eq, Grant, Settings, Write, allows, carries, Reaches, itself, through, Accounts, IsClosed, reachers, is_between, cut_settings, by_test, one_truth, ReachIsKept}
+use Rattle.misolation.proofs.IsolationWords.{◌≡◌, Bool, true, ◌&&◌, List, [], ◌∷◌, sym, ap, ◌∙◌, ⊎_elim, or_cases, and_parts, and_from, or_left, or_right}
+use Rattle.misolation.proofs.IsolationWords.{any-filter_same, bytes_decides, list_any, filter, Text, text_eq, Grant, Settings, Write, allows, carries, Reaches}
+use Rattle.misolation.proofs.IsolationWords.{itself, through, Accounts, IsClosed, reachers, is_between, cut_settings, by_test, one_truth, ReachIsKept}
 use Rattle.misolation.proofs.Reaching.{reach_is_chains}
 
 any_of_filter : {X : Type 0} (p q : X → Bool) (xs : List X) → list_any p (filter q xs) ≡ true → list_any p xs ≡ true

@@ -1,6 +1,8 @@
 -- SPDX-License-Identifier: Apache-2.0
 -- The computing `reachers` is the least closed set, and that of chains.
-use Rattle.misolation.proofs.IsolationWords.{◌≡◌, true, ◌&&◌, List, [], ◌∷◌, ◌++◌, refl, sym, ap, ◌∙◌, subst, subst₂, ⊎_elim, or_cases, and_parts, or_left, or_right, and_from, bytes_decides, list_any, Text, text_eq, Mode, Read, Write, Grant, Settings, allows, carries, Reaches, itself, through, Link, link, links_by, links, leads, ReachIsLeastClosed, ReachIsChains}
+use Rattle.misolation.proofs.IsolationWords.{◌≡◌, true, ◌&&◌, List, [], ◌∷◌, ◌++◌, refl, sym, ap, ◌∙◌, subst, subst₂, ⊎_elim, or_cases, and_parts, or_left}
+use Rattle.misolation.proofs.IsolationWords.{or_right, and_from, bytes_decides, list_any, Text, text_eq, Mode, Read, Write, Grant, Settings, allows, carries}
+use Rattle.misolation.proofs.IsolationWords.{Reaches, itself, through, Link, link, links_by, links, leads, ReachIsLeastClosed, ReachIsChains}
 
 -- ---- chains of links
 

@@ -1,6 +1,8 @@
 -- SPDX-License-Identifier: Apache-2.0
 -- What a run of lines tells an account, transition by transition, apart, and alone.
-use Rattle.misolation.proofs.IsolationWords.{◌≡◌, List, [], ◌∷◌, ◌++◌, map, refl, sym, ap, ◌∙◌, subst, Settings, World, Event, Reply, History, NoneFailed, reachers, is_inside, cut_settings, cut_events, part, IsLeastClosed, IsAlone, SameReplies, map-append, filter-append, IsTrue, ◌↔◌, alone, only}
+use Rattle.misolation.proofs.IsolationWords.{◌≡◌, List, [], ◌∷◌, ◌++◌, map, refl, sym, ap, ◌∙◌, subst, Settings, World, Event, Reply, History, NoneFailed}
+use Rattle.misolation.proofs.IsolationWords.{reachers, is_inside, cut_settings, cut_events, part, IsLeastClosed, IsAlone, SameReplies, map-append}
+use Rattle.misolation.proofs.IsolationWords.{filter-append, IsTrue, ◌↔◌, alone, only}
 use Rattle.misolation.specs.Telling.{told_by, told_to}
 use Rattle.misolation.specs.RunLaws.{NothingIsTold, TellsOn, ToldApart, EquallyTold, ToldTheSame}
 use Rattle.misolation.proofs.PartsOfParts.{part_of_part, part_kept, only_among, same_part}

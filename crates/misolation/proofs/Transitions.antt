@@ -1,6 +1,13 @@
 -- SPDX-License-Identifier: Apache-2.0
 -- The two laws for transitions.
-use Rattle.misolation.proofs.IsolationWords.{◌≡◌, ℕ, Bool, true, false, Option, Some, None, refl, sym, ap, ◌∙◌, subst, not, ◌||◌, List, [], ◌∷◌, if◌then◌else◌, FinMap, get, retain_keys, nat_cmp-IsAntisymmetric, nat_cmp, nat_cmp_total, Text, Account, Settings, Write, Outcome, Op, Put, Kill, Plan, perform, cut_short, line_in, Completion, act, Accounts, IsClosed, is_member, is_inside, cut_settings, cut_locks, cut_shared, cut_world, AreFit, IsFit, flat_map, Session, session_or_new, World, Event, Reply, plan_of, ended, is_too_long, is_ascii, at_tree, checked, at_account, normal, FailedTransition, is_failure, TransitionBy, Exchange, exchanges, Actor, ops_of, cut_ops, InsidePlan, OutsidePlan, GlobalWrite, Puts, Kills, write_of, writes, exchanges_by, line_exchanges, writes_by, line_writes, InsideTransition, InsideTransitions, OutsideTransition, OutsideTransitions, TransitionsKeepFit, TransitionsAreIsolated}
+use Rattle.misolation.proofs.IsolationWords.{◌≡◌, ℕ, Bool, true, false, Option, Some, None, refl, sym, ap, ◌∙◌, subst, not, ◌||◌, List, [], ◌∷◌, if◌then◌else◌}
+use Rattle.misolation.proofs.IsolationWords.{FinMap, get, retain_keys, nat_cmp-IsAntisymmetric, nat_cmp, nat_cmp_total, Text, Account, Settings, Write, Outcome}
+use Rattle.misolation.proofs.IsolationWords.{Op, Put, Kill, Plan, perform, cut_short, line_in, Completion, act, Accounts, IsClosed, is_member, is_inside}
+use Rattle.misolation.proofs.IsolationWords.{cut_settings, cut_locks, cut_shared, cut_world, AreFit, IsFit, flat_map, Session, session_or_new, World, Event}
+use Rattle.misolation.proofs.IsolationWords.{Reply, plan_of, ended, is_too_long, is_ascii, at_tree, checked, at_account, normal, FailedTransition, is_failure}
+use Rattle.misolation.proofs.IsolationWords.{TransitionBy, Exchange, exchanges, Actor, ops_of, cut_ops, InsidePlan, OutsidePlan, GlobalWrite, Puts, Kills}
+use Rattle.misolation.proofs.IsolationWords.{write_of, writes, exchanges_by, line_exchanges, writes_by, line_writes, InsideTransition, InsideTransitions}
+use Rattle.misolation.proofs.IsolationWords.{OutsideTransition, OutsideTransitions, TransitionsKeepFit, TransitionsAreIsolated}
 use Rattle.misolation.proofs.Access.{may_cut}
 use Rattle.misolation.proofs.TransitionsWrite.{transitions_write}
 use Rattle.misolation.proofs.CutMaps.{get_kept}

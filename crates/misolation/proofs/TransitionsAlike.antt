@@ -1,6 +1,12 @@
 -- SPDX-License-Identifier: Apache-2.0
 -- What a normal transition cannot tell apart.
-use Rattle.misolation.proofs.IsolationWords.{◌≡◌, ℕ, Bool, true, false, cond, List, [], ◌∷◌, Option, Some, None, refl, sym, ap, ◌∙◌, subst, get, insert, remove, get-insert, get-remove, nat_cmp, eq_by_cmp, list_all, nat_cmp_total, Text, text_eq, Account, Settings, Read, Write, LockName, taken, Op, May, Value, Status, Neighbour, Routine, Put, Kill, Take, Give_back, Release, Ops, perform, State, Outcome, line_in, Completion, Shared, act, guarded, may_lock, took, answered, world_after, status, order_at, lines_of, routines_of, without_subtree, Session, session_or_new, World, Event, Reply, Ending, Finished, Halted, Faulted, kept, plan_of, reply_of, state_of, settled, ended, is_too_long, is_ascii, at_tree, checked, at_account, normal, AlikeSettings, AlikeWorlds, AlikeTransitions, TransitionsByAllowed, TransitionsBySessions}
+use Rattle.misolation.proofs.IsolationWords.{◌≡◌, ℕ, Bool, true, false, cond, List, [], ◌∷◌, Option, Some, None, refl, sym, ap, ◌∙◌, subst, get, insert, remove}
+use Rattle.misolation.proofs.IsolationWords.{get-insert, get-remove, nat_cmp, eq_by_cmp, list_all, nat_cmp_total, Text, text_eq, Account, Settings, Read, Write}
+use Rattle.misolation.proofs.IsolationWords.{LockName, taken, Op, May, Value, Status, Neighbour, Routine, Put, Kill, Take, Give_back, Release, Ops, perform}
+use Rattle.misolation.proofs.IsolationWords.{State, Outcome, line_in, Completion, Shared, act, guarded, may_lock, took, answered, world_after, status, order_at}
+use Rattle.misolation.proofs.IsolationWords.{lines_of, routines_of, without_subtree, Session, session_or_new, World, Event, Reply, Ending, Finished, Halted}
+use Rattle.misolation.proofs.IsolationWords.{Faulted, kept, plan_of, reply_of, state_of, settled, ended, is_too_long, is_ascii, at_tree, checked, at_account}
+use Rattle.misolation.proofs.IsolationWords.{normal, AlikeSettings, AlikeWorlds, AlikeTransitions, TransitionsByAllowed, TransitionsBySessions}
 
 -- ---- settings that allow the same
 

@@ -1,6 +1,12 @@
 -- SPDX-License-Identifier: Apache-2.0
 -- What plans and transitions leave of globals, by their writes.
-use Rattle.misolation.proofs.IsolationWords.{◌≡◌, ℕ, zero, suc, Bool, true, false, List, [], ◌∷◌, ◌++◌, Option, Some, None, refl, sym, ap, ◌∙◌, append_assoc, not, ◌||◌, if◌then◌else◌, get, insert, list_all, Text, Node, Account, Settings, State, Outcome, Locks, taken, line_in, Completion, session_or_new, World, Event, Reply, Ending, Halted, reply_of, state_of, settled, plan_of, is_too_long, is_ascii, checked, at_account, FailedTransition, is_failure, TransitionBy, append-nil, Globals, without_subtree, Op, Value, Status, Neighbour, Routine, Put, Kill, Take, Plan, Done, Ask, Ops, perform, cut_short, Shared, act, guarded, may_call, may_read, may_write, may_lock, took, Exchange, exchanges, GlobalWrite, Puts, Kills, written_by, written, write_of, writes, line_writes, writes_by, TransitionWrites, TransitionsWrite}
+use Rattle.misolation.proofs.IsolationWords.{◌≡◌, ℕ, zero, suc, Bool, true, false, List, [], ◌∷◌, ◌++◌, Option, Some, None, refl, sym, ap, ◌∙◌, append_assoc}
+use Rattle.misolation.proofs.IsolationWords.{not, ◌||◌, if◌then◌else◌, get, insert, list_all, Text, Node, Account, Settings, State, Outcome, Locks, taken}
+use Rattle.misolation.proofs.IsolationWords.{line_in, Completion, session_or_new, World, Event, Reply, Ending, Halted, reply_of, state_of, settled, plan_of}
+use Rattle.misolation.proofs.IsolationWords.{is_too_long, is_ascii, checked, at_account, FailedTransition, is_failure, TransitionBy, append-nil, Globals}
+use Rattle.misolation.proofs.IsolationWords.{without_subtree, Op, Value, Status, Neighbour, Routine, Put, Kill, Take, Plan, Done, Ask, Ops, perform, cut_short}
+use Rattle.misolation.proofs.IsolationWords.{Shared, act, guarded, may_call, may_read, may_write, may_lock, took, Exchange, exchanges, GlobalWrite, Puts, Kills}
+use Rattle.misolation.proofs.IsolationWords.{written_by, written, write_of, writes, line_writes, writes_by, TransitionWrites, TransitionsWrite}
 
 -- writes one after another
 written-append : (xs ys : List GlobalWrite) (globals : Globals) → written (xs ++ ys) globals ≡ written ys (written xs globals)

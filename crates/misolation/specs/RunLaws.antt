@@ -13,11 +13,11 @@ use Rattle.misolation.specs.Telling.{Told, told_to, Tells, TellsPart}
 
 -- ---- how a run is made
 
--- if nothing was run, nothing is told
+-- if nothing was run, nothing is shown
 abbrev pub NothingIsTold : Type 0
 NothingIsTold = (a : Text) (settings : Settings) (world : World) → Tells a settings world [] [] true world
 
--- a run goes on by one transition: if that is at a terminal of the account, its reply is told, and the run stays whole if the transition
+-- a run goes on by one transition: if that is at a terminal of the account, its reply is shown, and the run stays whole if the transition
 -- did not fail at a terminal of an account that reaches `a`
 abbrev pub TellsOn : Type 0
 TellsOn =

@@ -1,6 +1,7 @@
 // SPDX-License-Identifier: Apache-2.0
 // The laws of histories. Each function's contract is the law, and its body is empty: the code never calls them.
-ghost use Rattle.misolation.specs.HistoryLaws.{PartIsHistory, HistoryHasTrace, PartIsTrace, PartIsAlone, InterpreterIsolates, OpeningIsFit, HistoriesKeepFit, Isolation, OpeningIsCut, AgreeingReplies, PromiseIsKept};
+ghost use Rattle.misolation.specs.HistoryLaws.{PartIsHistory, HistoryHasTrace, PartIsTrace, PartIsAlone, InterpreterIsolates, OpeningIsFit, HistoriesKeepFit};
+ghost use Rattle.misolation.specs.HistoryLaws.{Isolation, OpeningIsCut, AgreeingReplies, PromiseIsKept};
 
 /// The part of every history at the terminals of a closed set, its worlds cut to the set, is a history over the cuts, whichever of
 /// its transitions failed.

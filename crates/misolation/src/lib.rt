@@ -17,7 +17,7 @@
 //! An account *flows* to another if its doings can show there: if it grants that other anything, since what it stores is then
 //! read there; and if it is allowed to write there, since what it stores and locks there is seen by the owner. A chain of such
 //! steps *reaches*. So if the laboratory lets the clinic read its results, the laboratory reaches the clinic, and the clinic
-//! does not reach the laboratory. If the clinic lets the bank write its bills, each of the two reaches the other. Whoever has
+//! does not reach the laboratory. If the clinic lets the bank write its bills, each of the two reaches the other. Who has
 //! no grant, given or taken, is reached by itself alone.
 //!
 //! `reachers` computes the accounts that reach one. It is the least *closed* set that has that account (`reach_is_least_closed`): a
@@ -85,7 +85,7 @@
 //!
 //! - Whichever transitions failed, the members' part of that history alone tells the account the same, over the cuts to any closed set
 //!   that has it (`told_apart`); the same accounts reach it there (`reach_is_kept`).
-//! - A whole run tells the account what it is told alone with the accounts that reach it (`equally_told`).
+//! - A whole run tells the account what it is shown alone with the accounts that reach it (`equally_told`).
 //! - Two whole runs that agree for the account tell it the same (`told_the_same`).
 //!
 //! # What is not promised

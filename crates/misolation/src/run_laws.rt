@@ -2,13 +2,13 @@
 // The laws of runs. Each function's contract is the law, and its body is empty: the code never calls them.
 ghost use Rattle.misolation.specs.RunLaws.{NothingIsTold, TellsOn, ToldApart, EquallyTold, ToldTheSame};
 
-/// If nothing was run, nothing is told, and the run is whole.
+/// If nothing was run, nothing is shown, and the run is whole.
 #[tactic(auto, using(crate::proofs::RunsTold::nothing_is_told))]
 pub fn nothing_is_told()
     ensures { NothingIsTold }
 {}
 
-/// A run goes on by one transition: its reply is told if it is at a terminal of the account, and the run stays whole if the transition did
+/// A run goes on by one transition: its reply is shown if it is at a terminal of the account, and the run stays whole if the transition did
 /// not fail at a terminal of an account that reaches it.
 #[tactic(auto, using(crate::proofs::RunsTold::tells_on))]
 pub fn tells_on()

@@ -1,7 +1,8 @@
 -- SPDX-License-Identifier: Apache-2.0
 -- Argumentless DO and lines with dots on examples, as proved equations.
 use Rattle.mmeaning.proofs.MeaningWords.{M9, M13, Zsyntax, Zlevel, Zsteps}
-use Rattle.mmeaning.proofs.Running.{[], ◌∷◌, refl, codes, new_session, done, failed, at_first, at_last, asked, serving_in, holding_in, With, WithSteps, Anywhere, WithEach, at_case, no_more, runs, running}
+use Rattle.mmeaning.proofs.Running.{[], ◌∷◌, refl, codes, new_session, done, failed, at_first, at_last, asked, serving_in, holding_in, With, WithSteps}
+use Rattle.mmeaning.proofs.Running.{Anywhere, WithEach, at_case, no_more, runs, running}
 
 record Blocks : Type 0 where
   -- the block after an argumentless DO has one dot more; a line with more dots is passed over, and $TEST is restored

@@ -1,6 +1,8 @@
 -- SPDX-License-Identifier: Apache-2.0
 -- How calls are put together.
-use Rattle.mmeaning.proofs.MeaningWords.{◌≡◌, ℕ, zero, suc, ◌≤◌, ◌<◌, Result, Ok, Err, refl, sym, ap, ◌∙◌, arith, Memory, Store, Fault, Own, Lost, Op, Answer, Plan, Done, Ask, then_plan, perform, cut_short, Outcome, Gives, Fails, Act, on_gives, ◌>>=◌, give, ask, perform-then, cut_first, cut_second, cut_whole, Standing, Here, Gave, IsCut, FailedBy, Ends, Did, MayLose, Follows, ops_of}
+use Rattle.mmeaning.proofs.MeaningWords.{◌≡◌, ℕ, zero, suc, ◌≤◌, ◌<◌, Result, Ok, Err, refl, sym, ap, ◌∙◌, arith, Memory, Store, Fault, Own, Lost, Op, Answer}
+use Rattle.mmeaning.proofs.MeaningWords.{Plan, Done, Ask, then_plan, perform, cut_short, Outcome, Gives, Fails, Act, on_gives, ◌>>=◌, give, ask, perform-then}
+use Rattle.mmeaning.proofs.MeaningWords.{cut_first, cut_second, cut_whole, Standing, Here, Gave, IsCut, FailedBy, Ends, Did, MayLose, Follows, ops_of}
 use Rattle.mmeaning.specs.Transition.{Shared}
 pub use Rattle.mspec.proofs.Basics.{residual_is}
 

@@ -1,7 +1,8 @@
 -- SPDX-License-Identifier: Apache-2.0
 -- Control flow on examples, as proved equations.
 use Rattle.mmeaning.proofs.MeaningWords.{World, M9, M15, Zover, Zsteps, no_locals, assigned_to, home}
-use Rattle.mmeaning.proofs.Running.{[], ◌∷◌, None, true, false, refl, codes, empty, new_session, opening, with_steps, done, failed, AreAnswered, Answered, serving, holding, at_first, at_last, Each, at_case, no_more, runs, running, numbers, at_column, holding_after}
+use Rattle.mmeaning.proofs.Running.{[], ◌∷◌, None, true, false, refl, codes, empty, new_session, opening, with_steps, done, failed, AreAnswered, Answered}
+use Rattle.mmeaning.proofs.Running.{serving, holding, at_first, at_last, Each, at_case, no_more, runs, running, numbers, at_column, holding_after}
 
 -- what a line with this many steps leaves
 abbrev turned_out : World

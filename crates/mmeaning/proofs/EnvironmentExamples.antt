@@ -1,6 +1,8 @@
 -- SPDX-License-Identifier: Apache-2.0
 -- Globals of other accounts on examples, as proved equations over any world: what is asked in which order, and what is refused.
-use Rattle.mmeaning.proofs.MeaningWords.{◌≡◌, ℕ, suc, Bool, [], ◌∷◌, Option, Some, refl, rules, codes, get, M9, Zarg, Zgrant, Zsub, perform, setting, Text, Node, Locals, State, Gives, Fails, ExprTree, divide, number, text, reference, refer, ReferenceTree, naked, extended, ExprsTree, exprs, no_exprs, variable, one, value, Shared, computes, Cursor}
+use Rattle.mmeaning.proofs.MeaningWords.{◌≡◌, ℕ, suc, Bool, [], ◌∷◌, Option, Some, refl, rules, codes, get, M9, Zarg, Zgrant, Zsub, perform, setting, Text}
+use Rattle.mmeaning.proofs.MeaningWords.{Node, Locals, State, Gives, Fails, ExprTree, divide, number, text, reference, refer, ReferenceTree, naked, extended}
+use Rattle.mmeaning.proofs.MeaningWords.{ExprsTree, exprs, no_exprs, variable, one, value, Shared, computes, Cursor}
 use Rattle.mgrammar.specs.Functions.{function_of}
 use Rattle.mmeaning.proofs.LineTrees.{only, with_operator}
 use Rattle.mmeaning.proofs.LockRuns.{hers, his, her_line, his_line}

@@ -12,23 +12,25 @@ lines =
     codes "GO() G ONE" ∷ codes "LAST(N) Q:N=1 1 Q N_$$LAST(1)" ∷ codes "END() S X=1" ∷ []
 
 record Functions : Type 0 where
-  -- what functions give, wherever a value stands, a list of actuals written or not
-  values : WithEachIn 2 (codes "T") lines (
+  -- what functions give, a list of actuals written or not
+  values : WithEachIn 1 (codes "T") lines (
       (codes "W $$ONE^T,$$ONE^T()", done (codes "11")) ∷
       (codes "W $$ADD^T(\"a\",$$ADD^T(\"b\",\"c\"))", done (codes "abc")) ∷
       (codes "D SHOW^T($$ONE^T)", done (codes "1")) ∷
       (codes "X \"W $$ADD^T(1,2)\"", done (codes "12")) ∷
-      (codes "S A(1)=\"y\",C=\"A\" W @C@($$ONE^T)", done (codes "y")) ∷
       (codes "W $$LAST^T(2)", done (codes "21")) ∷ [])
+  -- a call stands where it can be carried out a step at a time; of a language that no settings reach it does elsewhere too
+  early : WithEachIn 1 (codes "T") lines ((codes "S A(1)=\"y\",C=\"A\" W @C@($$ONE^T)", failed [] Zsyntax) ∷ (codes "W $S($$ONE^T:2)", failed [] Zsyntax) ∷ [])
+  elsewhere : WithEachIn 2 (codes "T") lines ((codes "S A(1)=\"y\",C=\"A\" W @C@($$ONE^T)", done (codes "y")) ∷ (codes "W $S($$ONE^T:2)", done (codes "2")) ∷ [])
   -- from left to right; $TEST is afterwards what it was, and HALT ends the session from within
-  effects : WithEachIn 2 (codes "T") lines (
+  effects : WithEachIn 1 (codes "T") lines (
       (codes "S A=\"x\" W A_$$SET^T(.A)_A", done (codes "xx1x1")) ∷
       (codes "I 1 S X=$$TEST^T(0) W X,$T", done (codes "51")) ∷
       (codes "W $$WANT^T()", done (codes "01")) ∷
       (codes "W 1,$$BLOCK^T(),2", done (codes "1002")) ∷
       (codes "W 1,$$HALT^T() W 2", record { out = codes "1"; ending = Halted }) ∷ [])
   -- a function has a formal list, and ends with a value; the text of a name calls none, and that of arguments does
-  refused : WithEachIn 2 (codes "T") lines (
+  refused : WithEachIn 1 (codes "T") lines (
       (codes "W $$T^T", failed [] M20) ∷
       (codes "W $$ADD^T(1,2,3)", failed [] M58) ∷
       (codes "W $$NO^T()", failed [] M17) ∷
@@ -45,7 +47,9 @@ unfolding runs
 functions = record {
   values = λ g h.
       at_case _ refl (simp (running, asked g _ _ h)) (at_case _ refl (simp (running, asked g _ _ h)) (at_case _ refl (simp (running, asked g _ _ h)) (
-      at_case _ refl (simp (running, asked g _ _ h)) (at_case _ refl (simp (running, asked g _ _ h)) (at_case _ refl (simp (running, asked g _ _ h)) no_more)))));
+      at_case _ refl (simp (running, asked g _ _ h)) (at_case _ refl (simp (running, asked g _ _ h)) no_more))));
+  early = λ g h. at_case _ refl (simp running) (at_case _ refl (simp running) no_more);
+  elsewhere = λ g h. at_case _ refl (simp (running, asked g _ _ h)) (at_case _ refl (simp (running, asked g _ _ h)) no_more);
   effects = λ g h.
       at_case _ refl (simp (running, asked g _ _ h)) (at_case _ refl (simp (running, asked g _ _ h)) (at_case _ refl (simp (running, asked g _ _ h)) (
       at_case _ refl (simp (running, asked g _ _ h)) (at_case _ refl (simp (running, asked g _ _ h)) no_more))));
@@ -58,7 +62,7 @@ functions = record {
 
 -- a call costs the step of its primary and that of its line, besides those of its actuals and of the commands
 abbrev InSteps : ℕ → Cases → Type 0
-InSteps n cases = (g : Globals) → lines_in g (codes "T") ≡ lines → AreAnsweredEach (record (alice_in 2) { steps = n }) (opening g) cases
+InSteps n cases = (g : Globals) → lines_in g (codes "T") ≡ lines → AreAnsweredEach (record (alice_in 1) { steps = n }) (opening g) cases
 
 record Steps : Type 0 where
   enough_for_call : InSteps 5 (

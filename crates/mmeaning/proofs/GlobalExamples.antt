@@ -1,9 +1,14 @@
 -- SPDX-License-Identifier: Apache-2.0
 -- Globals on examples, as proved equations. What a line asks of the world is followed one operation after another.
-use Rattle.mmeaning.proofs.MeaningWords.{Bool, cond, Option, ap, ◌∙◌, eq_by_cmp, nat_cmp, get, insert, retain_keys, get-insert, get-empty, Op, Answer, Plan, Done, Ask, Ops, perform, Outcome, Fails, State, LineTree, line_in, Completion, Reply, World, Session, normal, kept, Halted, Faulted, settled, ended, begun, is_too_long, is_ascii, not, option_map, get_cut, node_cmp_total, node_cmp_exact, computes, Code, is_halting, Own, M1, M7, Zsub, node_cmp, significant_digits, is_node_within, status, Shared, act, Text, Node}
+use Rattle.mmeaning.proofs.MeaningWords.{Bool, cond, Option, ap, ◌∙◌, eq_by_cmp, nat_cmp, get, insert, retain_keys, get-insert, get-empty, Op, Answer, Plan}
+use Rattle.mmeaning.proofs.MeaningWords.{Done, Ask, Ops, perform, Outcome, Fails, State, LineTree, line_in, Completion, Reply, World, Session, normal, kept}
+use Rattle.mmeaning.proofs.MeaningWords.{Halted, Faulted, settled, ended, begun, is_too_long, is_ascii, not, option_map, get_cut, node_cmp_total}
+use Rattle.mmeaning.proofs.MeaningWords.{node_cmp_exact, computes, Code, is_halting, Own, M1, M7, Zsub, node_cmp, significant_digits, is_node_within, status}
+use Rattle.mmeaning.proofs.MeaningWords.{Shared, act, Text, Node}
 use Rattle.mmeaning.proofs.ExampleAccount.{alice}
 use Rattle.mmeaning.proofs.LineRuns.{event, shut, shut_run, shut_step, line_is}
-use Rattle.mmeaning.proofs.Running.{◌≡◌, List, [], ◌∷◌, Some, None, true, false, refl, codes, empty, gets, Globals, new_session, opening, account, done, failed, AreAnswered, at_last, Anywhere, runs}
+use Rattle.mmeaning.proofs.Running.{◌≡◌, List, [], ◌∷◌, Some, None, true, false, refl, codes, empty, gets, Globals, new_session, opening, account, done, failed}
+use Rattle.mmeaning.proofs.Running.{AreAnswered, at_last, Anywhere, runs}
 
 -- ---- operations, one after another
 

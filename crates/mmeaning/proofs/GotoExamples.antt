@@ -1,12 +1,19 @@
 -- SPDX-License-Identifier: Apache-2.0
 -- GOTO on examples, as proved equations: a loop of six turns, each in an equation of its own.
-use Rattle.mmeaning.proofs.MeaningWords.{zero, ◌*◌, ℕ, ◌^◌, suc, ap, ◌∙◌, insert, Plan, then_plan, perform, Locals, State, Outcome, Act, on_gives, Completion, Go_on, Position, digits, canonical_value, size_text, no_locals, level_begun, value_of, assigned_to, name_at, line_in, label_at, formals_at, routine_line_in, tree_none, tree_put, tree_again, text_none, text_put, text_again, value_some, round_pos, text_1, text_2, text_3, text_4, text_8, text_16, bottom, multiply, loop, until, for_word, is, less, number, text, reference, at_label, at_label_in, own_routine, shown, do_one, no_actuals, go_to, set_word, quit_word, write_word, do_word, goto_word, CommandTree, LineTree, SpacedTree, RoutineLineTree, spaced_out, reads_in, Shared, act, commands_in, home}
+use Rattle.mmeaning.proofs.MeaningWords.{zero, ◌*◌, ℕ, ◌^◌, suc, ap, ◌∙◌, insert, Plan, then_plan, perform, Locals, State, Outcome, Act, on_gives, Completion}
+use Rattle.mmeaning.proofs.MeaningWords.{Go_on, Position, digits, canonical_value, size_text, no_locals, level_begun, value_of, assigned_to, name_at, line_in}
+use Rattle.mmeaning.proofs.MeaningWords.{label_at, formals_at, routine_line_in, tree_none, tree_put, tree_again, text_none, text_put, text_again, value_some}
+use Rattle.mmeaning.proofs.MeaningWords.{round_pos, text_1, text_2, text_3, text_4, text_8, text_16, bottom, multiply, loop, until, for_word, is, less, number}
+use Rattle.mmeaning.proofs.MeaningWords.{text, reference, at_label, at_label_in, own_routine, shown, do_one, no_actuals, go_to, set_word, quit_word, write_word}
+use Rattle.mmeaning.proofs.MeaningWords.{do_word, goto_word, CommandTree, LineTree, SpacedTree, RoutineLineTree, spaced_out, reads_in, Shared, act, commands_in}
+use Rattle.mmeaning.proofs.MeaningWords.{home}
 use Rattle.mmeaning.proofs.Calls.{assoc_plan}
 use Rattle.std.specs.Prelude.{length}
 use Rattle.mmeaning.proofs.ExampleAccount.{alice, of_profile}
 use Rattle.mmeaning.proofs.LineRuns.{shut, entered, opened, text_opened}
 use Rattle.mmeaning.proofs.LineTrees.{only, with_operator, named, set_to, command, command_if, line}
-use Rattle.mmeaning.proofs.Running.{◌≡◌, List, [], ◌∷◌, Some, None, false, refl, codes, empty, gets, Globals, Text, opening, account, done, AreAnswered, at_first, at_last, lines_in, asked, serving_in, at_column}
+use Rattle.mmeaning.proofs.Running.{◌≡◌, List, [], ◌∷◌, Some, None, false, refl, codes, empty, gets, Globals, Text, opening, account, done, AreAnswered}
+use Rattle.mmeaning.proofs.Running.{at_first, at_last, lines_in, asked, serving_in, at_column}
 
 number_32 : size_text (32 * 10 ^ 18) ≡ codes "32"
 unfolding size_text digits

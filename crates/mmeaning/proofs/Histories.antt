@@ -1,6 +1,9 @@
 -- SPDX-License-Identifier: Apache-2.0
 -- Histories and normal transitions.
-use Rattle.mmeaning.proofs.MeaningWords.{◌≡◌, Bool, true, false, [], ◌∷◌, Option, Some, None, refl, sym, ap, ◌∙◌, subst, map, get, Outcome, Gives, Fails, Code, Own, Halting, Completion, Ending, Faulted, Settings, Account, World, Event, Reply, Transition, TransitionBy, normal, at_account, checked, is_too_long, is_ascii, ending_of, reply_of, is_failure, replies, world_after, NormalNeverFails, NoneShowsHalting, NormalTransitionsAreHistory, HistoryIsNormal}
+use Rattle.mmeaning.proofs.MeaningWords.{◌≡◌, Bool, true, false, [], ◌∷◌, Option, Some, None, refl, sym, ap, ◌∙◌, subst, map, get, Outcome, Gives, Fails, Code}
+use Rattle.mmeaning.proofs.MeaningWords.{Own, Halting, Completion, Ending, Faulted, Settings, Account, World, Event, Reply, Transition, TransitionBy, normal}
+use Rattle.mmeaning.proofs.MeaningWords.{at_account, checked, is_too_long, is_ascii, ending_of, reply_of, is_failure, replies, world_after, NormalNeverFails}
+use Rattle.mmeaning.proofs.MeaningWords.{NoneShowsHalting, NormalTransitionsAreHistory, HistoryIsNormal}
 
 -- no act ends with a loss
 ending_is_own : (c : Code) → is_failure (ending_of c) ≡ false

@@ -1,8 +1,12 @@
 -- SPDX-License-Identifier: Apache-2.0
 -- Indirection on examples, as proved equations. What is read of the texts that stand for an `@` is beside the lines.
-use Rattle.mmeaning.proofs.MeaningWords.{ℕ, ◌++◌, rules, replicate, M6, M9, Zsteps, Zsyntax, Zdepth, no_locals, assigned_to, divide, ExprTree, number, text, reference, local, exprs, no_exprs, set_argument, kill_argument, new_argument, if_argument, write_argument, xecute_argument, formats, shown, kill_one, new_one, tested, executed, indirect_args, ref_in, args_in, reads_in, line_end, home}
+use Rattle.mmeaning.proofs.MeaningWords.{ℕ, ◌++◌, rules, replicate, M6, M9, Zsteps, Zsyntax, Zdepth, no_locals, assigned_to, divide, ExprTree, number, text}
+use Rattle.mmeaning.proofs.MeaningWords.{reference, local, exprs, no_exprs, set_argument, kill_argument, new_argument, if_argument, write_argument}
+use Rattle.mmeaning.proofs.MeaningWords.{xecute_argument, formats, shown, kill_one, new_one, tested, executed, indirect_args, ref_in, args_in, reads_in}
+use Rattle.mmeaning.proofs.MeaningWords.{line_end, home}
 use Rattle.mmeaning.proofs.LineTrees.{only, with_operator, named, set_to}
-use Rattle.mmeaning.proofs.Running.{◌≡◌, List, [], ◌∷◌, Some, None, true, false, refl, codes, empty, Text, opening, with_steps, done, failed, AreAnswered, Answered, serving, at_first, at_last, Each, at_case, no_more, runs, running, holding_after}
+use Rattle.mmeaning.proofs.Running.{◌≡◌, List, [], ◌∷◌, Some, None, true, false, refl, codes, empty, Text, opening, with_steps, done, failed, AreAnswered}
+use Rattle.mmeaning.proofs.Running.{Answered, serving, at_first, at_last, Each, at_case, no_more, runs, running, holding_after}
 
 -- ---- what is read of the texts
 
@@ -92,7 +96,7 @@ lines : Each (
     -- KILL and NEW
     (codes "S A=1,B=2 K @\"A,B\" W $D(A),$D(B)", done (codes "00")) ∷
     (codes "S A=1 N @\"A\" W $D(A)", done (codes "0")) ∷
-    -- WRITE, at each turn of a FOR anew
+    -- WRITE, again at each turn of a FOR
     (codes "F I=1:1:2 W @\"I\"", done (codes "12")) ∷
     -- what comes before an error in the text is written
     (codes "W @\"1,!,2,1/0\"", failed (codes "1" ++ line_end ∷ codes "2") M9) ∷

@@ -1,6 +1,12 @@
 -- SPDX-License-Identifier: Apache-2.0
 -- How deep indirections may stand, on examples, as proved equations: which are levels at once, and in which order they are refused.
-use Rattle.mmeaning.proofs.MeaningWords.{◌≡◌, ℕ, zero, suc, ◌+◌, ◌≤◌, Bool, true, false, List, [], ◌∷◌, Option, Some, None, refl, arith, rules, codes, nat_lt, M9, Zdepth, Zsyntax, Done, nat_tests, Text, Node, Locals, level_begun, State, Gives, Fails, value_of, assigned_to, divide, number, PrimaryTree, text, bracket, reference, ReferenceTree, indirect, exprs, no_exprs, variable, one, write_argument, at_label, do_argument, do_one, no_actuals, indirect_args, do_word, CommandTree, many, list_at, name_at, entry_at, actuals_with, called_with, do_argument_at, ref_at, ref_in, args_of, args_in, RoutineLineTree, spaced_out, label_at, formals_at, formals_in, routine_line_in, reads_in, of_global, of_naked, of_local, Inside, inside, evaluated, finds, is_indirection_free, Context, context, given, setting, Position, commands, target, computes, Cursor}
+use Rattle.mmeaning.proofs.MeaningWords.{◌≡◌, ℕ, zero, suc, ◌+◌, ◌≤◌, Bool, true, false, List, [], ◌∷◌, Option, Some, None, refl, arith, rules, codes, nat_lt}
+use Rattle.mmeaning.proofs.MeaningWords.{M9, Zdepth, Zsyntax, Done, nat_tests, Text, Node, Locals, level_begun, State, Gives, Fails, value_of, assigned_to}
+use Rattle.mmeaning.proofs.MeaningWords.{divide, number, PrimaryTree, text, bracket, reference, ReferenceTree, indirect, exprs, no_exprs, variable, one}
+use Rattle.mmeaning.proofs.MeaningWords.{write_argument, at_label, do_argument, do_one, no_actuals, indirect_args, do_word, CommandTree, many, list_at, name_at}
+use Rattle.mmeaning.proofs.MeaningWords.{entry_at, actuals_with, called_with, do_argument_at, ref_at, ref_in, args_of, args_in, RoutineLineTree, spaced_out}
+use Rattle.mmeaning.proofs.MeaningWords.{label_at, formals_at, formals_in, routine_line_in, reads_in, of_global, of_naked, of_local, Inside, inside, evaluated}
+use Rattle.mmeaning.proofs.MeaningWords.{finds, is_indirection_free, Context, context, given, setting, Position, commands, target, computes, Cursor}
 use Rattle.mgrammar.specs.ReadingExpressions.{subscripts_with, attached_with, indirect_with, reference_with, primary_with, readers_at}
 use Rattle.mmeaning.proofs.LineTrees.{only, with_operator, command, line}
 use Rattle.mmeaning.proofs.ExampleAccount.{of_profile}

@@ -1,7 +1,8 @@
 -- SPDX-License-Identifier: Apache-2.0
 -- Languages on examples, as proved equations: what the lines of an account do whose language has a form, and of one whose language does
 -- not.
-use Rattle.mmeaning.proofs.MeaningWords.{ℕ, Bool, true, false, ◌++◌, List, Some, None, M6, M9, M10, M13, M28, M94, Zover, Zsteps, Zsyntax, State, Act, give_some, ◌>>=◌, Done, Gives, Fails, computes, reads_in, rules}
+use Rattle.mmeaning.proofs.MeaningWords.{ℕ, Bool, true, false, ◌++◌, List, Some, None, M6, M9, M10, M13, M28, M94, Zover, Zsteps, Zsyntax, State, Act}
+use Rattle.mmeaning.proofs.MeaningWords.{give_some, ◌>>=◌, Done, Gives, Fails, computes, reads_in, rules}
 use Rattle.mgrammar.specs.IndirectTexts.{pattern_of}
 use Rattle.mmeaning.specs.Operators.{raising, matching}
 use Rattle.std.specs.Prelude.{pos, negsuc}
@@ -25,12 +26,14 @@ profile : EachIn 0 (
     (codes "W 1,$G(@\"B($RE(2))\",3)", failed (codes "1") Zsyntax) ∷
     (codes "W $J", failed [] Zsyntax) ∷
     (codes "W 1 H 1", failed [] Zsyntax) ∷
+    (codes "W $QL(\"A\")", failed [] Zsyntax) ∷
+    (codes "W $QS(\"A\",0)", failed [] Zsyntax) ∷
     (codes "W 1?@\"1N\"", failed [] Zsyntax) ∷ [])
 unfolding runs
 profile =
     at_case _ refl (simp running) (at_case _ refl (simp running) (at_case _ refl (simp running) (at_case _ refl (simp running) (at_case _ refl (simp running)
     (at_case _ refl (simp running) (at_case _ refl (simp running) (at_case _ refl (simp running) (at_case _ refl (simp running)
-    (at_case _ refl (simp running) no_more)))))))))
+    (at_case _ refl (simp running) (at_case _ refl (simp running) (at_case _ refl (simp running) no_more)))))))))))
 
 first_language : EachIn 1 (
     (codes "W $RE(\"abc\")", done (codes "cba")) ∷
@@ -71,7 +74,7 @@ patterns =
     at_case _ refl (simp running) (at_case _ refl (simp running) (at_case _ refl (simp running) (at_case _ refl (simp running)
     (at_case _ refl (simp running) no_more))))
 
--- a routine's line is read in the language of the line that enters it; its label is told without that
+-- a routine's line is read in the language of the line that enters it; its label is read without that
 abbrev lines : List Text
 lines = codes "T W $RE(\"ab\")" ∷ codes "U W 3" ∷ []
 
@@ -88,7 +91,7 @@ routine_of_first_language : WithEachIn 1 (codes "T") lines (
 unfolding runs
 routine_of_first_language = λ g h. at_case _ refl (simp (running, asked g _ _ h)) (at_case _ refl (simp (running, asked g _ _ h)) no_more)
 
--- `**`, with so many steps left: what it gives, and the steps that it leaves
+-- `**`, with this many steps left: what it gives, and the steps that it leaves
 record Powers (s : State) : Type 0 where
   above_zero : raising (codes "2") (codes "3") (record s { steps = 3 }) ≡ Done (Gives (codes "8") (record s { steps = 0 }))
   below_zero : raising (codes "2") (codes "-3") (record s { steps = 4 }) ≡ Done (Gives (codes ".125") (record s { steps = 1 }))
@@ -110,7 +113,7 @@ matches_written x t = do
   atoms ← give_some Zsyntax (pattern_of t)
   matching atoms x
 
--- groups, with so many steps left: whether a text matches, and the steps that are left
+-- groups, with this many steps left: whether a text matches, and the steps that are left
 record Groups (s : State) : Type 0 where
   first_of_two : matches_written (codes "A") (codes "1(1\"A\",2N)") (record s { steps = 1 }) ≡ Done (Gives true (record s { steps = 0 }))
   second_of_two : matches_written (codes "12") (codes "1(1\"A\",2N)") (record s { steps = 1 }) ≡ Done (Gives true (record s { steps = 0 }))

@@ -1,6 +1,11 @@
 -- SPDX-License-Identifier: Apache-2.0
 -- Levels on examples, as proved equations: how many may be open, and in which order DO, GOTO and XECUTE are refused.
-use Rattle.mmeaning.proofs.MeaningWords.{◌≡◌, ℕ, zero, suc, ◌+◌, ◌≤◌, Bool, true, false, List, [], ◌∷◌, Option, Some, None, refl, ap, subst, ◌∙◌, arith, rules, codes, nat_lt, M9, M13, Zdepth, Zlevel, Zsyntax, Plan, Done, then_plan, line_in, text_run, nat_tests, Scope, Text, Node, Locals, State, Outcome, Gives, Fails, on_gives, level_begun, value_of, divide, number, text, reference, at_label, executed, execute_word, LineTree, reads_in, Completion, Position, top_level, after_level, closed, stays, run_within, Context, Go_on, Goes, context, commands, doing, no_actuals, doing_block, executing, going, commands_of, computes, Cursor}
+use Rattle.mmeaning.proofs.MeaningWords.{◌≡◌, ℕ, zero, suc, ◌+◌, ◌≤◌, Bool, true, false, List, [], ◌∷◌, Option, Some, None, refl, ap, subst, ◌∙◌, arith, rules}
+use Rattle.mmeaning.proofs.MeaningWords.{codes, nat_lt, M9, M13, Zdepth, Zlevel, Zsyntax, Plan, Done, then_plan, line_in, text_run, nat_tests, Scope, Text}
+use Rattle.mmeaning.proofs.MeaningWords.{Node, Locals, State, Outcome, Gives, Fails, on_gives, level_begun, value_of, divide, number, text, reference, at_label}
+use Rattle.mmeaning.proofs.MeaningWords.{executed, execute_word, LineTree, reads_in, Completion, Position, top_level, after_level, closed, stays, run_within}
+use Rattle.mmeaning.proofs.MeaningWords.{Context, Go_on, Goes, context, commands, doing, no_actuals, doing_block, executing, going, commands_of, computes}
+use Rattle.mmeaning.proofs.MeaningWords.{Cursor}
 use Rattle.mmeaning.proofs.LineTrees.{only, with_operator, named, command, line}
 use Rattle.mmeaning.proofs.ExampleAccount.{of_profile}
 

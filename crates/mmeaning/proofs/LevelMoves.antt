@@ -1,6 +1,7 @@
 -- SPDX-License-Identifier: Apache-2.0
 -- Levels as frames: what a text that is entered pushes, as equations of what the frames have then to do.
-use Rattle.mmeaning.proofs.MeaningWords.{◌≡◌, ℕ, suc, List, [], ◌∷◌, sym, ap, ◌∙◌, CommandTree, Text, Act, ◌>>=◌, run_within, top_level, Completion, Go_on, Position, Closing, texts, context, commands, after_level, closed, stays, View, Rests, Levels, left}
+use Rattle.mmeaning.proofs.MeaningWords.{◌≡◌, ℕ, suc, List, [], ◌∷◌, sym, ap, ◌∙◌, CommandTree, Text, Act, ◌>>=◌, run_within, top_level, Completion, Go_on}
+use Rattle.mmeaning.proofs.MeaningWords.{Position, Closing, texts, context, commands, after_level, closed, stays, View, Rests, Levels, left}
 use Rattle.mmeaning.proofs.Calls.{assoc, ended}
 
 module _ (a : Text) (fs : List View) (ns : List ℕ) where

@@ -1,7 +1,8 @@
 -- SPDX-License-Identifier: Apache-2.0
 -- The lines of another account's routine, as proved equations: read where the owner lets the account read them, and refused otherwise, alike
 -- whether there is such an account or not.
-use Rattle.mmeaning.proofs.MeaningWords.{◌≡◌, List, [], ◌∷◌, refl, codes, empty, insert, Globals, Locks, Shared, Settings, Grant, Mode, Read, Write, Outcome, Gives, Fails, State, Text, Zgrant, lines_of, perform, act, lines_of_routine, shared_routine}
+use Rattle.mmeaning.proofs.MeaningWords.{◌≡◌, List, [], ◌∷◌, refl, codes, empty, insert, Globals, Locks, Shared, Settings, Grant, Mode, Read, Write, Outcome}
+use Rattle.mmeaning.proofs.MeaningWords.{Gives, Fails, State, Text, Zgrant, lines_of, perform, act, lines_of_routine, shared_routine}
 use Rattle.mmeaning.proofs.ExampleAccount.{account, account_named}
 
 -- terminal 1 of ALICE, beside a library, with these grants

@@ -1,7 +1,13 @@
 -- SPDX-License-Identifier: Apache-2.0
 -- Lines of a terminal, one after another, in a form that `simp` computes: a turn is opened only if its state is known, since what
 -- runs a turn holds what runs the next one, and so on for all the fuel.
-use Rattle.mmeaning.proofs.MeaningWords.{◌≡◌, ℕ, zero, suc, Bool, true, false, List, [], ◌∷◌, Option, Some, None, refl, ap, ◌∙◌, map, empty, get, insert, get-insert, nat_cmp_total, Plan, perform, Zsyntax, Zsteps, Zterm, Zline, Zchar, ReferenceTree, ExprsTree, ArgTree, CommandTree, LineTree, line_in, opening, replies, Text, Node, Locals, Given, no_locals, assigned_to, State, Outcome, Act, ◌>>=◌, fail, Evaluated, Calls, Depth, through, finds, inside, Completion, Position, top_level, Turning, Texts, Context, texts, arguments, commands, after_turn, after_level, closed, stays, commands_of, Account, Settings, Session, World, Event, Reply, plan_of, begun, session_or_new, ended, refused, is_too_long, is_ascii, checked, at_account, normal, Cursor}
+use Rattle.mmeaning.proofs.MeaningWords.{◌≡◌, ℕ, zero, suc, Bool, true, false, List, [], ◌∷◌, Option, Some, None, refl, ap, ◌∙◌, map, empty, get, insert}
+use Rattle.mmeaning.proofs.MeaningWords.{get-insert, nat_cmp_total, Plan, perform, Zsyntax, Zsteps, Zterm, Zline, Zchar, ReferenceTree, ExprsTree, ArgTree}
+use Rattle.mmeaning.proofs.MeaningWords.{CommandTree, LineTree, line_in, opening, replies, Text, Node, Locals, Given, no_locals, assigned_to, State, Outcome}
+use Rattle.mmeaning.proofs.MeaningWords.{Act, ◌>>=◌, fail, Evaluated, Calls, Depth, through, finds, inside, Completion, Position, top_level, Turning, Texts}
+use Rattle.mmeaning.proofs.MeaningWords.{Context, texts, arguments, commands, after_turn, after_level, closed, stays, commands_of, Account, Settings, Session}
+use Rattle.mmeaning.proofs.MeaningWords.{World, Event, Reply, plan_of, begun, session_or_new, ended, refused, is_too_long, is_ascii, checked, at_account}
+use Rattle.mmeaning.proofs.MeaningWords.{normal, Cursor}
 use Rattle.mmeaning.specs.Transition.{act}
 use Rattle.mmeaning.proofs.ExampleAccount.{account, settings_of}
 
@@ -36,7 +42,7 @@ serving s = record { shared = (opening empty).shared; sessions = insert empty 1 
 abbrev pub at_column : ℕ → Cursor
 at_column n = record { column = n; row = 0 }
 
--- where it holds one text, at a variable's name, after so many characters of output
+-- where it holds one text, at a variable's name, after this many characters of output
 abbrev pub holding_after : ℕ → Text → Text → World
 holding_after n name x = serving (record { locals = assigned_to no_locals name [] x; naked = None; test = false; cursor = at_column n })
 

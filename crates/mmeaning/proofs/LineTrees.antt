@@ -1,6 +1,8 @@
 -- SPDX-License-Identifier: Apache-2.0
 -- Trees of lines, in a short notation: for examples of lines whose text takes long to read by `simp`.
-use Rattle.mmeaning.proofs.MeaningWords.{ℕ, List, [], ◌∷◌, Some, None, Text, ExprTree, expr, no_tails, tail, BinaryTree, apply, OperandTree, operand, PrimaryTree, minus, ReferenceTree, local, no_exprs, variable, one, KeywordTree, ArgTree, assign, CommandTree, SpacedTree, LineTree}
+use Rattle.mmeaning.proofs.MeaningWords.{ℕ, List, [], ◌∷◌, Some, None, Text, ExprTree, expr, no_tails, tail, BinaryTree, apply, OperandTree, operand}
+use Rattle.mmeaning.proofs.MeaningWords.{PrimaryTree, minus, ReferenceTree, local, no_exprs, variable, one, KeywordTree, ArgTree, assign, CommandTree}
+use Rattle.mmeaning.proofs.MeaningWords.{SpacedTree, LineTree}
 
 abbrev pub plain : PrimaryTree → OperandTree
 plain p = operand [] p

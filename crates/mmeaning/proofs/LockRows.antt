@@ -1,9 +1,12 @@
 -- SPDX-License-Identifier: Apache-2.0
 -- LOCK and HALT of several terminals on examples, as proved equations.
-use Rattle.mmeaning.proofs.MeaningWords.{rules, nat_cmp, M6, M9, Zlocked, Zsyntax, Session, World, Halted, FinMap, insert, remove, LockName, Locks, held, divide, number, global, naked, exprs, no_exprs, anew, adding, lock_one, lock_argument, locked, ref_in, args_in, reads_in, ℕ}
+use Rattle.mmeaning.proofs.MeaningWords.{rules, nat_cmp, M6, M9, Zlocked, Zsyntax, Session, World, Halted, FinMap, insert, remove, LockName, Locks, held}
+use Rattle.mmeaning.proofs.MeaningWords.{divide, number, global, naked, exprs, no_exprs, anew, adding, lock_one, lock_argument, locked, ref_in, args_in}
+use Rattle.mmeaning.proofs.MeaningWords.{reads_in, ℕ}
 use Rattle.mmeaning.proofs.LineTrees.{only, with_operator}
 use Rattle.mmeaning.proofs.LockRuns.{AreReplied, replied_first, replied_last, plain_session, halted, computed_locks}
-use Rattle.mmeaning.proofs.Running.{◌≡◌, List, [], ◌∷◌, Some, None, true, false, refl, codes, empty, Text, opening, done, failed, computed_operations, runs, running, at_column}
+use Rattle.mmeaning.proofs.Running.{◌≡◌, List, [], ◌∷◌, Some, None, true, false, refl, codes, empty, Text, opening, done, failed, computed_operations, runs}
+use Rattle.mmeaning.proofs.Running.{running, at_column}
 
 ruleset lock_running = (computed_operations, computed_locks, running)
 
@@ -28,7 +31,7 @@ no_test = plain_session false
 abbrev true_test : Session
 true_test = plain_session true
 
--- after so many characters of output
+-- after this many characters of output
 abbrev after : ℕ → Session → Session
 after n s = record s { cursor = at_column n }
 

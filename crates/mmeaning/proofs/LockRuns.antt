@@ -1,6 +1,10 @@
 -- SPDX-License-Identifier: Apache-2.0
 -- Lines of several terminals, one after another, and the maps of locks and sessions that they leave: for examples of LOCK and HALT.
-use Rattle.mmeaning.proofs.MeaningWords.{◌≡◌, ℕ, Bool, true, false, cond, List, [], ◌∷◌, Option, Some, None, refl, sym, ap, ◌∙◌, codes, not, map, eq_by_cmp, Plan, Ask, Take, Give_back, Release, perform, Ops, LineTree, line_in, Completion, Session, World, Event, Reply, Halted, normal, replies, get, insert, empty, entries, remove, retain_keys, get-insert, get-remove, get-empty, entries-insert, same_map, FinMap, nat_cmp, nat_cmp_total, Account, LockName, Locks, Held, held_cmp, Read, Text, Outcome, no_locals, equal_of, get_cut, cut_drops, entries_none, Shared, act, Inside, inside, home}
+use Rattle.mmeaning.proofs.MeaningWords.{◌≡◌, ℕ, Bool, true, false, cond, List, [], ◌∷◌, Option, Some, None, refl, sym, ap, ◌∙◌, codes, not, map, eq_by_cmp}
+use Rattle.mmeaning.proofs.MeaningWords.{Plan, Ask, Take, Give_back, Release, perform, Ops, LineTree, line_in, Completion, Session, World, Event, Reply, Halted}
+use Rattle.mmeaning.proofs.MeaningWords.{normal, replies, get, insert, empty, entries, remove, retain_keys, get-insert, get-remove, get-empty, entries-insert}
+use Rattle.mmeaning.proofs.MeaningWords.{same_map, FinMap, nat_cmp, nat_cmp_total, Account, LockName, Locks, Held, held_cmp, Read, Text, Outcome, no_locals}
+use Rattle.mmeaning.proofs.MeaningWords.{equal_of, get_cut, cut_drops, entries_none, Shared, act, Inside, inside, home}
 use Rattle.std.specs.FinMap.Entries.{put}
 use Rattle.mspec.specs.Access.{Settings}
 use Rattle.mspec.proofs.LockOrders.{held_cmp_total, held_cmp_exact}

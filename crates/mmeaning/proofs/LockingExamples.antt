@@ -1,6 +1,9 @@
 -- SPDX-License-Identifier: Apache-2.0
 -- LOCK on examples, as proved equations over any world: what is asked in which order, and what is refused.
-use Rattle.mmeaning.proofs.MeaningWords.{◌≡◌, ℕ, suc, Bool, true, false, [], ◌∷◌, Option, Some, None, refl, rules, codes, empty, get, M9, Zgrant, Zlocked, Zsub, Zsyntax, perform, LockName, Locks, taken, given_back, released, Read, Text, Node, Locals, State, Gives, Fails, ExprTree, divide, number, text, ReferenceTree, local, global, indirect, extended, exprs, no_exprs, anew, adding, giving_back, lock_one, lock_several, reference, reads_in, finds, Shared, computes, Cursor}
+use Rattle.mmeaning.proofs.MeaningWords.{◌≡◌, ℕ, suc, Bool, true, false, [], ◌∷◌, Option, Some, None, refl, rules, codes, empty, get, M9, Zgrant, Zlocked, Zsub}
+use Rattle.mmeaning.proofs.MeaningWords.{Zsyntax, perform, LockName, Locks, taken, given_back, released, Read, Text, Node, Locals, State, Gives, Fails}
+use Rattle.mmeaning.proofs.MeaningWords.{ExprTree, divide, number, text, ReferenceTree, local, global, indirect, extended, exprs, no_exprs, anew, adding}
+use Rattle.mmeaning.proofs.MeaningWords.{giving_back, lock_one, lock_several, reference, reads_in, finds, Shared, computes, Cursor}
 use Rattle.mspec.specs.Access.{Settings}
 use Rattle.mmeaning.specs.Locking.{locking}
 use Rattle.mmeaning.proofs.ExampleAccount.{account_named, of_profile}

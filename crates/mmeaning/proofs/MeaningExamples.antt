@@ -1,10 +1,12 @@
 -- SPDX-License-Identifier: Apache-2.0
 -- The interpreter on examples, as proved equations.
-use Rattle.mmeaning.proofs.MeaningWords.{ℕ, ◌++◌, Option, map, replicate, line_in, Done, perform, State, Outcome, Gives, Fails, Completion, replies, computes, join, Code, M4, M6, M9, M10, Zlong, Zsyntax, Zover, Zarg, Zchar, Zline, Zterm, Zsteps, Event, Reply, begun, text_run}
+use Rattle.mmeaning.proofs.MeaningWords.{ℕ, ◌++◌, Option, map, replicate, line_in, Done, perform, State, Outcome, Gives, Fails, Completion, replies, computes}
+use Rattle.mmeaning.proofs.MeaningWords.{join, Code, M4, M6, M9, M10, Zlong, Zsyntax, Zover, Zarg, Zchar, Zline, Zterm, Zsteps, Event, Reply, begun, text_run}
 use Rattle.mmeaning.specs.Operators.{binary}
 use Rattle.mmeaning.specs.Transition.{act}
 use Rattle.mmeaning.proofs.ExampleAccount.{alice}
-use Rattle.mmeaning.proofs.Running.{◌≡◌, List, [], ◌∷◌, Some, None, refl, codes, empty, gets, Text, new_session, opening, account, with_steps, done, failed, AreAnswered, Answered, holding, at_first, at_last, Each, at_case, no_more, runs, running, numbers}
+use Rattle.mmeaning.proofs.Running.{◌≡◌, List, [], ◌∷◌, Some, None, refl, codes, empty, gets, Text, new_session, opening, account, with_steps, done, failed}
+use Rattle.mmeaning.proofs.Running.{AreAnswered, Answered, holding, at_first, at_last, Each, at_case, no_more, runs, running, numbers}
 
 abbrev event : ℕ × Text → Event
 event e = record { terminal = e.0; text = e.1 }

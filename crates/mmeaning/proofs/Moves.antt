@@ -1,6 +1,7 @@
 -- SPDX-License-Identifier: Apache-2.0
 -- What is left of a line, a step of it at a time.
-use Rattle.mmeaning.proofs.MeaningWords.{◌≡◌, ℕ, ◌≤◌, List, [], ◌∷◌, Result, Ok, Err, sym, subst, arith, Fault, Act, ◌>>=◌, give, Completion, Standing, Here, Did, MayLose, Follows, View, frame, left, Enough, MovedAs, MovedOn, ◌<◌}
+use Rattle.mmeaning.proofs.MeaningWords.{◌≡◌, ℕ, ◌≤◌, List, [], ◌∷◌, Result, Ok, Err, sym, subst, arith, Fault, Act, ◌>>=◌, give, Completion, Standing, Here}
+use Rattle.mmeaning.proofs.MeaningWords.{Did, MayLose, Follows, View, frame, left, Enough, MovedAs, MovedOn, ◌<◌}
 use Rattle.mmeaning.specs.LineMeaning.{Position}
 use Rattle.mmeaning.specs.Frames.{Fits, Rests, Lists, Turns, Levels, Programs, Conditions}
 use Rattle.mmeaning.proofs.Calls.{then_follows, then_failed, follows_itself, follows_on, failed_after, assoc, did_lost}

@@ -1,6 +1,8 @@
 -- SPDX-License-Identifier: Apache-2.0
 -- No operation changes the locks of another terminal.
-use Rattle.mmeaning.proofs.MeaningWords.{◌≡◌, ℕ, Bool, true, false, List, Option, Some, None, refl, ◌∙◌, LockName, Locks, taken, released, Completion, list_all, Op, May, Value, Status, Neighbour, Routine, Put, Kill, Take, Give_back, Release, Plan, Text, Outcome, keeps, keeps_short, Settings, Shared, act, guarded, may_call, may_read, may_write, may_lock, took, PlanKeepsOthersLocks}
+use Rattle.mmeaning.proofs.MeaningWords.{◌≡◌, ℕ, Bool, true, false, List, Option, Some, None, refl, ◌∙◌, LockName, Locks, taken, released, Completion, list_all}
+use Rattle.mmeaning.proofs.MeaningWords.{Op, May, Value, Status, Neighbour, Routine, Put, Kill, Take, Give_back, Release, Plan, Text, Outcome, keeps}
+use Rattle.mmeaning.proofs.MeaningWords.{keeps_short, Settings, Shared, act, guarded, may_call, may_read, may_write, may_lock, took, PlanKeepsOthersLocks}
 use Rattle.mspec.specs.LockLaws as laws
 use Rattle.mspec.proofs.LockFacts.{others_keep_locks}
 

@@ -8,7 +8,7 @@ use Rattle.mgrammar.proofs.ShortTrees.{plain, named, the_one}
 use Rattle.mmeaning.specs.Programs.{one_value, Op, Operand, Tail, Spend, Sign, Join, Values, Add, Function, Begin, Actual, Hand, Call, Where, Prepare, Ending}
 use Rattle.mmeaning.specs.Programs.{Assign, Show, Run, Return, Enter, Program, calls, begun, program_of}
 
--- those of the arguments that a text has
+-- those of the arguments that a text has, in a language that has calls everywhere
 abbrev programs : FormTree → Text → Option (List (Option Program))
 programs f t = option_map (map program_of) (args_in f 2 t)
 

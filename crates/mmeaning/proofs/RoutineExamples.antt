@@ -1,7 +1,8 @@
 -- SPDX-License-Identifier: Apache-2.0
 -- Routines, DO, GOTO and XECUTE on examples, as proved equations.
 use Rattle.mmeaning.proofs.MeaningWords.{M13, Zsyntax, Zsteps, no_locals, assigned_to, home}
-use Rattle.mmeaning.proofs.Running.{[], ◌∷◌, None, false, refl, codes, done, failed, at_first, at_last, asked, serving_in, With, WithSteps, Anywhere, computed_operations, WithEach, at_case, no_more, runs, running, at_column}
+use Rattle.mmeaning.proofs.Running.{[], ◌∷◌, None, false, refl, codes, done, failed, at_first, at_last, asked, serving_in, With, WithSteps, Anywhere}
+use Rattle.mmeaning.proofs.Running.{computed_operations, WithEach, at_case, no_more, runs, running, at_column}
 
 record Routines : Type 0 where
   routine_with_new : WithEach (codes "R") (codes "T N V S V=2 D U W V Q" ∷ codes "U S V=V+1 Q" ∷ []) (

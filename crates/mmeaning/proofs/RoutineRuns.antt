@@ -1,6 +1,8 @@
 -- SPDX-License-Identifier: Apache-2.0
 -- Lines that lead to routines: for examples in a world whose store has a routine of ALICE.
-use Rattle.mmeaning.proofs.MeaningWords.{◌≡◌, ℕ, Bool, false, List, [], None, refl, ap, codes, empty, insert, Locks, May, Put, Kill, Routine, Plan, Ask, perform, Completion, opening, Globals, lines_of, Mode, may, Text, Node, Outcome, no_locals, assigned_to, act, Settings, Session, World, Reply, home}
+use Rattle.mmeaning.proofs.MeaningWords.{◌≡◌, ℕ, Bool, false, List, [], None, refl, ap, codes, empty, insert, Locks, May, Put, Kill, Routine, Plan, Ask}
+use Rattle.mmeaning.proofs.MeaningWords.{perform, Completion, opening, Globals, lines_of, Mode, may, Text, Node, Outcome, no_locals, assigned_to, act, Settings}
+use Rattle.mmeaning.proofs.MeaningWords.{Session, World, Reply, home}
 use Rattle.mmeaning.specs.Transition.{Shared}
 use Rattle.mmeaning.proofs.Calls.{assoc_plan}
 use Rattle.mmeaning.proofs.LineRuns.{opened, text_opened, list_opened, name_found, AreAnswered, Cases, AreAnsweredEach}

@@ -8,9 +8,11 @@ pub use Rattle.mspec.specs.Act.{Text}
 pub use Rattle.mmeaning.specs.Transition.{new_session}
 pub use Rattle.mmeaning.specs.History.{opening}
 pub use Rattle.mmeaning.proofs.ExampleAccount.{account, with_steps, done, failed}
-pub use Rattle.mmeaning.proofs.LineRuns.{AreAnswered, Answered, AreAnsweredEach, Each, serving, at_column, holding_after, holding, at_first, at_last, at_case, no_more}
+pub use Rattle.mmeaning.proofs.LineRuns.{AreAnswered, Answered, AreAnsweredEach, Each, serving, at_column, holding_after, holding, at_first, at_last, at_case}
+pub use Rattle.mmeaning.proofs.LineRuns.{no_more}
 pub use Rattle.mmeaning.proofs.RoutineRuns.{lines_in, asked, serving_in, holding_in, With, WithSteps, WithEach, WithEachIn, Anywhere, computed_operations}
-use Rattle.mmeaning.proofs.MeaningWords.{◌*◌, rules, ◌^◌, no_locals, level_begun, level_bound, value_of, assigned_to, canonical_value, size_text, computed_maps, computed_numbers, computes, reads_in, Bool}
+use Rattle.mmeaning.proofs.MeaningWords.{◌*◌, rules, ◌^◌, no_locals, level_begun, level_bound, value_of, assigned_to, canonical_value, size_text, computed_maps}
+use Rattle.mmeaning.proofs.MeaningWords.{computed_numbers, computes, reads_in, Bool}
 use Rattle.mspec.specs.Pieces.{pieces_of}
 use Rattle.mspec.specs.TextFunctions.{first_place, with_piece}
 use Rattle.mmeaning.proofs.RoutineRuns.{computed_levels}

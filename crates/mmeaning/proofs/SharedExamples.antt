@@ -1,6 +1,8 @@
 -- SPDX-License-Identifier: Apache-2.0
 -- What operations do on examples, as proved equations: an account does what its settings let it, and nothing else.
-use Rattle.mmeaning.proofs.MeaningWords.{◌≡◌, [], ◌∷◌, None, true, false, rules, codes, empty, get, insert, remove, LockName, taken, released, May, Value, Status, Put, Kill, Take, State, Gives, Fails, Halting, Quits, World, Finished, Halted, ended, kept, Read, Write, status, Shared, act, took, Text, Node}
+use Rattle.mmeaning.proofs.MeaningWords.{◌≡◌, [], ◌∷◌, None, true, false, rules, codes, empty, get, insert, remove, LockName, taken, released, May, Value}
+use Rattle.mmeaning.proofs.MeaningWords.{Status, Put, Kill, Take, State, Gives, Fails, Halting, Quits, World, Finished, Halted, ended, kept, Read, Write}
+use Rattle.mmeaning.proofs.MeaningWords.{status, Shared, act, took, Text, Node}
 use Rattle.mspec.specs.Access.{Settings}
 use Rattle.mmeaning.proofs.ExampleAccount.{account_named}
 
@@ -23,7 +25,7 @@ record Operations : Type 0 where
   granted_status : (w : Shared) → act lending 2 (codes "BOB") (Status (hers (codes "X"))) w ≡ (status w.globals (hers (codes "X")), w)
   may_read : (w : Shared) → act lending 2 (codes "BOB") (May (codes "ALICE") (codes "X") Read) w ≡ (true, w)
   may_not_write : (w : Shared) → act lending 2 (codes "BOB") (May (codes "ALICE") (codes "X") Write) w ≡ (false, w)
-  -- and what is not: nothing is told, and nothing changes
+  -- and what is not: nothing is answered, and nothing changes
   other_value : (w : Shared) → act lending 2 (codes "BOB") (Value (hers (codes "Y"))) w ≡ (None, w)
   other_text : (w : Shared) → act lending 2 (codes "BOB") (Put (hers (codes "X")) (codes "a")) w ≡ (tt, w)
   other_subtree : (w : Shared) → act lending 2 (codes "BOB") (Kill (hers (codes "X"))) w ≡ (tt, w)

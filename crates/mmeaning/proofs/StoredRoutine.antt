@@ -1,8 +1,10 @@
 -- SPDX-License-Identifier: Apache-2.0
 -- A routine from its first line on, as a proved equation: its lines are set, and then it is run.
-use Rattle.mmeaning.proofs.MeaningWords.{computed_maps, computed_numbers, computes, canonical_value, no_locals, Session, ◌∙◌, insert, entries, entries-insert, significant_digits, node_cmp, node_cmp_total, entries_none, Node, home}
+use Rattle.mmeaning.proofs.MeaningWords.{computed_maps, computed_numbers, computes, canonical_value, no_locals, Session, ◌∙◌, insert, entries, entries-insert}
+use Rattle.mmeaning.proofs.MeaningWords.{significant_digits, node_cmp, node_cmp_total, entries_none, Node, home}
 use Rattle.mmeaning.proofs.RoutineRuns.{lines_in, computed_levels}
-use Rattle.mmeaning.proofs.Running.{◌≡◌, [], ◌∷◌, Some, false, refl, codes, empty, gets, Globals, Text, done, Answered, at_first, at_last, asked, serving_in, computed_operations, runs}
+use Rattle.mmeaning.proofs.Running.{◌≡◌, [], ◌∷◌, Some, false, refl, codes, empty, gets, Globals, Text, done, Answered, at_first, at_last, asked, serving_in}
+use Rattle.mmeaning.proofs.Running.{computed_operations, runs}
 
 -- where ALICE keeps this line of R
 abbrev line_node : Text → Node

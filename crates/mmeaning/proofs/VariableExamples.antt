@@ -1,7 +1,8 @@
 -- SPDX-License-Identifier: Apache-2.0
 -- Variables on examples, as proved equations.
 use Rattle.mmeaning.proofs.MeaningWords.{M9, Zsub, Zarg, computes, reads_in}
-use Rattle.mmeaning.proofs.Running.{[], ◌∷◌, refl, codes, gets, done, failed, Answered, holding, at_first, at_last, Each, at_case, no_more, runs, running, numbers, holding_after}
+use Rattle.mmeaning.proofs.Running.{[], ◌∷◌, refl, codes, gets, done, failed, Answered, holding, at_first, at_last, Each, at_case, no_more, runs, running}
+use Rattle.mmeaning.proofs.Running.{numbers, holding_after}
 
 refusals : Each (
     -- and none but 1 and -1

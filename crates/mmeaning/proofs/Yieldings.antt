@@ -1,6 +1,8 @@
 -- SPDX-License-Identifier: Apache-2.0
 -- How acts that look at no state are put together.
-use Rattle.mmeaning.proofs.MeaningWords.{◌≡◌, Result, Ok, Err, refl, sym, ap, ◌∙◌, subst, arith, Fault, Own, Lost, Memory, Store, Done, then_plan, perform, State, Gives, Act, on_gives, ◌>>=◌, give, give_some, read_so, Code, ℕ, Option, Standing, Here, Ends, FailedBy, Did, ops_of}
+use Rattle.mmeaning.proofs.MeaningWords.{◌≡◌, Result, Ok, Err, refl, sym, ap, ◌∙◌, subst, arith, Fault, Own, Lost, Memory, Store, Done, then_plan, perform}
+use Rattle.mmeaning.proofs.MeaningWords.{State, Gives, Act, on_gives, ◌>>=◌, give, give_some, read_so, Code, ℕ, Option, Standing, Here, Ends, FailedBy, Did}
+use Rattle.mmeaning.proofs.MeaningWords.{ops_of}
 use Rattle.std.specs.Result.{IsErr, IsErrAnd}
 use Rattle.mmeaning.specs.Yields.{YieldsFault, YieldsAs, Yields}
 use Rattle.mmeaning.proofs.Calls.{residual_is}

@@ -3,7 +3,8 @@
 --
 -- Restates "Unary operator", "Binary operators" and "Pattern match pattern" of ISO/IEC 11756:1999. If an operator wants
 -- numbers, its operands become numbers once both are evaluated, the left one first.
-use Rattle.std.specs.Prelude.{ℕ, zero, suc, ◌^◌, ℤ, pos, neg_ℤ, unsigned_abs, Bool, not, ◌&&◌, ◌||◌, cond, nat_eq, List, [], ◌∷◌, ◌++◌, map, length, Option, option_map, Result, Ok, Err}
+use Rattle.std.specs.Prelude.{ℕ, zero, suc, ◌^◌, ℤ, pos, neg_ℤ, unsigned_abs, Bool, not, ◌&&◌, ◌||◌, cond, nat_eq, List, [], ◌∷◌, ◌++◌, map, length, Option}
+use Rattle.std.specs.Prelude.{option_map, Result, Ok, Err}
 use Rattle.std.specs.List.{list_any}
 use Rattle.std.specs.Ordering.{int_cmp, is_lt, is_gt}
 use Rattle.std.specs.Cmp.Lexicographic.{pointwise}
@@ -14,7 +15,8 @@ use Rattle.mspec.specs.NodeOrder.{text_cmp}
 use Rattle.mspec.specs.TextFunctions as texts
 use Rattle.mspec.specs.PatternTests.{is_match}
 use Rattle.mgrammar.specs.Matching.{atom_of, atom_reversed, turns_of}
-use Rattle.mgrammar.specs.Grammar.{AtomTree, SignTree, plus, minus, negate, TruthTree, equals, less, greater, contains, follows, sorts_after, both, either, BinaryTree, add, subtract, multiply, divide, divide_whole, remainder, join, is, is_not}
+use Rattle.mgrammar.specs.Grammar.{AtomTree, SignTree, plus, minus, negate, TruthTree, equals, less, greater, contains, follows, sorts_after, both, either}
+use Rattle.mgrammar.specs.Grammar.{BinaryTree, add, subtract, multiply, divide, divide_whole, remainder, join, is, is_not}
 use Rattle.mspec.specs.Code.{Code, M9, M10, M28, M94, Zover}
 use Rattle.mspec.specs.Act.{Text, Act, ◌>>=◌, ◌>>◌, give, fail, give_some, unless, charge}
 
@@ -135,7 +137,7 @@ raising x y = do
 
 -- ---- patterns
 
--- so many steps, one after another
+-- this many steps, one after another
 abbrev pub charges : ℕ → Act (Unit {0})
 charges zero = give tt
 charges (suc n) = charge >> charges n

@@ -22,11 +22,11 @@ may_read settings me n = may settings me n.account n.name Read
 abbrev pub may_write : Settings → Text → Node → Bool
 may_write settings me n = may settings me n.account n.name Write
 
--- the routines of an owner, by whoever may read the global that holds them
+-- the routines of an owner, by who may read the global that holds them
 abbrev pub may_call : Settings → (me owner : Text) → Bool
 may_call settings me owner = may_read settings me (routines_of owner)
 
--- a global's name by whoever may write it, another by its own account
+-- a global's name by who may write it, another by its own account
 abbrev pub may_lock : Settings → Text → LockName → Bool
 may_lock settings me n = cond n.global (may_write settings me n.node) (text_eq n.node.account me)
 

@@ -3,7 +3,8 @@
 --
 -- Restates "Local variable name lvn", "Global variable name gvn", "$DATA", "$GET", "$ORDER", "$IO", "$JOB", "$PRINCIPAL", "$QUIT", "$STORAGE", "$TEST", "$X" and
 -- "$Y" of ISO/IEC 11756:1999, and what "LOCK" says of an nref. A reference is checked once all its subscripts are evaluated.
-use Rattle.std.specs.Prelude.{ℕ, ◌+◌, ◌*◌, pos, negsuc, Bool, true, false, cond, ◌&&◌, nat_le, nat_lt, List, [], ◌∷◌, ◌++◌, length, Option, Some, None, unwrap_or, slice_get}
+use Rattle.std.specs.Prelude.{ℕ, ◌+◌, ◌*◌, pos, negsuc, Bool, true, false, cond, ◌&&◌, nat_le, nat_lt, List, [], ◌∷◌, ◌++◌, length, Option, Some, None}
+use Rattle.std.specs.Prelude.{unwrap_or, slice_get}
 use Rattle.std.specs.Ordering.{int_eq}
 use Rattle.mspec.specs.Access.{Mode, Read, Write}
 use Rattle.mspec.specs.LockConflict.{LockName}
@@ -14,8 +15,10 @@ use Rattle.mspec.specs.Subscripts.{is_account_name, are_subscripts, are_order_su
 use Rattle.mspec.specs.Interpretations.{truth_text}
 use Rattle.mspec.specs.Code.{M1, M7, Zarg, Zgrant, Zlong, Zsub, Zsyntax}
 use Rattle.mspec.specs.Plan.{May, Value, Status, Neighbour, Put, Kill}
-use Rattle.mspec.specs.Act.{Text, Node, Act, ◌>>=◌, ◌>>◌, give, give_some, fail, unless, ask, get_local, set_local, with_locals, of_locals, value_of, terminal_is, test_is, cursor_is, naked_is, set_naked}
-use Rattle.mgrammar.specs.Specials.{SpecialTree, test_special, io_special, job_special, principal_special, storage_special, column_special, row_special, quit_special}
+use Rattle.mspec.specs.Act.{Text, Node, Act, ◌>>=◌, ◌>>◌, give, give_some, fail, unless, ask, get_local, set_local, with_locals, of_locals, value_of}
+use Rattle.mspec.specs.Act.{terminal_is, test_is, cursor_is, naked_is, set_naked}
+use Rattle.mgrammar.specs.Specials.{SpecialTree, test_special, io_special, job_special, principal_special, storage_special, column_special, row_special}
+use Rattle.mgrammar.specs.Specials.{quit_special}
 use Rattle.mgrammar.specs.Functions.{VariableFunctionTree, data_function, get_function, order_function, FunctionTree, of_values, of_variable, of_choices}
 use Rattle.mmeaning.specs.Functions.{whole_text, as_whole}
 

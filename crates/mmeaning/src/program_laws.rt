@@ -1,6 +1,7 @@
 // SPDX-License-Identifier: Apache-2.0
 // The laws of programs. Each function's contract is the law, and its body is empty: the code never calls them.
-ghost use Rattle.mmeaning.specs.ProgramLaws.{ArgumentsPause, ConditionsGoOn, ConditionsPause, ProgramsAreThere, ProgramsCarryArguments, ProgramsCarryConditions};
+ghost use Rattle.mmeaning.specs.ProgramLaws.{ArgumentsPause, ConditionsGoOn, ConditionsPause, ProgramsAreThere, ProgramsCarryArguments};
+ghost use Rattle.mmeaning.specs.ProgramLaws.{ProgramsCarryConditions};
 ghost use Rattle.mmeaning.specs.ProgramLaws.{ProgramsPause, ProgramsTakeValues, StepsEvaluate};
 
 /// The steps of an expression evaluate it, whatever comes after them, and whatever else is on the stack.

@@ -1,6 +1,8 @@
 -- SPDX-License-Identifier: Apache-2.0
 -- What `rounded` returns, on plain numbers.
-use Rattle.mnum.proofs.NumWords.{ℕ, suc, ◌≡◌, ◌+◌, ◌*◌, ◌-◌, ◌/◌, ◌^◌, ◌<◌, ◌≤◌, ◌⊎◌, ◌≢◌, Option, Some, None, refl, sym, ◌∙◌, ap, arith, inl, inr, ⊎_elim, MatchOption, option_map, pow-le-pow_right, lt_of_mul-lt-mul_right, div-mul-le_self, IsFloor, IsFine, ten_pos, ten_add, round_size, mul-le-mul_right, mul_assoc, mul-lt-mul_of_pos_right, pow-suc}
+use Rattle.mnum.proofs.NumWords.{ℕ, suc, ◌≡◌, ◌+◌, ◌*◌, ◌-◌, ◌/◌, ◌^◌, ◌<◌, ◌≤◌, ◌⊎◌, ◌≢◌, Option, Some, None, refl, sym, ◌∙◌, ap, arith, inl, inr, ⊎_elim}
+use Rattle.mnum.proofs.NumWords.{MatchOption, option_map, pow-le-pow_right, lt_of_mul-lt-mul_right, div-mul-le_self, IsFloor, IsFine, ten_pos, ten_add}
+use Rattle.mnum.proofs.NumWords.{round_size, mul-le-mul_right, mul_assoc, mul-lt-mul_of_pos_right, pow-suc}
 use Rattle.mnum.proofs.Rounds.{Drops, drops_some, drops_none, exact_some, over_none}
 use Rattle.mnum.specs.Size.{size_units}
 use Rattle.mnum.specs.declared.size.Size.{Size}

@@ -1,6 +1,9 @@
 -- SPDX-License-Identifier: Apache-2.0
 -- The parts of a literal.
-use Rattle.mnum.proofs.NumWords.{ℕ, ◌≡◌, ◌+◌, ◌*◌, ◌^◌, ◌<◌, ◌≤◌, Bool, true, false, cond, not, eqb, Option, List, ◌++◌, drop, length, get_or, refl, sym, ◌∙◌, ap, subst, arith, inl, inr, ⊎_elim, add-one, drop-cons, option_map, nat_tests, fold-append, prefix_len_is, prefix_len, IsHead, IsCapped, is_digit, with_digit, digits_after, round_size, signed, is_sign, is_negated, front_digits, fraction_digits, after_digits, after_fraction, front_exponent, literal_size, numeric_value}
+use Rattle.mnum.proofs.NumWords.{ℕ, ◌≡◌, ◌+◌, ◌*◌, ◌^◌, ◌<◌, ◌≤◌, Bool, true, false, cond, not, eqb, Option, List, ◌++◌, drop, length, get_or, refl, sym, ◌∙◌}
+use Rattle.mnum.proofs.NumWords.{ap, subst, arith, inl, inr, ⊎_elim, add-one, drop-cons, option_map, nat_tests, fold-append, prefix_len_is, prefix_len, IsHead}
+use Rattle.mnum.proofs.NumWords.{IsCapped, is_digit, with_digit, digits_after, round_size, signed, is_sign, is_negated, front_digits, fraction_digits}
+use Rattle.mnum.proofs.NumWords.{after_digits, after_fraction, front_exponent, literal_size, numeric_value}
 
 negated_at : (s : List ℕ) (i : ℕ) → i < length s → is_negated (drop i s) ≡ cond (eqb (get_or s i 0) 45) (not (is_negated (drop (i + 1) s))) (cond (eqb (get_or s i 0) 43) (is_negated (drop (i + 1) s)) false)
 negated_at s i h = rw (add-one, drop-cons s i 0) refl

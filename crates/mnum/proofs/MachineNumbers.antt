@@ -1,6 +1,8 @@
 -- SPDX-License-Identifier: Apache-2.0
 -- The order and the sum of two numbers in their own places, in a machine's numbers.
-use Rattle.mnum.proofs.NumWords.{ℕ, ◌≡◌, ◌*◌, ◌-◌, ◌^◌, ◌<◌, ◌≤◌, Bool, true, false, cond, refl, ◌∙◌, ap, arith, Less, Equal, Greater, ℤ, pos, negsuc, ◌+ℤ◌, unsigned_abs, w64, int_cmp, Ordering, le-ltb, nat_tests, ten_pos, ints, signed, mul-lt-mul_of_pos_right, mul-le-mul_right, mul-pos, to_z, of_z}
+use Rattle.mnum.proofs.NumWords.{ℕ, ◌≡◌, ◌*◌, ◌-◌, ◌^◌, ◌<◌, ◌≤◌, Bool, true, false, cond, refl, ◌∙◌, ap, arith, Less, Equal, Greater, ℤ, pos, negsuc, ◌+ℤ◌}
+use Rattle.mnum.proofs.NumWords.{unsigned_abs, w64, int_cmp, Ordering, le-ltb, nat_tests, ten_pos, ints, signed, mul-lt-mul_of_pos_right, mul-le-mul_right}
+use Rattle.mnum.proofs.NumWords.{mul-pos, to_z, of_z}
 use lib.Signed.{lt_z}
 
 -- a number below 10 ^ 18 in size fits 64 bits

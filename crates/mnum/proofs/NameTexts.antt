@@ -1,6 +1,7 @@
 -- SPDX-License-Identifier: Apache-2.0
 -- When a text is a name, and that a name's characters are below 128.
-use Rattle.mnum.proofs.NumWords.{ℕ, ◌≡◌, ◌<◌, ◌≤◌, true, List, [], ◌∷◌, length, get_or, drop, All, sym, subst, arith, All-nil, All-cons, All-head, All-tail, nat_tests, AllAre, IsName, is_name_start, is_name_rest}
+use Rattle.mnum.proofs.NumWords.{ℕ, ◌≡◌, ◌<◌, ◌≤◌, true, List, [], ◌∷◌, length, get_or, drop, All, sym, subst, arith, All-nil, All-cons, All-head, All-tail}
+use Rattle.mnum.proofs.NumWords.{nat_tests, AllAre, IsName, is_name_start, is_name_rest}
 
 abbrev AllPass : List ℕ → Type 0
 AllPass cs = All (λ c. is_name_rest c ≡ true) cs

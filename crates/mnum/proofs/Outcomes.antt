@@ -1,6 +1,7 @@
 -- SPDX-License-Identifier: Apache-2.0
 -- What an operation gives, under another name of its definition.
-use Rattle.mnum.proofs.NumWords.{◌≡◌, ℕ, ◌<◌, ◌∙◌, subst, sym, refl, ℤ, unsigned_abs, Option, Some, None, Result, Ok, Err, IfErr, MatchResult, option_map, units, Num}
+use Rattle.mnum.proofs.NumWords.{◌≡◌, ℕ, ◌<◌, ◌∙◌, subst, sym, refl, ℤ, unsigned_abs, Option, Some, None, Result, Ok, Err, IfErr, MatchResult, option_map}
+use Rattle.mnum.proofs.NumWords.{units, Num}
 use Rattle.mnum.specs.Division.{IsOutcome}
 use Rattle.mnum.specs.declared.num.Over.{Over}
 use Rattle.mnum.specs.declared.num.ArithFault.{ArithFault}

@@ -1,6 +1,10 @@
 -- SPDX-License-Identifier: Apache-2.0
 -- Numbers rounded to places after the point, and their texts with all of these.
-use Rattle.mnum.proofs.NumWords.{ℕ, zero, suc, ◌≡◌, ◌+◌, ◌*◌, ◌-◌, ◌/◌, ◌%◌, ◌^◌, ◌<◌, ◌≤◌, Bool, true, false, List, [], ◌∷◌, ◌++◌, length, All, All-nil, All-cons, refl, sym, ◌∙◌, ap, subst, arith, lit<, ⊎_elim, cases_lt, nat_tests, append-nil, mod_below, ℤ, pos, negsuc, unsigned_abs, cond, decimal, append_assoc, zero-mul, mul-pos, mul-le-mul_right, mul-lt-mul_of_pos_right, div-eq_of_lt-le, div-mul-le_self, lt-div-mul-add, mul_assoc, ten_pos, ten_add, ten_monotone, nearest_exact, nearest, signed, abs_signed, fraction_text}
+use Rattle.mnum.proofs.NumWords.{ℕ, zero, suc, ◌≡◌, ◌+◌, ◌*◌, ◌-◌, ◌/◌, ◌%◌, ◌^◌, ◌<◌, ◌≤◌, Bool, true, false, List, [], ◌∷◌, ◌++◌, length, All, All-nil}
+use Rattle.mnum.proofs.NumWords.{All-cons, refl, sym, ◌∙◌, ap, subst, arith, lit<, ⊎_elim, cases_lt, nat_tests, append-nil, mod_below, ℤ, pos, negsuc}
+use Rattle.mnum.proofs.NumWords.{unsigned_abs, cond, decimal, append_assoc, zero-mul, mul-pos, mul-le-mul_right, mul-lt-mul_of_pos_right, div-eq_of_lt-le}
+use Rattle.mnum.proofs.NumWords.{div-mul-le_self, lt-div-mul-add, mul_assoc, ten_pos, ten_add, ten_monotone, nearest_exact, nearest, signed, abs_signed}
+use Rattle.mnum.proofs.NumWords.{fraction_text}
 use Rattle.std.proofs.Common.{length-append, replicate}
 use Rattle.std.specs.Prelude.{nat_lt, ◌==◌, ◌&&◌}
 use Rattle.std.proofs.lemmas.Bool.{lt-ltb}

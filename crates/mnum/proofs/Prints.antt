@@ -1,6 +1,8 @@
 -- SPDX-License-Identifier: Apache-2.0
 -- Texts of numbers.
-use Rattle.mnum.proofs.NumWords.{ℕ, zero, suc, ◌≡◌, ◌+◌, ◌*◌, ◌-◌, ◌/◌, ◌%◌, ◌^◌, ◌<◌, ◌≤◌, Bool, true, false, not, cond, eqb, List, [], ◌∷◌, ◌++◌, length, refl, sym, ◌∙◌, ap, subst, arith, append_assoc, decimal, append-nil, mul-div-mul_right, div-add-mod', mod_below, nat_tests, ten_pos, ten_add, signed, fraction_text, whole_text, point_text, size_text, number_text, text_of_whole, zero-mul, mul-pos}
+use Rattle.mnum.proofs.NumWords.{ℕ, zero, suc, ◌≡◌, ◌+◌, ◌*◌, ◌-◌, ◌/◌, ◌%◌, ◌^◌, ◌<◌, ◌≤◌, Bool, true, false, not, cond, eqb, List, [], ◌∷◌, ◌++◌, length}
+use Rattle.mnum.proofs.NumWords.{refl, sym, ◌∙◌, ap, subst, arith, append_assoc, decimal, append-nil, mul-div-mul_right, div-add-mod', mod_below, nat_tests}
+use Rattle.mnum.proofs.NumWords.{ten_pos, ten_add, signed, fraction_text, whole_text, point_text, size_text, number_text, text_of_whole, zero-mul, mul-pos}
 use Rattle.std.proofs.lemmas.Fmt.{length-decimal-le}
 
 eqb_zero : (n : ℕ) → 0 < n → eqb n 0 ≡ false

@@ -1,6 +1,9 @@
 -- SPDX-License-Identifier: Apache-2.0
 -- The quotient of two sizes.
-use Rattle.mnum.proofs.NumWords.{ℕ, zero, suc, ◌≡◌, ◌+◌, ◌*◌, ◌-◌, ◌/◌, ◌%◌, Some, ◌^◌, ◌<◌, ◌≤◌, ◌⊎◌, Bool, true, false, not, Option, None, refl, sym, ◌∙◌, ap, subst, arith, inl, inr, ⊎_elim, unsigned_abs, option_map, abs_signed, div-add-mod, div-mul-le_self, lt-div-mul-add, le-div, IsFloor, IsFine, ten_pos, ten_add, round_none, round_size, signed, over_size, round, zero-mul, div-le_self, mul-le-mul_right, mul-le-mul_left, mul-pos, mul-lt-mul_of_pos_right, mul_assoc, beq}
+use Rattle.mnum.proofs.NumWords.{ℕ, zero, suc, ◌≡◌, ◌+◌, ◌*◌, ◌-◌, ◌/◌, ◌%◌, Some, ◌^◌, ◌<◌, ◌≤◌, ◌⊎◌, Bool, true, false, not, Option, None, refl, sym, ◌∙◌, ap}
+use Rattle.mnum.proofs.NumWords.{subst, arith, inl, inr, ⊎_elim, unsigned_abs, option_map, abs_signed, div-add-mod, div-mul-le_self, lt-div-mul-add, le-div}
+use Rattle.mnum.proofs.NumWords.{IsFloor, IsFine, ten_pos, ten_add, round_none, round_size, signed, over_size, round, zero-mul, div-le_self, mul-le-mul_right}
+use Rattle.mnum.proofs.NumWords.{mul-le-mul_left, mul-pos, mul-lt-mul_of_pos_right, mul_assoc, beq}
 use Rattle.mnum.proofs.Rounds.{exact_some}
 use Rattle.mnum.proofs.SignLaws.{with_sign}
 

@@ -1,6 +1,10 @@
 -- SPDX-License-Identifier: Apache-2.0
 -- What a division with floor leaves.
-use Rattle.mnum.proofs.NumWords.{ℕ, zero, suc, ◌≡◌, ◌+◌, ◌*◌, ◌-◌, ◌/◌, ◌%◌, ◌^◌, ◌<◌, ◌≤◌, Bool, true, false, cond, not, eqb, refl, sym, ◌∙◌, ap, subst, arith, inl, ⊎_elim, ℤ, pos, negsuc, ◌-ℤ◌, ◌*ℤ◌, neg_ℤ, unsigned_abs, Option, Some, None, option_map, abs_signed, int_div_euclid, ints, mod_below, cases_eq, nat_tests, div-mul-le_self, pow-le-pow_right, mul-sub, div-add-mod, div-eq_of_lt-le, mul_comm, IsFloor, IsFine, floor_left, ten_pos, ten_add, round_some, digits_before_le, rounding_unit_is, round_size, nearest, rounding_unit, digits_before, signed, round, floor_remainder, mul-lt-mul_of_pos_right, mul-le-mul_right, zero-mul, mul-pos, mul_assoc, beq}
+use Rattle.mnum.proofs.NumWords.{ℕ, zero, suc, ◌≡◌, ◌+◌, ◌*◌, ◌-◌, ◌/◌, ◌%◌, ◌^◌, ◌<◌, ◌≤◌, Bool, true, false, cond, not, eqb, refl, sym, ◌∙◌, ap, subst, arith}
+use Rattle.mnum.proofs.NumWords.{inl, ⊎_elim, ℤ, pos, negsuc, ◌-ℤ◌, ◌*ℤ◌, neg_ℤ, unsigned_abs, Option, Some, None, option_map, abs_signed, int_div_euclid, ints}
+use Rattle.mnum.proofs.NumWords.{mod_below, cases_eq, nat_tests, div-mul-le_self, pow-le-pow_right, mul-sub, div-add-mod, div-eq_of_lt-le, mul_comm, IsFloor}
+use Rattle.mnum.proofs.NumWords.{IsFine, floor_left, ten_pos, ten_add, round_some, digits_before_le, rounding_unit_is, round_size, nearest, rounding_unit}
+use Rattle.mnum.proofs.NumWords.{digits_before, signed, round, floor_remainder, mul-lt-mul_of_pos_right, mul-le-mul_right, zero-mul, mul-pos, mul_assoc, beq}
 use Rattle.mnum.proofs.SignLaws.{with_sign, exact_floor}
 use Rattle.mnum.proofs.Prints.{scaled_remainder}
 

@@ -1,6 +1,10 @@
 -- SPDX-License-Identifier: Apache-2.0
 -- What the definition of `round_size` gives.
-use Rattle.mnum.proofs.NumWords.{ℕ, zero, suc, ◌≡◌, ◌+◌, ◌*◌, ◌-◌, ◌/◌, ◌^◌, ◌<◌, ◌≤◌, ◌⊎◌, Some, None, sym, ◌∙◌, ap, subst, arith, inr, ⊎_elim, scale_le, scale_lt, div-eq_of_lt-le, le_of_mul-le-mul_right, lt_of_mul-lt-mul_right, div-mul-le_self, lt-div-mul-add, IsFloor, ten_pos, ten_add, ten_monotone, digits_before_le, digits_before_is, rounding_unit_is, nearest_exact, round_none, round_some, round_up_none, digits_before, nearest, rounding_unit, round_size, mul-le-mul_right, mul_assoc, mul-lt-mul_of_pos_right, pow-suc}
+use Rattle.mnum.proofs.NumWords.{ℕ, zero, suc, ◌≡◌, ◌+◌, ◌*◌, ◌-◌, ◌/◌, ◌^◌, ◌<◌, ◌≤◌, ◌⊎◌, Some, None, sym, ◌∙◌, ap, subst, arith, inr, ⊎_elim, scale_le}
+use Rattle.mnum.proofs.NumWords.{scale_lt, div-eq_of_lt-le, le_of_mul-le-mul_right, lt_of_mul-lt-mul_right, div-mul-le_self, lt-div-mul-add, IsFloor, ten_pos}
+use Rattle.mnum.proofs.NumWords.{ten_add, ten_monotone, digits_before_le, digits_before_is, rounding_unit_is, nearest_exact, round_none, round_some}
+use Rattle.mnum.proofs.NumWords.{round_up_none, digits_before, nearest, rounding_unit, round_size, mul-le-mul_right, mul_assoc, mul-lt-mul_of_pos_right}
+use Rattle.mnum.proofs.NumWords.{pow-suc}
 use Rattle.mnum.proofs.Scales.{half_low, half_high}
 
 -- from one digit more than is kept

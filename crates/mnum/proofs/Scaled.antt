@@ -1,6 +1,8 @@
 -- SPDX-License-Identifier: Apache-2.0
 -- The size of a number from its first digits.
-use Rattle.mnum.proofs.NumWords.{ℕ, ◌≡◌, ◌+◌, ◌*◌, ◌-◌, ◌^◌, ◌<◌, ◌≤◌, ◌⊎◌, Some, None, sym, ◌∙◌, ap, arith, inl, inr, ⊎_elim, pow-le-pow_right, IsFloor, IsFine, IsHead, ten_pos, ten_add, round_none, round_small, round_zero, round_size, mul-le-mul_right, mul-lt-mul_of_pos_right, mul_assoc}
+use Rattle.mnum.proofs.NumWords.{ℕ, ◌≡◌, ◌+◌, ◌*◌, ◌-◌, ◌^◌, ◌<◌, ◌≤◌, ◌⊎◌, Some, None, sym, ◌∙◌, ap, arith, inl, inr, ⊎_elim, pow-le-pow_right, IsFloor}
+use Rattle.mnum.proofs.NumWords.{IsFine, IsHead, ten_pos, ten_add, round_none, round_small, round_zero, round_size, mul-le-mul_right, mul-lt-mul_of_pos_right}
+use Rattle.mnum.proofs.NumWords.{mul_assoc}
 
 -- the number with its exponent, between its first digits and the next
 head_low : (n d number a : ℕ) → IsHead n d number → n * 10 ^ (d + a) ≤ number * 10 ^ a

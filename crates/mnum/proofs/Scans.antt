@@ -1,6 +1,7 @@
 -- SPDX-License-Identifier: Apache-2.0
 -- Digits read one after another.
-use Rattle.mnum.proofs.NumWords.{ℕ, ◌≡◌, ◌+◌, ◌*◌, ◌-◌, ◌^◌, ◌<◌, ◌≤◌, ◌⊎◌, true, false, List, take, length, get_or, sym, ◌∙◌, ap, subst, arith, inl, inr, ⊎_elim, nat_tests, fold_more, prefix_len_is, prefix_len, IsHead, ten_add, is_digit, with_digit, digits_after, front_digits}
+use Rattle.mnum.proofs.NumWords.{ℕ, ◌≡◌, ◌+◌, ◌*◌, ◌-◌, ◌^◌, ◌<◌, ◌≤◌, ◌⊎◌, true, false, List, take, length, get_or, sym, ◌∙◌, ap, subst, arith, inl, inr}
+use Rattle.mnum.proofs.NumWords.{⊎_elim, nat_tests, fold_more, prefix_len_is, prefix_len, IsHead, ten_add, is_digit, with_digit, digits_after, front_digits}
 
 -- one more digit that is kept
 pub head_kept : (n d number c : ℕ) → 48 ≤ c → c ≤ 57 → n < 10 ^ 18 → IsHead n d number → IsHead (n * 10 + (c - 48)) d (with_digit number c)

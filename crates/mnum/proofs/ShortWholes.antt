@@ -1,6 +1,7 @@
 -- SPDX-License-Identifier: Apache-2.0
 -- When one to eighteen digits are canonical.
-use Rattle.mnum.proofs.NumWords.{ℕ, suc, ◌≡◌, ◌<◌, ◌≤◌, true, not, List, [], ◌∷◌, length, get_or, All, sym, ap, subst, arith, ⊎_elim, IsTrue, nat_eq, nat_tests, is_digit, IsCanonical, NoZeroInFront, zero_is_canonical, whole_is_canonical, front_of_canonical}
+use Rattle.mnum.proofs.NumWords.{ℕ, suc, ◌≡◌, ◌<◌, ◌≤◌, true, not, List, [], ◌∷◌, length, get_or, All, sym, ap, subst, arith, ⊎_elim, IsTrue, nat_eq, nat_tests}
+use Rattle.mnum.proofs.NumWords.{is_digit, IsCanonical, NoZeroInFront, zero_is_canonical, whole_is_canonical, front_of_canonical}
 
 -- one to eighteen digits
 pub record IsShort (s : List ℕ) : Type 0 where

@@ -1,6 +1,7 @@
 -- SPDX-License-Identifier: Apache-2.0
 -- Signs, and rounding with a sign.
-use Rattle.mnum.proofs.NumWords.{ℕ, zero, suc, ◌≡◌, ◌+◌, ◌*◌, ◌-◌, ◌^◌, ◌<◌, ◌≤◌, Bool, true, false, not, Option, refl, sym, ◌∙◌, ap, arith, ℤ, ◌*ℤ◌, option_map, mul-zero, IsFloor, ten_add, round_is, round_size, signed, round, zero-mul, beq}
+use Rattle.mnum.proofs.NumWords.{ℕ, zero, suc, ◌≡◌, ◌+◌, ◌*◌, ◌-◌, ◌^◌, ◌<◌, ◌≤◌, Bool, true, false, not, Option, refl, sym, ◌∙◌, ap, arith, ℤ, ◌*ℤ◌}
+use Rattle.mnum.proofs.NumWords.{option_map, mul-zero, IsFloor, ten_add, round_is, round_size, signed, round, zero-mul, beq}
 
 -- the sign of a product
 pub signed_mul : (s t : Bool) (m n : ℕ) → signed s m *ℤ signed t n ≡ signed (not (beq s t)) (m * n)

@@ -1,6 +1,8 @@
 -- SPDX-License-Identifier: Apache-2.0
 -- How a canonical text begins.
-use Rattle.mnum.proofs.NumWords.{ℕ, ◌≡◌, ◌<◌, Bool, true, false, cond, Option, Some, None, List, [], ◌∷◌, ◌++◌, refl, ap, sym, ◌∙◌, subst, arith, ⊎_elim, nat_eq, nat_tests, All-head, is_digit, Literal, IsMantissa, spell_fraction, spell_exponent, spell_literal, IsCanonical, number_text, HasCanonicalForm, IsPlain, units, Num}
+use Rattle.mnum.proofs.NumWords.{ℕ, ◌≡◌, ◌<◌, Bool, true, false, cond, Option, Some, None, List, [], ◌∷◌, ◌++◌, refl, ap, sym, ◌∙◌, subst, arith, ⊎_elim}
+use Rattle.mnum.proofs.NumWords.{nat_eq, nat_tests, All-head, is_digit, Literal, IsMantissa, spell_fraction, spell_exponent, spell_literal, IsCanonical}
+use Rattle.mnum.proofs.NumWords.{number_text, HasCanonicalForm, IsPlain, units, Num}
 use Rattle.std.specs.Cmp.Lexicographic.{pointwise, bytes_decides}
 use Rattle.mspec.proofs.CanonicalForm.{text_has_canonical_form}
 use Rattle.mspec.proofs.TextLaws.{value_is_number}

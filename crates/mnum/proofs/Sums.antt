@@ -1,6 +1,8 @@
 -- SPDX-License-Identifier: Apache-2.0
 -- Sums, whole quotients and remainders at one scale.
-use Rattle.mnum.proofs.NumWords.{ℕ, zero, suc, ◌≡◌, ◌+◌, ◌*◌, ◌-◌, ◌/◌, ◌^◌, ◌<◌, ◌≤◌, Bool, true, false, not, refl, sym, ◌∙◌, ap, subst, arith, inl, pos, ◌-ℤ◌, ◌+ℤ◌, neg_ℤ, int_div, unsigned_abs, Option, option_map, abs_signed, w128, ints, pow-le-pow_right, zero-div, mul-div-mul_right, IsFloor, IsFine, ten_pos, ten_add, round_size, signed, round, to_z, of_z, SFits, mul_assoc, mul-lt-mul_of_pos_right, beq}
+use Rattle.mnum.proofs.NumWords.{ℕ, zero, suc, ◌≡◌, ◌+◌, ◌*◌, ◌-◌, ◌/◌, ◌^◌, ◌<◌, ◌≤◌, Bool, true, false, not, refl, sym, ◌∙◌, ap, subst, arith, inl, pos, ◌-ℤ◌}
+use Rattle.mnum.proofs.NumWords.{◌+ℤ◌, neg_ℤ, int_div, unsigned_abs, Option, option_map, abs_signed, w128, ints, pow-le-pow_right, zero-div, mul-div-mul_right}
+use Rattle.mnum.proofs.NumWords.{IsFloor, IsFine, ten_pos, ten_add, round_size, signed, round, to_z, of_z, SFits, mul_assoc, mul-lt-mul_of_pos_right, beq}
 use Rattle.mnum.proofs.SignLaws.{with_sign, exact_floor}
 
 pub places_value : (d s P : ℕ) → s ≤ P → P ≤ 18 → d * 10 ^ (P - s) * 10 ^ (18 - P) ≡ d * 10 ^ (18 - s)

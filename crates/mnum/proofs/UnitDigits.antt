@@ -1,6 +1,7 @@
 -- SPDX-License-Identifier: Apache-2.0
 -- Units that no number has.
-use Rattle.mnum.proofs.NumWords.{ℕ, ◌≡◌, ◌≢◌, ◌⊎◌, inl, inr, ◌+◌, ◌-◌, ◌*◌, ◌/◌, ◌%◌, ◌^◌, ◌<◌, ◌≤◌, sym, ◌∙◌, ap, arith, ⊎_elim, ℤ, unsigned_abs, cases_lt, same_from_place, IsNumber, ten_pos, ten_add, mul-le-mul_left}
+use Rattle.mnum.proofs.NumWords.{ℕ, ◌≡◌, ◌≢◌, ◌⊎◌, inl, inr, ◌+◌, ◌-◌, ◌*◌, ◌/◌, ◌%◌, ◌^◌, ◌<◌, ◌≤◌, sym, ◌∙◌, ap, arith, ⊎_elim, ℤ, unsigned_abs, cases_lt}
+use Rattle.mnum.proofs.NumWords.{same_from_place, IsNumber, ten_pos, ten_add, mul-le-mul_left}
 
 -- a factor on both sides
 cancel : (a c w : ℕ) → 0 < w → a * w ≡ c * w → a ≡ c

@@ -1,6 +1,8 @@
 -- SPDX-License-Identifier: Apache-2.0
 -- The whole part of a number, and whether it is 0.
-use Rattle.mnum.proofs.NumWords.{ℕ, zero, suc, ◌≡◌, ◌*◌, ◌-◌, ◌/◌, ◌%◌, ◌^◌, ◌<◌, ◌≤◌, ◌+◌, Bool, true, false, not, refl, sym, ◌∙◌, ap, arith, lit<, pos, ◌-ℤ◌, ◌==◌, unsigned_abs, int_eq, w64, abs_signed, mul-div-mul_right, Decides-eqb, Decides-int_eq, same_from_decides, ints, signed, ten_pos, ten_add, mul-pos, zero-mul, beq, to_z, of_z}
+use Rattle.mnum.proofs.NumWords.{ℕ, zero, suc, ◌≡◌, ◌*◌, ◌-◌, ◌/◌, ◌%◌, ◌^◌, ◌<◌, ◌≤◌, ◌+◌, Bool, true, false, not, refl, sym, ◌∙◌, ap, arith, lit<, pos, ◌-ℤ◌}
+use Rattle.mnum.proofs.NumWords.{◌==◌, unsigned_abs, int_eq, w64, abs_signed, mul-div-mul_right, Decides-eqb, Decides-int_eq, same_from_decides, ints, signed}
+use Rattle.mnum.proofs.NumWords.{ten_pos, ten_add, mul-pos, zero-mul, beq, to_z, of_z}
 use Rattle.mspec.specs.Interpretations.{whole_part, is_true}
 use Rattle.mnum.proofs.Sums.{quotient_signed}
 

@@ -1,6 +1,7 @@
 -- SPDX-License-Identifier: Apache-2.0
 -- Whole numbers of at most eighteen digits.
-use Rattle.mnum.proofs.NumWords.{ℕ, ◌≡◌, ◌+◌, ◌*◌, ◌-◌, ◌^◌, ◌<◌, ◌≤◌, true, List, take, length, get_or, All, ◌∙◌, ap, sym, arith, take_all, pow-le-pow_right, All-from_get_or, fold_more, is_digit, with_digit, digits_after, ten_add}
+use Rattle.mnum.proofs.NumWords.{ℕ, ◌≡◌, ◌+◌, ◌*◌, ◌-◌, ◌^◌, ◌<◌, ◌≤◌, true, List, take, length, get_or, All, ◌∙◌, ap, sym, arith, take_all, pow-le-pow_right}
+use Rattle.mnum.proofs.NumWords.{All-from_get_or, fold_more, is_digit, with_digit, digits_after, ten_add}
 use Rattle.mnum.proofs.Scans.{digit_high}
 
 -- one more digit

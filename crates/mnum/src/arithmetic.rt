@@ -1,6 +1,7 @@
 // SPDX-License-Identifier: Apache-2.0
 // The operations on numbers.
-ghost use Rattle.std.specs.Prelude.{◌≡◌, ℕ, ◌*◌, ◌^◌, ◌<◌, ◌≤◌, ◌≢◌, ◌-◌, ◌+◌, ◌/◌, ◌⊎◌, ◌+ℤ◌, neg_ℤ, Some, None, MatchResult, pos, unsigned_abs, IfErr, IfSome, Option, ℤ};
+ghost use Rattle.std.specs.Prelude.{◌≡◌, ℕ, ◌*◌, ◌^◌, ◌<◌, ◌≤◌, ◌≢◌, ◌-◌, ◌+◌, ◌/◌, ◌⊎◌, ◌+ℤ◌, neg_ℤ, Some, None, MatchResult, pos, unsigned_abs, IfErr};
+ghost use Rattle.std.specs.Prelude.{IfSome, Option, ℤ};
 ghost use Rattle.std.specs.Ordering.{int_cmp};
 ghost use Rattle.mnum.specs.Division.{IsOutcome, Leaves};
 ghost use Rattle.mnum.specs.Floor.{floor_left};
@@ -107,7 +108,8 @@ fn signed_sum(a_negative: bool, a: u128, b_negative: bool, b: u128) -> (bool, u1
 
 // Puts what was computed in the place of a number.
 fn put(place: &mut Num, outcome: Result<Num, Over>) -> Result<(), Over>
-    ensures { (x : Option ℤ) → MatchResult outcome (λ r. x ≡ Some (units r)) (λ _. x ≡ None) → MatchResult result (λ _. x ≡ Some (units place.new)) (λ _. x ≡ None) }
+    ensures { (x : Option ℤ) → MatchResult outcome (λ r. x ≡ Some (units r)) (λ _. x ≡ None) → MatchResult result (λ _. x ≡ Some (units place.new)) (λ _. x
+        ≡ None) }
 {
     *place = outcome?;
     Ok(())
@@ -135,7 +137,8 @@ fn signed_digits(n: &Num) -> i64
 // rounded.
 #[inline]
 fn at_common_places(first: &Num, second: &Num) -> Option<(Num, Num)>
-    ensures { IfSome result (λ r. (r.0.places ≡ r.1.places) × (units r.0 ≡ units first.now) × (units r.1 ≡ units second.now) × (0 < second.now.digits → 0 < r.1.digits)) }
+    ensures { IfSome result (λ r. (r.0.places ≡ r.1.places) × (units r.0 ≡ units first.now) × (units r.1 ≡ units second.now) × (0 < second.now.digits
+        → 0 < r.1.digits)) }
 {
     if first.places == second.places {
         Some((*first, *second))
@@ -244,7 +247,8 @@ impl Num {
     ///
     /// `Over` exactly if the sum reaches 10^18 in size, before or after rounding.
     pub fn add_assign(&mut self, other: &Num) -> Result<(), Over>
-        ensures { MatchResult result (λ _. sum_of (units self.old) (units other.now) ≡ Some (units self.new)) (λ _. sum_of (units self.old) (units other.now) ≡ None) }
+        ensures { MatchResult result (λ _. sum_of (units self.old) (units other.now) ≡ Some (units self.new)) (λ _. sum_of (units self.old) (units other.now)
+            ≡ None) }
     {
         if let Some((first, second)) = at_common_places(self, other) {
             let sum = signed_digits(&first) + signed_digits(&second);
@@ -287,7 +291,8 @@ impl Num {
     ///
     /// `Over` exactly if the difference reaches 10^18 in size, before or after rounding.
     pub fn sub_assign(&mut self, other: &Num) -> Result<(), Over>
-        ensures { MatchResult result (λ _. difference_of (units self.old) (units other.now) ≡ Some (units self.new)) (λ _. difference_of (units self.old) (units other.now) ≡ None) }
+        ensures { MatchResult result (λ _. difference_of (units self.old) (units other.now) ≡ Some (units self.new)) (λ _. difference_of (units self.old)
+            (units other.now) ≡ None) }
     {
         self.add_assign(&other.neg())
     }
@@ -419,7 +424,8 @@ impl Num {
     ///
     /// `Over` exactly if the product reaches 10^18 in size, before or after rounding.
     pub fn mul_assign(&mut self, other: &Num) -> Result<(), Over>
-        ensures { MatchResult result (λ _. product_of (units self.old) (units other.now) ≡ Some (units self.new)) (λ _. product_of (units self.old) (units other.now) ≡ None) }
+        ensures { MatchResult result (λ _. product_of (units self.old) (units other.now) ≡ Some (units self.new)) (λ _. product_of (units self.old)
+            (units other.now) ≡ None) }
     {
         let product = self.digits as u128 * other.digits as u128;
         let places = self.places + other.places;

@@ -36,7 +36,7 @@ impl Num {
     }
 
     /// The text of a number of at most `places` places with all of them, a digit before the point, and no point if `places` is 0. It
-    /// is what is on the stack, with so many zeros after it. Takes no memory.
+    /// is what is on the stack, with this many zeros after it. Takes no memory.
     pub fn fixed(self, places: usize) -> (ArrayVec<u8, 40>, usize)
         ensures text { result.0.items ++ replicate result.1 48 ≡ fixed_number places (units self) }
         ensures ascii { All (λ c. c < 128) result.0.items }
@@ -97,7 +97,7 @@ impl Num {
         out
     }
 
-    /// The point of a number of at most `places` places with all of them, and nothing if `places` is 0: what is on the stack, with so many
+    /// The point of a number of at most `places` places with all of them, and nothing if `places` is 0: what is on the stack, with this many
     /// zeros after it. Takes no memory.
     pub fn fixed_rest(self, places: usize) -> (ArrayVec<u8, 40>, usize)
         ensures rest { result.0.items ++ replicate result.1 48 ≡ places_text places (unsigned_abs (units self) % 10 ^ 18) }

@@ -1,6 +1,7 @@
 // SPDX-License-Identifier: Apache-2.0
 // Numbers read from texts.
-ghost use Rattle.std.specs.Prelude.{◌≡◌, ℕ, ◌+◌, ◌-◌, ◌*◌, ◌/◌, ◌^◌, ◌<◌, ◌≤◌, ◌⊎◌, length, take_while, option_map, cond, drop, Some, None, IfSome, IfNone, OnSome, MatchResult, All, true};
+ghost use Rattle.std.specs.Prelude.{◌≡◌, ℕ, ◌+◌, ◌-◌, ◌*◌, ◌/◌, ◌^◌, ◌<◌, ◌≤◌, ◌⊎◌, length, take_while, option_map, cond, drop, Some, None, IfSome, IfNone};
+ghost use Rattle.std.specs.Prelude.{OnSome, MatchResult, All, true};
 ghost use Rattle.std.specs.List.{prefix_len};
 ghost use Rattle.mnum.specs.Head.{IsHead, IsCapped};
 ghost use Rattle.mnum.specs.Num.{units};
@@ -36,7 +37,8 @@ pub fn read_digits(head: Head, text: &[u8]) -> (Head, usize)
     ensures room { result.1 ≤ length text.now }
     ensures few { result.0.digits < 10 ^ 19 }
     ensures dropped { result.0.dropped ≤ head.dropped + result.1 }
-    ensures value { (number : ℕ) → IsHead head.digits head.dropped number → IsHead result.0.digits result.0.dropped (digits_after number (front_digits text.now)) }
+    ensures value { (number : ℕ) → IsHead head.digits head.dropped number → IsHead result.0.digits result.0.dropped (digits_after number
+        (front_digits text.now)) }
 {
     let mut head = head;
     for (i, c) in text.iter().enumerate() {
@@ -136,7 +138,8 @@ fn read_fraction(head: Head, text: &[u8]) -> (Head, usize)
     ensures few { result.0.digits < 10 ^ 19 }
     ensures dropped { result.0.dropped ≤ head.dropped + result.1 }
     ensures room { result.1 ≤ length text.now }
-    ensures value { (number : ℕ) → IsHead head.digits head.dropped number → IsHead result.0.digits result.0.dropped (digits_after number (fraction_digits text.now)) }
+    ensures value { (number : ℕ) → IsHead head.digits head.dropped number → IsHead result.0.digits result.0.dropped (digits_after number
+        (fraction_digits text.now)) }
 {
     if text.len() == 0 || text[0] != b'.' {
         return (head, 0);

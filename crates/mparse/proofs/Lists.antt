@@ -1,6 +1,7 @@
 -- SPDX-License-Identifier: Apache-2.0
 -- A list of one item, and one that goes on after it.
-use Rattle.mparse.proofs.ParseWords.{◌≡◌, ℕ, zero, suc, ◌-◌, List, [], ◌∷◌, length, Some, None, refl, arith, Read, with_front, past, many, after_comma, list_at, is_done, list_begins, comma_stops}
+use Rattle.mparse.proofs.ParseWords.{◌≡◌, ℕ, zero, suc, ◌-◌, List, [], ◌∷◌, length, Some, None, refl, arith, Read, with_front, past, many, after_comma, list_at}
+use Rattle.mparse.proofs.ParseWords.{is_done, list_begins, comma_stops}
 
 module _ {A : Type 0} (item : List ℕ → Read A) where
   -- the first item, and what comes after commas

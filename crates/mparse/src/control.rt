@@ -2,7 +2,8 @@
 // The arguments of IF, FOR, HANG and QUIT, and postconditionals.
 ghost use Rattle.std.specs.Prelude.{option_map};
 ghost use Rattle.mgrammar.specs.Grammar.{ParameterTree, if_argument, hang_argument};
-ghost use Rattle.mgrammar.specs.Reading.{if_argument_at, hang_argument_at, quit_argument_at, settled_with, parameter_at, for_argument_at, postcondition_by, postcondition_at};
+ghost use Rattle.mgrammar.specs.Reading.{if_argument_at, hang_argument_at, quit_argument_at, settled_with, parameter_at, for_argument_at, postcondition_by};
+ghost use Rattle.mgrammar.specs.Reading.{postcondition_at};
 ghost use Rattle.mgrammar.specs.ReadingWords.{past};
 ghost use Rattle.mtree.specs.Tree.{expr_tree, parameter_tree, keyword_tree, arg_tree, condition_tree};
 ghost use Rattle.mscan.specs.Gives.{Gives};

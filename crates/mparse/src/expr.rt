@@ -3,7 +3,10 @@
 ghost use Rattle.std.specs.Prelude.{◌≡◌, ◌<◌, length, map, option_map};
 ghost use Rattle.mgrammar.specs.Grammar.{exprs_of, choices_of, actuals_of};
 ghost use Rattle.mgrammar.specs.ReadingWords.{past, with_front, many, after_comma, list_at};
-ghost use Rattle.mgrammar.specs.ReadingExpressions.{subscripts_with, attached_at, attached_with, indirect_with, local_by, extended_with, owned_by, reference_with, bracket_with, choice_with, select_with, call_with, refer_with, dollar_with, primary_with, operand_with, matches_by, matches_not_by, tail_by, tail_with, expr_with, is_reference_point, name_actual_by, actual_with, actuals_with, called_with, dollars_by, readers_at, inner_at};
+ghost use Rattle.mgrammar.specs.ReadingExpressions.{subscripts_with, attached_at, attached_with, indirect_with, local_by, extended_with, owned_by};
+ghost use Rattle.mgrammar.specs.ReadingExpressions.{reference_with, bracket_with, choice_with, select_with, call_with, refer_with, dollar_with, primary_with};
+ghost use Rattle.mgrammar.specs.ReadingExpressions.{operand_with, matches_by, matches_not_by, tail_by, tail_with, expr_with, is_reference_point};
+ghost use Rattle.mgrammar.specs.ReadingExpressions.{name_actual_by, actual_with, actuals_with, called_with, dollars_by, readers_at, inner_at};
 ghost use Rattle.mtree.specs.Tree.{atom_tree, expr_tree, operand_tree, primary_tree, reference_tree, tail_tree, choice_tree, actual_tree, called_tree};
 ghost use Rattle.mscan.specs.Gives.{Gives};
 ghost use Rattle.mscan.specs.Operators.{operator_tree};
@@ -535,7 +538,8 @@ pub fn more_exprs(
     bytes: &[u8],
     depth: u32,
 ) -> Result<(Vec<Expr>, &[u8]), ParseFault>
-    ensures { Gives (λ x. (map expr_tree x.0.items, x.1.now)) result (with_front (map expr_tree front.items) (many (after_comma (inner_at depth)) (length bytes.now) bytes.now)) }
+    ensures { Gives (λ x. (map expr_tree x.0.items, x.1.now)) result (with_front (map expr_tree front.items) (many (after_comma (inner_at depth))
+        (length bytes.now) bytes.now)) }
 {
     let mut all = front;
     let mut rest = bytes;

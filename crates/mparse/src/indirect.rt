@@ -86,8 +86,10 @@ pub fn parse_ref(alloc: Global, text: &[u8]) -> Result<Reference, ParseFault>
 #[tactic(auto, using(mgrammar::proofs::ReadingIndirectTexts::reads_its_arguments, crate::proofs::WholeTexts::is_syntax))]
 pub fn parse_args(alloc: Global, keyword: Keyword, text: &[u8]) -> Result<Vec<Arg>, ParseFault>
     ensures read { Gives (λ args. map arg_tree args.items) result (args_of (form_of (keyword_tree keyword)) text.now) }
-    ensures tree { may_be_indirect (form_of (keyword_tree keyword)) ≡ true → IfOk result (λ args. WellList (WellArg (form_of (keyword_tree keyword))) (map arg_tree args.items) × (spell_list spell_arg (map arg_tree args.items) ≡ text.now)) }
-    ensures syntax { may_be_indirect (form_of (keyword_tree keyword)) ≡ true → result ≡ Err ParseFault.Syntax → (args : List ArgTree) → WellList (WellArg (form_of (keyword_tree keyword))) args → spell_list spell_arg args ≡ text.now → ⊥ }
+    ensures tree { may_be_indirect (form_of (keyword_tree keyword)) ≡ true → IfOk result (λ args. WellList (WellArg (form_of (keyword_tree keyword)))
+        (map arg_tree args.items) × (spell_list spell_arg (map arg_tree args.items) ≡ text.now)) }
+    ensures syntax { may_be_indirect (form_of (keyword_tree keyword)) ≡ true → result ≡ Err ParseFault.Syntax → (args : List ArgTree) → WellList (WellArg
+        (form_of (keyword_tree keyword))) args → spell_list spell_arg args ≡ text.now → ⊥ }
 {
     whole_args(alloc, keyword, text)
 }

@@ -30,7 +30,8 @@ fn more<T: Items>(
     front: Vec<T::Item>,
     bytes: &[u8],
 ) -> Result<(Vec<T::Item>, &[u8]), ParseFault>
-    ensures { Gives (λ x. (map T.tree x.0.items, x.1.now)) result (with_front (map T.tree front.items) (many (after_comma (T.read items)) (length bytes.now) bytes.now)) }
+    ensures { Gives (λ x. (map T.tree x.0.items, x.1.now)) result (with_front (map T.tree front.items) (many (after_comma (T.read items))
+        (length bytes.now) bytes.now)) }
 {
     let mut all = front;
     let mut rest = bytes;

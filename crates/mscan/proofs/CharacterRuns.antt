@@ -18,6 +18,7 @@ class_below class.Space c h = grind (arith, nat_tests)
 class_below class.Format c h = grind (arith, nat_tests)
 class_below class.PatternLetter c h = grind (arith, nat_tests)
 class_below class.DigitOrPoint c h = grind (arith, nat_tests)
+class_below class.NumberPart c h = grind (arith, nat_tests)
 class_below class.Any c h = grind (arith, nat_tests)
 
 run_step : (k : Class) (c : ℕ) (rest : List ℕ) (b : Bool) → in_class k c ≡ b → AllByRecursion (λ x. x < 128) rest → AllByRecursion (λ x. x < 128) (cond b (c ∷ rest) [])

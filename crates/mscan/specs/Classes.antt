@@ -6,6 +6,7 @@ use Rattle.mgrammar.specs.Grammar.{is_pattern_letter, is_format}
 use Rattle.mspec.specs.Literal.{is_digit}
 use Rattle.mgrammar.specs.Reading.{is_space}
 use Rattle.mgrammar.specs.ReadingWords.{is_digit_or_point}
+use Rattle.mgrammar.specs.NameValues.{is_number_part}
 use Rattle.mscan.specs.declared.runs.Class.{Class}
 use Rattle.mscan.specs.declared.runs.Class.TheVariants as class
 
@@ -18,4 +19,5 @@ in_class class.Space = is_space
 in_class class.Format = is_format
 in_class class.PatternLetter = is_pattern_letter
 in_class class.DigitOrPoint = is_digit_or_point
+in_class class.NumberPart = is_number_part
 in_class class.Any = is_character

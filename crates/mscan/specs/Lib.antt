@@ -3,3 +3,4 @@ pub mod Gives
 pub mod Classes
 pub mod Operators
 pub mod Formals
+pub mod NameParts

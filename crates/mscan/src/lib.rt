@@ -1,10 +1,11 @@
 // SPDX-License-Identifier: Apache-2.0
-//! The parts of a line of M that have no brackets in them: runs of characters, names, strings, numbers, operators and patterns, each
-//! read from the front of a text; and what a line of a routine begins with.
+//! The parts of a line of M that have no expression in them: runs of characters, names, strings, numbers, operators and patterns, each
+//! read from the front of a text; what a line of a routine begins with; and names of nodes, taken apart.
 #![tactic(auto)]
 
 mod fault;
 mod formal_lists;
+mod name_values;
 mod numbers;
 mod operator;
 mod patterns;
@@ -13,6 +14,7 @@ mod runs;
 
 pub use fault::ParseFault;
 pub use formal_lists::formals;
+pub use name_values::{NameValue, name_value};
 pub use numbers::number;
 pub use operator::{Operator, next_operator, signs};
 pub use patterns::pattern;

@@ -4,7 +4,8 @@ ghost use Rattle.std.specs.Prelude.{◌≡◌, true, length, option_map, is_some
 ghost use Rattle.std.specs.List.{filter};
 ghost use Rattle.mspec.specs.Names.{IsName};
 ghost use Rattle.mgrammar.specs.ReadingWords.{run_of, past};
-ghost use Rattle.mgrammar.specs.RoutineLine.{has_formals, label_ends, label_at, label_of, formals_by, formals_behind, formals_of, listed_by, is_dot, is_space_or_dot, dots_of};
+ghost use Rattle.mgrammar.specs.RoutineLine.{has_formals, label_ends, label_at, label_of, formals_by, formals_behind, formals_of, listed_by, is_dot};
+ghost use Rattle.mgrammar.specs.RoutineLine.{is_space_or_dot, dots_of};
 ghost use Rattle.mtree.specs.Tree.{formals_tree};
 
 use crate::formal_lists::{formal_list, formals, list_within};

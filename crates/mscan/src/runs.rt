@@ -26,6 +26,8 @@ pub enum Class {
     PatternLetter,
     /// What a number or a count begins with.
     DigitOrPoint,
+    /// A character of the canonical text of a number.
+    NumberPart,
     Any,
 }
 
@@ -52,6 +54,7 @@ impl Class {
             Class::Format => byte == b'!' || byte == b'#',
             Class::PatternLetter => is_pattern_letter(byte),
             Class::DigitOrPoint => byte.is_ascii_digit() || byte == b'.',
+            Class::NumberPart => byte.is_ascii_digit() || byte == b'.' || byte == b'-',
             Class::Any => byte < 128,
         }
     }

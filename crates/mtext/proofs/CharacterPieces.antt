@@ -1,6 +1,8 @@
 -- SPDX-License-Identifier: Apache-2.0
 -- Pieces by a delimiter of one character, character by character.
-use Rattle.mtext.proofs.TextWords.{◌≡◌, ℕ, zero, suc, ◌+◌, ◌≤◌, ◌<◌, Bool, true, false, cond, eqb, List, [], ◌∷◌, length, get_or, take, drop, refl, sym, ap, subst, ◌∙◌, arith, slice_range, count_by, ◌&&◌, onto_first, eq-eqb, nat_tests, sum_by-append, sum_by-cons, is_byte, pieces_of, closed, IsBehind, eqb-true}
+use Rattle.mtext.proofs.TextWords.{◌≡◌, ℕ, zero, suc, ◌+◌, ◌≤◌, ◌<◌, Bool, true, false, cond, eqb, List, [], ◌∷◌, length, get_or, take, drop, refl, sym, ap}
+use Rattle.mtext.proofs.TextWords.{subst, ◌∙◌, arith, slice_range, count_by, ◌&&◌, onto_first, eq-eqb, nat_tests, sum_by-append, sum_by-cons, is_byte}
+use Rattle.mtext.proofs.TextWords.{pieces_of, closed, IsBehind, eqb-true}
 use Rattle.mtext.proofs.PatternSlices.{front_and_part}
 
 -- ---- the pieces of a text with one more character before it

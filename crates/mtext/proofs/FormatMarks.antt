@@ -1,6 +1,7 @@
 -- SPDX-License-Identifier: Apache-2.0
 -- Formats of numbers: signs, brackets and commas.
-use Rattle.mtext.proofs.TextWords.{◌≡◌, ℕ, ℤ, zero, suc, ◌+◌, ◌-◌, ◌<◌, ◌≤◌, Bool, true, false, List, [], ◌∷◌, ◌++◌, length, length-append, length-drop, drop, get_or, refl, sym, ap, ◌∙◌, add-one, arith, cond, pos, nat_tests, replicate}
+use Rattle.mtext.proofs.TextWords.{◌≡◌, ℕ, ℤ, zero, suc, ◌+◌, ◌-◌, ◌<◌, ◌≤◌, Bool, true, false, List, [], ◌∷◌, ◌++◌, length, length-append, length-drop, drop}
+use Rattle.mtext.proofs.TextWords.{get_or, refl, sym, ap, ◌∙◌, add-one, arith, cond, pos, nat_tests, replicate}
 use Rattle.std.specs.Prelude.{◌/◌, ◌%◌, ◌==◌, ◌&&◌, nat_lt, negsuc, if◌then◌else◌}
 use Rattle.std.proofs.Math.Seq.{drop-cons}
 use Rattle.std.proofs.lemmas.List.{length-replicate}
@@ -45,7 +46,7 @@ grouped_length (d ∷ ds) = ap length (grouped_first d ds) ∙ counted d ds (gro
     counted : (d : ℕ) (ds : List ℕ) → length (grouped ds) ≡ length ds + (length ds - 1) / 3 → length (if nat_lt 0 (length ds) && (length ds % 3 == 0) then d ∷ 44 ∷ grouped ds else d ∷ grouped ds) ≡ suc (length ds) + (suc (length ds) - 1) / 3
     counted d ds rest = grind (arith, nat_tests)
 
--- the digits from a place on: the one there, the comma behind it if there is one, and the others
+-- the digits from a place on: the one there, the comma after it if there is one, and the others
 grouped_next : (d : ℕ) (ds : List ℕ) → grouped (d ∷ ds) ≡ (d ∷ comma_before (length ds)) ++ grouped ds
 grouped_next d ds = grouped_first d ds ∙ parted (nat_lt 0 (length ds) && (length ds % 3 == 0)) d (grouped ds)
   where

@@ -1,6 +1,9 @@
 -- SPDX-License-Identifier: Apache-2.0
 -- What a search for a text finds, in the words of the definitions.
-use Rattle.mtext.proofs.TextWords.{◌≡◌, ℕ, zero, suc, ◌+◌, ◌-◌, Bool, true, false, List, [], ◌∷◌, ◌++◌, length, take, drop, Option, Some, None, refl, sym, ap, subst, ◌∙◌, arith, cond, option_map, unwrap_or, min, ℤ, pos, take_rest, drop_min, drop-append_seam, take-append_seam, IsFirst, IsFirstByte, Passes, is_byte, OccursAt, FindsNeedle, NoneBefore, OccursAt-part, OccursAt-from_part, OccursAt-split, begins_with, first_place, from_place, find_of, begins_split, begins_append, length-append}
+use Rattle.mtext.proofs.TextWords.{◌≡◌, ℕ, zero, suc, ◌+◌, ◌-◌, Bool, true, false, List, [], ◌∷◌, ◌++◌, length, take, drop, Option, Some, None, refl, sym, ap}
+use Rattle.mtext.proofs.TextWords.{subst, ◌∙◌, arith, cond, option_map, unwrap_or, min, ℤ, pos, take_rest, drop_min, drop-append_seam, take-append_seam}
+use Rattle.mtext.proofs.TextWords.{IsFirst, IsFirstByte, Passes, is_byte, OccursAt, FindsNeedle, NoneBefore, OccursAt-part, OccursAt-from_part, OccursAt-split}
+use Rattle.mtext.proofs.TextWords.{begins_with, first_place, from_place, find_of, begins_split, begins_append, length-append}
 use Rattle.memchr.proofs.lemmas.FindLemmas.{IsFirst-agree, IsFirst-wider, OccursAt-byte, byte-OccursAt}
 
 -- what comes after the front of a text occurs there

@@ -1,6 +1,9 @@
 -- SPDX-License-Identifier: Apache-2.0
 -- Texts that are made part by part, and refused if they are too long.
-use Rattle.mtext.proofs.TextWords.{◌≡◌, ℕ, zero, suc, ◌+◌, ◌*◌, ◌≤◌, ◌<◌, Bool, List, [], ◌∷◌, ◌++◌, length, refl, sym, ap, subst, ◌∙◌, arith, add-one, cond, Option, Some, None, Result, Ok, Err, slice_get, MatchOption, IsErr, IsErrAnd, IsOk, option_copied, option_to_list, HoldsAt, Bor, append_assoc, append-nil, repeat, le-leb, lt-leb, max_text, made, translated_at, first_place, translation, Answers, length-append}
+use Rattle.mtext.proofs.TextWords.{◌≡◌, ℕ, zero, suc, ◌+◌, ◌*◌, ◌≤◌, ◌<◌, Bool, List, [], ◌∷◌, ◌++◌, length, refl, sym, ap, subst, ◌∙◌, arith, add-one, cond}
+use Rattle.mtext.proofs.TextWords.{Option, Some, None, Result, Ok, Err, slice_get, MatchOption, IsErr, IsErrAnd, IsOk, option_copied, option_to_list, HoldsAt}
+use Rattle.mtext.proofs.TextWords.{Bor, append_assoc, append-nil, repeat, le-leb, lt-leb, max_text, made, translated_at, first_place, translation, Answers}
+use Rattle.mtext.proofs.TextWords.{length-append}
 use Rattle.std.proofs.lemmas.Option.{slice_get_past, slice_get-get_or}
 use Rattle.mspec.specs.Code.{Zlong}
 use Rattle.mtext.specs.declared.fault.TextFault.{TextFault}

@@ -1,6 +1,9 @@
 -- SPDX-License-Identifier: Apache-2.0
 -- Copies of a string, one taken off after another from the end.
-use Rattle.mtext.proofs.TextWords.{ℕ, zero, suc, ◌≡◌, ◌+◌, ◌-◌, ◌*◌, ◌<◌, ◌≤◌, inl, inr, true, false, Bool, List, ◌∷◌, ◌++◌, get_or, length, sym, subst, ◌∙◌, ap, arith, append_assoc, append-nil, slice_range, Decides, Result, Ok, Err, Vec, IfOk, [], cases_eq, length-between, between_none, Count, IsAtMost, copied, copies, IsEnd, IsBefore, IsCopied, IsCopiedTo, IsNumber, IsFewest, AreCopiesBefore, CopiesBefore, AreEnds, length-append}
+use Rattle.mtext.proofs.TextWords.{ℕ, zero, suc, ◌≡◌, ◌+◌, ◌-◌, ◌*◌, ◌<◌, ◌≤◌, inl, inr, true, false, Bool, List, ◌∷◌, ◌++◌, get_or, length, sym, subst, ◌∙◌}
+use Rattle.mtext.proofs.TextWords.{ap, arith, append_assoc, append-nil, slice_range, Decides, Result, Ok, Err, Vec, IfOk, [], cases_eq, length-between}
+use Rattle.mtext.proofs.TextWords.{between_none, Count, IsAtMost, copied, copies, IsEnd, IsBefore, IsCopied, IsCopiedTo, IsNumber, IsFewest, AreCopiesBefore}
+use Rattle.mtext.proofs.TextWords.{CopiesBefore, AreEnds, length-append}
 use Rattle.mspec.proofs.Basics.{copies_fit as so_many_fit, nothing_copied}
 use Rattle.mtext.proofs.PatternSlices.{part_split, joined_front, joined_rest, fewer_at_most}
 

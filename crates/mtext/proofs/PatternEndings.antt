@@ -1,6 +1,10 @@
 -- SPDX-License-Identifier: Apache-2.0
 -- Where the segment of an atom must end: after this many repetitions, or after the longest run of characters of its classes.
-use Rattle.mtext.proofs.TextWords.{append-nil, ◌≡◌, ◌≢◌, ℕ, zero, suc, ◌+◌, ◌-◌, ◌≤◌, ◌<◌, ◌↔◌, Bool, true, false, cond, List, [], ◌∷◌, ◌++◌, length, take, drop, Option, Some, Bor, slice_get, refl, sym, ap, subst, ◌∙◌, arith, append_assoc, take-append-drop, length-take-le, length-drop, prefix_len, drop_at, append_cancel_left, append_cancel_right, prefix_len-le-length, AllAre, Atom, Count, IsAtMost, IsPermitted, IsRepetition, Matches, is_in_any, members, copies, copied, Repeats, IsEnding, IsOtherwise, IsBarred, NoneBegins, members_atom, copies_atom, length-append, drop-drop, take_all}
+use Rattle.mtext.proofs.TextWords.{append-nil, ◌≡◌, ◌≢◌, ℕ, zero, suc, ◌+◌, ◌-◌, ◌≤◌, ◌<◌, ◌↔◌, Bool, true, false, cond, List, [], ◌∷◌, ◌++◌, length, take}
+use Rattle.mtext.proofs.TextWords.{drop, Option, Some, Bor, slice_get, refl, sym, ap, subst, ◌∙◌, arith, append_assoc, take-append-drop, length-take-le}
+use Rattle.mtext.proofs.TextWords.{length-drop, prefix_len, drop_at, append_cancel_left, append_cancel_right, prefix_len-le-length, AllAre, Atom, Count}
+use Rattle.mtext.proofs.TextWords.{IsAtMost, IsPermitted, IsRepetition, Matches, is_in_any, members, copies, copied, Repeats, IsEnding, IsOtherwise, IsBarred}
+use Rattle.mtext.proofs.TextWords.{NoneBegins, members_atom, copies_atom, length-append, drop-drop, take_all}
 use Rattle.mspec.proofs.Basics.{nothing_copied}
 use Rattle.mspec.specs.Pattern as plain
 use Rattle.mtext.proofs.PatternCopies.{copied_last}

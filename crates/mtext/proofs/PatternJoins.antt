@@ -1,6 +1,8 @@
 -- SPDX-License-Identifier: Apache-2.0
 -- A pattern with one more atom at its end.
-use Rattle.mtext.proofs.TextWords.{ℕ, ◌≡◌, ◌+◌, ◌-◌, ◌<◌, ◌≤◌, true, false, Bool, List, ◌∷◌, ◌++◌, get_or, take, length, refl, sym, subst, ◌∙◌, ap, arith, append_assoc, append-nil, true≢false, eqb-true, take_all, slice_range, between_none, length-between, [], inl, inr, Atom, IsSegment, Matches, IsLed, AreLed, AreFirst, length-append}
+use Rattle.mtext.proofs.TextWords.{ℕ, ◌≡◌, ◌+◌, ◌-◌, ◌<◌, ◌≤◌, true, false, Bool, List, ◌∷◌, ◌++◌, get_or, take, length, refl, sym, subst, ◌∙◌, ap, arith}
+use Rattle.mtext.proofs.TextWords.{append_assoc, append-nil, true≢false, eqb-true, take_all, slice_range, between_none, length-between, [], inl, inr, Atom}
+use Rattle.mtext.proofs.TextWords.{IsSegment, Matches, IsLed, AreLed, AreFirst, length-append}
 use Rattle.std.specs.Prelude.{Decides, ◌||◌, ◌↔◌, ◌⊎◌}
 use Rattle.mtext.proofs.PatternSlices.{part_split, joined_front, joined_rest}
 

@@ -1,6 +1,8 @@
 -- SPDX-License-Identifier: Apache-2.0
 -- Runs of characters of classes: where they end, from the latest place at which they may start.
-use Rattle.mtext.proofs.TextWords.{ℕ, zero, suc, ◌≡◌, ◌+◌, ◌-◌, ◌<◌, ◌≤◌, inl, inr, true, false, Bool, List, [], ◌∷◌, get_or, length, sym, subst, ◌∙◌, ap, arith, true≢false, below_more, add-sub_cancel, Option, Some, None, slice_range, Decides, cases_lt, length-between, get_or-between, AllAre, PatternCode, Count, IsAtMost, is_in_any, members, IsNear, IsEnd}
+use Rattle.mtext.proofs.TextWords.{ℕ, zero, suc, ◌≡◌, ◌+◌, ◌-◌, ◌<◌, ◌≤◌, inl, inr, true, false, Bool, List, [], ◌∷◌, get_or, length, sym, subst, ◌∙◌, ap}
+use Rattle.mtext.proofs.TextWords.{arith, true≢false, below_more, add-sub_cancel, Option, Some, None, slice_range, Decides, cases_lt, length-between}
+use Rattle.mtext.proofs.TextWords.{get_or-between, AllAre, PatternCode, Count, IsAtMost, is_in_any, members, IsNear, IsEnd}
 use Rattle.mtext.proofs.PatternSlices.{fewer_at_most}
 
 pub all_at : (p : ℕ → Bool) (s : List ℕ) → AllAre p s → (k : ℕ) → k < length s → p (get_or s k 0) ≡ true

@@ -1,6 +1,8 @@
 -- SPDX-License-Identifier: Apache-2.0
 -- Parts of a text, from one place up to another.
-use Rattle.mtext.proofs.TextWords.{Option, None, Some, IsAtMost, ℕ, ◌≡◌, ◌+◌, ◌-◌, ◌<◌, ◌≤◌, List, [], ◌∷◌, ◌++◌, Bool, false, Decides, take, drop, get_or, length, refl, sym, subst, ◌∙◌, ap, arith, below_more, slice_range, drop_at, get_or_append_left, get_or_push, take-add, drop-drop, take_at}
+use Rattle.mtext.proofs.TextWords.{Option, None, Some, IsAtMost, ℕ, ◌≡◌, ◌+◌, ◌-◌, ◌<◌, ◌≤◌, List, [], ◌∷◌, ◌++◌, Bool, false, Decides, take, drop, get_or}
+use Rattle.mtext.proofs.TextWords.{length, refl, sym, subst, ◌∙◌, ap, arith, below_more, slice_range, drop_at, get_or_append_left, get_or_push, take-add}
+use Rattle.mtext.proofs.TextWords.{drop-drop, take_at}
 
 pub part_split : (s : List ℕ) (a m b : ℕ) → a ≤ m → m ≤ b → slice_range s a b ≡ slice_range s a m ++ slice_range s m b
 part_split s a m b h k =

@@ -1,6 +1,8 @@
 -- SPDX-License-Identifier: Apache-2.0
 -- Giving a text a piece.
-use Rattle.mtext.proofs.TextWords.{◌≡◌, ◌≢◌, ℕ, zero, suc, ◌+◌, ◌-◌, ◌≤◌, ◌<◌, List, [], ◌∷◌, ◌++◌, length, take, drop, min, replicate, refl, sym, ap, subst, ◌∙◌, arith, add-one, append_assoc, append-nil, append_cancel_left, length-drop, length-take-le, take-append-drop, take_all, drop_min, repeat, join, ArePieces, pieces_of, with_piece, one_list, closed, IsBehind, without, drop-drop}
+use Rattle.mtext.proofs.TextWords.{◌≡◌, ◌≢◌, ℕ, zero, suc, ◌+◌, ◌-◌, ◌≤◌, ◌<◌, List, [], ◌∷◌, ◌++◌, length, take, drop, min, replicate, refl, sym, ap, subst}
+use Rattle.mtext.proofs.TextWords.{◌∙◌, arith, add-one, append_assoc, append-nil, append_cancel_left, length-drop, length-take-le, take-append-drop, take_all}
+use Rattle.mtext.proofs.TextWords.{drop_min, repeat, join, ArePieces, pieces_of, with_piece, one_list, closed, IsBehind, without, drop-drop}
 use Rattle.std.proofs.lemmas.List.{drop_all}
 use Rattle.mtext.proofs.PieceSteps.{join_behind, join_pieces, take_one_more}
 

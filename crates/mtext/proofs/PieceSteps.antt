@@ -1,6 +1,9 @@
 -- SPDX-License-Identifier: Apache-2.0
 -- Passing over the pieces of a text by a search for the delimiter.
-use Rattle.mtext.proofs.TextWords.{◌≡◌, ◌≢◌, ℕ, ◌+◌, ◌≤◌, ◌<◌, List, ◌∷◌, ◌++◌, length, take, drop, Some, None, refl, sym, ap, subst, ◌∙◌, arith, append_assoc, append-nil, length-take-le, length-drop, take-append-drop, true, eqb, [], take-length, take-nil, drop-nil, OccursAt, FindsNeedle, OccursAt-part, OccursAt-split, join, Lacks, OnlyAtEnd, ArePieces, pieces_of, one_list, closed, IsBehind, eqb-true, length-append, take_all, drop-drop, take-add}
+use Rattle.mtext.proofs.TextWords.{◌≡◌, ◌≢◌, ℕ, ◌+◌, ◌≤◌, ◌<◌, List, ◌∷◌, ◌++◌, length, take, drop, Some, None, refl, sym, ap, subst, ◌∙◌, arith, append_assoc}
+use Rattle.mtext.proofs.TextWords.{append-nil, length-take-le, length-drop, take-append-drop, true, eqb, [], take-length, take-nil, drop-nil, OccursAt}
+use Rattle.mtext.proofs.TextWords.{FindsNeedle, OccursAt-part, OccursAt-split, join, Lacks, OnlyAtEnd, ArePieces, pieces_of, one_list, closed, IsBehind}
+use Rattle.mtext.proofs.TextWords.{eqb-true, length-append, take_all, drop-drop, take-add}
 use Rattle.std.proofs.lemmas.List.Concat.{flat_map-append}
 use Rattle.mtext.proofs.FoundPlaces.{occurs_behind}
 

@@ -11,7 +11,7 @@ use Rattle.mtext.specs.declared.fault.TextFault.TheVariants.{Arg, Format, TooLon
 abbrev pub translation : List ℕ → List ℕ → List ℕ → List ℕ
 translation s from to = flat_map (λ c. translated_at to c (first_place (c ∷ []) from)) s
 
--- the comma before so many digits, if they are whole threes
+-- the comma before this many digits, if they are whole threes
 abbrev pub comma_before : ℕ → List ℕ
 comma_before left = if nat_lt 0 left && (left % 3 == 0) then 44 ∷ [] else []
 

@@ -80,7 +80,8 @@ fn has_members(text: &[u8], set: Classes, number: usize) -> bool
 // The place after `number` copies of a string at the front of a text.
 fn behind_copies(text: &[u8], string: &[u8], number: usize) -> Option<usize>
     requires { 0 < length string.now }
-    ensures { MatchOption result ((rest : List ℕ) → text.now ≢ copied number string.now ++ rest) (λ at. (at ≤ length text.now) × (text.now ≡ copied number string.now ++ drop at text.now)) }
+    ensures { MatchOption result ((rest : List ℕ) → text.now ≢ copied number string.now ++ rest) (λ at. (at ≤ length text.now) × (text.now
+        ≡ copied number string.now ++ drop at text.now)) }
 {
     let mut at = 0;
     for _copy in 0..number {
@@ -119,7 +120,8 @@ fn is_barred(next: Option<LentAtom>, set: Classes) -> bool
 
 // For members: as many as the count says, or the longest run of them, if what follows begins with none.
 fn ending_of_members(text: &[u8], set: Classes, count: Count, next: Option<LentAtom>) -> Ending
-    ensures { (codes : List plain.PatternCode) (others : List plain.Atom) → Repeats (LentRepeated.Members set) (plain.members codes) → IsFirstOf next.entry others
+    ensures { (codes : List plain.PatternCode) (others : List plain.Atom) → Repeats (LentRepeated.Members set) (plain.members codes)
+        → IsFirstOf next.entry others
         → IsEnding text.now (members_atom (count_of count) codes) others result }
 {
     if let Some(number) = only_number(count) {

@@ -97,7 +97,7 @@ pub fn translate(
     Ok(translation(alloc, characters, known, others)?)
 }
 
-// A text of so many spaces, as long as memory suffices.
+// A text of this many spaces, as long as memory suffices.
 pub(crate) fn spaces(alloc: Global, count: usize) -> Result<Bytes7, AllocError>
     ensures { IfOk result (λ text. text ≡ replicate count 32) }
 {

@@ -13,7 +13,7 @@ use crate::places::end_at;
 use mnum::{Bytes7, Num};
 use std::alloc::{AllocError, Global};
 
-/// Appends so many zeros.
+/// Appends this many zeros.
 fn push_zeros(out: &mut Bytes7, count: usize) -> Result<(), AllocError>
     ensures { OnOk result (out.new ≡ out.old ++ replicate count 48) }
 {
@@ -100,7 +100,7 @@ fn digits_length(format: &[u8], digits: &[u8]) -> usize
     }
 }
 
-/// The text of a number in a format, of the digits before its point, what follows, and so many zeros, as long as memory suffices.
+/// The text of a number in a format, of the digits before its point, what follows, and this many zeros, as long as memory suffices.
 fn written(
     alloc: Global,
     format: &[u8],
@@ -111,7 +111,8 @@ fn written(
 ) -> Result<Bytes7, AllocError>
     requires digits { All (λ c. c < 128) digits.now }
     requires rest { All (λ c. c < 128) rest.now }
-    ensures { IfOk result (λ text. text ≡ before_digits format.now (units number) ++ (whole_digits format.now digits.now ++ ((rest.now ++ replicate zeros 48) ++ behind_digits format.now (units number)))) }
+    ensures { IfOk result (λ text. text ≡ before_digits format.now (units number) ++ (whole_digits format.now digits.now ++
+        ((rest.now ++ replicate zeros 48) ++ behind_digits format.now (units number)))) }
 {
     let mut out = Bytes7::from_slice(alloc, before_digits(format, number))?;
     push_digits(&mut out, format, digits)?;
@@ -135,7 +136,8 @@ fn put_together(
     requires few_digits { length digits.now ≤ 40 }
     requires few { length rest.now ≤ 40 }
     requires room { zeros < 2 ^ 63 }
-    ensures { Answers (made (before_digits format.now (units number) ++ (whole_digits format.now digits.now ++ ((rest.now ++ replicate zeros 48) ++ behind_digits format.now (units number))))) result }
+    ensures { Answers (made (before_digits format.now (units number) ++ (whole_digits format.now digits.now ++
+        ((rest.now ++ replicate zeros 48) ++ behind_digits format.now (units number))))) result }
 {
     let around = before_digits(format, number).len() + behind_digits(format, number).len();
     check_length(around + digits_length(format, digits) + rest.len() + zeros)?;

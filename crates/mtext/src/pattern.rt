@@ -212,7 +212,8 @@ fn ends_of_copies(
 // The places to which an atom of copies of the empty string leads.
 fn ends_of_nothing(alloc: Global, count: Count, starts: &[bool]) -> Result<Vec<bool>, AllocError>
     ensures size { IfOk result (λ ends. length ends.items ≡ length starts.now) }
-    ensures each { IfOk result (λ ends. (k : ℕ) → k < length starts.now → Decides (get_or ends.items k false) ((get_or starts.now k false ≡ true) × IsAtMost count.most count.least)) }
+    ensures each { IfOk result (λ ends. (k : ℕ) → k < length starts.now → Decides (get_or ends.items k false) ((get_or starts.now k false ≡ true)
+        × IsAtMost count.most count.least)) }
 {
     if count.is_at_most(count.least) {
         Vec::from_slice(alloc, starts)

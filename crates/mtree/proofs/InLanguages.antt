@@ -1,13 +1,15 @@
 -- SPDX-License-Identifier: Apache-2.0
 -- What is read in a language, by what is read at all and by the first language that has all its forms; and the first language of a list,
 -- counted from the front.
-use Rattle.std.proofs.Common.{◌≡◌, ℕ, ◌<◌, ◌≤◌, List, Option, Some, None, refl, sym, ap, ◌∙◌, arith}
+use Rattle.std.proofs.Common.{◌≡◌, ℕ, Bool, true, ◌<◌, ◌≤◌, List, Option, Some, None, refl, sym, ap, ◌∙◌, arith}
 use Rattle.std.specs.Prelude.{max, map, length}
 use Rattle.std.proofs.lemmas.List.{length-map}
 use Rattle.std.proofs.lemmas.Bool.{le-leb, lt-leb}
-use Rattle.mgrammar.specs.Grammar.{LineTree, ReferenceTree, ArgTree, FormTree, exprs_of, call}
+use Rattle.mgrammar.specs.Grammar.{LineTree, ExprTree, ReferenceTree, ArgTree, FormTree, exprs_of, call}
 use Rattle.mgrammar.specs.WellFormed.{exprs_count}
 use Rattle.mgrammar.proofs.ReadingTrees.{count-length}
+use Rattle.mgrammar.proofs.StepsEarly.{profile_forms_are_in_steps, profile_condition_is_in_steps}
+use Rattle.mgrammar.specs.ProgramsIn.{in_steps_arg, in_steps_optional}
 use Rattle.mtree.specs.Tree.{expr_tree, arg_tree}
 use Rattle.mtree.specs.declared.tree.Expr.{Expr}
 use Rattle.mtree.specs.declared.tree.Arg.{Arg}
@@ -15,7 +17,8 @@ use Rattle.mgrammar.specs.Reading.{line_at}
 use Rattle.mgrammar.specs.RoutineLine.{RoutineLineTree, routine_line_at}
 use Rattle.mgrammar.specs.IndirectTexts.{ref_at, args_of}
 use Rattle.mgrammar.specs.Functions.{since_function, since_values}
-use Rattle.mgrammar.specs.Languages.{since_primary, since_exprs, kept_in, since_line, since_routine_line, since_reference, since_args, line_in, routine_line_in, ref_in, args_in}
+use Rattle.mgrammar.specs.Languages.{since_optional, since_expr, since_primary, since_exprs, since_forms, since_calls, since_arg, since_condition, kept_in}
+use Rattle.mgrammar.specs.Languages.{since_line, since_routine_line, since_reference, since_args, line_in, routine_line_in, ref_in, args_in}
 
 -- nothing is earlier than 0
 pub max_none : (a : ℕ) → max a 0 ≡ a
@@ -42,6 +45,16 @@ pub call_since : (word : List ℕ) (values : List Expr) (count function rest all
 call_since word values count function rest all count_is function_is rest_is all_is =
     all_is ∙ ap (λ n. max n rest) (function_is ∙ ap (λ n. max (since_function word) (since_values word n)) (count_is ∙ sym (counted values)))
     ∙ ap (max (max (since_function word) (since_values word (exprs_count (exprs_of (map expr_tree values)))))) rest_is
+
+plain : (is : Bool) (forms : ℕ) → is ≡ true → forms ≡ 0 → 0 ≡ max (since_calls is) forms
+plain is forms p q = rw (p, q) refl
+
+-- what is of the profile need not be looked through for calls
+pub plain_arg : (a : ArgTree) → since_forms a ≡ 0 → 0 ≡ since_arg a
+plain_arg a none = plain (in_steps_arg a) (since_forms a) (profile_forms_are_in_steps a none) none
+
+pub plain_condition : (c : Option ExprTree) → since_optional since_expr c ≡ 0 → 0 ≡ since_condition c
+plain_condition c none = plain (in_steps_optional c) (since_optional since_expr c) (profile_condition_is_in_steps c none) none
 
 module _ {A : Type 0} (since : A → ℕ) (n : ℕ) where
   kept : (o : Option A) (t : A) → o ≡ Some t → since t ≤ n → kept_in since n o ≡ Some t

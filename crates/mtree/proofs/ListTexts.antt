@@ -3,7 +3,9 @@
 use Rattle.std.proofs.Common.{◌≡◌, ℕ, ◌<◌, List, [], ◌∷◌, ◌++◌, length, map, refl, ap, subst, ◌∙◌, arith}
 use Rattle.std.specs.Prelude.{Result, Ok, Err, OnOk}
 use Rattle.std.proofs.lemmas.List.{append_assoc}
-use Rattle.mgrammar.specs.Grammar.{ExprTree, exprs_of, choices_of, spell_expr, spell_exprs, spell_more_exprs, spell_choices, spell_more_choices, spell_more, spell_list, spell_target, spell_reference, spell_parameter, spell_arg, spell_args, spell_subscripts, spell_attached, actuals_of, spell_actual, spell_actuals, spell_more_actuals}
+use Rattle.mgrammar.specs.Grammar.{ExprTree, exprs_of, choices_of, spell_expr, spell_exprs, spell_more_exprs, spell_choices, spell_more_choices, spell_more}
+use Rattle.mgrammar.specs.Grammar.{spell_list, spell_target, spell_reference, spell_parameter, spell_arg, spell_args, spell_subscripts, spell_attached}
+use Rattle.mgrammar.specs.Grammar.{actuals_of, spell_actual, spell_actuals, spell_more_actuals}
 use Rattle.mtree.specs.Tree.{expr_tree, choice_tree, reference_tree, target_tree, parameter_tree, arg_tree, actual_tree}
 use Rattle.mtree.specs.declared.tree.Expr.{Expr}
 use Rattle.mtree.specs.declared.tree.Choice.{Choice}

@@ -3,7 +3,8 @@
 use Rattle.std.proofs.Common.{◌≡◌, ◌<◌, List, [], ◌∷◌, length, map, Some, None, Box, Vec, Global, refl, sym, ap, ◌∙◌, arith}
 use Rattle.mgrammar.specs.Grammar.{ExprTree, TailTree, tails_of, OperandTree, PrimaryTree, ReferenceTree, ActualTree, exprs_of}
 use Rattle.mgrammar.specs.WellFormed.{bare_reference, bare_primary, bare_expr}
-use Rattle.mtree.specs.Tree.{CalledTree, ChoiceTree, expr_tree, tail_tree, operand_tree, primary_tree, reference_tree, sign_tree, actual_layer, primary_layer, reference_layer, tail_layer, called_layer, choice_layer, expr_layer, operand_layer, referring_layer}
+use Rattle.mtree.specs.Tree.{CalledTree, ChoiceTree, expr_tree, tail_tree, operand_tree, primary_tree, reference_tree, sign_tree, actual_layer, primary_layer}
+use Rattle.mtree.specs.Tree.{reference_layer, tail_layer, called_layer, choice_layer, expr_layer, operand_layer, referring_layer}
 use Rattle.mtree.specs.declared.tree.Expr.{Expr}
 use Rattle.mgrammar.specs.Grammar as grammar
 use Rattle.mtree.specs.declared.tree.Tail.{Tail}

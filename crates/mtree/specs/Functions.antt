@@ -1,8 +1,11 @@
 -- SPDX-License-Identifier: Apache-2.0
 -- What a function's word says, as the grammar has it.
 use Rattle.std.specs.Prelude.{◌≡◌, ℕ, Option, Some, List}
-use Rattle.mgrammar.specs.Functions.{ValueFunctionTree, ascii_function, char_function, extract_function, find_function, format_number_function, justify_function, length_function, piece_function, reverse_function, translate_function}
-use Rattle.mgrammar.specs.Functions.{VariableFunctionTree, data_function, get_function, order_function, FunctionTree, of_values, of_variable, of_choices, function_of}
+use Rattle.mgrammar.specs.Functions.{ValueFunctionTree, ascii_function, char_function, extract_function, find_function, format_number_function}
+use Rattle.mgrammar.specs.Functions.{justify_function, length_function, name_length_function, name_subscript_function, piece_function}
+use Rattle.mgrammar.specs.Functions.{reverse_function, translate_function}
+use Rattle.mgrammar.specs.Functions.{VariableFunctionTree, data_function, get_function, order_function, FunctionTree, of_values, of_variable, of_choices}
+use Rattle.mgrammar.specs.Functions.{function_of}
 use Rattle.mtree.specs.declared.intrinsic.ValueFunction.{ValueFunction}
 use Rattle.mtree.specs.declared.intrinsic.ValueFunction.TheVariants as values
 use Rattle.mtree.specs.declared.intrinsic.VariableFunction.{VariableFunction}
@@ -18,6 +21,8 @@ value_function_tree values.Find = find_function
 value_function_tree values.FormatNumber = format_number_function
 value_function_tree values.Justify = justify_function
 value_function_tree values.Length = length_function
+value_function_tree values.NameLength = name_length_function
+value_function_tree values.NameSubscript = name_subscript_function
 value_function_tree values.Piece = piece_function
 value_function_tree values.Reverse = reverse_function
 value_function_tree values.Translate = translate_function

@@ -3,7 +3,9 @@
 pub use Rattle.mtree.specs.Functions.{value_function_tree, variable_function_tree, function_tree}
 use Rattle.std.specs.Prelude.{◌≡◌, List, Option, Box, Vec, map, option_map}
 use Rattle.mgrammar.specs.Grammar as grammar
-use Rattle.mgrammar.specs.Grammar.{SignTree, TruthTree, BinaryTree, KeywordTree, RepeatedTree, patterns_of, AtomTree, ExprTree, TailTree, tails_of, exprs_of, choices_of, OperandTree, PrimaryTree, ReferenceTree, ActualTree, ActualsTree, actuals_of, TargetTree, DestinationTree, ParameterTree, RoutineTree, EntryTree, LockKindTree, LockedTree, ArgTree, CommandTree, SpacedTree, LineTree}
+use Rattle.mgrammar.specs.Grammar.{SignTree, TruthTree, BinaryTree, KeywordTree, RepeatedTree, patterns_of, AtomTree, ExprTree, TailTree, tails_of, exprs_of}
+use Rattle.mgrammar.specs.Grammar.{choices_of, OperandTree, PrimaryTree, ReferenceTree, ActualTree, ActualsTree, actuals_of, TargetTree, DestinationTree}
+use Rattle.mgrammar.specs.Grammar.{ParameterTree, RoutineTree, EntryTree, LockKindTree, LockedTree, ArgTree, CommandTree, SpacedTree, LineTree}
 use Rattle.mgrammar.specs.Specials as specials
 use Rattle.mgrammar.specs.Specials.{SpecialTree}
 use Rattle.mgrammar.specs.Commands.{form_of}

@@ -1,10 +1,15 @@
 // SPDX-License-Identifier: Apache-2.0
-// Whether a tree has a call of a function in it.
-ghost use Rattle.std.specs.Prelude.{◌≡◌, ◌||◌, map};
+// Whether a tree has a call of a function in it, and whether each stands where it can be carried out a step at a time.
+ghost use Rattle.std.specs.Prelude.{◌≡◌, ◌||◌, ◌&&◌, not, map};
 ghost use Rattle.std.specs.List.{list_any};
 ghost use Rattle.mgrammar.specs.Grammar.{tails_of, exprs_of, choices_of, actuals_of};
-ghost use Rattle.mgrammar.specs.CallsIn.{has_call, has_call_tails, has_call_tail, has_call_operand, has_call_primary, has_call_reference, has_call_exprs, has_call_choices, has_call_actual, has_call_actuals, has_call_optional, has_call_target, has_call_destination, has_call_parameter, has_call_locked, has_call_arg};
-ghost use Rattle.mtree.specs.Tree.{expr_tree, tail_tree, operand_tree, primary_tree, reference_tree, referring_tree, choice_tree, actual_tree, part_tree, target_tree, destination_tree, parameter_tree, locked_tree, arg_tree, condition_tree};
+ghost use Rattle.mgrammar.specs.CallsIn.{has_call, has_call_tails, has_call_tail, has_call_operand, has_call_primary, has_call_reference, has_call_exprs};
+ghost use Rattle.mgrammar.specs.CallsIn.{has_call_choices, has_call_actual, has_call_actuals, has_call_optional, has_call_target, has_call_destination};
+ghost use Rattle.mgrammar.specs.CallsIn.{has_call_parameter, has_call_locked, has_call_arg};
+ghost use Rattle.mgrammar.specs.ProgramsIn.{in_steps, in_steps_tails, in_steps_tail, in_steps_operand, in_steps_primary, in_steps_exprs, in_steps_actual};
+ghost use Rattle.mgrammar.specs.ProgramsIn.{in_steps_actuals, in_steps_optional, in_steps_arg};
+ghost use Rattle.mtree.specs.Tree.{expr_tree, tail_tree, operand_tree, primary_tree, reference_tree, referring_tree, choice_tree, actual_tree, part_tree};
+ghost use Rattle.mtree.specs.Tree.{target_tree, destination_tree, parameter_tree, locked_tree, arg_tree, condition_tree};
 
 use crate::tree::{
     Actual, Arg, Choice, Destination, Expr, Locked, Operand, Parameter, PartTarget, Primary,
@@ -276,5 +281,148 @@ pub fn has_call_arg(arg: &Arg) -> bool
         Arg::HangFor(seconds) => has_call(seconds),
         Arg::Returned(value) => has_call(value),
         Arg::Indirect(_, operand) => has_call_primary(operand),
+    }
+}
+
+// The same of two that both have to hold.
+fn both(one: bool, other: bool) -> bool
+    ensures { result ≡ one && other }
+{
+    one & other
+}
+
+// Whether each call in an expression stands under operators, signs and brackets, in the arguments of functions of values, or in actuals.
+#[cycle(steps)]
+fn in_steps(expr: &Expr) -> bool
+    ensures { result ≡ in_steps (expr_tree expr.now) }
+{
+    both(in_steps_operand(&expr.first), in_steps_tails(&expr.rest))
+}
+
+#[cycle(steps)]
+#[tactic(auto, using(crate::proofs::CallsFound::both_more))]
+fn in_steps_tails(tails: &[Tail]) -> bool
+    ensures { result ≡ in_steps_tails (tails_of (map tail_tree tails.now)) }
+{
+    let mut all = true;
+    for tail in tails {
+        all = both(all, in_steps_tail(tail));
+    }
+    all
+}
+
+#[cycle(steps)]
+fn in_steps_tail(tail: &Tail) -> bool
+    ensures { result ≡ in_steps_tail (tail_tree tail.now) }
+{
+    match tail {
+        Tail::Apply(_, operand) => in_steps_operand(operand),
+        Tail::Matches(_) => true,
+        Tail::MatchesNot(_) => true,
+        Tail::Raise(operand) => in_steps_operand(operand),
+        Tail::MatchesIndirect(operand) => !has_call_primary(operand),
+        Tail::MatchesNotIndirect(operand) => !has_call_primary(operand),
+    }
+}
+
+#[cycle(steps)]
+fn in_steps_operand(operand: &Operand) -> bool
+    ensures { result ≡ in_steps_operand (operand_tree operand.now) }
+{
+    in_steps_primary(&operand.primary)
+}
+
+#[cycle(steps)]
+fn in_steps_primary(primary: &Primary) -> bool
+    ensures { result ≡ in_steps_primary (primary_tree primary.now) }
+{
+    match primary {
+        Primary::Number(_) => true,
+        Primary::Text(_) => true,
+        Primary::Special(_) => true,
+        Primary::Reference(reference) => !has_call_reference(reference),
+        Primary::Bracket(inner) => in_steps(inner),
+        Primary::Call(_, arguments) => in_steps_exprs(arguments),
+        Primary::Select(_, choices) => !has_call_choices(choices),
+        Primary::Refer(referring) => !has_call_referring(referring),
+        Primary::Extrinsic(called) => in_steps_actuals(&called.actuals),
+    }
+}
+
+#[cycle(steps)]
+#[tactic(auto, using(crate::proofs::CallsFound::both_more))]
+fn in_steps_exprs(exprs: &[Expr]) -> bool
+    ensures { result ≡ in_steps_exprs (exprs_of (map expr_tree exprs.now)) }
+{
+    let mut all = true;
+    for expr in exprs {
+        all = both(all, in_steps(expr));
+    }
+    all
+}
+
+#[cycle(steps)]
+fn in_steps_actual(actual: &Actual) -> bool
+    ensures { result ≡ in_steps_actual (actual_tree actual.now) }
+{
+    match actual {
+        Actual::Missing => true,
+        Actual::Value(value) => in_steps(value),
+        Actual::Name(_) => true,
+        Actual::IndirectName(operand) => in_steps_primary(operand),
+    }
+}
+
+#[cycle(steps)]
+#[tactic(auto, using(crate::proofs::CallsFound::both_more))]
+fn in_steps_actuals(actuals: &[Actual]) -> bool
+    ensures { result ≡ in_steps_actuals (actuals_of (map actual_tree actuals.now)) }
+{
+    let mut all = true;
+    for actual in actuals {
+        all = both(all, in_steps_actual(actual));
+    }
+    all
+}
+
+// The same of a condition, if there is one.
+pub(crate) fn in_steps_optional(condition: &Option<Box<Expr>>) -> bool
+    ensures { result ≡ in_steps_optional (condition_tree condition.now) }
+{
+    match condition {
+        None => true,
+        Some(condition) => in_steps(condition),
+    }
+}
+
+// And of an argument of a command: no call stands in a target of SET, in the parameters of FOR, or in what KILL and LOCK name.
+pub(crate) fn in_steps_arg(arg: &Arg) -> bool
+    ensures { result ≡ in_steps_arg (arg_tree arg.now) }
+{
+    match arg {
+        Arg::Assign(destination, value) => {
+            both(!has_call_destination(destination), in_steps(value))
+        }
+        Arg::Formats(_, tab) => in_steps_optional(tab),
+        Arg::Coded(code) => in_steps(code),
+        Arg::Value(value) => in_steps(value),
+        Arg::KillOne(reference) => !has_call_reference(reference),
+        Arg::KillOthers(_) => true,
+        Arg::NewOne(_) => true,
+        Arg::NewOthers(_) => true,
+        Arg::Tested(condition) => in_steps(condition),
+        Arg::Loop(_, parameters) => !has_call_parameters(parameters),
+        Arg::DoOne(called, condition) => {
+            both(
+                in_steps_actuals(&called.actuals),
+                in_steps_optional(condition),
+            )
+        }
+        Arg::GoTo(_, condition) => in_steps_optional(condition),
+        Arg::Executed(text, condition) => both(in_steps(text), in_steps_optional(condition)),
+        Arg::Lock(_, names, timeout) => !either(has_call_locked(names), has_call_optional(timeout)),
+        Arg::HangFor(seconds) => in_steps(seconds),
+        Arg::Returned(value) => in_steps(value),
+        Arg::Indirect(_, operand) => !has_call_primary(operand),
     }
 }

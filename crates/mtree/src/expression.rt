@@ -1,8 +1,11 @@
 // SPDX-License-Identifier: Apache-2.0
 // The text of an expression.
 ghost use Rattle.std.specs.Prelude.{◌≡◌, ◌++◌, ◌<◌, ◌∷◌, [], List, ℕ, OnOk, map};
-ghost use Rattle.mgrammar.specs.Grammar.{sign_char, spell_truth, spell_binary, spell_signs, spell_atoms, spell_expr, tails_of, exprs_of, choices_of, spell_tails, spell_tail, spell_operand, spell_primary, spell_reference, spell_subscripts, spell_attached, spell_exprs, spell_more_exprs, spell_choices, actuals_of, spell_routine, spell_entry, spell_actual, spell_actuals, spell_called};
-ghost use Rattle.mtree.specs.Tree.{sign_tree, truth_tree, binary_tree, atom_tree, expr_tree, tail_tree, operand_tree, primary_tree, reference_tree, referring_tree, choice_tree, shared_tree, routine_tree, entry_tree, actual_tree, called_tree};
+ghost use Rattle.mgrammar.specs.Grammar.{sign_char, spell_truth, spell_binary, spell_signs, spell_atoms, spell_expr, tails_of, exprs_of, choices_of};
+ghost use Rattle.mgrammar.specs.Grammar.{spell_tails, spell_tail, spell_operand, spell_primary, spell_reference, spell_subscripts, spell_attached, spell_exprs};
+ghost use Rattle.mgrammar.specs.Grammar.{spell_more_exprs, spell_choices, actuals_of, spell_routine, spell_entry, spell_actual, spell_actuals, spell_called};
+ghost use Rattle.mtree.specs.Tree.{sign_tree, truth_tree, binary_tree, atom_tree, expr_tree, tail_tree, operand_tree, primary_tree, reference_tree};
+ghost use Rattle.mtree.specs.Tree.{referring_tree, choice_tree, shared_tree, routine_tree, entry_tree, actual_tree, called_tree};
 
 use crate::function_word::ValueWord;
 use crate::patterns::put_atoms;

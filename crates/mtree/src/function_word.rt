@@ -47,7 +47,7 @@ impl ValueWord {
         self.function
     }
 
-    // The first language that has the function with so many values. Takes no memory.
+    // The first language that has the function with this many values. Takes no memory.
     pub(crate) fn since(&self, count: usize) -> u32
         ensures { result ≡ max (since_function self.now) (since_values self.now count) }
     {

@@ -11,6 +11,8 @@ pub enum ValueFunction {
     FormatNumber,
     Justify,
     Length,
+    NameLength,
+    NameSubscript,
     Piece,
     Reverse,
     Translate,

@@ -3,7 +3,7 @@
 //!
 //! What a tree means as plain data, and which text it has, are definitions of `mgrammar`: `Grammar`.
 //!
-//! The writer (`write`) is for whoever shows a tree, such as the transcripts: they read each form of the grammar and write it back.
+//! The writer (`write`) is for what shows a tree, such as the transcripts: they read each form of the grammar and write it back.
 //! The program never writes a tree. Only for the writer does a tree keep its words, its spaces and its comment as they were written.
 #![tactic(auto)]
 

@@ -20,7 +20,8 @@ impl Model for Literal {
 
     ghost view = { λ literal. literal.text };
 
-    ghost invariant = { λ literal. MatchResult literal.number (λ n. numeric_value significant_digits literal.text ≡ Some (units n)) (λ _. numeric_value significant_digits literal.text ≡ None) };
+    ghost invariant = { λ literal. MatchResult literal.number (λ n. numeric_value significant_digits literal.text ≡ Some (units n))
+        (λ _. numeric_value significant_digits literal.text ≡ None) };
 }
 
 impl Literal {

@@ -2,9 +2,15 @@
 // The first language that has all forms of a tree.
 ghost use Rattle.std.specs.Prelude.{◌≡◌, map, max};
 ghost use Rattle.mgrammar.specs.Grammar.{tails_of, exprs_of, choices_of, actuals_of, formats};
-ghost use Rattle.mgrammar.specs.Languages.{since_all, since_optional, since_atom, since_expr, since_tails, since_tail, since_operand, since_primary, since_reference, since_exprs, since_choices, since_routine, since_entry, since_actual, since_actuals, since_target, since_destination, since_parameter, since_locked, since_format, since_arg, since_args, since_command, since_spaced, since_formals, since_body, since_routine_line};
-ghost use Rattle.mtree.specs.Tree.{atom_tree, expr_tree, tail_tree, operand_tree, primary_tree, reference_tree, referring_tree, choice_tree, routine_tree, entry_tree, actual_tree, called_tree, part_tree, target_tree, destination_tree, parameter_tree, locked_tree, arg_tree, command_tree, spaced_tree, condition_tree, formals_tree, body_tree, routine_line_tree, IsBodyCounted};
+ghost use Rattle.mgrammar.specs.Languages.{since_all, since_optional, since_atom, since_expr, since_tails, since_tail, since_operand, since_primary};
+ghost use Rattle.mgrammar.specs.Languages.{since_reference, since_exprs, since_choices, since_routine, since_entry, since_actual, since_actuals, since_target};
+ghost use Rattle.mgrammar.specs.Languages.{since_destination, since_parameter, since_locked, since_format, since_forms, since_calls, since_arg, since_args};
+ghost use Rattle.mgrammar.specs.Languages.{since_condition, since_command, since_spaced, since_formals, since_body, since_routine_line};
+ghost use Rattle.mtree.specs.Tree.{atom_tree, expr_tree, tail_tree, operand_tree, primary_tree, reference_tree, referring_tree, choice_tree, routine_tree};
+ghost use Rattle.mtree.specs.Tree.{entry_tree, actual_tree, called_tree, part_tree, target_tree, destination_tree, parameter_tree, locked_tree, arg_tree};
+ghost use Rattle.mtree.specs.Tree.{command_tree, spaced_tree, condition_tree, formals_tree, body_tree, routine_line_tree, IsBodyCounted};
 
+use crate::calls::{in_steps_arg, in_steps_optional};
 use crate::tree::{
     Actual, Arg, Atom, Body, Called, Choice, Command, Destination, Entry, Expr, Locked, Operand,
     Parameter, PartTarget, Primary, Reference, Referring, Repeated, RoutineLine, RoutineRef,
@@ -97,7 +103,7 @@ fn since_primary(primary: &Primary) -> u32
             later(since_function(word.as_bytes()), since_choices(choices))
         }
         Primary::Refer(referring) => since_referring(referring),
-        Primary::Extrinsic(called) => later(2, since_called(called)),
+        Primary::Extrinsic(called) => later(1, since_called(called)),
     }
 }
 
@@ -208,7 +214,8 @@ fn since_called(called: &Called) -> u32
     later(since_entry(&called.entry), since_actuals(&called.actuals))
 }
 
-fn since_condition(condition: &Option<Box<Expr>>) -> u32
+// That of an expression, if there is one.
+fn since_optional(condition: &Option<Box<Expr>>) -> u32
     ensures { result ≡ since_optional since_expr (condition_tree condition.now) }
 {
     match condition {
@@ -322,7 +329,7 @@ fn since_run(run: &[u8]) -> u32
 
 // A column is of language 1.
 fn since_formats(run: &[u8], tab: &Option<Box<Expr>>) -> u32
-    ensures { result ≡ since_arg (formats run.now (condition_tree tab.now)) }
+    ensures { result ≡ since_forms (formats run.now (condition_tree tab.now)) }
 {
     match tab {
         Some(column) => later(1, since_expr(column)),
@@ -330,8 +337,9 @@ fn since_formats(run: &[u8], tab: &Option<Box<Expr>>) -> u32
     }
 }
 
-fn since_arg(arg: &Arg) -> u32
-    ensures { result ≡ since_arg (arg_tree arg.now) }
+// That of an argument's forms, wherever functions are called in it.
+fn since_forms(arg: &Arg) -> u32
+    ensures { result ≡ since_forms (arg_tree arg.now) }
 {
     match arg {
         Arg::Assign(destination, value) => later(since_destination(destination), since_expr(value)),
@@ -344,14 +352,33 @@ fn since_arg(arg: &Arg) -> u32
         Arg::NewOthers(_) => 0,
         Arg::Tested(condition) => since_expr(condition),
         Arg::Loop(_, parameters) => since_parameters(parameters),
-        Arg::DoOne(called, condition) => later(since_called(called), since_condition(condition)),
-        Arg::GoTo(entry, condition) => later(since_entry(entry), since_condition(condition)),
-        Arg::Executed(text, condition) => later(since_expr(text), since_condition(condition)),
-        Arg::Lock(_, names, timeout) => later(since_locked(names), since_condition(timeout)),
+        Arg::DoOne(called, condition) => later(since_called(called), since_optional(condition)),
+        Arg::GoTo(entry, condition) => later(since_entry(entry), since_optional(condition)),
+        Arg::Executed(text, condition) => later(since_expr(text), since_optional(condition)),
+        Arg::Lock(_, names, timeout) => later(since_locked(names), since_optional(timeout)),
         Arg::HangFor(seconds) => since_expr(seconds),
         Arg::Returned(value) => since_expr(value),
         Arg::Indirect(_, operand) => since_primary(operand),
     }
+}
+
+// That of the places where functions are called: elsewhere than a step at a time, they are of a language that no settings reach.
+fn since_calls(stepped: bool) -> u32
+    ensures { result ≡ since_calls stepped }
+{
+    if stepped { 0 } else { 2 }
+}
+
+// What is of the profile calls no function, so it is not looked through for calls.
+#[tactic(auto, using(crate::proofs::InLanguages::plain_arg))]
+fn since_arg(arg: &Arg) -> u32
+    ensures { result ≡ since_arg (arg_tree arg.now) }
+{
+    let forms = since_forms(arg);
+    if forms == 0 {
+        return 0;
+    }
+    later(since_calls(in_steps_arg(arg)), forms)
 }
 
 /// That of some arguments. Takes no memory.
@@ -367,6 +394,18 @@ pub fn since_args(args: &[Arg]) -> u32
         since = later(since, since_arg(arg));
     }
     since
+}
+
+// That of the condition of a command, if there is one.
+#[tactic(auto, using(crate::proofs::InLanguages::plain_condition))]
+fn since_condition(condition: &Option<Box<Expr>>) -> u32
+    ensures { result ≡ since_condition (condition_tree condition.now) }
+{
+    let forms = since_optional(condition);
+    if forms == 0 {
+        return 0;
+    }
+    later(since_calls(in_steps_optional(condition)), forms)
 }
 
 #[tactic(auto, using(crate::proofs::InLanguages::args_counted))]

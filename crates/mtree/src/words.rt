@@ -64,7 +64,7 @@ pub fn keyword_of(word: &[u8]) -> Option<Keyword>
     }
 }
 
-/// The first language that has a command with so many arguments. Takes no memory.
+/// The first language that has a command with this many arguments. Takes no memory.
 pub fn since_keyword(keyword: Keyword, count: usize) -> u32
     ensures { result ≡ since_keyword (keyword_tree keyword) count }
 {
@@ -132,6 +132,10 @@ pub(crate) fn function_row(word: &[u8]) -> Option<(Function, u32)>
         Some((variable(VariableFunction::Order, 1), 0))
     } else if is_either(word, b"p", b"piece") {
         Some((values(ValueFunction::Piece, 2, Some(4)), 0))
+    } else if is_either(word, b"ql", b"qlength") {
+        Some((values(ValueFunction::NameLength, 1, Some(1)), 1))
+    } else if is_either(word, b"qs", b"qsubscript") {
+        Some((values(ValueFunction::NameSubscript, 2, Some(2)), 1))
     } else if is_either(word, b"re", b"reverse") {
         Some((values(ValueFunction::Reverse, 1, Some(1)), 1))
     } else if is_either(word, b"s", b"select") {
@@ -164,7 +168,7 @@ pub fn since_function(word: &[u8]) -> u32
     }
 }
 
-/// The first language in which the function of a word, which comes without its `$`, takes so many values; 0 if it takes them since it is
+/// The first language in which the function of a word, which comes without its `$`, takes this many values; 0 if it takes them since it is
 /// there. Takes no memory.
 pub fn since_values(word: &[u8], count: usize) -> u32
     ensures { result ≡ since_values word.now count }
@@ -183,7 +187,7 @@ pub fn is_part(function: ValueFunction) -> bool
     matches!(function, ValueFunction::Extract | ValueFunction::Piece)
 }
 
-// The first language in which a call of this word, with so many values after the variable, may be a target of SET.
+// The first language in which a call of this word, with this many values after the variable, may be a target of SET.
 pub(crate) fn since_part_of(word: &[u8], count: usize) -> u32
     ensures { result ≡ since_part word.now count }
 {

@@ -1,10 +1,13 @@
 // SPDX-License-Identifier: Apache-2.0
 // The text of a line: each function appends the spelling of its part, as `mgrammar` has it.
 ghost use Rattle.std.specs.Prelude.{◌≡◌, ◌++◌, ◌∷◌, [], List, ℕ, IfOk, OnOk, map};
-ghost use Rattle.mgrammar.specs.Grammar.{assign, loop, spell_target, spell_destination, spell_names, spell_parameter, spell_entry, spell_called, spell_kind, spell_locked, spell_arg, spell_condition, spell_args, spell_comment, spell_command, spell_commands, spell};
+ghost use Rattle.mgrammar.specs.Grammar.{assign, loop, spell_target, spell_destination, spell_names, spell_parameter, spell_entry, spell_called, spell_kind};
+ghost use Rattle.mgrammar.specs.Grammar.{spell_locked, spell_arg, spell_condition, spell_args, spell_comment, spell_command, spell_commands, spell};
 ghost use Rattle.mgrammar.specs.Grammar.{do_one, go_to, executed, formats, locked, spell_expr, spell_primary, spell_reference};
 ghost use Rattle.mgrammar.specs.RoutineLine.{spell_dots, spell_label, spell_formals, spell_body, spell_routine_line};
-ghost use Rattle.mtree.specs.Tree.{expr_tree, primary_tree, part_tree, target_tree, destination_tree, parameter_tree, entry_tree, called_tree, kind_tree, locked_tree, reference_tree, arg_tree, command_tree, spaced_tree, line_tree, condition_tree, formals_tree, body_tree, routine_line_tree};
+ghost use Rattle.mtree.specs.Tree.{expr_tree, primary_tree, part_tree, target_tree, destination_tree, parameter_tree, entry_tree, called_tree, kind_tree};
+ghost use Rattle.mtree.specs.Tree.{locked_tree, reference_tree, arg_tree, command_tree, spaced_tree, line_tree, condition_tree, formals_tree, body_tree};
+ghost use Rattle.mtree.specs.Tree.{routine_line_tree};
 
 use crate::expression::{
     put_called, put_entry, put_expr, put_more, put_primary, put_reference, put_word,

@@ -1,6 +1,8 @@
 -- SPDX-License-Identifier: Apache-2.0
 -- The canonical text of a number is ASCII.
-use Rattle.mvalue.proofs.ValueWords.{suc, ◌/◌, ◌%◌, ◌^◌, ◌<◌, true, false, cond, [], ◌∷◌, ◌++◌, All, arith, lit<, ℤ, pos, negsuc, unsigned_abs, nat_tests, fraction_text, whole_text, point_text, size_text, number_text, Digit, fraction_all, whole_all, size_parts, units, Num, units_number, ℕ, List, ◌==◌}
+use Rattle.mvalue.proofs.ValueWords.{suc, ◌/◌, ◌%◌, ◌^◌, ◌<◌, true, false, cond, [], ◌∷◌, ◌++◌, All, arith, lit<, ℤ, pos, negsuc, unsigned_abs, nat_tests}
+use Rattle.mvalue.proofs.ValueWords.{fraction_text, whole_text, point_text, size_text, number_text, Digit, fraction_all, whole_all, size_parts, units, Num}
+use Rattle.mvalue.proofs.ValueWords.{units_number, ℕ, List, ◌==◌}
 use Rattle.std.proofs.lemmas.List.Elements.{All-nil, All-cons, All-append, All-weaker}
 
 -- the byte is a character of ASCII

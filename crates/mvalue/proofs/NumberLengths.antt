@@ -1,6 +1,8 @@
 -- SPDX-License-Identifier: Apache-2.0
 -- How long the canonical text of a number is.
-use Rattle.mvalue.proofs.ValueWords.{zero, suc, ◌≡◌, ◌+◌, ◌/◌, ◌%◌, ◌^◌, ◌<◌, ◌≤◌, true, false, cond, [], ◌∷◌, ◌++◌, length, refl, arith, length-append, ℤ, pos, negsuc, unsigned_abs, decimal, fraction_text, whole_text, point_text, size_text, number_text, units, Num, units_number, ℕ, List, ◌==◌}
+use Rattle.mvalue.proofs.ValueWords.{zero, suc, ◌≡◌, ◌+◌, ◌/◌, ◌%◌, ◌^◌, ◌<◌, ◌≤◌, true, false, cond, [], ◌∷◌, ◌++◌, length, refl, arith, length-append, ℤ, pos}
+use Rattle.mvalue.proofs.ValueWords.{negsuc, unsigned_abs, decimal, fraction_text, whole_text, point_text, size_text, number_text, units, Num, units_number, ℕ}
+use Rattle.mvalue.proofs.ValueWords.{List, ◌==◌}
 use Rattle.mnum.specs.Start.{starts_number}
 use Rattle.mnum.proofs.Prints.{decimal_short}
 use Rattle.mnum.proofs.Starts.{text_starts}

@@ -1,6 +1,8 @@
 -- SPDX-License-Identifier: Apache-2.0
 -- Numbers and the texts of values.
-use Rattle.mvalue.proofs.ValueWords.{◌≡◌, ◌^◌, true, false, Some, refl, sym, ap, ◌∙◌, Decides, nat_eq, ℤ, pos, ◌*ℤ◌, int_cmp, int_eq, is_eq, pointwise, Decides-eqb, Decides-int_eq, same_from_decides, significant_digits, numeric_value, number_text, size_text, text_has_value, units, Num, units_number, List, ℕ}
+use Rattle.mvalue.proofs.ValueWords.{◌≡◌, ◌^◌, true, false, Some, refl, sym, ap, ◌∙◌, Decides, nat_eq, ℤ, pos, ◌*ℤ◌, int_cmp, int_eq, is_eq, pointwise}
+use Rattle.mvalue.proofs.ValueWords.{Decides-eqb, Decides-int_eq, same_from_decides, significant_digits, numeric_value, number_text, size_text, text_has_value}
+use Rattle.mvalue.proofs.ValueWords.{units, Num, units_number, List, ℕ}
 use Rattle.std.specs.Fmt.{digits}
 use Rattle.std.proofs.lemmas.Slice.Eq.{slice_eq-Decides}
 use Rattle.mspec.specs.Interpretations.{truth_text}

@@ -1,8 +1,12 @@
 -- SPDX-License-Identifier: Apache-2.0
-use Rattle.mparse.proofs.ParseWords.{◌≡◌, ◌++◌, ◌∷◌, [], length, map, refl, sym, rules, err_from_is_err_and, map_push, expr_tree, tail_tree, choice_tree, actual_tree, with_front, many, after_comma, list_at, choice_with, tail_with, readers_at, inner_at, goes_on, stops, is_done, list_begins, comma_goes_on, comma_stops, fails, list_fails, comma_fails}
+use Rattle.mparse.proofs.ParseWords.{◌≡◌, ◌++◌, ◌∷◌, [], length, map, refl, sym, rules, err_from_is_err_and, map_push, expr_tree, tail_tree, choice_tree}
+use Rattle.mparse.proofs.ParseWords.{actual_tree, with_front, many, after_comma, list_at, choice_with, tail_with, readers_at, inner_at, goes_on, stops, is_done}
+use Rattle.mparse.proofs.ParseWords.{list_begins, comma_goes_on, comma_stops, fails, list_fails, comma_fails}
 use Rattle.mparse.proofs.Lists.{list_goes_on}
 use Rattle.mparse.proofs.expr.+expr.Goals as goal
-use Rattle.mparse.proofs.expr.+expr.Goals.{tails-else-loop-test, tails-then-loop-test+in_ok-tail+in_default, more_exprs-else-loop-test, more_exprs-then-loop-test+in_default, choices-else-loop-test, choices-then-loop-test+in_default, some_actuals-else-loop-test, some_actuals-then-loop-test+in_default}
+use Rattle.mparse.proofs.expr.+expr.Goals.{tails-else-loop-test, tails-then-loop-test+in_ok-tail+in_default, more_exprs-else-loop-test}
+use Rattle.mparse.proofs.expr.+expr.Goals.{more_exprs-then-loop-test+in_default, choices-else-loop-test, choices-then-loop-test+in_default}
+use Rattle.mparse.proofs.expr.+expr.Goals.{some_actuals-else-loop-test, some_actuals-then-loop-test+in_default}
 
 pub tails-returns-in_err-tail : goal.tails-returns-in_err-tail
 tails-returns-in_err-tail t c =

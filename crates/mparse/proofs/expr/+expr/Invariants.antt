@@ -1,5 +1,6 @@
 -- SPDX-License-Identifier: Apache-2.0
-use Rattle.mparse.proofs.ParseWords.{◌≡◌, ◌+◌, ◌*◌, ◌-◌, length, map, with_front, many, after_comma, list_at, choice_with, tail_with, readers_at, inner_at, expr_tree, tail_tree, choice_tree, actual_tree}
+use Rattle.mparse.proofs.ParseWords.{◌≡◌, ◌+◌, ◌*◌, ◌-◌, length, map, with_front, many, after_comma, list_at, choice_with, tail_with, readers_at, inner_at}
+use Rattle.mparse.proofs.ParseWords.{expr_tree, tail_tree, choice_tree, actual_tree}
 use Rattle.mparse.proofs.expr.+expr.Given as goal
 
 -- Brackets fall in number at `inner`, `within`, `handed` and `below` alone; each other call leads to a lower rank.

@@ -1,5 +1,6 @@
 -- SPDX-License-Identifier: Apache-2.0
-use Rattle.mparse.proofs.ParseWords.{◌≡◌, ◌++◌, ◌∷◌, [], length, map, rules, err_from_is_err_and, map_push, spaced_tree, many, spaced_at, goes_on, stops, is_done, fails}
+use Rattle.mparse.proofs.ParseWords.{◌≡◌, ◌++◌, ◌∷◌, [], length, map, rules, err_from_is_err_and, map_push, spaced_tree, many, spaced_at, goes_on, stops}
+use Rattle.mparse.proofs.ParseWords.{is_done, fails}
 use Rattle.mparse.proofs.line.commands.Goals as goal
 use Rattle.mparse.proofs.line.commands.Goals.{else-loop-test, then-loop-test+in_ok-item+in_default}
 

@@ -1,5 +1,6 @@
 -- SPDX-License-Identifier: Apache-2.0
-use Rattle.mparse.proofs.ParseWords.{◌≡◌, ◌-◌, ◌++◌, ◌∷◌, [], length, map, refl, arith, rules, err_from_is_err_and, map_push, with_front, many, after_comma, is_done, comma_goes_on, comma_stops, comma_fails}
+use Rattle.mparse.proofs.ParseWords.{◌≡◌, ◌-◌, ◌++◌, ◌∷◌, [], length, map, refl, arith, rules, err_from_is_err_and, map_push, with_front, many, after_comma}
+use Rattle.mparse.proofs.ParseWords.{is_done, comma_goes_on, comma_stops, comma_fails}
 use Rattle.mparse.proofs.list.more.Goals as goal
 use Rattle.mparse.proofs.list.more.Goals.{else-loop-test, then-loop-test+in_default}
 

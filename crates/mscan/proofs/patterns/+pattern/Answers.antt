@@ -7,7 +7,8 @@ use Rattle.mgrammar.specs.ReadingWords.{many, after_comma, list_at, atom_with, p
 use Rattle.mgrammar.proofs.ReadingLoops.{goes_on, stops, is_done, list_begins, comma_goes_on, comma_stops}
 use Rattle.mscan.proofs.Faults.{fails, list_fails, comma_fails}
 use Rattle.mscan.proofs.patterns.+pattern.Goals as goal
-use Rattle.mscan.proofs.patterns.+pattern.Goals.{atoms-else-loop-test, atoms-then-loop-test+in_ok-item+in_default, patterns-else-loop-test, patterns-then-loop-test+in_default}
+use Rattle.mscan.proofs.patterns.+pattern.Goals.{atoms-else-loop-test, atoms-then-loop-test+in_ok-item+in_default, patterns-else-loop-test}
+use Rattle.mscan.proofs.patterns.+pattern.Goals.{patterns-then-loop-test+in_default}
 
 pub atoms-returns-in_err-item : goal.atoms-returns-in_err-item
 atoms-returns-in_err-item t c =

@@ -2,7 +2,8 @@
 use Rattle.mtext.proofs.TextWords.{◌+◌, ◌-◌, ◌*◌, ◌≤◌, length, get_or, sym, ◌∙◌, true≢false, arith, no_copies, IsBefore, IsCopiedTo, AreCopiesBefore}
 use Rattle.mtext.proofs.PatternCopies.{number_fits, copies_end, copied_to, copied_from, above_without, above_more, fewest_least, fewest_above}
 use Rattle.mtext.proofs.pattern.copies_before.Goals as goal
-use Rattle.mtext.proofs.pattern.copies_before.Goals.{then-stands_before, else-stands_before, else-least-found-via-then-least-found+else-starts-place, else-least-found-via-else-least-found}
+use Rattle.mtext.proofs.pattern.copies_before.Goals.{then-stands_before, else-stands_before, else-least-found-via-then-least-found+else-starts-place}
+use Rattle.mtext.proofs.pattern.copies_before.Goals.{else-least-found-via-else-least-found}
 
 pub overflow_add-found : goal.overflow_add-found
 overflow_add-found c =

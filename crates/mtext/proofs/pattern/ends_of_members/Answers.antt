@@ -3,7 +3,10 @@ use Rattle.mtext.proofs.TextWords.{rules, ◌+◌, Decides, sym, subst, ◌∙�
 use Rattle.mtext.proofs.PatternMembers.{IsRun, IsLatest, latest_new, latest_kept, ends_here, run_more, run_anew}
 use Rattle.mtext.proofs.PatternSlices.{marked_more}
 use Rattle.mtext.proofs.pattern.ends_of_members.Goals as goal
-use Rattle.mtext.proofs.pattern.ends_of_members.Goals.{then-place-count+then-starts-place, else-place-count, else-place-count-via-then-place-count+else-starts-place, else-place-count-via-else-place-count, then-place-text+then-not-is_of_any, else-place-text, else-place-text-via-then-place-text+else-not-is_of_any, else-place-text-via-else-place-text}
+use Rattle.mtext.proofs.pattern.ends_of_members.Goals.{then-place-count+then-starts-place, else-place-count}
+use Rattle.mtext.proofs.pattern.ends_of_members.Goals.{else-place-count-via-then-place-count+else-starts-place, else-place-count-via-else-place-count}
+use Rattle.mtext.proofs.pattern.ends_of_members.Goals.{then-place-text+then-not-is_of_any, else-place-text}
+use Rattle.mtext.proofs.pattern.ends_of_members.Goals.{else-place-text-via-then-place-text+else-not-is_of_any, else-place-text-via-else-place-text}
 
 pub loop-place-preserved : goal.loop-place-preserved
 loop-place-preserved c =

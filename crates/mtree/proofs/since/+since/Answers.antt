@@ -3,7 +3,8 @@ use Rattle.std.proofs.Common.{◌≡◌, ◌∙◌, ap, arith, sym, map, List, �
 use Rattle.mgrammar.specs.Grammar as grammar
 use Rattle.mgrammar.specs.Grammar.{exprs_of, ActualTree, PrimaryTree, ReferenceTree, TailTree, ExprTree, OperandTree}
 use Rattle.mgrammar.specs.Languages.{since_primary, since_exprs}
-use Rattle.mtree.specs.Tree.{CalledTree, ChoiceTree, expr_tree, primary_tree, actual_layer, primary_layer, reference_layer, tail_layer, called_layer, choice_layer, expr_layer, operand_layer, referring_layer}
+use Rattle.mtree.specs.Tree.{CalledTree, ChoiceTree, expr_tree, primary_tree, actual_layer, primary_layer, reference_layer, tail_layer, called_layer}
+use Rattle.mtree.specs.Tree.{choice_layer, expr_layer, operand_layer, referring_layer}
 use Rattle.mtree.specs.declared.tree.Expr.{Expr}
 use Rattle.mtree.specs.declared.tree.Primary.{Primary}
 use Rattle.mtree.specs.declared.tree.Primary.TheVariants as primary

@@ -3,7 +3,8 @@ use Rattle.mnum.proofs.NumWords.{◌≡◌, ◌≢◌, ◌⊎◌, inl, inr, ◌%
 use mir.Syntax.{w128}
 use Rattle.mnum.proofs.UnitDigits.{stripped, not_number}
 use Rattle.mnum.proofs.num.Num.from_units.Goals as goal
-use Rattle.mnum.proofs.num.Num.from_units.Goals.{then-loop-digits-test+then-places-gt0+else-digits-eq0, then-loop-digits-test+else-places-gt0, else-loop-digits-test}
+use Rattle.mnum.proofs.num.Num.from_units.Goals.{then-loop-digits-test+then-places-gt0+else-digits-eq0, then-loop-digits-test+else-places-gt0}
+use Rattle.mnum.proofs.num.Num.from_units.Goals.{else-loop-digits-test}
 
 pub loop-digits-preserved : goal.loop-digits-preserved
 loop-digits-preserved c = record {

@@ -1,0 +1,164 @@
+-- SPDX-License-Identifier: Apache-2.0
+-- What is found in a tree at a number is the step of the list there, whatever comes after the part.
+use Rattle.std.proofs.Common.{◌≡◌, ℕ, zero, suc, ◌-◌, Bool, true, false, cond, List, [], ◌∷◌, Option, Some, None, refl, sym, ap, ◌∙◌, arith}
+use Rattle.std.specs.Prelude.{◌==◌, slice_get}
+use Rattle.std.proofs.Math.Dec.{eqb-suc-zero}
+use Rattle.mgrammar.specs.Grammar.{SignTree, ExprTree, expr, TailsTree, no_tails, tail, TailTree, apply, matches, matches_not, raise, matches_indirect}
+use Rattle.mgrammar.specs.Grammar.{matches_not_indirect, OperandTree, operand, PrimaryTree, number, text, special, reference, bracket, call, select, refer}
+use Rattle.mgrammar.specs.Grammar.{extrinsic, ExprsTree, no_exprs, exprs, ActualTree, missing_actual, value_actual, name_actual, indirect_actual, ActualsTree}
+use Rattle.mgrammar.specs.Grammar.{no_actuals, actuals, ArgTree, assign, formats, coded, shown, kill_one, kill_others, new_one, new_others, tested, loop}
+use Rattle.mgrammar.specs.Grammar.{do_one, go_to, executed, locked, hang_for, returned, indirect_args}
+use Rattle.mgrammar.specs.CallsIn.{has_call, has_call_operand, has_call_primary}
+use Rattle.mmeaning.specs.Expression.{is_bare}
+use Rattle.mmeaning.specs.Programs as programs
+use Rattle.mmeaning.specs.Programs.{Op, Spend, Join, Raise, Values, Add, Function, Begin, Hand, Hand_name, Call, Where, Formats, Prepare, signed, of_value}
+use Rattle.mmeaning.specs.Programs.{of_tails, of_tail, of_operand, of_primary, of_values, of_actual, of_actuals, of_list}
+use Rattle.mprogram.specs.Wholes.{WholeTree, of_argument, of_condition, steps_of, steps_of_argument}
+use Rattle.mprogram.specs.Found.{FoundTree, step, past, found_then, found_before, single, both, in_signs, in_value, in_tails, in_tail, in_operand, in_primary}
+use Rattle.mprogram.specs.Found.{in_values, in_actual, in_actuals, in_list, in_condition, in_argument, in_whole}
+
+-- the step at this number, in a part of a list before whatever comes after it
+abbrev Finds : (List Op → List Op) → (ℕ → FoundTree) → Type 0
+Finds part found = (at : ℕ) (rest : List Op) → slice_get (part rest) at ≡ found_before (found at) rest
+
+-- one part before another
+then_finds : (f g : List Op → List Op) (p q : ℕ → FoundTree) → Finds f p → Finds g q → Finds (λ rest. f (g rest)) (λ at. found_then (p at) q)
+then_finds f g p q one next at rest = one at (g rest) ∙ joined (p at)
+  where
+    joined : (r : FoundTree) → found_before r (g rest) ≡ found_before (found_then r q) rest
+    joined (step o) = refl
+    joined (past left) = next left rest
+
+-- one of two parts
+cond_finds : (b : Bool) (f g : List Op → List Op) (p q : ℕ → FoundTree) → Finds f p → Finds g q
+    → Finds (λ rest. cond b (f rest) (g rest)) (λ at. cond b (p at) (q at))
+cond_finds true f g p q one other = one
+cond_finds false f g p q one other = other
+
+none_finds : Finds (λ rest. rest) past
+none_finds at rest = refl
+
+single_finds : (o : Op) → Finds (λ rest. o ∷ rest) (single o)
+single_finds o zero rest = refl
+single_finds o (suc left) rest =
+    let less : suc left - 1 ≡ left = omega arith in
+    let later : (suc left == 0) ≡ false = eqb-suc-zero left in
+    ap (λ k. slice_get rest k) (sym less) ∙ ap (λ b. found_before (cond b (step o) (past (suc left - 1))) rest) (sym later)
+
+-- a part, and then a step
+before_finds : (f : List Op → List Op) (p : ℕ → FoundTree) (o : Op) → Finds f p → Finds (λ rest. f (o ∷ rest)) (λ at. found_then (p at) (single o))
+before_finds f p o one = then_finds f (λ rest. o ∷ rest) p (single o) one (single_finds o)
+
+-- a step, and then a part
+step_finds : (o : Op) (f : List Op → List Op) (p : ℕ → FoundTree) → Finds f p → Finds (λ rest. o ∷ f rest) (λ at. found_then (single o at) p)
+step_finds o f p next = then_finds (λ rest. o ∷ rest) f (single o) p (single_finds o) next
+
+both_finds : (o next : Op) → Finds (λ rest. o ∷ next ∷ rest) (both o next)
+both_finds o next = before_finds (λ rest. o ∷ rest) (single o) next (single_finds o)
+
+signs_find : (signs : List SignTree) → Finds (signed signs) (in_signs signs)
+signs_find [] = none_finds
+signs_find (s ∷ ss) = single_finds (programs.Sign (s ∷ ss))
+
+mutual
+  pub value_finds : (e : ExprTree) → Finds (of_value e) (in_value e)
+  value_finds (expr first rest) = then_finds (of_operand first) (of_tails rest) (in_operand first) (in_tails rest) (operand_finds first) (tails_find rest)
+
+  tails_find : (s : TailsTree) → Finds (of_tails s) (in_tails s)
+  tails_find no_tails = none_finds
+  tails_find (tail s rest) = then_finds (of_tail s) (of_tails rest) (in_tail s) (in_tails rest) (tail_finds s) (tails_find rest)
+
+  tail_finds : (s : TailTree) → Finds (of_tail s) (in_tail s)
+  tail_finds (apply b o) =
+      cond_finds (has_call_operand o) (λ rest. of_operand o (Join b ∷ rest)) (λ rest. programs.Tail (apply b o) ∷ rest)
+      (λ at. found_then (in_operand o at) (single (Join b))) (single (programs.Tail (apply b o)))
+      (before_finds (of_operand o) (in_operand o) (Join b) (operand_finds o)) (single_finds _)
+  tail_finds (raise o) =
+      cond_finds (has_call_operand o) (λ rest. of_operand o (Raise ∷ rest)) (λ rest. programs.Tail (raise o) ∷ rest)
+      (λ at. found_then (in_operand o at) (single Raise)) (single (programs.Tail (raise o)))
+      (before_finds (of_operand o) (in_operand o) Raise (operand_finds o)) (single_finds _)
+  tail_finds (matches atoms) = single_finds _
+  tail_finds (matches_not atoms) = single_finds _
+  tail_finds (matches_indirect p) = single_finds _
+  tail_finds (matches_not_indirect p) = single_finds _
+
+  operand_finds : (o : OperandTree) → Finds (of_operand o) (in_operand o)
+  operand_finds (operand signs p) =
+      cond_finds (has_call_primary p) (λ rest. of_primary p (signed signs rest)) (λ rest. programs.Operand (operand signs p) ∷ rest)
+      (λ at. found_then (in_primary p at) (in_signs signs)) (single (programs.Operand (operand signs p)))
+      (then_finds (of_primary p) (signed signs) (in_primary p) (in_signs signs) (primary_finds p) (signs_find signs)) (single_finds _)
+
+  primary_finds : (p : PrimaryTree) → Finds (of_primary p) (in_primary p)
+  primary_finds (number literal) = single_finds _
+  primary_finds (text t) = single_finds _
+  primary_finds (special word) = single_finds _
+  primary_finds (reference r) = single_finds _
+  primary_finds (bracket e) = step_finds Spend (of_value e) (in_value e) (value_finds e)
+  primary_finds (call word args) =
+      then_finds (λ rest. Spend ∷ Values ∷ rest) (λ rest. of_values args (Function word ∷ rest)) (both Spend Values)
+      (λ left. found_then (in_values args left) (single (Function word)))
+      (both_finds Spend Values) (before_finds (of_values args) (in_values args) (Function word) (values_find args))
+  primary_finds (select word _) = single_finds _
+  primary_finds (refer word r more) = single_finds _
+  primary_finds (extrinsic e xs) =
+      then_finds (λ rest. Spend ∷ Begin ∷ rest) (λ rest. cond (is_bare xs) (Call e ∷ rest) (of_actuals xs (Call e ∷ rest))) (both Spend Begin)
+      (λ left. found_then (cond (is_bare xs) (past left) (in_actuals xs left)) (single (Call e)))
+      (both_finds Spend Begin)
+      (before_finds (λ rest. cond (is_bare xs) rest (of_actuals xs rest)) (λ left. cond (is_bare xs) (past left) (in_actuals xs left)) (Call e)
+      (cond_finds (is_bare xs) (λ rest. rest) (of_actuals xs) past (in_actuals xs) none_finds (actuals_find xs)))
+
+  values_find : (es : ExprsTree) → Finds (of_values es) (in_values es)
+  values_find no_exprs = none_finds
+  values_find (exprs e rest) =
+      then_finds (λ ops. of_value e (Add ∷ ops)) (of_values rest) (λ at. found_then (in_value e at) (single Add)) (in_values rest)
+      (before_finds (of_value e) (in_value e) Add (value_finds e)) (values_find rest)
+
+  actual_finds : (a : ActualTree) → Finds (of_actual a) (in_actual a)
+  actual_finds missing_actual = single_finds _
+  actual_finds (value_actual e) =
+      cond_finds (has_call e) (λ rest. of_value e (Hand ∷ rest)) (λ rest. programs.Actual (value_actual e) ∷ rest)
+      (λ at. found_then (in_value e at) (single Hand)) (single (programs.Actual (value_actual e)))
+      (before_finds (of_value e) (in_value e) Hand (value_finds e)) (single_finds _)
+  actual_finds (name_actual name) = single_finds _
+  actual_finds (indirect_actual p) =
+      cond_finds (has_call_primary p) (λ rest. of_primary p (Hand_name ∷ rest)) (λ rest. programs.Actual (indirect_actual p) ∷ rest)
+      (λ at. found_then (in_primary p at) (single Hand_name)) (single (programs.Actual (indirect_actual p)))
+      (before_finds (of_primary p) (in_primary p) Hand_name (primary_finds p)) (single_finds _)
+
+  actuals_find : (xs : ActualsTree) → Finds (of_actuals xs) (in_actuals xs)
+  actuals_find no_actuals = none_finds
+  actuals_find (actuals a rest) = then_finds (of_actual a) (of_actuals rest) (in_actual a) (in_actuals rest) (actual_finds a) (actuals_find rest)
+
+list_finds : (xs : ActualsTree) → Finds (of_list xs) (in_list xs)
+list_finds xs = cond_finds (is_bare xs) (λ rest. rest) (of_actuals xs) past (in_actuals xs) none_finds (actuals_find xs)
+
+condition_finds : (c : Option ExprTree) → Finds (programs.of_condition c) (in_condition c)
+condition_finds None = none_finds
+condition_finds (Some e) = before_finds (of_value e) (in_value e) Where (value_finds e)
+
+argument_found : (a : ArgTree) (at : ℕ) → slice_get (steps_of_argument a) at ≡ found_before (in_argument a at) []
+argument_found (assign d e) at = step_finds (Prepare d) (of_value e) (in_value e) (value_finds e) at []
+argument_found (formats run None) at = refl
+argument_found (formats run (Some e)) at = step_finds (Formats run) (of_value e) (in_value e) (value_finds e) at []
+argument_found (coded e) at = value_finds e at []
+argument_found (shown e) at = value_finds e at []
+argument_found (kill_one r) at = refl
+argument_found (kill_others names) at = refl
+argument_found (new_one name) at = refl
+argument_found (new_others names) at = refl
+argument_found (tested e) at = value_finds e at []
+argument_found (loop index parameters) at = refl
+argument_found (do_one e xs c) at =
+    then_finds (programs.of_condition c) (λ rest. Begin ∷ of_list xs rest) (in_condition c) (λ left. found_then (single Begin left) (in_list xs))
+    (condition_finds c) (step_finds Begin (of_list xs) (in_list xs) (list_finds xs)) at []
+argument_found (go_to e c) at = condition_finds c at []
+argument_found (executed e c) at = then_finds (programs.of_condition c) (of_value e) (in_condition c) (in_value e) (condition_finds c) (value_finds e) at []
+argument_found (locked k names t) at = refl
+argument_found (hang_for e) at = value_finds e at []
+argument_found (returned e) at = value_finds e at []
+argument_found (indirect_args f p) at = refl
+
+-- the step of an argument or of a condition
+pub whole_found : (w : WholeTree) (at : ℕ) → slice_get (steps_of w) at ≡ found_before (in_whole w at) []
+whole_found (of_argument a) at = argument_found a at
+whole_found (of_condition e) at = value_finds e at []

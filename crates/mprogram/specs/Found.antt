@@ -1,0 +1,112 @@
+-- SPDX-License-Identifier: Apache-2.0
+-- The step at a number, looked for in a tree: what comes there in a part of it, and else how many steps are left to pass after the part.
+-- Each definition follows that of the part's steps: `in_value` is of `of_value`.
+use Rattle.std.specs.Prelude.{ℕ, ◌-◌, ◌==◌, cond, List, [], ◌∷◌, slice_get, Option, Some, None}
+use Rattle.mgrammar.specs.Grammar.{SignTree, ExprTree, expr, TailsTree, no_tails, tail, TailTree, apply, matches, matches_not, raise, matches_indirect}
+use Rattle.mgrammar.specs.Grammar.{matches_not_indirect, OperandTree, operand, PrimaryTree, number, text, special, reference, bracket, call, select, refer}
+use Rattle.mgrammar.specs.Grammar.{extrinsic, ExprsTree, no_exprs, exprs, ActualTree, missing_actual, value_actual, name_actual, indirect_actual, ActualsTree}
+use Rattle.mgrammar.specs.Grammar.{no_actuals, actuals, ArgTree, assign, formats, coded, shown, tested, do_one, go_to, executed, hang_for, returned}
+use Rattle.mgrammar.specs.CallsIn.{has_call, has_call_operand, has_call_primary}
+use Rattle.mmeaning.specs.Expression.{is_bare}
+use Rattle.mmeaning.specs.Programs.{Op, Operand, Tail, Spend, Sign, Join, Raise, Values, Add, Function, Begin, Actual, Hand, Hand_name, Call, Where}
+use Rattle.mmeaning.specs.Programs.{Formats, Prepare}
+use Rattle.mprogram.specs.Wholes.{WholeTree, of_argument, of_condition}
+
+pub data FoundTree : Type 0 where
+  step : Op → FoundTree
+  past : ℕ → FoundTree
+
+-- if the part is past, what comes after it
+abbrev pub found_then : FoundTree → (ℕ → FoundTree) → FoundTree
+found_then (step o) next = step o
+found_then (past left) next = next left
+
+-- one step, and two
+abbrev pub single : Op → ℕ → FoundTree
+single o at = cond (at == 0) (step o) (past (at - 1))
+
+abbrev pub both : Op → Op → ℕ → FoundTree
+both o next at = found_then (single o at) (single next)
+
+abbrev pub in_signs : List SignTree → ℕ → FoundTree
+in_signs [] at = past at
+in_signs (s ∷ ss) at = single (Sign (s ∷ ss)) at
+
+abbrev mutual
+  pub in_value : ExprTree → ℕ → FoundTree
+  in_value (expr first rest) at = found_then (in_operand first at) (in_tails rest)
+
+  pub in_tails : TailsTree → ℕ → FoundTree
+  in_tails no_tails at = past at
+  in_tails (tail s rest) at = found_then (in_tail s at) (in_tails rest)
+
+  pub in_tail : TailTree → ℕ → FoundTree
+  in_tail (apply b o) at = cond (has_call_operand o) (found_then (in_operand o at) (single (Join b))) (single (Tail (apply b o)) at)
+  in_tail (raise o) at = cond (has_call_operand o) (found_then (in_operand o at) (single Raise)) (single (Tail (raise o)) at)
+  in_tail (matches atoms) at = single (Tail (matches atoms)) at
+  in_tail (matches_not atoms) at = single (Tail (matches_not atoms)) at
+  in_tail (matches_indirect p) at = single (Tail (matches_indirect p)) at
+  in_tail (matches_not_indirect p) at = single (Tail (matches_not_indirect p)) at
+
+  pub in_operand : OperandTree → ℕ → FoundTree
+  in_operand (operand signs p) at = cond (has_call_primary p) (found_then (in_primary p at) (in_signs signs)) (single (Operand (operand signs p)) at)
+
+  pub in_primary : PrimaryTree → ℕ → FoundTree
+  in_primary (number literal) at = single (Operand (operand [] (number literal))) at
+  in_primary (text t) at = single (Operand (operand [] (text t))) at
+  in_primary (special word) at = single (Operand (operand [] (special word))) at
+  in_primary (reference r) at = single (Operand (operand [] (reference r))) at
+  in_primary (bracket e) at = found_then (single Spend at) (in_value e)
+  in_primary (call word args) at = found_then (both Spend Values at) (λ left. found_then (in_values args left) (single (Function word)))
+  in_primary (select word choices) at = single (Operand (operand [] (select word choices))) at
+  in_primary (refer word r more) at = single (Operand (operand [] (refer word r more))) at
+  in_primary (extrinsic e xs) at =
+      found_then (both Spend Begin at) (λ left. found_then (cond (is_bare xs) (past left) (in_actuals xs left)) (single (Call e)))
+
+  pub in_values : ExprsTree → ℕ → FoundTree
+  in_values no_exprs at = past at
+  in_values (exprs e rest) at = found_then (found_then (in_value e at) (single Add)) (in_values rest)
+
+  pub in_actual : ActualTree → ℕ → FoundTree
+  in_actual missing_actual at = single (Actual missing_actual) at
+  in_actual (value_actual e) at = cond (has_call e) (found_then (in_value e at) (single Hand)) (single (Actual (value_actual e)) at)
+  in_actual (name_actual name) at = single (Actual (name_actual name)) at
+  in_actual (indirect_actual p) at =
+      cond (has_call_primary p) (found_then (in_primary p at) (single Hand_name)) (single (Actual (indirect_actual p)) at)
+
+  pub in_actuals : ActualsTree → ℕ → FoundTree
+  in_actuals no_actuals at = past at
+  in_actuals (actuals a rest) at = found_then (in_actual a at) (in_actuals rest)
+
+abbrev pub in_list : ActualsTree → ℕ → FoundTree
+in_list xs at = cond (is_bare xs) (past at) (in_actuals xs at)
+
+-- ---- arguments and conditions
+
+abbrev pub in_condition : Option ExprTree → ℕ → FoundTree
+in_condition None at = past at
+in_condition (Some e) at = found_then (in_value e at) (single Where)
+
+abbrev pub in_argument : ArgTree → ℕ → FoundTree
+in_argument (assign d e) at = found_then (single (Prepare d) at) (in_value e)
+in_argument (formats run (Some e)) at = found_then (single (Formats run) at) (in_value e)
+in_argument (coded e) at = in_value e at
+in_argument (shown e) at = in_value e at
+in_argument (tested e) at = in_value e at
+in_argument (do_one e xs c) at = found_then (in_condition c at) (λ left. found_then (single Begin left) (in_list xs))
+in_argument (go_to e c) at = in_condition c at
+in_argument (executed e c) at = found_then (in_condition c at) (in_value e)
+in_argument (hang_for e) at = in_value e at
+in_argument (returned e) at = in_value e at
+in_argument a at = past at
+
+abbrev pub in_whole : WholeTree → ℕ → FoundTree
+in_whole (of_argument a) at = in_argument a at
+in_whole (of_condition e) at = in_value e at
+
+-- ---- in a list
+
+-- what is found, if these steps come after the part
+abbrev pub found_before : FoundTree → List Op → Option Op
+found_before (step o) rest = Some o
+found_before (past left) rest = slice_get rest left

@@ -1,0 +1,57 @@
+-- SPDX-License-Identifier: Apache-2.0
+-- Steps of the code, which lend parts of a tree, as the definitions have them.
+use Rattle.std.specs.Prelude.{[], map}
+use Rattle.mgrammar.specs.Grammar.{operand}
+use Rattle.mmeaning.specs.Programs as programs
+use Rattle.mtree.specs.Tree.{sign_tree, binary_tree, expr_tree, tail_tree, operand_tree, primary_tree, actual_tree, entry_tree, destination_tree, arg_tree}
+use Rattle.mprogram.specs.Wholes.{WholeTree, of_argument, of_condition}
+use Rattle.mprogram.specs.Found.{FoundTree, step, past}
+use Rattle.mprogram.specs.declared.op.Whole.{Whole}
+use Rattle.mprogram.specs.declared.op.Whole.TheVariants as whole
+use Rattle.mprogram.specs.declared.op.Op.{Op}
+use Rattle.mprogram.specs.declared.op.Op.TheVariants as op
+use Rattle.mprogram.specs.declared.op.Ending.{Ending}
+use Rattle.mprogram.specs.declared.op.Ending.TheVariants as ending
+use Rattle.mprogram.specs.declared.op.Found.{Found}
+use Rattle.mprogram.specs.declared.op.Found.TheVariants as found
+
+abbrev pub whole_view : Whole → WholeTree
+whole_view (whole.Argument a) = of_argument (arg_tree a.now)
+whole_view (whole.Condition e) = of_condition (expr_tree e.now)
+
+abbrev pub op_view : Op → programs.Op
+op_view (op.Operand o) = programs.Operand (operand_tree o.now)
+op_view (op.Primary p) = programs.Operand (operand [] (primary_tree p.now))
+op_view (op.Tail t) = programs.Tail (tail_tree t.now)
+op_view op.Spend = programs.Spend
+op_view (op.Sign signs) = programs.Sign (map sign_tree signs.now)
+op_view (op.Join b) = programs.Join (binary_tree b)
+op_view op.Raise = programs.Raise
+op_view op.Values = programs.Values
+op_view op.Add = programs.Add
+op_view (op.Function word) = programs.Function word.now
+op_view op.Begin = programs.Begin
+op_view (op.Actual a) = programs.Actual (actual_tree a.now)
+op_view op.Hand = programs.Hand
+op_view op.HandName = programs.Hand_name
+op_view (op.Call e) = programs.Call (entry_tree e.now)
+op_view op.Where = programs.Where
+op_view (op.Formats run) = programs.Formats run.now
+op_view (op.Prepare d) = programs.Prepare (destination_tree d.now)
+
+abbrev pub ending_view : Ending → programs.Ending
+ending_view ending.Assign = programs.Assign
+ending_view ending.Show = programs.Show
+ending_view ending.Tab = programs.Tab
+ending_view ending.Character = programs.Character
+ending_view ending.Test = programs.Test
+ending_view ending.Hold = programs.Hold
+ending_view ending.Wait = programs.Wait
+ending_view ending.Return = programs.Return
+ending_view ending.Run = programs.Run
+ending_view (ending.Enter e is_listed) = programs.Enter (entry_tree e.now) is_listed
+ending_view (ending.Go e) = programs.Go (entry_tree e.now)
+
+abbrev pub found_view : Found → FoundTree
+found_view (found.Op o) = step (op_view o)
+found_view (found.Past left) = past left

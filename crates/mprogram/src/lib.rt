@@ -1,0 +1,17 @@
+// SPDX-License-Identifier: Apache-2.0
+//! The steps of an argument, or of a command's condition, in which functions are called.
+//!
+//! What they are is defined in `mmeaning`: `Programs`. No list of them is kept: each is found in the tree by its number.
+#![tactic(auto)]
+
+mod ending;
+mod missing;
+mod op;
+pub mod step_laws;
+mod steps;
+mod whole;
+
+pub use ending::ending_of;
+pub use missing::is_bare;
+pub use op::{Ending, Op, Whole};
+pub use whole::op_at;

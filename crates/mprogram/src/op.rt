@@ -1,0 +1,89 @@
+// SPDX-License-Identifier: Apache-2.0
+// Steps, and what they are of: parts of a tree, lent by it.
+use mnum::Bytes7;
+use mtree::{
+    Actual, Arg, Binary, Destination, Entry, Expr, Operand, Primary, Sign, Tail, ValueWord,
+};
+
+/// What has steps: an argument of a command, or a command's condition.
+#[derive(Clone, Copy)]
+pub enum Whole<'t> {
+    Argument(&'t Arg),
+    Condition(&'t Expr),
+}
+
+/// A step.
+#[derive(Clone, Copy)]
+pub enum Op<'t> {
+    /// Evaluates an operand without a call in it.
+    Operand(&'t Operand),
+    /// Evaluates a primary without steps of its own, as an operand without signs.
+    Primary(&'t Primary),
+    /// Does with the value on top what a tail without a call does with a value to its left.
+    Tail(&'t Tail),
+    /// Spends the step that a primary costs.
+    Spend,
+    /// Applies signs to the value on top.
+    Sign(&'t [Sign]),
+    /// Applies an operator to the two values on top.
+    Join(Binary),
+    /// Raises the one of the two values on top to the power of the other.
+    Raise,
+    /// Begins with the values of a function's arguments.
+    Values,
+    /// Adds the value on top to these.
+    Add,
+    /// Calls a function of values: its word after the `$`.
+    Function(&'t ValueWord),
+    /// Begins with what actuals hand over.
+    Begin,
+    /// Adds to that what an actual without a call hands over.
+    Actual(&'t Actual),
+    /// Adds to that the value on top.
+    Hand,
+    /// Adds to that the variable whose name is on top.
+    HandName,
+    /// Calls the function that stands there.
+    Call(&'t Entry),
+    /// Ends the argument here if the value on top is false.
+    Where,
+    /// Writes formats.
+    Formats(&'t Bytes7),
+    /// Evaluates what the targets of SET have to evaluate.
+    Prepare(&'t Destination),
+}
+
+/// What a command does in the end with what its steps leave.
+#[derive(Clone, Copy)]
+pub enum Ending<'t> {
+    /// SET.
+    Assign,
+    /// WRITE of a value.
+    Show,
+    /// WRITE of a column.
+    Tab,
+    /// WRITE of a character by its code.
+    Character,
+    /// IF.
+    Test,
+    /// A command's condition.
+    Hold,
+    /// HANG.
+    Wait,
+    /// QUIT.
+    Return,
+    /// XECUTE.
+    Run,
+    /// DO: where it leads, and whether a list of actuals is written.
+    Enter(&'t Entry, bool),
+    /// GOTO: where it leads.
+    Go(&'t Entry),
+}
+
+// What is found at a number in a part of a tree.
+#[derive(Clone, Copy)]
+pub(crate) enum Found<'t> {
+    Op(Op<'t>),
+    // The part has no such step, and this many are left to pass after it.
+    Past(usize),
+}

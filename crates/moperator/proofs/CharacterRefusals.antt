@@ -1,6 +1,8 @@
 -- SPDX-License-Identifier: Apache-2.0
 -- What $CHAR is refused for, of codes that are read one after another.
-use Rattle.moperator.proofs.OperatorWords.{◌≡◌, ◌<◌, ◌≤◌, ℕ, Bool, true, false, List, [], ◌∷◌, ◌++◌, length, Ok, Err, refl, ap, ◌∙◌, arith, pos, negsuc, ◌||◌, nat_le, list_any, flat_map, nat_tests, Text, char_of, character_of, is_over_ascii, max_text, char_function, wholes, function_value, outcome, Yields, YieldsFault, yields_then, yields_failed, yields_gives, fault_of, IsDone, Code}
+use Rattle.moperator.proofs.OperatorWords.{◌≡◌, ◌<◌, ◌≤◌, ℕ, Bool, true, false, List, [], ◌∷◌, ◌++◌, length, Ok, Err, refl, ap, ◌∙◌, arith, pos, negsuc, ◌||◌}
+use Rattle.moperator.proofs.OperatorWords.{nat_le, list_any, flat_map, nat_tests, Text, char_of, character_of, is_over_ascii, max_text, char_function, wholes}
+use Rattle.moperator.proofs.OperatorWords.{function_value, outcome, Yields, YieldsFault, yields_then, yields_failed, yields_gives, fault_of, IsDone, Code}
 use Rattle.std.proofs.Common.{◌+◌, length-append}
 use Rattle.std.specs.Prelude.{ℤ}
 use Rattle.std.proofs.lemmas.List.Folds.{list_any-append}

@@ -1,6 +1,8 @@
 -- SPDX-License-Identifier: Apache-2.0
 -- Arguments of functions at their places.
-use Rattle.moperator.proofs.OperatorWords.{◌≡◌, ℕ, ◌<◌, ◌≤◌, List, [], ◌∷◌, ◌++◌, length, drop, get_or, Some, None, Result, Ok, Err, refl, sym, ◌∙◌, ap, subst, slice_get, Text, give, as_number, as_whole, as_whole_or_none, text_at, whole_at, wholes, Yields, yields_then, yields_failed, yields_gives, fault_of, Code}
+use Rattle.moperator.proofs.OperatorWords.{◌≡◌, ℕ, ◌<◌, ◌≤◌, List, [], ◌∷◌, ◌++◌, length, drop, get_or, Some, None, Result, Ok, Err, refl, sym, ◌∙◌, ap, subst}
+use Rattle.moperator.proofs.OperatorWords.{slice_get, Text, give, as_number, as_whole, as_whole_or_none, text_at, whole_at, wholes, Yields, yields_then}
+use Rattle.moperator.proofs.OperatorWords.{yields_failed, yields_gives, fault_of, Code}
 use Rattle.std.proofs.Common.{◌+◌, Option}
 use Rattle.std.specs.Prelude.{ℤ}
 use Rattle.std.proofs.Math.ListN.{drop_of_length-le}

@@ -1,6 +1,8 @@
 -- SPDX-License-Identifier: Apache-2.0
 -- Numbers of values, and what an operation on numbers gives.
-use Rattle.moperator.proofs.OperatorWords.{◌≡◌, ◌<◌, ◌^◌, Bool, true, false, Some, None, Result, Ok, Err, refl, sym, ◌∙◌, [], ap, subst, arith, unwrap_or, IfSome, pos, negsuc, unsigned_abs, MatchResult, int_eq, Decides-int_eq, significant_digits, numeric_value, number_text, Text, Act, give_some, as_number, as_text, Yields, yields_gives, units, fault_of, outcome_units, Code}
+use Rattle.moperator.proofs.OperatorWords.{◌≡◌, ◌<◌, ◌^◌, Bool, true, false, Some, None, Result, Ok, Err, refl, sym, ◌∙◌, [], ap, subst, arith, unwrap_or}
+use Rattle.moperator.proofs.OperatorWords.{IfSome, pos, negsuc, unsigned_abs, MatchResult, int_eq, Decides-int_eq, significant_digits, numeric_value}
+use Rattle.moperator.proofs.OperatorWords.{number_text, Text, Act, give_some, as_number, as_text, Yields, yields_gives, units, fault_of, outcome_units, Code}
 use Rattle.std.proofs.Common.{not, Option}
 use Rattle.std.specs.Prelude.{ℤ}
 use Rattle.std.specs.Int.{w64}

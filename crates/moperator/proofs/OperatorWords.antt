@@ -1,6 +1,8 @@
 -- SPDX-License-Identifier: Apache-2.0
 -- The words that most proofs of this crate have, in one place.
-pub use Rattle.std.proofs.Common.{All, Bool, Err, Global, IfOk, List, None, Ok, Result, Some, Vec, [], ap, arith, cond, drop, drop-drop, eqb, false, get_or, length, length-drop, map, refl, subst, suc, sym, take, true, true≢false, zero, ℕ, ◌++◌, ◌-◌, ◌<◌, ◌^◌, ◌↔◌, ◌∙◌, ◌∷◌, ◌≡◌, ◌≤◌}
+pub use Rattle.std.proofs.Common.{All, Bool, Err, Global, IfOk, List, None, Ok, Result, Some, Vec, [], ap, arith, cond, drop, drop-drop, eqb, false, get_or}
+pub use Rattle.std.proofs.Common.{length, length-drop, map, refl, subst, suc, sym, take, true, true≢false, zero, ℕ, ◌++◌, ◌-◌, ◌<◌, ◌^◌, ◌↔◌, ◌∙◌, ◌∷◌, ◌≡◌}
+pub use Rattle.std.proofs.Common.{◌≤◌}
 pub use Rattle.std.proofs.lemmas.Bool.Decides.{Decides-eqb, Decides-int_eq, nat_tests, same_from_decides}
 pub use Rattle.std.proofs.lemmas.List.{map_push, take_more, take_rest}
 pub use Rattle.std.specs.List.{flat_map, list_any, onto_first}

@@ -1,13 +1,17 @@
 -- SPDX-License-Identifier: Apache-2.0
 -- A pattern that was made with capped counts, and its match.
-use Rattle.moperator.proofs.OperatorWords.{◌≡◌, ℕ, zero, suc, ◌-◌, ◌<◌, ◌≤◌, ◌↔◌, ◌^◌, Bool, true, false, List, [], ◌∷◌, length, map, Some, None, refl, sym, ap, ◌∙◌, subst, arith, ◌||◌, list_any, same_from_decides, Atom, Count, Repeated, members, copies, passing, IsAtMost, IsPermitted, IsJoined, IsRepetition, Matches, is_at_most, is_reversed, is_match, atom_of, atom_reversed, capped, capped_count, is_any_kept, kept_atom, kept_repeated, kept_run, Text}
+use Rattle.moperator.proofs.OperatorWords.{◌≡◌, ℕ, zero, suc, ◌-◌, ◌<◌, ◌≤◌, ◌↔◌, ◌^◌, Bool, true, false, List, [], ◌∷◌, length, map, Some, None, refl, sym, ap}
+use Rattle.moperator.proofs.OperatorWords.{◌∙◌, subst, arith, ◌||◌, list_any, same_from_decides, Atom, Count, Repeated, members, copies, passing, IsAtMost}
+use Rattle.moperator.proofs.OperatorWords.{IsPermitted, IsJoined, IsRepetition, Matches, is_at_most, is_reversed, is_match, atom_of, atom_reversed, capped}
+use Rattle.moperator.proofs.OperatorWords.{capped_count, is_any_kept, kept_atom, kept_repeated, kept_run, Text}
 use Rattle.std.proofs.Common.{Option}
 use Rattle.std.specs.Prelude.{not, nat_le, ◌+◌, Decides}
 use Rattle.std.proofs.lemmas.Bool.{leb-true, leb-false}
 use Rattle.std.proofs.lemmas.List.{length-append, append-nil}
 use Rattle.mspec.proofs.Matchings.{decides_match, few_joined}
 use Rattle.mspec.proofs.Basics.{copies_fit, nothing_copied}
-use Rattle.mgrammar.specs.Grammar.{RepeatedTree, classes, copies as copies_tree, group, AtomsTree, no_atoms, more_atoms, PatternsTree, no_patterns, more_patterns, AtomTree}
+use Rattle.mgrammar.specs.Grammar.{RepeatedTree, classes, copies as copies_tree, group, AtomsTree, no_atoms, more_atoms, PatternsTree, no_patterns}
+use Rattle.mgrammar.specs.Grammar.{more_patterns, AtomTree}
 use Rattle.mgrammar.specs.Matching.{has_reversed, run_reversed, patterns_reversed, atoms_in, is_any_match, repeated_of, count_of as plain_count}
 
 pub capped_zero : (n : ℕ) → n ≡ 0 → 0 ≡ capped n

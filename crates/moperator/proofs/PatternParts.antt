@@ -1,6 +1,8 @@
 -- SPDX-License-Identifier: Apache-2.0
 -- Patterns of groups as runs of the tree and as lists; and turns as the machine counts them.
-use Rattle.moperator.proofs.OperatorWords.{◌≡◌, ℕ, zero, suc, ◌-◌, ◌<◌, ◌≤◌, ◌^◌, ◌++◌, Bool, true, false, List, [], ◌∷◌, length, drop, get_or, map, None, Some, Vec, Global, refl, sym, ap, ◌∙◌, arith, ◌||◌, list_any, Atom, Count, is_match, is_any_kept, kept_atom, kept_run, atom_reversed, turns_of, atom_tree, capped}
+use Rattle.moperator.proofs.OperatorWords.{◌≡◌, ℕ, zero, suc, ◌-◌, ◌<◌, ◌≤◌, ◌^◌, ◌++◌, Bool, true, false, List, [], ◌∷◌, length, drop, get_or, map, None, Some}
+use Rattle.moperator.proofs.OperatorWords.{Vec, Global, refl, sym, ap, ◌∙◌, arith, ◌||◌, list_any, Atom, Count, is_match, is_any_kept, kept_atom, kept_run}
+use Rattle.moperator.proofs.OperatorWords.{atom_reversed, turns_of, atom_tree, capped}
 use Rattle.std.specs.Prelude.{◌+◌, ◌*◌, nat_le}
 use Rattle.std.proofs.Math.Nat.{zero-mul}
 use Rattle.std.proofs.Common.{Option}

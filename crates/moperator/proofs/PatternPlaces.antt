@@ -1,6 +1,8 @@
 -- SPDX-License-Identifier: Apache-2.0
 -- The places to which atoms, patterns and turns of a group lead.
-use Rattle.moperator.proofs.OperatorWords.{◌≡◌, ℕ, zero, suc, ◌-◌, ◌<◌, ◌≤◌, ◌++◌, Bool, true, false, List, [], ◌∷◌, length, get_or, map, Some, None, Result, Ok, Err, IfOk, Vec, refl, sym, ap, ◌∙◌, subst, arith, true≢false, ◌||◌, list_any, Atom, Count, IsAtMost, IsJoined, IsRepetition, Matches, passing, is_match, is_any_kept, kept_atom, AreEnds, AreLed, IsJoinedWithin}
+use Rattle.moperator.proofs.OperatorWords.{◌≡◌, ℕ, zero, suc, ◌-◌, ◌<◌, ◌≤◌, ◌++◌, Bool, true, false, List, [], ◌∷◌, length, get_or, map, Some, None, Result}
+use Rattle.moperator.proofs.OperatorWords.{Ok, Err, IfOk, Vec, refl, sym, ap, ◌∙◌, subst, arith, true≢false, ◌||◌, list_any, Atom, Count, IsAtMost, IsJoined}
+use Rattle.moperator.proofs.OperatorWords.{IsRepetition, Matches, passing, is_match, is_any_kept, kept_atom, AreEnds, AreLed, IsJoinedWithin}
 use Rattle.std.proofs.Common.{Option, inl, inr, slice_range}
 use Rattle.std.specs.Prelude.{◌+◌, max, nat_le, replicate, ◌⊎◌}
 use Rattle.std.proofs.lemmas.Bool.{leb-true, leb-false}

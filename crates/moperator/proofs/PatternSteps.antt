@@ -1,6 +1,8 @@
 -- SPDX-License-Identifier: Apache-2.0
 -- The steps of the match by places: an atom, a pattern or a turn more.
-use Rattle.moperator.proofs.OperatorWords.{◌≡◌, ℕ, ◌<◌, ◌++◌, Bool, true, false, List, [], ◌∷◌, length, get_or, take, map, Result, Ok, Err, IfOk, Vec, sym, ap, ◌∙◌, subst, ◌||◌, take_more, Atom, Count, Matches, is_any_kept, kept_atom, kept_repeated, atom_tree, capped_count, AreEnds, AreLed}
+use Rattle.moperator.proofs.OperatorWords.{◌≡◌, ℕ, ◌<◌, ◌++◌, Bool, true, false, List, [], ◌∷◌, length, get_or, take, map, Result, Ok, Err, IfOk, Vec, sym, ap}
+use Rattle.moperator.proofs.OperatorWords.{◌∙◌, subst, ◌||◌, take_more, Atom, Count, Matches, is_any_kept, kept_atom, kept_repeated, atom_tree, capped_count}
+use Rattle.moperator.proofs.OperatorWords.{AreEnds, AreLed}
 use Rattle.std.specs.Prelude.{◌+◌}
 use Rattle.std.proofs.lemmas.List.{map-append}
 use Rattle.mgrammar.specs.Grammar.{AtomTree, patterns_of}

@@ -1,6 +1,8 @@
 -- SPDX-License-Identifier: Apache-2.0
 -- A walk over the atoms of a pattern, of which each ends at one place only.
-use Rattle.moperator.proofs.OperatorWords.{◌≡◌, ℕ, zero, suc, ◌-◌, ◌<◌, ◌≤◌, ◌↔◌, Bool, eqb, capped_count, count_of, List, [], ◌∷◌, length, get_or, take, drop, Some, Result, Ok, Err, IfOk, refl, sym, ap, subst, ◌∙◌, arith, drop-drop, length-drop, Decides-eqb, take_rest, Atom, Matches, atom_tree, IsLent, IsFirstOf, IsEnding, kept_atom, kept_repeated, pattern_of}
+use Rattle.moperator.proofs.OperatorWords.{◌≡◌, ℕ, zero, suc, ◌-◌, ◌<◌, ◌≤◌, ◌↔◌, Bool, eqb, capped_count, count_of, List, [], ◌∷◌, length, get_or, take, drop}
+use Rattle.moperator.proofs.OperatorWords.{Some, Result, Ok, Err, IfOk, refl, sym, ap, subst, ◌∙◌, arith, drop-drop, length-drop, Decides-eqb, take_rest, Atom}
+use Rattle.moperator.proofs.OperatorWords.{Matches, atom_tree, IsLent, IsFirstOf, IsEnding, kept_atom, kept_repeated, pattern_of}
 use Rattle.std.proofs.Common.{◌+◌, Option, Decides}
 use Rattle.mgrammar.specs.Grammar.{AtomTree}
 use Rattle.mgrammar.specs.Matching.{count_of as plain_count}

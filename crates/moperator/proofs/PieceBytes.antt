@@ -1,6 +1,7 @@
 -- SPDX-License-Identifier: Apache-2.0
 -- The characters of pieces are those of the text and of the delimiter.
-use Rattle.moperator.proofs.OperatorWords.{ℕ, zero, suc, ◌-◌, Bool, true, false, cond, List, [], ◌∷◌, ◌++◌, length, drop, All, unwrap_or, pos, onto_first, from_place, to_place, range_of, piece_of}
+use Rattle.moperator.proofs.OperatorWords.{ℕ, zero, suc, ◌-◌, Bool, true, false, cond, List, [], ◌∷◌, ◌++◌, length, drop, All, unwrap_or, pos, onto_first}
+use Rattle.moperator.proofs.OperatorWords.{from_place, to_place, range_of, piece_of}
 use Rattle.std.specs.Prelude.{ℤ, Option, ◌+◌}
 use Rattle.std.proofs.lemmas.List.Elements.{All-nil, All-cons, All-head, All-tail, All-append, All-take, All-drop}
 use Rattle.mspec.specs.Pieces.{join, begins_with, cut_after, pieces_of}

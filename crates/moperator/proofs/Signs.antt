@@ -1,6 +1,8 @@
 -- SPDX-License-Identifier: Apache-2.0
 -- The signs in front of an operand, of which the last one applies first.
-use Rattle.moperator.proofs.OperatorWords.{◌≡◌, ℕ, zero, suc, ◌-◌, ◌<◌, ◌≤◌, length, take, map, get_or, arith, List, [], ◌∷◌, ◌++◌, Result, Ok, Err, refl, sym, ap, ◌∙◌, subst, take_more, map_push, Text, Outcome, Gives, Fails, Act, on_gives, ◌>>=◌, give, unary, unaries, assoc, sign_tree, Yields, fault_of, Code, yields_then, yields_failed, yields_gives}
+use Rattle.moperator.proofs.OperatorWords.{◌≡◌, ℕ, zero, suc, ◌-◌, ◌<◌, ◌≤◌, length, take, map, get_or, arith, List, [], ◌∷◌, ◌++◌, Result, Ok, Err, refl, sym}
+use Rattle.moperator.proofs.OperatorWords.{ap, ◌∙◌, subst, take_more, map_push, Text, Outcome, Gives, Fails, Act, on_gives, ◌>>=◌, give, unary, unaries, assoc}
+use Rattle.moperator.proofs.OperatorWords.{sign_tree, Yields, fault_of, Code, yields_then, yields_failed, yields_gives}
 use Rattle.std.proofs.Common.{◌+◌}
 use Rattle.mspec.specs.Plan.{Plan, Done, Ask, then_plan}
 use Rattle.mgrammar.specs.Grammar.{SignTree}

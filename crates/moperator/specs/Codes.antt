@@ -20,6 +20,7 @@ fault_of code.M17 = spec.Own spec.M17
 fault_of code.M20 = spec.Own spec.M20
 fault_of code.M28 = spec.Own spec.M28
 fault_of code.M58 = spec.Own spec.M58
+fault_of code.M90 = spec.Own spec.M90
 fault_of code.M94 = spec.Own spec.M94
 fault_of code.Zlong = spec.Own spec.Zlong
 fault_of code.Zsyntax = spec.Own spec.Zsyntax

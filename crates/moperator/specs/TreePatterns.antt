@@ -3,7 +3,8 @@
 use Rattle.std.specs.Prelude.{ℕ, ◌≤◌, Bool, false, ◌||◌, List, [], ◌∷◌, map}
 use Rattle.mspec.specs.Pattern.{Repeated, members, copies, passing, Atom, IsJoined}
 use Rattle.mspec.specs.PatternTests.{is_match}
-use Rattle.mgrammar.specs.Grammar.{RepeatedTree, classes, copies as copies_tree, group, AtomsTree, no_atoms, more_atoms, PatternsTree, no_patterns, more_patterns, AtomTree}
+use Rattle.mgrammar.specs.Grammar.{RepeatedTree, classes, copies as copies_tree, group, AtomsTree, no_atoms, more_atoms, PatternsTree, no_patterns}
+use Rattle.mgrammar.specs.Grammar.{more_patterns, AtomTree}
 use Rattle.mgrammar.specs.Matching.{pattern_code, count_of}
 use Rattle.mtree.specs.CappedCounts.{capped_count}
 use Rattle.mtree.specs.Tree.{atom_tree}
@@ -29,6 +30,6 @@ kept_atom a = record { count = capped_count (count_of a.count); repeated = kept_
 abbrev pub pattern_of : List tree.Atom → List Atom
 pattern_of atoms = map kept_atom (map atom_tree atoms)
 
--- joined of so many texts that pass the test, from the least number up to another
+-- joined of this many texts that pass the test, from the least number up to another
 abbrev pub IsJoinedWithin : (List ℕ → Bool) → ℕ → ℕ → List ℕ → Type 0
 IsJoinedWithin test least most text = (n : ℕ) × (least ≤ n) × (n ≤ most) × IsJoined test n text

@@ -51,7 +51,8 @@ pub fn arithmetic_of(operator: Binary) -> Option<Arithmetic>
 #[inline]
 #[tactic(auto, using(crate::proofs::Numbers::number_left, crate::proofs::Numbers::no_number_left))]
 fn in_range(outcome: Result<(), Over>) -> Result<(), Code>
-    ensures { (x : Option ℤ) (left : Num) → MatchResult outcome (λ _. x ≡ Some (units left)) (λ _. x ≡ None) → Yields fault_of (meaning.as_text x) (λ _. number_text (units left)) result }
+    ensures { (x : Option ℤ) (left : Num) → MatchResult outcome (λ _. x ≡ Some (units left)) (λ _. x ≡ None) → Yields fault_of (meaning.as_text x)
+        (λ _. number_text (units left)) result }
 {
     match outcome {
         Ok(()) => Ok(()),
@@ -63,7 +64,8 @@ fn in_range(outcome: Result<(), Over>) -> Result<(), Code>
 #[inline]
 #[tactic(auto, using(crate::proofs::Numbers::quotient_left, crate::proofs::Numbers::no_quotient))]
 fn divided(outcome: Result<(), ArithFault>) -> Result<(), Code>
-    ensures { (divisor : ℤ) (x : Option ℤ) (left : Num) → Leaves divisor x left outcome → Yields fault_of (division divisor x) (λ _. number_text (units left)) result }
+    ensures { (divisor : ℤ) (x : Option ℤ) (left : Num) → Leaves divisor x left outcome → Yields fault_of (division divisor x) (λ _. number_text
+        (units left)) result }
 {
     match outcome {
         Ok(()) => Ok(()),
@@ -72,7 +74,7 @@ fn divided(outcome: Result<(), ArithFault>) -> Result<(), Code>
 }
 
 /// Turns the left number into what an operator gives for the two, in place: a number that is written and then moved at once has
-/// to be waited for.
+/// to be had first.
 ///
 /// # Errors
 ///

@@ -33,6 +33,8 @@ pub enum Code {
     M28,
     /// More actuals than the line has formal parameters.
     M58,
+    /// A text that is no name of a node.
+    M90,
     /// Zero to the power zero.
     M94,
     /// A text of more than 4,095 characters.

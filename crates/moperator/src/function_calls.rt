@@ -1,12 +1,14 @@
 // SPDX-License-Identifier: Apache-2.0
 // The functions, of arguments that are values already.
-ghost use Rattle.std.specs.Prelude.{◌≡◌, map, IsErrAnd, None, Some};
+ghost use Rattle.std.specs.Prelude.{◌≡◌, ◌<◌, ◌^◌, map, unsigned_abs, IsErrAnd, None, Some};
 ghost use Rattle.mgrammar.specs.Functions as grammar;
-ghost use Rattle.mspec.specs.Act.{State};
+ghost use Rattle.mspec.specs.Act.{State, give_some};
 ghost use Rattle.mspec.specs.Code as spec;
+ghost use Rattle.mspec.specs.Code.{Zarg};
 ghost use Rattle.mmeaning.specs.Functions as meaning;
 ghost use Rattle.mtree.specs.Functions.{IsValueWord, value_function_tree};
 ghost use Rattle.mmeaning.specs.Yields.{Yields};
+ghost use Rattle.mscan.specs.NameParts.{name_view};
 ghost use Rattle.moperator.specs.Codes.{fault_of};
 ghost use Rattle.moperator.specs.Outcomes.{FailsBy};
 
@@ -14,6 +16,7 @@ use crate::arguments::{number_at, text_at, whole_at, wholes};
 use crate::characters::{characters, code_at, refuse_characters};
 use crate::code::Code;
 use crate::conversions::{answered, whole_of};
+use mscan::{NameValue, ParseFault, name_value};
 use mtext::{extract, find, format_number, justify, justify_number, piece, pieces, translate};
 use mtree::{ValueFunction, ValueWord};
 use mvalue::Value;
@@ -33,7 +36,8 @@ fn ascii(alloc: Global, arguments: &[Value]) -> Result<Value, Code>
 #[tactic(auto, using(mmeaning::proofs::Yieldings::yields_then, mmeaning::proofs::Yieldings::yields_stopped))]
 fn char(alloc: Global, arguments: &[Value]) -> Result<Value, Code>
     ensures value { Yields fault_of (meaning.function_value grammar.char_function arguments.now) (λ value. value) result }
-    ensures refused { (code : spec.Code) → (s : State) → FailsBy (meaning.function_value grammar.char_function arguments.now) code s → IsErrAnd result (λ given. fault_of given ≡ spec.Own code) }
+    ensures refused { (code : spec.Code) → (s : State) → FailsBy (meaning.function_value grammar.char_function arguments.now) code s → IsErrAnd result
+        (λ given. fault_of given ≡ spec.Own code) }
 {
     refuse_characters(arguments)?;
     let codes = wholes(alloc, arguments)?;
@@ -139,6 +143,55 @@ fn length(alloc: Global, arguments: &[Value]) -> Result<Value, Code>
     }
 }
 
+// The parts of the name that an argument is.
+fn name_at(alloc: Global, arguments: &[Value], place: usize) -> Result<NameValue, Code>
+    ensures { Yields fault_of (meaning.name_parts (meaning.text_at place arguments.now)) name_view result }
+{
+    let text = text_at(alloc, arguments, place)?;
+    match name_value(alloc, text.as_text().as_bytes()) {
+        Ok(parts) => Ok(parts),
+        Err(ParseFault::Syntax) => Err(Code::M90),
+        Err(ParseFault::Memory) => Err(Code::Zmem),
+    }
+}
+
+#[tactic(auto, using(mmeaning::proofs::Yieldings::yields_then, mmeaning::proofs::Yieldings::yields_stopped, mmeaning::proofs::Yieldings::yields_gives))]
+fn name_length(alloc: Global, arguments: &[Value]) -> Result<Value, Code>
+    ensures { Yields fault_of (meaning.function_value grammar.name_length_function arguments.now) (λ value. value) result }
+{
+    let parts = name_at(alloc, arguments, 0)?;
+    Ok(Value::of_count(alloc, parts.subscripts.len() as u64)?)
+}
+
+// Which part of a name is meant.
+fn part_place(number: i64) -> Result<usize, Code>
+    requires { unsigned_abs number < 10 ^ 18 }
+    ensures { Yields fault_of (give_some Zarg (meaning.part_place number)) (λ place. place) result }
+{
+    if number < -1 {
+        return Err(Code::Zarg);
+    }
+    Ok((number + 1) as usize)
+}
+
+#[tactic(auto, using(mmeaning::proofs::Yieldings::yields_then, mmeaning::proofs::Yieldings::yields_stopped, mmeaning::proofs::Yieldings::yields_gives))]
+fn name_part(alloc: Global, arguments: &[Value], number: i64) -> Result<Value, Code>
+    requires { unsigned_abs number < 10 ^ 18 }
+    ensures { Yields fault_of (meaning.name_part (meaning.text_at 0 arguments.now) number) (λ value. value) result }
+{
+    let place = part_place(number)?;
+    let parts = name_at(alloc, arguments, 0)?;
+    Ok(Value::of_bytes(alloc, parts.part(place))?)
+}
+
+#[tactic(auto, using(mmeaning::proofs::Yieldings::yields_stopped))]
+fn name_subscript(alloc: Global, arguments: &[Value]) -> Result<Value, Code>
+    ensures { Yields fault_of (meaning.function_value grammar.name_subscript_function arguments.now) (λ value. value) result }
+{
+    let number = whole_at(arguments, 1)?;
+    name_part(alloc, arguments, number.unwrap_or(0))
+}
+
 #[tactic(auto, using(mmeaning::proofs::Yieldings::yields_then, mmeaning::proofs::Yieldings::yields_stopped, mmeaning::proofs::Yieldings::yields_gives))]
 fn pieces_from_to(alloc: Global, arguments: &[Value]) -> Result<Value, Code>
     ensures { Yields fault_of (meaning.function_value grammar.piece_function arguments.now) (λ value. value) result }
@@ -177,7 +230,8 @@ fn translated(alloc: Global, arguments: &[Value]) -> Result<Value, Code>
 fn function(alloc: Global, function: ValueFunction, arguments: &[Value]) -> Result<Value, Code>
     ensures value { Yields fault_of (meaning.function_value (value_function_tree function) arguments.now) (λ value. value) result }
     ensures characters { value_function_tree function ≡ grammar.char_function
-        → (code : spec.Code) → (s : State) → FailsBy (meaning.function_value grammar.char_function arguments.now) code s → IsErrAnd result (λ given. fault_of given ≡ spec.Own code) }
+        → (code : spec.Code) → (s : State) → FailsBy (meaning.function_value grammar.char_function arguments.now) code s → IsErrAnd result
+        (λ given. fault_of given ≡ spec.Own code) }
 {
     match function {
         ValueFunction::Ascii => ascii(alloc, arguments),
@@ -187,6 +241,8 @@ fn function(alloc: Global, function: ValueFunction, arguments: &[Value]) -> Resu
         ValueFunction::FormatNumber => formatted(alloc, arguments),
         ValueFunction::Justify => justified(alloc, arguments),
         ValueFunction::Length => length(alloc, arguments),
+        ValueFunction::NameLength => name_length(alloc, arguments),
+        ValueFunction::NameSubscript => name_subscript(alloc, arguments),
         ValueFunction::Piece => pieces_from_to(alloc, arguments),
         ValueFunction::Reverse => reversed(alloc, arguments),
         ValueFunction::Translate => translated(alloc, arguments),
@@ -201,7 +257,8 @@ fn function(alloc: Global, function: ValueFunction, arguments: &[Value]) -> Resu
 pub fn call(alloc: Global, word: &ValueWord, arguments: &[Value]) -> Result<Value, Code>
     ensures value { Yields fault_of (meaning.call_value word.now arguments.now) (λ value. value) result }
     ensures characters { IsValueWord word.now grammar.char_function
-        → (code : spec.Code) → (s : State) → FailsBy (meaning.function_value grammar.char_function arguments.now) code s → IsErrAnd result (λ given. fault_of given ≡ spec.Own code) }
+        → (code : spec.Code) → (s : State) → FailsBy (meaning.function_value grammar.char_function arguments.now) code s → IsErrAnd result
+        (λ given. fault_of given ≡ spec.Own code) }
 {
     function(alloc, word.function(), arguments)
 }

@@ -13,7 +13,7 @@ use mtext::{Atom, Count, Repeated, either_marks, ends_of, has_mark};
 use mtree::Alternative;
 use std::alloc::{AllocError, Global};
 
-// How many turns of a group are enough: those that are wanted, or one for each character, if there are so many.
+// How many turns of a group are enough: those that are wanted, or one for each character, if there are that many.
 fn enough_turns(count: Count, characters: usize) -> usize
     ensures { result ≡ tests.at_most count.most (max count.least characters) }
 {
@@ -26,7 +26,8 @@ fn enough_turns(count: Count, characters: usize) -> usize
 
 // The places where a group may end before any turn.
 fn first_ends(alloc: Global, least: usize, starts: &[bool]) -> Result<Vec<bool>, AllocError>
-    ensures { IfOk result (λ ends. (text : List ℕ) (test : List ℕ → Bool) → length starts.now ≡ length text + 1 → AreLed text (IsJoinedWithin test least 0) starts.now ends.items) }
+    ensures { IfOk result (λ ends. (text : List ℕ) (test : List ℕ → Bool) → length starts.now ≡ length text + 1 → AreLed text
+        (IsJoinedWithin test least 0) starts.now ends.items) }
 {
     if least == 0 {
         return Vec::from_slice(alloc, starts);
@@ -44,7 +45,8 @@ fn more_ends(
 ) -> Result<Vec<bool>, AllocError>
     requires { length ends.items ≡ length places.now }
     ensures { IfOk result (λ more. (text : List ℕ) (test : List ℕ → Bool) (starts : List Bool) (before : ℕ) → turn ≡ before + 1
-        → AreLed text (IsJoinedWithin test least before) starts ends.items → AreLed text (IsJoined test turn) starts places.now → AreLed text (IsJoinedWithin test least turn) starts more.items) }
+        → AreLed text (IsJoinedWithin test least before) starts ends.items → AreLed text (IsJoined test turn) starts places.now → AreLed text
+        (IsJoinedWithin test least turn) starts more.items) }
 {
     if turn < least {
         return Ok(ends);
@@ -52,7 +54,7 @@ fn more_ends(
     either_marks(alloc, ends.as_slice(), places)
 }
 
-// The places to which so many of what an atom repeats lead.
+// The places to which this many of what an atom repeats lead.
 #[cycle(ends)]
 fn ends_of_repeated(
     alloc: Global,

@@ -78,7 +78,7 @@ pub fn is_plain(atoms: &[Atom]) -> bool
     true
 }
 
-// The turns that a count takes at most, of a text with so many characters.
+// The turns that a count takes at most, of a text with this many characters.
 fn turns(count: Count, characters: usize) -> usize
     ensures { result ≡ capped (tests.turns (count_of count) characters) }
 {

@@ -15,3 +15,9 @@ returns-in-Reverse-clause-value c = rw c.in-Reverse.is c.reversed.ensures
 
 pub returns-in-Translate-clause-value : goal.returns-in-Translate-clause-value
 returns-in-Translate-clause-value c = rw c.in-Translate.is c.translated.ensures
+
+pub returns-in-NameLength-clause-value : goal.returns-in-NameLength-clause-value
+returns-in-NameLength-clause-value c = rw c.in-NameLength.is c.name_length.ensures
+
+pub returns-in-NameSubscript-clause-value : goal.returns-in-NameSubscript-clause-value
+returns-in-NameSubscript-clause-value c = rw c.in-NameSubscript.is c.name_subscript.ensures

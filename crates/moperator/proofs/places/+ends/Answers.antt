@@ -1,5 +1,6 @@
 -- SPDX-License-Identifier: Apache-2.0
-use Rattle.moperator.proofs.OperatorWords.{◌≡◌, ◌≤◌, ◌∙◌, ap, sym, subst, refl, arith, ℕ, Bool, true, List, map, list_any, IsJoined, is_any_kept, kept_repeated, count_of, AreLed, AreEnds}
+use Rattle.moperator.proofs.OperatorWords.{◌≡◌, ◌≤◌, ◌∙◌, ap, sym, subst, refl, arith, ℕ, Bool, true, List, map, list_any, IsJoined, is_any_kept, kept_repeated}
+use Rattle.moperator.proofs.OperatorWords.{count_of, AreLed, AreEnds}
 use Rattle.std.specs.Prelude.{◌+◌}
 use Rattle.std.proofs.Common.{take_all}
 use Rattle.mgrammar.specs.Grammar.{RepeatedTree, patterns_of}

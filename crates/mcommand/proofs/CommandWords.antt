@@ -1,6 +1,7 @@
 -- SPDX-License-Identifier: Apache-2.0
 -- The words that most proofs of this crate have, in one place.
-pub use Rattle.std.proofs.Common.{Bool, Err, Global, List, MatchResult, MutBor, None, Ok, Option, Result, Some, Vec, [], ap, append_assoc, arith, cond, drop, false, get_or, length, map, option_map, refl, subst, sym, true, ℕ, ℤ, ◌++◌, ◌+ℤ◌, ◌+◌, ◌<◌, ◌∙◌, ◌∷◌, ◌≡◌, ◌≤◌}
+pub use Rattle.std.proofs.Common.{Bool, Err, Global, List, MatchResult, MutBor, None, Ok, Option, Result, Some, Vec, [], ap, append_assoc, arith, cond, drop}
+pub use Rattle.std.proofs.Common.{false, get_or, length, map, option_map, refl, subst, sym, true, ℕ, ℤ, ◌++◌, ◌+ℤ◌, ◌+◌, ◌<◌, ◌∙◌, ◌∷◌, ◌≡◌, ◌≤◌}
 pub use Rattle.std.specs.Prelude.{if◌then◌else◌, ℤ, ◌&&◌}
 pub use Rattle.std.specs.Result.{IsErr, IsErrAnd}
 pub use Rattle.std.specs.Vec.Iter.{into_iter_items, into_iter_steps}

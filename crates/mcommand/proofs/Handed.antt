@@ -1,6 +1,7 @@
 -- SPDX-License-Identifier: Apache-2.0
 -- Names that operands give.
-use Rattle.mcommand.proofs.CommandWords.{Doubts-same, ◌≡◌, [], ◌∷◌, List, length, get_or, map, arith, ap, ◌∙◌, Bool, true, false, Option, Some, None, Result, Err, refl, sym, Text, Act, ◌>>◌, Inside, Ghosts, Code, depth_of, Parts, Does}
+use Rattle.mcommand.proofs.CommandWords.{Doubts-same, ◌≡◌, [], ◌∷◌, List, length, get_or, map, arith, ap, ◌∙◌, Bool, true, false, Option, Some, None, Result}
+use Rattle.mcommand.proofs.CommandWords.{Err, refl, sym, Text, Act, ◌>>◌, Inside, Ghosts, Code, depth_of, Parts, Does}
 use Rattle.std.specs.Prelude.{IsTrue, ◌↔◌}
 use Rattle.std.proofs.lemmas.Bool.{false≢true}
 use Rattle.mspec.specs.Names.{IsName}
@@ -18,7 +19,8 @@ use Rattle.mcommand.proofs.Calls.{keeps_itself}
 -- ---- the check of the depth
 
 module _ {S A Y : Type 0} {g : Ghosts S} {j : Y → A} where
-  pub deep_refused : {parts : Parts S} (q : Inside → Act A) → is_indirection_free (depth_of parts.eval.depth) ≡ false → Does g (λ i. an_indirection_free i.depth >> q i) j parts (Err Zdepth) parts
+  pub deep_refused : {parts : Parts S} (q : Inside → Act A) → is_indirection_free (depth_of parts.eval.depth) ≡ false
+      → Does g (λ i. an_indirection_free i.depth >> q i) j parts (Err Zdepth) parts
   deep_refused {parts = parts} q full = record {
     at = λ sure. rw full (did_fail spec.Zdepth j Zdepth refl);
     doubt = Doubts-same _;
@@ -26,7 +28,8 @@ module _ {S A Y : Type 0} {g : Ghosts S} {j : Y → A} where
     depth = refl;
   }
 
-  pub free_goes_on : {old new : Parts S} {r : Result Y Code} (q : Inside → Act A) → is_indirection_free (depth_of old.eval.depth) ≡ true → Does g q j old r new → Does g (λ i. an_indirection_free i.depth >> q i) j old r new
+  pub free_goes_on : {old new : Parts S} {r : Result Y Code} (q : Inside → Act A) → is_indirection_free (depth_of old.eval.depth) ≡ true → Does g q j old r new
+      → Does g (λ i. an_indirection_free i.depth >> q i) j old r new
   free_goes_on q free d = record { at = λ sure. rw free (d.at sure); doubt = d.doubt; keeps = d.keeps; depth = d.depth }
 
 -- ---- names
@@ -44,7 +47,8 @@ name_none x none = go (name_of x) refl
 -- ---- actuals
 
 -- of any but one that is missing, alone in its brackets, each hands something over
-pub each_handed : (i : Inside) (xs : ActualsTree) → (xs ≡ actuals missing_actual no_actuals → ⊥) → ◌≡◌ {A = Act (List Binding)} (handed_over i xs) (all_handed i [] xs)
+pub each_handed : (i : Inside) (xs : ActualsTree) → (xs ≡ actuals missing_actual no_actuals → ⊥)
+    → ◌≡◌ {A = Act (List Binding)} (handed_over i xs) (all_handed i [] xs)
 each_handed i no_actuals other = refl
 each_handed i (actuals missing_actual no_actuals) other = absurd (other refl)
 each_handed i (actuals missing_actual (actuals b rest)) other = refl
@@ -76,7 +80,8 @@ module _ {Y : Type 0} (tree : Y → ActualTree) where
   alone_is (a ∷ []) h = refl
   alone_is (a ∷ b ∷ more) h = absurd (false≢true h)
 
-  pub bare_one : (listed : List Y) (y : Y) (b : Bool) → length listed ≡ 1 → y ≡ get_or listed 0 y → IsTrue b ↔ (tree y ≡ missing_actual) → IsTrue b ↔ (actuals_of (map tree listed) ≡ actuals missing_actual no_actuals)
+  pub bare_one : (listed : List Y) (y : Y) (b : Bool) → length listed ≡ 1 → y ≡ get_or listed 0 y → IsTrue b ↔ (tree y ≡ missing_actual)
+      → IsTrue b ↔ (actuals_of (map tree listed) ≡ actuals missing_actual no_actuals)
   bare_one [] y b one is when = absurd (omega (arith, one))
   bare_one (a ∷ []) y b one is when = (λ h. ap (λ t. actuals t no_actuals) (ap tree (sym is) ∙ when.0 h), λ e. when.1 (ap tree is ∙ ap first_of e))
   bare_one (a ∷ c ∷ more) y b one is when = absurd (omega (arith, one))

@@ -3,6 +3,9 @@ mod CommandWords
 pub mod Calls
 pub mod Characters
 pub mod Targets
+pub mod PreparedTargets
+pub mod StepItems
+pub mod StepsIn
 pub mod Labels
 pub mod Spoken
 pub mod HandedActuals

@@ -1,6 +1,7 @@
 -- SPDX-License-Identifier: Apache-2.0
 -- Names, each with what its actual hands over, one after the other.
-use Rattle.mcommand.proofs.CommandWords.{◌≡◌, ◌≤◌, ◌++◌, ◌∷◌, [], List, map, length, Option, Some, None, Global, arith, refl, sym, ap, ◌∙◌, append_assoc, into_iter_items, into_iter_steps, Text}
+use Rattle.mcommand.proofs.CommandWords.{◌≡◌, ◌≤◌, ◌++◌, ◌∷◌, [], List, map, length, Option, Some, None, Global, arith, refl, sym, ap, ◌∙◌, append_assoc}
+use Rattle.mcommand.proofs.CommandWords.{into_iter_items, into_iter_steps, Text}
 use Rattle.std.specs.Prelude.{unwrap_or}
 use Rattle.std.specs.declared.vec.IntoIter.{IntoIter}
 use Rattle.std.proofs.lemmas.List.{map_push}

@@ -1,6 +1,7 @@
 -- SPDX-License-Identifier: Apache-2.0
 pub mod Does
 pub mod Prepared
+pub mod Steps
 pub mod Conditions
 pub mod Targets
 pub mod ForParameters

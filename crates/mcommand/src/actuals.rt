@@ -3,6 +3,7 @@
 ghost use Rattle.std.specs.Prelude.{◌≡◌, ◌↔◌, [], map, IsTrue};
 ghost use Rattle.mgrammar.specs.Grammar as grammar;
 ghost use Rattle.mgrammar.specs.Grammar.{actuals_of, indirect_actual, missing_actual};
+ghost use Rattle.mmeaning.specs.Expression.{linked_by};
 ghost use Rattle.mmeaning.specs.Parameters as meaning;
 ghost use Rattle.mtree.specs.Tree.{actual_tree, primary_tree};
 ghost use Rattle.mlocal.specs.Bindings.{binding_of};
@@ -14,6 +15,7 @@ use mnodes::NodeStore;
 use mnum::Name;
 use moperator::Code;
 use mtree::{Actual, Primary};
+use mvalue::Value;
 use std::alloc::Global;
 
 // Whether an actual is missing.
@@ -39,11 +41,15 @@ fn is_bare(actuals: &[Actual]) -> bool
 }
 
 impl<'a, S: NodeStore> Parts<'a, S> {
-    // The variable whose name the value of an operand is.
-    fn handed_name(&mut self, alloc: Global, operand: &Primary) -> Result<Binding, Code>
-        ensures { Does S.NodeStore (λ i. meaning.handed i (indirect_actual (primary_tree operand.now))) binding_of self.old result self.new }
+    /// The variable whose name a value is.
+    ///
+    /// # Errors
+    ///
+    /// `Zdepth` if that would be one indirection too many, `Zsyntax` if it is no name; `Zmem` if memory runs out.
+    #[inline]
+    pub fn linked_by(&mut self, alloc: Global, given: Value) -> Result<Binding, Code>
+        ensures { Does S.NodeStore (λ i. linked_by i given) binding_of self.old result self.new }
     {
-        let given = self.eval.primary(alloc, operand)?;
         let Some(_) = self.eval.depth.indirected() else {
             return Err(Code::Zdepth);
         };
@@ -54,8 +60,20 @@ impl<'a, S: NodeStore> Parts<'a, S> {
         }
     }
 
-    // What an actual hands over.
-    fn handed(&mut self, alloc: Global, actual: &Actual) -> Result<Binding, Code>
+    // The variable whose name the value of an operand is.
+    fn handed_name(&mut self, alloc: Global, operand: &Primary) -> Result<Binding, Code>
+        ensures { Does S.NodeStore (λ i. meaning.handed i (indirect_actual (primary_tree operand.now))) binding_of self.old result self.new }
+    {
+        let given = self.eval.primary(alloc, operand)?;
+        self.linked_by(alloc, given)
+    }
+
+    /// What an actual hands over: a value, a variable of the caller, or nothing.
+    ///
+    /// # Errors
+    ///
+    /// Those of its value, and of `linked_by`; `Zmem` if memory runs out.
+    pub fn handed(&mut self, alloc: Global, actual: &Actual) -> Result<Binding, Code>
         ensures { Does S.NodeStore (λ i. meaning.handed i (actual_tree actual.now)) binding_of self.old result self.new }
     {
         match actual {
@@ -72,7 +90,8 @@ impl<'a, S: NodeStore> Parts<'a, S> {
     // What actuals hand over, from left to right. Kept out of line, so that a DO without actuals is short.
     #[inline(never)]
     fn all_handed(&mut self, alloc: Global, actuals: &[Actual]) -> Result<Vec<Binding>, Code>
-        ensures { Does S.NodeStore (λ i. meaning.all_handed i [] (actuals_of (map actual_tree actuals.now))) (λ bindings. map binding_of bindings.items) self.old result self.new }
+        ensures { Does S.NodeStore (λ i. meaning.all_handed i [] (actuals_of (map actual_tree actuals.now)))
+            (λ bindings. map binding_of bindings.items) self.old result self.new }
     {
         let mut bindings = Vec::with_capacity(alloc, actuals.len())?;
         for actual in actuals {
@@ -90,7 +109,8 @@ impl<'a, S: NodeStore> Parts<'a, S> {
     /// Those of the actuals' values; `Zdepth` if the text of an `@` would be one indirection too many, `Zsyntax` if it is no name; `Zmem`
     /// if memory runs out.
     pub fn handed_over(&mut self, alloc: Global, actuals: &[Actual]) -> Result<Vec<Binding>, Code>
-        ensures { Does S.NodeStore (λ i. meaning.handed_over i (actuals_of (map actual_tree actuals.now))) (λ bindings. map binding_of bindings.items) self.old result self.new }
+        ensures { Does S.NodeStore (λ i. meaning.handed_over i (actuals_of (map actual_tree actuals.now)))
+            (λ bindings. map binding_of bindings.items) self.old result self.new }
     {
         if actuals.is_empty() {
             return Ok(Vec::new(alloc));

@@ -73,7 +73,8 @@ impl<'a, S: NodeStore> Parts<'a, S> {
         e: &Expr,
         by: &Expr,
     ) -> Result<(Num, Num), Code>
-        ensures { Does S.NodeStore (λ i. start_and_increment i (expr_tree e.now) (expr_tree by.now)) (λ numbers. (units numbers.0, units numbers.1)) self.old result self.new }
+        ensures { Does S.NodeStore (λ i. start_and_increment i (expr_tree e.now) (expr_tree by.now)) (λ numbers.
+            (units numbers.0, units numbers.1)) self.old result self.new }
     {
         let number = self.eval.number(alloc, e)?;
         let by = self.eval.number(alloc, by)?;
@@ -104,7 +105,8 @@ impl<'a, S: NodeStore> Parts<'a, S> {
         by: &Expr,
         limit: &Expr,
     ) -> Result<Option<Course>, Code>
-        ensures { Does S.NodeStore (λ i. started i index.now (until (expr_tree e.now) (expr_tree by.now) (expr_tree limit.now))) (option_map course_view) self.old result self.new }
+        ensures { Does S.NodeStore (λ i. started i index.now (until (expr_tree e.now) (expr_tree by.now) (expr_tree limit.now)))
+            (option_map course_view) self.old result self.new }
     {
         let (number, by) = self.start_and_increment(alloc, e, by)?;
         let limit = self.eval.number(alloc, limit)?;

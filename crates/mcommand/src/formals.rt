@@ -1,19 +1,17 @@
 // SPDX-License-Identifier: Apache-2.0
 // The formal parameters of a level that DO opens.
 ghost use Rattle.std.specs.Prelude.{◌≡◌, length, map, option_map, IfOk};
-ghost use Rattle.mgrammar.specs.Grammar.{actuals_of};
 ghost use Rattle.mgrammar.specs.RoutineLine.{formals_of};
 ghost use Rattle.mmeaning.specs.Parameters as meaning;
+ghost use Rattle.mmeaning.specs.Programs.{listed};
 ghost use Rattle.mmeaning.specs.Yields.{Yields};
 ghost use Rattle.moperator.specs.Codes.{fault_of};
-ghost use Rattle.mtree.specs.Tree.{actual_tree};
 ghost use Rattle.mlocal.specs.Bindings.{binding_of, bindings_of};
 
 use mlocal::Binding;
 use mnum::Name;
 use moperator::Code;
 use mscan::{formals_of, has_formal_list};
-use mtree::Actual;
 use std::alloc::{AllocError, Global};
 
 // Names, each with what its actual hands over; those past the last actual have no value.
@@ -38,18 +36,15 @@ fn paired(
 fn formals_listed(
     alloc: Global,
     language: u32,
-    actuals: &[Actual],
+    is_listed: bool,
     line: &[u8],
     bindings: Vec<Binding>,
 ) -> Result<Option<Vec<(Name, Binding)>>, Code>
-    ensures { Yields fault_of (meaning.formals_for (actuals_of (map actual_tree actuals.now)) (formals_of language line.now) (map binding_of bindings.items)) (option_map (λ formals. bindings_of formals.items)) result }
+    ensures { Yields fault_of (meaning.formals_for (listed is_listed) (formals_of language line.now) (map binding_of bindings.items))
+        (option_map (λ formals. bindings_of formals.items)) result }
 {
     match formals_of(alloc, language, line)? {
-        None => if actuals.is_empty() {
-            Ok(None)
-        } else {
-            Err(Code::M20)
-        },
+        None => if is_listed { Err(Code::M20) } else { Ok(None) },
         Some(names) => if bindings.len() > names.len() {
             Err(Code::M58)
         } else {
@@ -63,22 +58,23 @@ fn formals_listed(
 ///
 /// # Errors
 ///
-/// `M20` if there are actuals, but no formal list; `M58` if there are more actuals than formal parameters; `Zmem` if memory runs out.
+/// `M20` if a list of actuals is written, but the line has no formal list; `M58` if there are more actuals than formal parameters; `Zmem` if memory runs out.
 #[inline(always)]
 pub fn formals_for(
     alloc: Global,
     language: u32,
-    actuals: &[Actual],
+    is_listed: bool,
     line: &[u8],
     bindings: Vec<Binding>,
 ) -> Result<Option<Vec<(Name, Binding)>>, Code>
-    ensures { Yields fault_of (meaning.formals_for (actuals_of (map actual_tree actuals.now)) (formals_of language line.now) (map binding_of bindings.items)) (option_map (λ formals. bindings_of formals.items)) result }
+    ensures { Yields fault_of (meaning.formals_for (listed is_listed) (formals_of language line.now) (map binding_of bindings.items))
+        (option_map (λ formals. bindings_of formals.items)) result }
 {
     if has_formal_list(language, line) {
-        formals_listed(alloc, language, actuals, line, bindings)
-    } else if actuals.is_empty() {
-        Ok(None)
-    } else {
+        formals_listed(alloc, language, is_listed, line, bindings)
+    } else if is_listed {
         Err(Code::M20)
+    } else {
+        Ok(None)
     }
 }

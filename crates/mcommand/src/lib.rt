@@ -1,6 +1,6 @@
 // SPDX-License-Identifier: Apache-2.0
 //! What the arguments of commands that run no text do: SET, KILL, IF, LOCK, WRITE and HANG, postconditionals, the parameters of FOR,
-//! and what the actuals of DO hand over.
+//! and what the actuals of DO hand over; and the steps of an argument with a call of a function in it.
 #![tactic(auto)]
 
 mod actuals;
@@ -8,15 +8,19 @@ mod condition;
 mod for_parameter;
 mod formals;
 mod hang;
+mod items;
 mod kill;
 mod lock;
 mod parts;
 mod set;
+mod steps;
 mod target;
 mod write;
 
 pub use for_parameter::Course;
 pub use formals::formals_for;
+pub use items::{Item, take_handing, take_targets, take_value, take_values};
 pub use parts::Parts;
+pub use set::Prepared;
 pub use target::Target;
 pub use write::LINE_END;

@@ -128,7 +128,8 @@ impl<'a, S: NodeStore> Parts<'a, S> {
         names: &Locked,
         timeout: &Option<Box<Expr>>,
     ) -> Result<(), Code>
-        ensures { Does S.NodeStore (λ i. meaning.locking i (kind_tree kind) (locked_tree names.now) (condition_tree timeout.now)) (λ u. u) self.old result self.new }
+        ensures { Does S.NodeStore (λ i. meaning.locking i (kind_tree kind) (locked_tree names.now) (condition_tree timeout.now))
+            (λ u. u) self.old result self.new }
     {
         match names {
             Locked::One(reference) => self.locking_one(alloc, kind, reference, timeout),
@@ -147,7 +148,8 @@ impl<'a, S: NodeStore> Parts<'a, S> {
         reference: &Reference,
         timeout: &Option<Box<Expr>>,
     ) -> Result<(), Code>
-        ensures { Does S.NodeStore (λ i. meaning.locking i (kind_tree kind) (lock_one (reference_tree reference.now)) (condition_tree timeout.now)) (λ u. u) self.old result self.new }
+        ensures { Does S.NodeStore (λ i. meaning.locking i (kind_tree kind) (lock_one (reference_tree reference.now)) (condition_tree timeout.now))
+            (λ u. u) self.old result self.new }
     {
         let name = self.eval.lock_name(alloc, reference)?;
         self.locking_names(alloc, kind, from_ref(&name), timeout)

@@ -1,6 +1,6 @@
 // SPDX-License-Identifier: Apache-2.0
 // SET: the parts of its targets are evaluated first, then the right side, and then each target is assigned.
-ghost use Rattle.std.specs.Prelude.{◌≡◌, [], length, map, option_map};
+ghost use Rattle.std.specs.Prelude.{◌≡◌, [], length, map, option_map, IfOk};
 ghost use Rattle.mgrammar.specs.Grammar.{one, variable, local, exprs, no_exprs};
 ghost use Rattle.mmeaning.specs.LineMeaning as meaning;
 ghost use Rattle.mtree.specs.Tree.{expr_tree, part_tree, target_tree, value_function_tree, destination_tree};
@@ -15,17 +15,58 @@ use mnodes::NodeStore;
 use mnum::{Bytes7, Name};
 use moperator::{Code, text_at, whole_at};
 use mtext::{has_places, set_piece, set_range};
-use mtree::{Destination, Expr, PartTarget, Reference, Target, ValueFunction, ValueWord};
+use mtree::{Destination, Expr, PartTarget, Reference, Target, ValueFunction};
 use mvalue::Value;
-use std::alloc::Global;
+use std::alloc::{AllocError, Global};
+use std::slice::from_ref;
 
-// A target, once everything that it has to evaluate is evaluated.
+/// A target, once everything that it has to evaluate is evaluated. Contracts see it by `prepared_view`, as one of the definitions.
 #[derive(Drop)]
-pub(crate) enum Prepared<'t> {
-    // A variable.
+pub enum Prepared<'t> {
+    /// A variable.
     Whole(Pending<'t>),
-    // A part of a variable, with its function's word and the values after the variable.
-    Part(&'t ValueWord, Pending<'t>, Values),
+    /// A part of a variable, with its function and the values after the variable.
+    Part(ValueFunction, Pending<'t>, Values),
+}
+
+impl<'t> Prepared<'t> {
+    // The same, which no tree need hold: a name that is lent is copied.
+    fn into_own<'u>(self) -> Result<Prepared<'u>, AllocError>
+        ensures { IfOk result (λ prepared. prepared_view prepared ≡ prepared_view self.entry) }
+    {
+        match self {
+            Prepared::Whole(pending) => {
+                let pending = pending.into_own()?;
+                Ok(Prepared::Whole(pending))
+            }
+            Prepared::Part(function, pending, values) => {
+                let pending = pending.into_own()?;
+                Ok(Prepared::Part(function, pending, values))
+            }
+        }
+    }
+}
+
+// Targets that no tree need hold.
+fn all_own<'u>(alloc: Global, all: Vec<Prepared>) -> Result<Vec<Prepared<'u>>, AllocError>
+    ensures { IfOk result (λ own. map prepared_view own.items ≡ map prepared_view all.entry.items) }
+{
+    let mut own = Vec::with_capacity(alloc, all.len())?;
+    for prepared in all {
+        let one = prepared.into_own()?;
+        own.push(one)?;
+    }
+    Ok(own)
+}
+
+// What is to the left of `=`, as a list.
+fn targets_of(destination: &Destination) -> &[Target]
+    ensures { map target_tree result.now ≡ meaning.targets (destination_tree destination.now) }
+{
+    match destination {
+        Destination::One(target) => from_ref(target),
+        Destination::Several(targets) => targets,
+    }
 }
 
 impl<'a, S: NodeStore> Parts<'a, S> {
@@ -40,7 +81,7 @@ impl<'a, S: NodeStore> Parts<'a, S> {
     {
         let pending = self.eval.evaluated(alloc, &part.reference)?;
         let values = self.eval.values(alloc, &part.more)?;
-        Ok(Prepared::Part(&part.word, pending, values))
+        Ok(Prepared::Part(part.word.function(), pending, values))
     }
 
     // What a target evaluates.
@@ -62,7 +103,8 @@ impl<'a, S: NodeStore> Parts<'a, S> {
         alloc: Global,
         targets: &'t [Target],
     ) -> Result<Vec<Prepared<'t>>, Code>
-        ensures { Does S.NodeStore (λ i. meaning.all_prepared i [] (map target_tree targets.now)) (λ all. map prepared_view all.items) self.old result self.new }
+        ensures { Does S.NodeStore (λ i. meaning.all_prepared i [] (map target_tree targets.now))
+            (λ all. map prepared_view all.items) self.old result self.new }
     {
         let mut all = Vec::with_capacity(alloc, targets.len())?;
         for target in targets {
@@ -101,7 +143,8 @@ impl<'a, S: NodeStore> Parts<'a, S> {
         to: Option<i64>,
         value: &Value,
     ) -> Result<(), Code>
-        ensures { Does S.NodeStore (λ i. meaning.range_assigned value.now (pending_view pending.entry) (option_map (λ d. d.now) delimiter.entry) from to) (λ u. u) self.old result self.new }
+        ensures { Does S.NodeStore (λ i. meaning.range_assigned value.now (pending_view pending.entry) (option_map (λ d. d.now) delimiter.entry) from to)
+            (λ u. u) self.old result self.new }
     {
         if !has_places(from, to) {
             return Ok(());
@@ -153,7 +196,8 @@ impl<'a, S: NodeStore> Parts<'a, S> {
         values: &[Value],
         value: &Value,
     ) -> Result<(), Code>
-        ensures { Does S.NodeStore (λ i. meaning.part_assigned value.now (value_function_tree function) (pending_view pending.entry) values.now) (λ u. u) self.old result self.new }
+        ensures { Does S.NodeStore (λ i. meaning.part_assigned value.now (value_function_tree function) (pending_view pending.entry) values.now)
+            (λ u. u) self.old result self.new }
     {
         match function {
             ValueFunction::Piece => {
@@ -176,14 +220,41 @@ impl<'a, S: NodeStore> Parts<'a, S> {
                 let place = self.eval.resolved(alloc, Mode::Write, pending)?;
                 self.eval.put(alloc, &place, value)
             }
-            Prepared::Part(word, pending, values) => {
-                self.assign_part(alloc, word.function(), pending, values.as_slice(), &value)
+            Prepared::Part(function, pending, values) => {
+                self.assign_part(alloc, function, pending, values.as_slice(), &value)
             }
         }
     }
 
-    // Gives each target a value.
-    fn assign_all(&mut self, alloc: Global, value: &Value, all: Vec<Prepared>) -> Result<(), Code>
+    /// What the targets to the left of `=` evaluate, one after another. The tree need not hold them afterwards.
+    ///
+    /// # Errors
+    ///
+    /// Those of what they evaluate; `Zmem` if memory runs out.
+    pub fn prepared_targets<'u>(
+        &mut self,
+        alloc: Global,
+        destination: &Destination,
+    ) -> Result<Vec<Prepared<'u>>, Code>
+        ensures { Does S.NodeStore (λ i. meaning.all_prepared i [] (meaning.targets (destination_tree destination.now))) (λ all. map prepared_view all.items) self.old result self.new }
+    {
+        let all = self.all_prepared(alloc, targets_of(destination))?;
+        let own = all_own(alloc, all)?;
+        Ok(own)
+    }
+
+    /// Gives each target a value, one after another.
+    ///
+    /// # Errors
+    ///
+    /// The code of the first that has one: those of the checks of the variable, and of the value that a part of it would get. What was
+    /// assigned before remains. `Zmem` if memory runs out, and `Zstore` if the store refuses.
+    pub fn assign_all(
+        &mut self,
+        alloc: Global,
+        value: &Value,
+        all: Vec<Prepared>,
+    ) -> Result<(), Code>
         ensures { Does S.NodeStore (λ i. meaning.all_assigned value.now (map prepared_view all.entry.items)) (λ u. u) self.old result self.new }
     {
         for prepared in all {
@@ -200,7 +271,8 @@ impl<'a, S: NodeStore> Parts<'a, S> {
         subscript: &Expr,
         e: &Expr,
     ) -> Result<(), Code>
-        ensures { Does S.NodeStore (λ i. meaning.setting i (one (variable (local name.now (exprs (expr_tree subscript.now) no_exprs)))) (expr_tree e.now)) (λ u. u) self.old result self.new }
+        ensures { Does S.NodeStore (λ i. meaning.setting i (one (variable (local name.now (exprs (expr_tree subscript.now) no_exprs)))) (expr_tree e.now))
+            (λ u. u) self.old result self.new }
     {
         let subscript = self.eval.eval(alloc, subscript)?;
         let value = self.eval.eval(alloc, e)?;

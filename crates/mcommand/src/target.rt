@@ -4,8 +4,8 @@ ghost use Rattle.std.specs.Prelude.{◌≡◌, true, slice_get, map, position, I
 ghost use Rattle.mmeaning.specs.Levels as levels;
 ghost use Rattle.mmeaning.specs.Yields.{Yields};
 ghost use Rattle.moperator.specs.Codes.{fault_of};
-ghost use Rattle.mgrammar.specs.RoutineLine.{label_of, dots_of};
-ghost use Rattle.mtree.specs.Tree.{entry_tree, routine_tree, shared_tree};
+ghost use Rattle.mgrammar.specs.RoutineLine.{label_of};
+ghost use Rattle.mtree.specs.Tree.{entry_tree, routine_tree};
 ghost use Rattle.meval.specs.Evaluates.{standing_of};
 ghost use Rattle.mcommand.specs.Does.{Does};
 ghost use Rattle.mcommand.specs.Targets.{begin_apart, target_view, target_among};
@@ -14,8 +14,8 @@ use crate::parts::Parts;
 use mnodes::NodeStore;
 use mnum::Bytes7;
 use moperator::Code;
-use mscan::{dots_of, label_of, past};
-use mtree::{Entry, RoutineRef, SharedRoutine};
+use mscan::{dots_of, label_of};
+use mtree::{Entry, RoutineRef};
 use std::alloc::Global;
 use std::rc::Rc;
 
@@ -79,36 +79,8 @@ fn place_of(language: u32, entry: &Entry, lines: &[Bytes7]) -> Option<usize>
         .position(|line| is_entry(language, entry, line.as_bytes()))
 }
 
-// The dots of a line with this label, which need not be read again: what comes after it has the same, unless a formal list may begin.
-#[inline(always)]
-#[tactic(auto, using(crate::proofs::Labels::dots_there, crate::proofs::Labels::label_within))]
-fn dots_behind(language: u32, label: &[u8], line: &[u8]) -> usize
-    requires { levels.is_label label.now (label_of language line.now) ≡ true }
-    ensures { result ≡ dots_of language line.now }
-{
-    let rest = &line[label.len()..];
-    match past(b'(', rest) {
-        None => dots_of(language, rest),
-        Some(_) => dots_of(language, line),
-    }
-}
-
-// The dots of a line that matches an entry.
-#[inline(always)]
-fn dots_of_entry(language: u32, entry: &Entry, line: &[u8]) -> usize
-    requires { levels.is_entry language (entry_tree entry.now) line.now ≡ true }
-    ensures { result ≡ dots_of language line.now }
-{
-    match entry {
-        Entry::Label(label) => dots_behind(language, label.as_bytes(), line),
-        Entry::LabelIn(label, _) => dots_behind(language, label.as_bytes(), line),
-        Entry::Routine(_) => dots_of(language, line),
-    }
-}
-
 // The line that is meant, among these lines.
 #[inline(always)]
-#[tactic(auto, using(crate::proofs::Labels::first_passes))]
 fn among(language: u32, entry: &Entry, dots: usize, copy: Rc<Vec<Bytes7>>) -> Result<Target, Code>
     ensures stands { IfOk result (λ target. levels.has_dots language dots (slice_get target.copy.value.items target.line) ≡ true) }
     ensures does { Yields fault_of (target_among language copy.value.items dots (entry_tree entry.now)) target_view result }
@@ -116,27 +88,14 @@ fn among(language: u32, entry: &Entry, dots: usize, copy: Rc<Vec<Bytes7>>) -> Re
     let Some(line) = place_of(language, entry, &copy) else {
         return Err(Code::M13);
     };
-    if dots_of_entry(language, entry, copy[line].as_bytes()) != dots {
+    if dots_of(language, copy[line].as_bytes()) != dots {
         return Err(Code::Zlevel);
     }
     Ok(Target { copy, line })
 }
 
 impl<'a, S: NodeStore> Parts<'a, S> {
-    // The lines of a routine of another account. Kept out of line, since it is rare.
-    #[inline(never)]
-    fn lines_of_shared(
-        &mut self,
-        alloc: Global,
-        routine: &SharedRoutine,
-    ) -> Result<Rc<Vec<Bytes7>>, Code>
-        ensures { Does S.NodeStore (λ i. levels.lines_of_routine (shared_tree routine.now)) (λ lines. lines.value.items) self.old result self.new }
-    {
-        self.eval.routine_of(alloc, routine)
-    }
-
     // The lines of a routine: of the account's own, or of another account's.
-    #[inline(always)]
     fn lines_of_routine(
         &mut self,
         alloc: Global,
@@ -146,7 +105,7 @@ impl<'a, S: NodeStore> Parts<'a, S> {
     {
         match routine {
             RoutineRef::Own(name) => self.eval.routine(alloc, name),
-            RoutineRef::Shared(shared) => self.lines_of_shared(alloc, shared),
+            RoutineRef::Shared(shared) => self.eval.routine_of(alloc, shared),
         }
     }
 
@@ -157,7 +116,8 @@ impl<'a, S: NodeStore> Parts<'a, S> {
         copy: &Rc<Vec<Bytes7>>,
         entry: &Entry,
     ) -> Result<Rc<Vec<Bytes7>>, Code>
-        ensures { Does S.NodeStore (λ i. levels.lines_of_entry copy.now.value.items (entry_tree entry.now)) (λ lines. lines.value.items) self.old result self.new }
+        ensures { Does S.NodeStore (λ i. levels.lines_of_entry copy.now.value.items (entry_tree entry.now))
+            (λ lines. lines.value.items) self.old result self.new }
     {
         match entry {
             Entry::Label(_) => Ok(copy.clone()?),
@@ -181,7 +141,8 @@ impl<'a, S: NodeStore> Parts<'a, S> {
         dots: usize,
         entry: &Entry,
     ) -> Result<Target, Code>
-        ensures stands { IfOk result (λ target. levels.has_dots (standing_of self.old.eval).given.language dots (slice_get target.copy.value.items target.line) ≡ true) }
+        ensures stands { IfOk result (λ target. levels.has_dots (standing_of self.old.eval).given.language dots (slice_get target.copy.value.items target.line)
+            ≡ true) }
         ensures does { Does S.NodeStore (λ i. levels.target copy.now.value.items dots (entry_tree entry.now)) target_view self.old result self.new }
     {
         let copy = self.lines_of_entry(alloc, copy, entry)?;

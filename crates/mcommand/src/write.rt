@@ -2,7 +2,7 @@
 // WRITE.
 ghost use Rattle.std.specs.Prelude.{◌≡◌, ◌++◌, map, replicate, OnOk};
 ghost use Rattle.mspec.specs.Code.{Zarg};
-ghost use Rattle.mspec.specs.Act.{unless, write_formats};
+ghost use Rattle.mspec.specs.Act.{unless, write, write_formats};
 ghost use Rattle.mspec.specs.Cursor.{format_byte, is_column, spaces_to};
 ghost use Rattle.mmeaning.specs.Yields.{Yields};
 ghost use Rattle.moperator.specs.Codes.{fault_of};
@@ -16,6 +16,7 @@ use mnodes::NodeStore;
 use moperator::{Code, whole_of};
 use mspec::limits::MAX_TEXT;
 use mtree::Expr;
+use mvalue::Value;
 use std::alloc::{AllocError, Global};
 
 /// The end of a line in an output. No text has this byte.
@@ -51,7 +52,7 @@ fn push_formats(out: &mut Vec<u8>, formats: &[u8]) -> Result<(), AllocError>
     Ok(())
 }
 
-// Appends so many spaces.
+// Appends this many spaces.
 fn push_spaces(out: &mut Vec<u8>, count: usize) -> Result<(), AllocError>
     ensures { OnOk result (out.new.items ≡ out.old.items ++ replicate count 32) }
 {
@@ -61,7 +62,7 @@ fn push_spaces(out: &mut Vec<u8>, count: usize) -> Result<(), AllocError>
     Ok(())
 }
 
-// How many spaces lead from a column to another: none if that is not behind it.
+// How many spaces lead from a column to another: none if that is not after it.
 fn spaces_between(from: u32, to: i64) -> usize
     ensures { replicate result 32 ≡ spaces_to to from }
 {
@@ -80,8 +81,12 @@ fn check_column(column: i64) -> Result<(), Code>
 }
 
 impl<'a, S: NodeStore> Parts<'a, S> {
-    // Writes formats, each a `!` or a `#`.
-    fn write_formats(&mut self, formats: &[u8]) -> Result<(), Code>
+    /// Writes formats, each a `!` or a `#`.
+    ///
+    /// # Errors
+    ///
+    /// `Zmem` if memory runs out.
+    pub fn write_formats(&mut self, formats: &[u8]) -> Result<(), Code>
         ensures { Does S.NodeStore (λ i. write_formats formats.now) (λ u. u) self.old result self.new }
     {
         push_formats(self.out, formats)?;
@@ -99,6 +104,20 @@ impl<'a, S: NodeStore> Parts<'a, S> {
         Ok(())
     }
 
+    /// Writes spaces up to the column that a value gives, unless the line is there.
+    ///
+    /// # Errors
+    ///
+    /// `Zover` if the value's number is too large; `Zarg` if no text is as long as that; `Zmem` if memory runs out.
+    #[inline]
+    pub fn spaced_to(&mut self, place: &Value) -> Result<(), Code>
+        ensures { Does S.NodeStore (λ i. meaning.spaced_to place.now) (λ u. u) self.old result self.new }
+    {
+        let column = whole_of(place)?;
+        check_column(column)?;
+        self.write_spaces(column)
+    }
+
     // What a column after a `?` does, if there is one.
     fn tabbing(&mut self, alloc: Global, tab: &Option<Box<Expr>>) -> Result<(), Code>
         ensures { Does S.NodeStore (λ i. meaning.tabbing i (condition_tree tab.now)) (λ u. u) self.old result self.new }
@@ -107,9 +126,7 @@ impl<'a, S: NodeStore> Parts<'a, S> {
             return Ok(());
         };
         let place = self.eval.eval(alloc, e)?;
-        let column = whole_of(&place)?;
-        check_column(column)?;
-        self.write_spaces(column)
+        self.spaced_to(&place)
     }
 
     /// Writes formats, each a `!` or a `#`, and spaces up to a column, if there is one.
@@ -129,21 +146,48 @@ impl<'a, S: NodeStore> Parts<'a, S> {
         self.tabbing(alloc, tab)
     }
 
-    /// Writes the character of the code that an expression gives.
+    /// Writes the character of the code that a value gives.
     ///
     /// # Errors
     ///
-    /// Those of the expression's value; `Zchar` if no character has the code; `Zmem` if memory runs out.
-    pub fn coding(&mut self, alloc: Global, e: &Expr) -> Result<(), Code>
-        ensures { Does S.NodeStore (λ i. meaning.coding i (expr_tree e.now)) (λ u. u) self.old result self.new }
+    /// `Zover` if the value's number is too large; `Zchar` if no character has the code; `Zmem` if memory runs out.
+    #[inline]
+    pub fn character_written(&mut self, number: &Value) -> Result<(), Code>
+        ensures { Does S.NodeStore (λ i. meaning.character_written number.now) (λ u. u) self.old result self.new }
     {
-        let number = self.eval.eval(alloc, e)?;
-        let code = whole_of(&number)?;
+        let code = whole_of(number)?;
         let Some(character) = coded_character(code) else {
             return Err(Code::Zchar);
         };
         self.out.push(character)?;
         self.eval.wrote(1);
+        Ok(())
+    }
+
+    /// Writes the character of the code that an expression gives.
+    ///
+    /// # Errors
+    ///
+    /// Those of the expression's value, and of `character_written`.
+    pub fn coding(&mut self, alloc: Global, e: &Expr) -> Result<(), Code>
+        ensures { Does S.NodeStore (λ i. meaning.coding i (expr_tree e.now)) (λ u. u) self.old result self.new }
+    {
+        let number = self.eval.eval(alloc, e)?;
+        self.character_written(&number)
+    }
+
+    /// Writes a value.
+    ///
+    /// # Errors
+    ///
+    /// `Zmem` if memory runs out.
+    #[inline]
+    pub fn write_value(&mut self, value: &Value) -> Result<(), Code>
+        ensures { Does S.NodeStore (λ i. write value.now) (λ u. u) self.old result self.new }
+    {
+        let before = self.out.len();
+        value.write(self.out)?;
+        self.eval.wrote(self.out.len() - before);
         Ok(())
     }
 
@@ -156,9 +200,6 @@ impl<'a, S: NodeStore> Parts<'a, S> {
         ensures { Does S.NodeStore (λ i. meaning.showing i (expr_tree e.now)) (λ u. u) self.old result self.new }
     {
         let value = self.eval.eval(alloc, e)?;
-        let before = self.out.len();
-        value.write(self.out)?;
-        self.eval.wrote(self.out.len() - before);
-        Ok(())
+        self.write_value(&value)
     }
 }

@@ -1,6 +1,10 @@
 -- SPDX-License-Identifier: Apache-2.0
 -- Calls that ask a store, and those that ask or set the session.
-use Rattle.meval.proofs.EvalWords.{DoubtsOver, Doubts-same, ◌≡◌, Bool, [], ◌∷◌, Some, Result, Ok, Err, refl, sym, ap, ◌∙◌, subst, arith, ⊎_elim, ◌&&◌, text_eq, false≢true, and_parts, and_from, or_cases, or_left, or_right, Own, Zgrant, Node, AreSubscripts, IsAccountName, is_account_name, are_subscripts, Locks, Act, ◌>>◌, give, ask, unless, naked_is, set_naked, subscripts_test, Standing, Did, ops_of, Yields, Place, at_local, at_node, replaced, beside, allowed, node_place, resolve, of_local, asked, Ghosts, fault_of, Code, Eval, Evaluates, KeepsEval, own_global, standing_of, eval_here, use_of, IsOpen, true, false, List, Option}
+use Rattle.meval.proofs.EvalWords.{DoubtsOver, Doubts-same, ◌≡◌, Bool, [], ◌∷◌, Some, Result, Ok, Err, refl, sym, ap, ◌∙◌, subst, arith, ⊎_elim, ◌&&◌, text_eq}
+use Rattle.meval.proofs.EvalWords.{false≢true, and_parts, and_from, or_cases, or_left, or_right, Own, Zgrant, Node, AreSubscripts, IsAccountName}
+use Rattle.meval.proofs.EvalWords.{is_account_name, are_subscripts, Locks, Act, ◌>>◌, give, ask, unless, naked_is, set_naked, subscripts_test, Standing, Did}
+use Rattle.meval.proofs.EvalWords.{ops_of, Yields, Place, at_local, at_node, replaced, beside, allowed, node_place, resolve, of_local, asked, Ghosts, fault_of}
+use Rattle.meval.proofs.EvalWords.{Code, Eval, Evaluates, KeepsEval, own_global, standing_of, eval_here, use_of, IsOpen, true, false, List, Option}
 use Rattle.std.specs.Cmp.Lexicographic.{bytes_decides}
 use Rattle.std.specs.List.{list_any}
 use Rattle.mspec.proofs.SubscriptTests.{account_name_test}

@@ -1,6 +1,10 @@
 -- SPDX-License-Identifier: Apache-2.0
 -- How the calls of this crate are put together.
-use Rattle.meval.proofs.EvalWords.{Doubts-same, Doubts-then, undoubted, ◌≡◌, ◌≢◌, ℕ, [], Result, Ok, Err, refl, sym, ap, ◌∙◌, subst, arith, IsErr, IsErrAnd, Own, Act, Gives, Fails, ◌>>=◌, Locals, value_of, of_locals, give, fail, give_some, Place, at_local, at_node, read_at, found_at, Inside, inside, Standing, Here, Did, Ends, FailedBy, Yields, assoc, did_then, did_failed, did_gives, did_lost, residual_is, yielded, Ghosts, fault_of, Code, Zmem, Zstore, Depth, Eval, undefined_at, Evaluates, KeepsEval, standing_of, eval_here, depth_of, Text, yielded_so, read_so, Option}
+use Rattle.meval.proofs.EvalWords.{Doubts-same, Doubts-then, undoubted, ◌≡◌, ◌≢◌, ℕ, [], Result, Ok, Err, refl, sym, ap, ◌∙◌, subst, arith, IsErr, IsErrAnd}
+use Rattle.meval.proofs.EvalWords.{Own, Act, Gives, Fails, ◌>>=◌, Locals, value_of, of_locals, give, fail, give_some, Place, at_local, at_node, read_at}
+use Rattle.meval.proofs.EvalWords.{found_at, Inside, inside, Standing, Here, Did, Ends, FailedBy, Yields, assoc, did_then, did_failed, did_gives, did_lost}
+use Rattle.meval.proofs.EvalWords.{residual_is, yielded, Ghosts, fault_of, Code, Zmem, Zstore, Depth, Eval, undefined_at, Evaluates, KeepsEval, standing_of}
+use Rattle.meval.proofs.EvalWords.{eval_here, depth_of, Text, yielded_so, read_so, Option}
 use Rattle.std.specs.FinMap.{empty}
 use Rattle.std.specs.Prelude.{IsTrue}
 use Rattle.mnodes.specs.Steady.{IsSteady}

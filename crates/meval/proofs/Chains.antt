@@ -1,6 +1,10 @@
 -- SPDX-License-Identifier: Apache-2.0
 -- Arithmetic operators one after another, on a number to the left.
-use Rattle.meval.proofs.EvalWords.{◌≡◌, ℕ, ◌+◌, ◌<◌, [], length, drop, get_or, map, Some, None, Result, Ok, Err, refl, sym, ap, ◌∙◌, subst, ℤ, Zover, significant_digits, numeric_value, number_text, Act, ◌>>=◌, charge, give, give_some, ExprTree, expr, OperandTree, operand, bracket, PrimaryTree, TailTree, apply, tail, no_tails, tails_of, as_number, both_numbers, binary, Inside, value, primary_value, operand_value, tail_value, tails_value, tail_tree, Tail, Yields, yields_gives, units, Num, Ghosts, fault_of, Code, Eval, Evaluates, Leads, operand_number, primary_number}
+use Rattle.meval.proofs.EvalWords.{◌≡◌, ℕ, ◌+◌, ◌<◌, [], length, drop, get_or, map, Some, None, Result, Ok, Err, refl, sym, ap, ◌∙◌, subst, ℤ, Zover}
+use Rattle.meval.proofs.EvalWords.{significant_digits, numeric_value, number_text, Act, ◌>>=◌, charge, give, give_some, ExprTree, expr, OperandTree, operand}
+use Rattle.meval.proofs.EvalWords.{bracket, PrimaryTree, TailTree, apply, tail, no_tails, tails_of, as_number, both_numbers, binary, Inside, value}
+use Rattle.meval.proofs.EvalWords.{primary_value, operand_value, tail_value, tails_value, tail_tree, Tail, Yields, yields_gives, units, Num, Ghosts, fault_of}
+use Rattle.meval.proofs.EvalWords.{Code, Eval, Evaluates, Leads, operand_number, primary_number}
 use Rattle.std.proofs.Common.{List, Option}
 use Rattle.mspec.specs.Act.{Text}
 use Rattle.mmeaning.specs.LineMeaning.{number_of}

@@ -1,6 +1,7 @@
 -- SPDX-License-Identifier: Apache-2.0
 -- Steps that are charged at once, and the match of a pattern after them.
-use Rattle.meval.proofs.EvalWords.{Doubts-same, ◌≡◌, ℕ, zero, suc, ◌<◌, ◌≤◌, Result, Ok, Err, refl, sym, ap, ◌∙◌, subst, arith, Text, Act, Gives, Fails, ◌>>◌, give, unless, Standing, ops_of, Yields, Ghosts, fault_of, Code, Eval, Evaluates, standing_of, eval_here}
+use Rattle.meval.proofs.EvalWords.{Doubts-same, ◌≡◌, ℕ, zero, suc, ◌<◌, ◌≤◌, Result, Ok, Err, refl, sym, ap, ◌∙◌, subst, arith, Text, Act, Gives, Fails, ◌>>◌}
+use Rattle.meval.proofs.EvalWords.{give, unless, Standing, ops_of, Yields, Ghosts, fault_of, Code, Eval, Evaluates, standing_of, eval_here}
 use Rattle.std.specs.Prelude.{Bool, true, false, not, ◌-◌, List, map, length}
 use Rattle.std.specs.List.{list_any}
 use Rattle.mspec.specs.Act.{State}
@@ -24,7 +25,7 @@ charges_failed zero k s lt = absurd (omega (arith, lt))
 charges_failed (suc n) zero s lt = refl
 charges_failed (suc n) (suc k) s lt = charges_failed n k s (omega (arith, lt))
 
--- so many are left
+-- that many are left
 pub spends : {S : Type 0} {g : Ghosts S} (e : Eval S) (n : ℕ) → n ≤ e.steps → Evaluates g (λ i. charges n) (λ (u : Unit {0}). u) e (Ok tt) (record e { steps = e.steps - n })
 spends {g = g} e n le = record {
   at = λ sure out locks.

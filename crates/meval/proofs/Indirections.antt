@@ -1,6 +1,11 @@
 -- SPDX-License-Identifier: Apache-2.0
 -- Calls of an indirection: subscripts after those that a reference has already, and what a text names, evaluated an indirection deeper.
-use Rattle.meval.proofs.EvalWords.{Doubts-same, Doubts-then, undoubted, ◌≡◌, suc, ◌<◌, Bool, [], ◌∷◌, ◌++◌, Some, None, Result, Ok, Err, subst, refl, sym, ap, ◌∙◌, ◌↔◌, IsTrue, IsSome, false≢true, false_from_ne_true, IsErr, IsErrAnd, append_assoc, append-nil, Act, ◌>>=◌, ◌>>◌, give, give_some, PrimaryTree, ReferenceTree, indirect, ExprsTree, no_exprs, exprs, Evaluated, subscripts_of, with_subscripts, Inside, inside, is_indirection_free, an_indirection_free, indirected, named_by, no_calls, value, values, primary_value, evaluated, through, finds, Did, Yields, assoc, did_then, did_spent, Ghosts, fault_of, Code, Depth, Eval, Evaluates, standing_of, eval_here, depth_of, true, false, List, Option, Text, yielded_so, read_so}
+use Rattle.meval.proofs.EvalWords.{Doubts-same, Doubts-then, undoubted, ◌≡◌, suc, ◌<◌, Bool, [], ◌∷◌, ◌++◌, Some, None, Result, Ok, Err, subst, refl, sym, ap}
+use Rattle.meval.proofs.EvalWords.{◌∙◌, ◌↔◌, IsTrue, IsSome, false≢true, false_from_ne_true, IsErr, IsErrAnd, append_assoc, append-nil, Act, ◌>>=◌, ◌>>◌, give}
+use Rattle.meval.proofs.EvalWords.{give_some, PrimaryTree, ReferenceTree, indirect, ExprsTree, no_exprs, exprs, Evaluated, subscripts_of, with_subscripts}
+use Rattle.meval.proofs.EvalWords.{Inside, inside, is_indirection_free, an_indirection_free, indirected, named_by, no_calls, value, values, primary_value}
+use Rattle.meval.proofs.EvalWords.{evaluated, through, finds, Did, Yields, assoc, did_then, did_spent, Ghosts, fault_of, Code, Depth, Eval, Evaluates}
+use Rattle.meval.proofs.EvalWords.{standing_of, eval_here, depth_of, true, false, List, Option, Text, yielded_so, read_so}
 use Rattle.mspec.specs.Code as spec
 use Rattle.mgrammar.specs.Languages.{ref_in}
 use Rattle.mmeaning.specs.Expression as meaning

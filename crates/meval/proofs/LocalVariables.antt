@@ -1,6 +1,11 @@
 -- SPDX-License-Identifier: Apache-2.0
 -- Local variables without subscripts, and nodes of local variables by one.
-use Rattle.meval.proofs.EvalWords.{◌≡◌, [], ◌∷◌, None, Some, Zover, Result, Ok, Err, refl, sym, subst, slice_get, IsErr, IsErrAnd, Direction, are_subscripts, significant_digits, numeric_value, number_text, Act, ◌>>=◌, ◌>>◌, charge, get_local, give, unless, value_of, ExprTree, ExprsTree, number, reference, local, no_exprs, exprs, as_text, Inside, value, values, evaluated, primary_value, Evaluated, Place, ordering, of_local, at_local, checked, resolve, direction_of, next_at, Yields, assoc, units, Num, Ghosts, fault_of, Code, Eval, Evaluates, direction_act, data_act, get_act, read_act, read_or, unwrap_or, order_from, order_behind, true, List, VariableFunctionTree, data_function, get_function, order_function, variable_function_value, Text}
+use Rattle.meval.proofs.EvalWords.{◌≡◌, [], ◌∷◌, None, Some, Zover, Result, Ok, Err, refl, sym, subst, slice_get, IsErr, IsErrAnd, Direction, are_subscripts}
+use Rattle.meval.proofs.EvalWords.{significant_digits, numeric_value, number_text, Act, ◌>>=◌, ◌>>◌, charge, get_local, give, unless, value_of, ExprTree}
+use Rattle.meval.proofs.EvalWords.{ExprsTree, number, reference, local, no_exprs, exprs, as_text, Inside, value, values, evaluated, primary_value, Evaluated}
+use Rattle.meval.proofs.EvalWords.{Place, ordering, of_local, at_local, checked, resolve, direction_of, next_at, Yields, assoc, units, Num, Ghosts, fault_of}
+use Rattle.meval.proofs.EvalWords.{Code, Eval, Evaluates, direction_act, data_act, get_act, read_act, read_or, unwrap_or, order_from, order_behind, true, List}
+use Rattle.meval.proofs.EvalWords.{VariableFunctionTree, data_function, get_function, order_function, variable_function_value, Text}
 use Rattle.mspec.specs.Code as spec
 use Rattle.moperator.specs.declared.code.Code.TheVariants as code
 use Rattle.meval.proofs.Calls.{evaluates_then, evaluates_failed, evaluates_stopped, evaluates_gives, evaluates_yielded, evaluates_fails}

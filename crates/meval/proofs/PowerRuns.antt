@@ -1,6 +1,7 @@
 -- SPDX-License-Identifier: Apache-2.0
 -- An operator with the same number to the right, again and again.
-use Rattle.meval.proofs.EvalWords.{◌≡◌, ℕ, zero, suc, ◌<◌, ◌≤◌, Option, Result, Ok, Err, refl, sym, ap, ◌∙◌, subst, arith, ℤ, Zover, number_text, Act, ◌>>=◌, charge, give, give_some, binary, Yields, units, Num, Ghosts, fault_of, Code, Eval, Evaluates, Leads, Text}
+use Rattle.meval.proofs.EvalWords.{◌≡◌, ℕ, zero, suc, ◌<◌, ◌≤◌, Option, Result, Ok, Err, refl, sym, ap, ◌∙◌, subst, arith, ℤ, Zover, number_text, Act, ◌>>=◌}
+use Rattle.meval.proofs.EvalWords.{charge, give, give_some, binary, Yields, units, Num, Ghosts, fault_of, Code, Eval, Evaluates, Leads, Text}
 use Rattle.std.specs.Prelude.{◌-◌}
 use Rattle.mmeaning.specs.Operators.{repeated}
 use Rattle.mvalue.proofs.Numbers.{number_again}

@@ -1,6 +1,9 @@
 -- SPDX-License-Identifier: Apache-2.0
 -- Nodes that references name, and what the checks let through as a walk.
-use Rattle.meval.proofs.EvalWords.{Doubts-same, ◌≡◌, ℕ, zero, suc, ◌<◌, [], ◌∷◌, length, Ok, Err, subst, refl, sym, arith, ◌==◌, false≢true, ◌>>=◌, ◌>>◌, Act, give, unless, ExprsTree, Inside, values, Evaluated, Node, AreOrderSubscripts, are_order_subscripts, order_subscripts_test, of_global, checked, ordering, some_subscript, Yields, did_gives, Ghosts, fault_of, Code, Zsub, Eval, Evaluates, own_global, standing_of, false, List, Text}
+use Rattle.meval.proofs.EvalWords.{Doubts-same, ◌≡◌, ℕ, zero, suc, ◌<◌, [], ◌∷◌, length, Ok, Err, subst, refl, sym, arith, ◌==◌, false≢true, ◌>>=◌, ◌>>◌, Act}
+use Rattle.meval.proofs.EvalWords.{give, unless, ExprsTree, Inside, values, Evaluated, Node, AreOrderSubscripts, are_order_subscripts, order_subscripts_test}
+use Rattle.meval.proofs.EvalWords.{of_global, checked, ordering, some_subscript, Yields, did_gives, Ghosts, fault_of, Code, Zsub, Eval, Evaluates, own_global}
+use Rattle.meval.proofs.EvalWords.{standing_of, false, List, Text}
 use Rattle.mspec.specs.Code as spec
 use Rattle.meval.proofs.Calls.{evaluates_failed, evaluates_then, keeps_itself}
 

@@ -1,6 +1,9 @@
 -- SPDX-License-Identifier: Apache-2.0
 -- The views of trees, a level at a time.
-use Rattle.meval.proofs.EvalWords.{◌≡◌, ℕ, Vec, Box, Global, map, sym, ap, ◌∙◌, tails_of, exprs_of, choices_of, PrimaryTree, ReferenceTree, TailTree, ExprTree, OperandTree, ChoiceTree, ActualTree, CalledTree, called_tree, expr_tree, tail_tree, operand_tree, primary_tree, reference_tree, referring_tree, choice_tree, sign_tree, binary_tree, atom_tree, actual_layer, called_layer, primary_layer, reference_layer, tail_layer, choice_layer, expr_layer, operand_layer, referring_layer, Expr, Choice, List}
+use Rattle.meval.proofs.EvalWords.{◌≡◌, ℕ, Vec, Box, Global, map, sym, ap, ◌∙◌, tails_of, exprs_of, choices_of, PrimaryTree, ReferenceTree, TailTree, ExprTree}
+use Rattle.meval.proofs.EvalWords.{OperandTree, ChoiceTree, ActualTree, CalledTree, called_tree, expr_tree, tail_tree, operand_tree, primary_tree}
+use Rattle.meval.proofs.EvalWords.{reference_tree, referring_tree, choice_tree, sign_tree, binary_tree, atom_tree, actual_layer, called_layer, primary_layer}
+use Rattle.meval.proofs.EvalWords.{reference_layer, tail_layer, choice_layer, expr_layer, operand_layer, referring_layer, Expr, Choice, List}
 use Rattle.mgrammar.specs.Grammar as grammar
 use Rattle.mtree.specs.declared.tree.Binary.{Binary}
 use Rattle.mtree.specs.declared.tree.Atom.{Atom}
@@ -12,7 +15,8 @@ use Rattle.mtree.specs.declared.tree.Referring.{Referring, out-Referring}
 use Rattle.mtree.specs.declared.tree.Tail.TheVariants as tail
 use Rattle.mtree.specs.declared.tree.Called.{Called}
 use Rattle.mtree.specs.declared.tree.Operand.{Operand}
-use Rattle.mtree.specs.declared.tree.Actual.TheFolds.{fold_out-Expr, fold_out-Operand, fold_out-Choice, fold_out-Referring, fold-roll-Primary, fold-roll-Reference, fold-roll-Tail}
+use Rattle.mtree.specs.declared.tree.Actual.TheFolds.{fold_out-Expr, fold_out-Operand, fold_out-Choice, fold_out-Referring, fold-roll-Primary}
+use Rattle.mtree.specs.declared.tree.Actual.TheFolds.{fold-roll-Reference, fold-roll-Tail}
 
 pub expr_is : (e : Expr) → expr_tree e ≡ grammar.expr (operand_tree e.first) (tails_of (map tail_tree e.rest.items))
 expr_is = fold_out-Expr ActualTree PrimaryTree ReferenceTree TailTree CalledTree ChoiceTree ExprTree OperandTree PrimaryTree actual_layer primary_layer reference_layer tail_layer called_layer choice_layer expr_layer operand_layer referring_layer

@@ -1,6 +1,11 @@
 -- SPDX-License-Identifier: Apache-2.0
 -- The parts of a tree, from a place on.
-use Rattle.meval.proofs.EvalWords.{Doubts-same, ◌≡◌, ℕ, ◌+◌, ◌<◌, ◌≤◌, [], ◌∷◌, ◌++◌, Bool, length, drop, get_or, map, Result, Ok, Err, subst, refl, sym, arith, cond, significant_digits, numeric_value, Act, ◌>>=◌, charge, give, fail, PrimaryTree, ExprTree, EntryTree, ActualsTree, tail, tails_of, exprs_of, choices_of, number, text, special, reference, bracket, call, select, refer, extrinsic, special_of, as_text, as_truth, Inside, value, tails_value, primary_value, evaluated, values, chosen, reading, resolve, read_at, referring, special_value, expr_tree, tail_tree, choice_tree, Expr, Tail, Choice, Ghosts, Code, M4, Eval, Evaluates, List, true, false, Text, function_of, call_value}
+use Rattle.meval.proofs.EvalWords.{Doubts-same, ◌≡◌, ℕ, ◌+◌, ◌<◌, ◌≤◌, [], ◌∷◌, ◌++◌, Bool, length, drop, get_or, map, Result, Ok, Err, subst, refl, sym, arith}
+use Rattle.meval.proofs.EvalWords.{cond, significant_digits, numeric_value, Act, ◌>>=◌, charge, give, fail, PrimaryTree, ExprTree, EntryTree, ActualsTree, tail}
+use Rattle.meval.proofs.EvalWords.{tails_of, exprs_of, choices_of, number, text, special, reference, bracket, call, select, refer, extrinsic, special_of}
+use Rattle.meval.proofs.EvalWords.{as_text, as_truth, Inside, value, tails_value, primary_value, evaluated, values, chosen, reading, resolve, read_at}
+use Rattle.meval.proofs.EvalWords.{referring, special_value, expr_tree, tail_tree, choice_tree, Expr, Tail, Choice, Ghosts, Code, M4, Eval, Evaluates, List}
+use Rattle.meval.proofs.EvalWords.{true, false, Text, function_of, call_value}
 use Rattle.std.proofs.Math.ListN.{drop_of_length-le}
 use Rattle.mspec.proofs.ListPlaces.{next_item}
 use Rattle.mspec.specs.Code as spec

@@ -10,7 +10,8 @@ use Rattle.mgrammar.specs.IndirectTexts.{pattern_of}
 use Rattle.mmeaning.specs.Operators.{as_number, as_truth, matching}
 use Rattle.mmeaning.specs.Functions.{whole_text, call_value}
 use Rattle.mspec.specs.LockConflict.{LockName}
-use Rattle.mmeaning.specs.Variables.{Evaluated, Place, reading, writing, ordering, resolve, named_lock, read_at, read_or, put_at, status_at, next_at, data_number, direction_of, variable_function_value}
+use Rattle.mmeaning.specs.Variables.{Evaluated, Place, reading, writing, ordering, resolve, named_lock, read_at, read_or, put_at, status_at, next_at}
+use Rattle.mmeaning.specs.Variables.{data_number, direction_of, variable_function_value}
 use Rattle.mmeaning.specs.Expression.{Inside, value, values, operand_value, primary_value, matches_text, evaluated}
 
 -- whether a value matches the pattern that a text is, if an indirection is free

@@ -199,7 +199,8 @@ impl<'a, S: NodeStore> Eval<'a, S> {
         name: &'t Name,
         subscripts: &[Expr],
     ) -> Result<Pending<'t>, Code>
-        ensures { Evaluates S.NodeStore (λ i. meaning.evaluated i (global name.now (exprs_of (map expr_tree subscripts.now)))) pending_view self.old result self.new }
+        ensures { Evaluates S.NodeStore (λ i. meaning.evaluated i (global name.now (exprs_of
+            (map expr_tree subscripts.now)))) pending_view self.old result self.new }
     {
         let values = self.values(alloc, subscripts)?;
         let node = self.own_node(alloc, VariableName::Lent(name), values);
@@ -215,7 +216,8 @@ impl<'a, S: NodeStore> Eval<'a, S> {
         name: &'t Name,
         subscripts: &[Expr],
     ) -> Result<Pending<'t>, Code>
-        ensures { Evaluates S.NodeStore (λ i. meaning.evaluated i (extended (expr_tree environment.now) name.now (exprs_of (map expr_tree subscripts.now)))) pending_view self.old result self.new }
+        ensures { Evaluates S.NodeStore (λ i. meaning.evaluated i (extended (expr_tree environment.now) name.now (exprs_of
+            (map expr_tree subscripts.now)))) pending_view self.old result self.new }
     {
         let owner = self.eval(alloc, environment)?;
         let account = Owner::of_value(alloc, owner)?;
@@ -233,7 +235,8 @@ impl<'a, S: NodeStore> Eval<'a, S> {
         operand: &Primary,
         subscripts: &[Expr],
     ) -> Result<Pending<'u>, Code>
-        ensures { Evaluates S.NodeStore (λ i. meaning.evaluated i (indirect (primary_tree operand.now) (exprs_of (map expr_tree subscripts.now)))) pending_view self.old result self.new }
+        ensures { Evaluates S.NodeStore (λ i. meaning.evaluated i (indirect (primary_tree operand.now) (exprs_of
+            (map expr_tree subscripts.now)))) pending_view self.old result self.new }
     {
         let value = self.primary(alloc, operand)?;
         let depth = self.depth;
@@ -256,7 +259,8 @@ impl<'a, S: NodeStore> Eval<'a, S> {
         reference: Reference,
         subscripts: &[Expr],
     ) -> Result<Pending<'u>, Code>
-        ensures { Evaluates S.NodeStore (λ i. meaning.through i i.calls (reference_tree reference) (exprs_of (map expr_tree subscripts.now))) pending_view self.old result self.new }
+        ensures { Evaluates S.NodeStore (λ i. meaning.through i i.calls (reference_tree reference) (exprs_of
+            (map expr_tree subscripts.now))) pending_view self.old result self.new }
     {
         match reference.into_name() {
             Ok(name) => self.fast_through(alloc, name, subscripts),
@@ -272,7 +276,8 @@ impl<'a, S: NodeStore> Eval<'a, S> {
         reference: &Reference,
         subscripts: &[Expr],
     ) -> Result<Pending<'u>, Code>
-        ensures { Evaluates S.NodeStore (λ i. meaning.through i i.calls (reference_tree reference.now) (exprs_of (map expr_tree subscripts.now))) pending_view self.old result self.new }
+        ensures { Evaluates S.NodeStore (λ i. meaning.through i i.calls (reference_tree reference.now) (exprs_of
+            (map expr_tree subscripts.now))) pending_view self.old result self.new }
     {
         let front = self.evaluated(alloc, reference)?;
         let values = self.values(alloc, subscripts)?;
@@ -371,7 +376,7 @@ impl<'a, S: NodeStore> Eval<'a, S> {
     }
 
     /// What is done with the value to the left, which becomes the result. It is changed in place: a value that is moved right after it is
-    /// written has to be waited for.
+    /// written has to end first.
     ///
     /// # Errors
     ///
@@ -475,8 +480,11 @@ impl<'a, S: NodeStore> Eval<'a, S> {
     fn chain(&mut self, alloc: Global, left: &mut Num, tails: &[Tail]) -> Result<usize, Code>
         ensures keeps { KeepsEval self.old self.new }
         ensures within { IfOk result (λ count. count ≤ length tails.now) }
-        ensures leads { IfOk result (λ count. Leads S.NodeStore (λ i. meaning.tails_value i (number_text (units left.old)) (tails_of (map tail_tree tails.now))) self.old (λ i. meaning.tails_value i (number_text (units left.new)) (tails_of (map tail_tree (drop count tails.now)))) self.new) }
-        ensures stops { IfErr result (λ code. Evaluates S.NodeStore (λ i. meaning.tails_value i (number_text (units left.old)) (tails_of (map tail_tree tails.now))) (λ (v : Text). v) self.old (Err code) self.new) }
+        ensures leads { IfOk result (λ count. Leads S.NodeStore (λ i. meaning.tails_value i (number_text (units left.old)) (tails_of
+            (map tail_tree tails.now))) self.old (λ i. meaning.tails_value i (number_text (units left.new)) (tails_of (map tail_tree
+            (drop count tails.now)))) self.new) }
+        ensures stops { IfErr result (λ code. Evaluates S.NodeStore (λ i. meaning.tails_value i (number_text (units left.old)) (tails_of
+            (map tail_tree tails.now))) (λ (v : Text). v) self.old (Err code) self.new) }
     {
         for (i, tail) in tails.iter().enumerate() {
             let Tail::Apply(operator, operand) = tail else {

@@ -68,7 +68,8 @@ impl<'a, S: NodeStore> Eval<'a, S> {
         requires name { IsName name.now }
         requires subscripts { AreOrderSubscripts subscripts.now }
         requires allowed { IsOpen (standing_of self.old) Read (at_node (record { account = account.now; name = name.now; subscripts = subscripts.now })) }
-        ensures { Evaluates S.NodeStore (λ i. ask (Neighbour (way direction) (record { account = account.now; name = name.now; subscripts = subscripts.now }))) (λ next. next) self.old result self.new }
+        ensures { Evaluates S.NodeStore (λ i. ask (Neighbour (way direction) (record { account = account.now; name = name.now; subscripts = subscripts.now })))
+            (λ next. next) self.old result self.new }
     {
         match neighbour(self.store, alloc, account, name, subscripts, direction) {
             Ok(next) => Ok(next),

@@ -57,7 +57,8 @@ impl<'a, S: NodeStore> Eval<'a, S> {
         values: Values,
     ) -> Result<LockName, Code>
         ensures open { IfOk result (λ name. may_lock (standing_of self.now).settings (standing_of self.now).account name ≡ true) }
-        ensures does { Evaluates S.NodeStore (λ i. variables.named_lock i.account (variables.of_local (name_view name.entry) values)) (λ name. name) self.now result self.now }
+        ensures does { Evaluates S.NodeStore (λ i. variables.named_lock i.account (variables.of_local (name_view name.entry) values))
+            (λ name. name) self.now result self.now }
     {
         let node = self.own_node(alloc, name, values);
         if !node.is_of_account() {
@@ -68,7 +69,7 @@ impl<'a, S: NodeStore> Eval<'a, S> {
         Ok(LockName { key, global: false })
     }
 
-    // The lock of a global. Whoever may write the global may take its lock.
+    // The lock of a global. Who may write the global may take its lock.
     fn global_lock(&self, alloc: Global, node: &GlobalReference) -> Result<LockName, Code>
         ensures open { IfOk result (λ name. may_lock (standing_of self.now).settings (standing_of self.now).account name ≡ true) }
         ensures does { Evaluates S.NodeStore (λ i. variables.named_lock i.account (variables.of_global node.now)) (λ name. name) self.now result self.now }

@@ -14,8 +14,8 @@ use mvalue::Value;
 use std::alloc::Global;
 
 impl<'a, S: NodeStore> Eval<'a, S> {
-    // Spends so many steps. If fewer are left, it spends those. The machine's greatest number stands for all that are greater, since no line
-    // has so many steps.
+    // Spends this many steps. If fewer are left, it spends those. The machine's greatest number stands for all that are greater, since no line
+    // has that many steps.
     fn charge_each(&mut self, count: usize) -> Result<(), Code>
         ensures { (n : ℕ) → count ≡ capped n → Evaluates S.NodeStore (λ i. meaning.charges n) (λ u. u) self.old result self.new }
     {

@@ -2,7 +2,8 @@
 // Fully evaluated references, and places that the checks let through.
 ghost use Rattle.std.specs.Prelude.{◌≡◌, ◌↔◌, ◌++◌, IsTrue, IsSome, IfSome, IfOk, []};
 ghost use Rattle.mgrammar.specs.Grammar as grammar;
-ghost use Rattle.meval.specs.Words.{AreOrderSubscripts, AreSubscripts, Own, Yields, are_subscripts, bracket, checked, expr_tree, fault_of, operand_tree, ordering};
+ghost use Rattle.meval.specs.Words.{AreOrderSubscripts, AreSubscripts, Own, Yields, are_subscripts, bracket, checked, expr_tree, fault_of, operand_tree};
+ghost use Rattle.meval.specs.Words.{ordering};
 ghost use Rattle.mmeaning.specs.Variables as variables;
 ghost use Rattle.meval.specs.Held.{name_view};
 ghost use Rattle.meval.specs.Places.{pending_view, place_view, undefined_at};
@@ -56,7 +57,8 @@ impl<'t> Pending<'t> {
         alloc: Global,
         values: Values,
     ) -> Result<Pending<'u>, AllocError>
-        ensures { IfOk result (λ pending. pending_view pending ≡ variables.with_subscripts (variables.subscripts_of (pending_view self.entry) ++ values) (pending_view self.entry)) }
+        ensures { IfOk result (λ pending. pending_view pending ≡ variables.with_subscripts (variables.subscripts_of (pending_view self.entry) ++ values)
+            (pending_view self.entry)) }
     {
         match self {
             Pending::Local(name, subscripts) => {

@@ -44,7 +44,8 @@ impl<'a, S: NodeStore> Eval<'a, S> {
         right: &Num,
         count: u64,
     ) -> Result<(), Code>
-        ensures { Evaluates S.NodeStore (λ i. meaning.repeated (meaning.binary (operator_tree operator)) (number_text (units right.now)) count (number_text (units left.old))) (λ _. number_text (units left.new)) self.old result self.new }
+        ensures { Evaluates S.NodeStore (λ i. meaning.repeated (meaning.binary (operator_tree operator)) (number_text (units right.now)) count (number_text
+            (units left.old))) (λ _. number_text (units left.new)) self.old result self.new }
     {
         let mut rest = count;
         while rest > 0 {

@@ -24,7 +24,9 @@ impl<'a, S: NodeStore> Eval<'a, S> {
     // The value of a function of a variable.
     #[cycle(eval)]
     pub(crate) fn referring(&mut self, alloc: Global, referring: &Referring) -> Result<Value, Code>
-        ensures { Evaluates S.NodeStore (λ i. variables.referring (function_of (out-Referring referring.now).word) (meaning.evaluated i (reference_tree (out-Referring referring.now).reference)) (meaning.values i [] (exprs_of (map expr_tree (out-Referring referring.now).more.items)))) (λ v. v) self.old result self.new }
+        ensures { Evaluates S.NodeStore (λ i. variables.referring (function_of (out-Referring referring.now).word) (meaning.evaluated i (reference_tree
+            (out-Referring referring.now).reference)) (meaning.values i [] (exprs_of (map expr_tree (out-Referring referring.now).more.items))))
+            (λ v. v) self.old result self.new }
     {
         let function = referring.word.function();
         if let Reference::Node(name, subscript) = &referring.reference {
@@ -52,7 +54,8 @@ impl<'a, S: NodeStore> Eval<'a, S> {
     #[cycle(eval)]
     #[inline(never)]
     fn get_of(&mut self, alloc: Global, reference: &Reference, more: &[Expr]) -> Result<Value, Code>
-        ensures { Evaluates S.NodeStore (λ i. acts.get_of i (reference_tree reference.now) (exprs_of (map expr_tree more.now))) (λ v. v) self.old result self.new }
+        ensures { Evaluates S.NodeStore (λ i. acts.get_of i (reference_tree reference.now) (exprs_of (map expr_tree more.now)))
+            (λ v. v) self.old result self.new }
     {
         let place = self.place_to_read(alloc, reference)?;
         let more = self.values(alloc, more)?;
@@ -68,7 +71,8 @@ impl<'a, S: NodeStore> Eval<'a, S> {
         reference: &Reference,
         more: &[Expr],
     ) -> Result<Value, Code>
-        ensures { Evaluates S.NodeStore (λ i. acts.order_of i (reference_tree reference.now) (exprs_of (map expr_tree more.now))) (λ v. v) self.old result self.new }
+        ensures { Evaluates S.NodeStore (λ i. acts.order_of i (reference_tree reference.now) (exprs_of (map expr_tree more.now)))
+            (λ v. v) self.old result self.new }
     {
         let pending = self.evaluated(alloc, reference)?;
         let walk = self.walked(alloc, pending)?;

@@ -74,7 +74,8 @@ impl<'a, S: NodeStore> Eval<'a, S> {
     // The same for the node of the account with this name, with this global name and these subscripts.
     fn refer_own(&mut self, own: &[u8], name: VariableName, values: Values) -> Result<(), Code>
         requires { IsAccountName own.now }
-        ensures { Evaluates S.NodeStore (λ i. set_naked (Some (record { account = own.now; name = name_view name.entry; subscripts = values }))) (λ u. u) self.old result self.new }
+        ensures { Evaluates S.NodeStore (λ i. set_naked (Some (record { account = own.now; name = name_view name.entry; subscripts = values })))
+            (λ u. u) self.old result self.new }
     {
         if let Some(last) = &mut self.session.naked {
             if last.is_of(own, name.as_name()) {
@@ -121,7 +122,8 @@ impl<'a, S: NodeStore> Eval<'a, S> {
         values: Values,
     ) -> Result<Place<'t>, Code>
         ensures allowed { IfOk result (λ place. IsOpen (standing_of self.new) Read (place_view place)) }
-        ensures does { Evaluates S.NodeStore (λ i. variables.node_place variables.reading (own_global self.old (name_view name.entry) values)) place_view self.old result self.new }
+        ensures does { Evaluates S.NodeStore (λ i. variables.node_place variables.reading (own_global self.old
+            (name_view name.entry) values)) place_view self.old result self.new }
     {
         let own = self.settings.name_of(self.account);
         if own.is_empty() {

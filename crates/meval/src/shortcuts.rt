@@ -117,7 +117,8 @@ impl<'a, S: NodeStore> Eval<'a, S> {
         name: Name,
         subscripts: &[Expr],
     ) -> Result<Pending<'u>, Code>
-        ensures { Evaluates S.NodeStore (λ i. meaning.through i i.calls (local name no_exprs) (exprs_of (map expr_tree subscripts.now))) pending_view self.old result self.new }
+        ensures { Evaluates S.NodeStore (λ i. meaning.through i i.calls (local name no_exprs) (exprs_of
+            (map expr_tree subscripts.now))) pending_view self.old result self.new }
     {
         let values = self.values(alloc, subscripts)?;
         Ok(Pending::Local(VariableName::Own(name), values))
@@ -132,7 +133,8 @@ impl<'a, S: NodeStore> Eval<'a, S> {
         subscripts: &[Expr],
     ) -> Result<Place<'t>, Code>
         ensures allowed { IfOk result (λ place. IsOpen (standing_of self.new) Read (place_view place)) }
-        ensures does { Evaluates S.NodeStore (λ i. acts.place_to_read i (grammar.global name.now (exprs_of (map expr_tree subscripts.now)))) place_view self.old result self.new }
+        ensures does { Evaluates S.NodeStore (λ i. acts.place_to_read i (grammar.global name.now (exprs_of
+            (map expr_tree subscripts.now)))) place_view self.old result self.new }
     {
         let values = self.values(alloc, subscripts)?;
         self.own_place(alloc, VariableName::Lent(name), values)
@@ -174,7 +176,8 @@ impl<'a, S: NodeStore> Eval<'a, S> {
         name: &Name,
         subscript: &Expr,
     ) -> Result<Value, Code>
-        ensures { Evaluates S.NodeStore (λ i. acts.variable_value i (local name.now (exprs (expr_tree subscript.now) no_exprs))) (λ v. v) self.old result self.new }
+        ensures { Evaluates S.NodeStore (λ i. acts.variable_value i (local name.now (exprs (expr_tree subscript.now) no_exprs)))
+            (λ v. v) self.old result self.new }
     {
         let mut value = Value::of_whole(0);
         self.eval_into(alloc, subscript, &mut value)?;
@@ -206,7 +209,8 @@ impl<'a, S: NodeStore> Eval<'a, S> {
         subscript: &Expr,
         more: &[Expr],
     ) -> Result<Value, Code>
-        ensures { Evaluates S.NodeStore (λ i. variables.variable_function_value (variable_function_tree function) (meaning.evaluated i (local name.now (exprs (expr_tree subscript.now) no_exprs))) (meaning.values i [] (exprs_of (map expr_tree more.now)))) (λ v. v) self.old result self.new }
+        ensures { Evaluates S.NodeStore (λ i. variables.variable_function_value (variable_function_tree function) (meaning.evaluated i (local name.now (exprs
+            (expr_tree subscript.now) no_exprs))) (meaning.values i [] (exprs_of (map expr_tree more.now)))) (λ v. v) self.old result self.new }
     {
         let mut value = Value::of_whole(0);
         self.eval_into(alloc, subscript, &mut value)?;
@@ -240,7 +244,8 @@ impl<'a, S: NodeStore> Eval<'a, S> {
         subscript: &Value,
         more: &[Expr],
     ) -> Result<Value, Code>
-        ensures { Evaluates S.NodeStore (λ i. acts.get_act (exprs_of (map expr_tree more.now)) i (variables.of_local name.now (subscript.now ∷ []))) (λ v. v) self.old result self.new }
+        ensures { Evaluates S.NodeStore (λ i. acts.get_act (exprs_of (map expr_tree more.now)) i (variables.of_local name.now (subscript.now ∷ [])))
+            (λ v. v) self.old result self.new }
     {
         let subscripts = from_ref(subscript);
         if !values_ok(subscripts) {
@@ -259,7 +264,8 @@ impl<'a, S: NodeStore> Eval<'a, S> {
         others: Values,
     ) -> Result<Value, Code>
         requires { AreSubscripts subscripts.now }
-        ensures { Evaluates S.NodeStore (λ i. variables.read_or (unwrap_or (slice_get others 0) []) (variables.at_local name.now subscripts.now)) (λ v. v) self.old result self.new }
+        ensures { Evaluates S.NodeStore (λ i. variables.read_or (unwrap_or (slice_get others 0) []) (variables.at_local name.now subscripts.now))
+            (λ v. v) self.old result self.new }
     {
         match self.session.locals.get(name, subscripts)? {
             Some(value) => Ok(value.copy()?),
@@ -277,7 +283,8 @@ impl<'a, S: NodeStore> Eval<'a, S> {
         subscript: &Value,
         more: &[Expr],
     ) -> Result<Value, Code>
-        ensures { Evaluates S.NodeStore (λ i. acts.order_behind (exprs_of (map expr_tree more.now)) i (variables.of_local name.now (subscript.now ∷ []))) (λ v. v) self.old result self.new }
+        ensures { Evaluates S.NodeStore (λ i. acts.order_behind (exprs_of (map expr_tree more.now)) i (variables.of_local name.now (subscript.now ∷ [])))
+            (λ v. v) self.old result self.new }
     {
         let subscripts = from_ref(subscript);
         check_walk(subscripts)?;
@@ -294,7 +301,8 @@ impl<'a, S: NodeStore> Eval<'a, S> {
         direction: Direction,
     ) -> Result<Value, Code>
         requires { AreOrderSubscripts subscripts.now }
-        ensures { Evaluates S.NodeStore (λ i. variables.next_at (way direction) (variables.at_local name.now subscripts.now)) (λ v. v) self.old result self.new }
+        ensures { Evaluates S.NodeStore (λ i. variables.next_at (way direction) (variables.at_local name.now subscripts.now))
+            (λ v. v) self.old result self.new }
     {
         let next = self.session.locals.order(name, subscripts, direction)?;
         Ok(next_value(alloc, next))

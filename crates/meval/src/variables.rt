@@ -140,7 +140,7 @@ impl<'a, S: NodeStore> Eval<'a, S> {
         }
     }
 
-    /// Gives a FOR's index a value.
+    /// Gives a local variable without subscripts a value, as SET and FOR do.
     ///
     /// # Errors
     ///

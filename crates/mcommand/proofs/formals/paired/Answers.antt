@@ -1,5 +1,6 @@
 -- SPDX-License-Identifier: Apache-2.0
-use Rattle.mcommand.proofs.CommandLaws.{◌≡◌, ◌≤◌, ◌++◌, ◌∷◌, [], List, Text, length, arith, refl, sym, ap, ◌∙◌, append_assoc, into_iter_items, none_left, taken_front}
+use Rattle.mcommand.proofs.CommandLaws.{◌≡◌, ◌≤◌, ◌++◌, ◌∷◌, [], List, Text, length, arith, refl, sym, ap, ◌∙◌, append_assoc, into_iter_items, none_left}
+use Rattle.mcommand.proofs.CommandLaws.{taken_front}
 use Rattle.std.proofs.Common.{append-nil}
 use Rattle.mlocal.specs.Bindings.{bindings_of}
 use Rattle.mcommand.proofs.PairedNames.{pair_pushed}

@@ -1,5 +1,6 @@
 -- SPDX-License-Identifier: Apache-2.0
-use Rattle.meval.proofs.EvalLaws.{◌≡◌, Some, Ok, refl, sym, ap, ◌∙◌, subst, append-nil, give_some, ReferenceTree, local, no_exprs, reference_tree, Yields, yields_gives, fault_of, Code, variable_is}
+use Rattle.meval.proofs.EvalLaws.{◌≡◌, Some, Ok, refl, sym, ap, ◌∙◌, subst, append-nil, give_some, ReferenceTree, local, no_exprs, reference_tree, Yields}
+use Rattle.meval.proofs.EvalLaws.{yields_gives, fault_of, Code, variable_is}
 use Rattle.std.proofs.Common.{ℕ, Option, arith}
 use Rattle.mspec.specs.Code.{Zsyntax}
 use Rattle.mspec.specs.Act.{Text}

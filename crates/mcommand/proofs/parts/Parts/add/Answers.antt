@@ -1,5 +1,6 @@
 -- SPDX-License-Identifier: Apache-2.0
-use Rattle.mcommand.proofs.CommandLaws.{◌≡◌, Bool, true, Some, None, Result, Ok, Err, MatchResult, refl, sym, give, units, ℤ, Num, does_then, does_stopped, does_gives, does_evaluated, does_yielded}
+use Rattle.mcommand.proofs.CommandLaws.{◌≡◌, Bool, true, Some, None, Result, Ok, Err, MatchResult, refl, sym, give, units, ℤ, Num, does_then, does_stopped}
+use Rattle.mcommand.proofs.CommandLaws.{does_gives, does_evaluated, does_yielded}
 use Rattle.mspec.specs.Number.{sum_of}
 use Rattle.mnum.specs.declared.num.Over.{Over}
 use Rattle.moperator.specs.Outcomes.{outcome_units}

@@ -1,5 +1,6 @@
 -- SPDX-License-Identifier: Apache-2.0
-use Rattle.mcommand.proofs.CommandLaws.{map, arith, refl, Vec, Global, none_left, target_tree, Prepared, prepared_view, does_gives, does_wanting, item_then, item_stopped}
+use Rattle.mcommand.proofs.CommandLaws.{map, arith, refl, Vec, Global, none_left, target_tree, Prepared, prepared_view, does_gives, does_wanting, item_then}
+use Rattle.mcommand.proofs.CommandLaws.{item_stopped}
 use Rattle.std.proofs.lemmas.List.{map_push}
 use Rattle.mmeaning.specs.LineMeaning as meaning
 use Rattle.mcommand.proofs.parts.Parts.all_prepared.Goals as goal

@@ -1,5 +1,6 @@
 -- SPDX-License-Identifier: Apache-2.0
-use Rattle.mcommand.proofs.CommandLaws.{◌≡◌, ◌≤◌, length, ◌∷◌, [], ◌++◌, List, map, arith, refl, sym, ap, ◌∙◌, append_assoc, into_iter_items, none_left, residual_is, Prepared, prepared_view, does_then, does_failed, does_gives, does_wanting, taken_front}
+use Rattle.mcommand.proofs.CommandLaws.{◌≡◌, ◌≤◌, length, ◌∷◌, [], ◌++◌, List, map, arith, refl, sym, ap, ◌∙◌, append_assoc, into_iter_items, none_left}
+use Rattle.mcommand.proofs.CommandLaws.{residual_is, Prepared, prepared_view, does_then, does_failed, does_gives, does_wanting, taken_front}
 use Rattle.mmeaning.specs.LineMeaning as meaning
 use Rattle.mcommand.proofs.parts.Parts.assign_all.Goals as goal
 

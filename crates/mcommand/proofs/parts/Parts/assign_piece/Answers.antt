@@ -1,10 +1,13 @@
 -- SPDX-License-Identifier: Apache-2.0
-use Rattle.mcommand.proofs.CommandLaws.{◌≡◌, Ok, Err, ◌∙◌, subst, Text, ◌>>=◌, set_piece_of, Answers, place_view, does_then, does_stopped, does_evaluated, does_yielded, with_piece, made_put, made_read_failed, made_wanting, made_assigned, made_refused}
+use Rattle.mcommand.proofs.CommandLaws.{◌≡◌, Ok, Err, ◌∙◌, subst, Text, ◌>>=◌, set_piece_of, Answers, place_view, does_then, does_stopped, does_evaluated}
+use Rattle.mcommand.proofs.CommandLaws.{does_yielded, with_piece, made_put, made_read_failed, made_wanting, made_assigned, made_refused}
 use Rattle.mmeaning.specs.Functions.{text_at, whole_at}
 use Rattle.mcommand.proofs.parts.Parts.assign_piece.Goals as goal
 
 pub returns-in_err-left : goal.returns-in_err-left
-returns-in_err-left g c = does_stopped (λ i p. whole_at 1 c.args.values.now >>= λ n. made_put (with_piece c.args.value.now c.args.values.now n) p) (does_evaluated c.in_err-left.ensures.does) c.from_residual.ensures
+returns-in_err-left g c =
+    does_stopped (λ i p. whole_at 1 c.args.values.now >>= λ n. made_put (with_piece c.args.value.now c.args.values.now n) p)
+    (does_evaluated c.in_err-left.ensures.does) c.from_residual.ensures
 
 pub returns-in_err-place : goal.returns-in_err-place
 returns-in_err-place g c =

@@ -1,5 +1,7 @@
 -- SPDX-License-Identifier: Apache-2.0
-use Rattle.mcommand.proofs.CommandLaws.{◌≡◌, Ok, Err, subst, Text, Answers, option_map, sym, refl, ◌∙◌, place_view, does_then, does_true, does_false, does_stopped, does_evaluated, does_gives, with_range, made_put, made_read_failed, made_wanting, made_assigned, made_refused}
+use Rattle.mcommand.proofs.CommandLaws.{◌≡◌, Ok, Err, subst, Text, Answers, option_map, sym, refl, ◌∙◌, place_view, does_then, does_true, does_false}
+use Rattle.mcommand.proofs.CommandLaws.{does_stopped, does_evaluated, does_gives, with_range, made_put, made_read_failed, made_wanting, made_assigned}
+use Rattle.mcommand.proofs.CommandLaws.{made_refused}
 use Rattle.mspec.specs.TextFunctions.{set_range_of}
 use Rattle.mcommand.proofs.parts.Parts.assign_range.Goals as goal
 
@@ -7,7 +9,9 @@ pub returns-then-not-has_places : goal.returns-then-not-has_places
 returns-then-not-has_places g c = does_false _ _ _ (sym c.has_places.ensures ∙ c.if-not-has_places.true) (does_gives tt (λ (u : Unit {0}). u) tt refl)
 
 pub returns-in_err-left : goal.returns-in_err-left
-returns-in_err-left g c = does_true _ _ _ (sym c.has_places.ensures ∙ c.if-not-has_places.false) (does_stopped (λ i. made_put (with_range c.args.value.now (option_map (λ d. d.now) c.args.delimiter) c.args.from c.args.to)) (does_evaluated c.in_err-left.ensures.does) c.from_residual.ensures)
+returns-in_err-left g c =
+    does_true _ _ _ (sym c.has_places.ensures ∙ c.if-not-has_places.false)
+    (does_stopped (λ i. made_put (with_range c.args.value.now (option_map (λ d. d.now) c.args.delimiter) c.args.from c.args.to)) (does_evaluated c.in_err-left.ensures.does) c.from_residual.ensures)
 
 pub returns-in_err-old : goal.returns-in_err-old
 returns-in_err-old g c =

@@ -7,5 +7,5 @@ returns-in-Own g c = rw c.in-Own.is (does_evaluated c.routine.ensures)
 
 pub returns-in-Shared : goal.returns-in-Shared
 returns-in-Shared g c =
-    let read = rw c.deref.ensures at c.lines_of_shared.ensures in
-    rw c.in-Shared.is read
+    let read = rw c.deref.ensures at c.routine_of.ensures in
+    rw c.in-Shared.is (does_evaluated read)

@@ -1,5 +1,6 @@
 -- SPDX-License-Identifier: Apache-2.0
-use Rattle.mcommand.proofs.CommandLaws.{arith, refl, sym, subst, Vec, Global, none_left, lock_name_act, reference_tree, standing_of, MayTake, does_evaluated, does_gives, does_wanting, item_then, item_stopped, one_more_taken, name_is}
+use Rattle.mcommand.proofs.CommandLaws.{arith, refl, sym, subst, Vec, Global, none_left, lock_name_act, reference_tree, standing_of, MayTake, does_evaluated}
+use Rattle.mcommand.proofs.CommandLaws.{does_gives, does_wanting, item_then, item_stopped, one_more_taken, name_is}
 use Rattle.mlock.specs.declared.name.LockName.{LockName}
 use Rattle.mmeaning.specs.Locking as meaning
 use Rattle.mcommand.proofs.parts.Parts.lock_names.Goals as goal

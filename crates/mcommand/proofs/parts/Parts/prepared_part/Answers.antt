@@ -1,5 +1,8 @@
 -- SPDX-License-Identifier: Apache-2.0
-use Rattle.mcommand.proofs.CommandLaws.{refl, ap, pending_view, prepared_view, does_then, does_stopped, does_gives, does_evaluated}
+use Rattle.mcommand.proofs.CommandLaws.{refl, ap, sym, Option, pending_view, prepared_view, does_then, does_stopped, does_gives, does_evaluated}
+use Rattle.mgrammar.specs.Functions.{FunctionTree}
+use Rattle.mmeaning.specs.LineMeaning as meaning
+use Rattle.mcommand.proofs.PreparedTargets.{row_is}
 use Rattle.mcommand.proofs.parts.Parts.prepared_part.Goals as goal
 
 pub returns-in_err-pending : goal.returns-in_err-pending
@@ -13,4 +16,5 @@ returns-in_err-values g c =
 pub returns : goal.returns
 returns g c =
     let does = rw c.deref.ensures.value at c.in_ok-values.ensures in
-    does_then _ (does_evaluated c.in_ok-pending.ensures) (does_then _ (does_evaluated does) (does_gives _ prepared_view _ refl))
+    let row = ap (λ (o : Option FunctionTree). meaning.partial o (pending_view c.in_ok-pending.pending) c.in_ok-values.values) (sym (row_is _ _ c.function.ensures)) in
+    does_then _ (does_evaluated c.in_ok-pending.ensures) (does_then _ (does_evaluated does) (does_gives _ prepared_view _ row))

@@ -1,5 +1,6 @@
 -- SPDX-License-Identifier: Apache-2.0
-use Rattle.mcommand.proofs.CommandLaws.{map, Vec, Global, residual_is, target_tree, expr_tree, Prepared, prepared_view, does_evaluated, all_given, all_value_failed, all_prepared_failed}
+use Rattle.mcommand.proofs.CommandLaws.{map, Vec, Global, residual_is, target_tree, expr_tree, Prepared, prepared_view, does_evaluated, all_given}
+use Rattle.mcommand.proofs.CommandLaws.{all_value_failed, all_prepared_failed}
 use Rattle.mcommand.proofs.parts.Parts.setting.Goals as goal
 
 pub returns-in-One : goal.returns-in-One

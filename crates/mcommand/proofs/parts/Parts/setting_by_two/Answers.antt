@@ -1,5 +1,6 @@
 -- SPDX-License-Identifier: Apache-2.0
-use Rattle.mcommand.proofs.CommandLaws.{residual_is, refl, pending_view, expr_tree, does_then, does_failed, does_gives, does_evaluated, does_is, named_is, one_assigned, one_value_failed, one_prepared_failed}
+use Rattle.mcommand.proofs.CommandLaws.{residual_is, refl, pending_view, expr_tree, does_then, does_failed, does_gives, does_evaluated, does_is, named_is}
+use Rattle.mcommand.proofs.CommandLaws.{one_assigned, one_value_failed, one_prepared_failed}
 use Rattle.mtree.specs.Tree.{part_tree}
 use Rattle.mgrammar.specs.Functions.{function_of}
 use Rattle.mmeaning.specs.LineMeaning as meaning

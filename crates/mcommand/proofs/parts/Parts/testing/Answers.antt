@@ -1,11 +1,10 @@
 -- SPDX-License-Identifier: Apache-2.0
-use Rattle.mcommand.proofs.CommandLaws.{Bool, refl, ◌>>◌, give, set_test, does_then, does_gives, does_evaluated, truth_then, truth_stopped}
+use Rattle.mcommand.proofs.CommandLaws.{does_then, does_stopped, does_evaluated}
+use Rattle.mcommand.specs.Conditions.{truth_set}
 use Rattle.mcommand.proofs.parts.Parts.testing.Goals as goal
 
-pub returns-in_err-is_true : goal.returns-in_err-is_true
-returns-in_err-is_true g c = truth_stopped _ (λ b. set_test b >> give b) (does_evaluated c.in_err-is_true.ensures.does) c.from_residual.ensures
+pub returns-in_err-value : goal.returns-in_err-value
+returns-in_err-value g c = does_stopped (λ i. truth_set) (does_evaluated c.in_err-value.ensures.does) c.from_residual.ensures
 
 pub returns : goal.returns
-returns g c =
-    truth_then _ (λ b. set_test b >> give b) (does_evaluated c.in_ok-is_true.ensures.does)
-    (does_then (λ i _. give c.in_ok-is_true.is_true) (does_evaluated c.set_test.ensures) (does_gives c.in_ok-is_true.is_true (λ (b : Bool). b) c.in_ok-is_true.is_true refl))
+returns g c = does_then (λ i. truth_set) (does_evaluated c.in_ok-value.ensures.does) c.truth_tested.ensures

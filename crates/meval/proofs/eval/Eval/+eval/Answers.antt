@@ -1,5 +1,18 @@
 -- SPDX-License-Identifier: Apache-2.0
-use Rattle.meval.proofs.EvalLaws.{◌≡◌, ◌∙◌, ◌++◌, length, [], ◌∷◌, map, refl, sym, ap, arith, nat_tests, nil_from_length, apply, exprs_of, named_by, values, at_local, of_global, subscripts_of, with_subscripts, resolve, reading, direction_of, residual_is, slice_get, ◌>>=◌, give, expr_tree, operand_tree, reference_tree, tail_tree, units, read_act, data_act, data_at, get_act, get_from, order_from, order_behind, pending_view, walk_view, of_local, of_naked, read_or, unwrap_or, decides_subscripts, read_at, List, computed_outcome, evaluates_regrouped, evaluates_then, evaluates_whole, evaluates_failed, evaluates_gives, evaluates_seen, evaluates_refused, evaluates_stopped, evaluates_wanting, evaluates_yielded, never_refused, keeps_itself, keeps_on, node_evaluated, node_failed, variable_told, function_failed, got, let_through, ordered_next, ordered_stopped, walk_through, walk_refused, step_leads, operand_refused, operator_refused, leads_itself, leads_on, leads_into, of_primary, alone, in_brackets, bracket_refused, not_free, is_free, evaluates_behind, evaluates_deep, evaluates_unnamed, evaluates_entry, evaluated, gives_own, node_of, own_failed, own_told, owned, expr_is, operand_is, number_is, text_is, special_is, reference_is, variable_is, node_is, local_is, global_is, naked_is, indirect_is, extended_is, extrinsic_is, refer_is, referring_is, bracket_is, call_is, select_is, apply_is, matches_indirect_is, matches_is, matches_not_indirect_is, matches_not_is, raise_is, charge_failed, uncalled, from_tail, from_end, next_value, value_failed, values_end, next_choice, is_chosen, not_chosen, none_chosen}
+use Rattle.meval.proofs.EvalLaws.{◌≡◌, ◌∙◌, ◌++◌, length, [], ◌∷◌, map, refl, sym, ap, arith, nat_tests, nil_from_length, apply, exprs_of, named_by, values}
+use Rattle.meval.proofs.EvalLaws.{at_local, of_global, subscripts_of, with_subscripts, resolve, reading, direction_of, residual_is, slice_get, ◌>>=◌, give}
+use Rattle.meval.proofs.EvalLaws.{expr_tree, operand_tree, reference_tree, tail_tree, units, read_act, data_act, data_at, get_act, get_from, order_from}
+use Rattle.meval.proofs.EvalLaws.{order_behind, pending_view, walk_view, of_local, of_naked, read_or, unwrap_or, decides_subscripts, read_at, List}
+use Rattle.meval.proofs.EvalLaws.{computed_outcome, evaluates_regrouped, evaluates_then, evaluates_whole, evaluates_failed, evaluates_gives, evaluates_seen}
+use Rattle.meval.proofs.EvalLaws.{evaluates_refused, evaluates_stopped, evaluates_wanting, evaluates_yielded, never_refused, keeps_itself, keeps_on}
+use Rattle.meval.proofs.EvalLaws.{node_evaluated, node_failed, variable_told, function_failed, got, let_through, ordered_next, ordered_stopped, walk_through}
+use Rattle.meval.proofs.EvalLaws.{walk_refused, step_leads, operand_refused, operator_refused, leads_itself, leads_on, leads_into, of_primary, alone}
+use Rattle.meval.proofs.EvalLaws.{in_brackets, bracket_refused, not_free, is_free, evaluates_behind, evaluates_deep, evaluates_unnamed, evaluates_entry}
+use Rattle.meval.proofs.EvalLaws.{evaluated, gives_own, node_of, own_failed, own_told, owned, expr_is, operand_is, number_is, text_is, special_is, reference_is}
+use Rattle.meval.proofs.EvalLaws.{variable_is, node_is, local_is, global_is, naked_is, indirect_is, extended_is, extrinsic_is, refer_is, referring_is}
+use Rattle.meval.proofs.EvalLaws.{bracket_is, call_is, select_is, apply_is, matches_indirect_is, matches_is, matches_not_indirect_is, matches_not_is, raise_is}
+use Rattle.meval.proofs.EvalLaws.{charge_failed, uncalled, from_tail, from_end, next_value, value_failed, values_end, next_choice, is_chosen, not_chosen}
+use Rattle.meval.proofs.EvalLaws.{none_chosen}
 use Rattle.std.proofs.Common.{Ok}
 use Rattle.std.specs.Prelude.{not}
 use Rattle.mspec.specs.Interpretations.{truth_text}

@@ -1,5 +1,6 @@
 -- SPDX-License-Identifier: Apache-2.0
-use Rattle.meval.proofs.EvalWords.{◌≤◌, ◌+◌, ◌*◌, [], map, drop, Result, number_text, units, tails_of, exprs_of, choices_of, expr_tree, tail_tree, choice_tree, Code, Eval, Evaluates, KeepsEval, Leads}
+use Rattle.meval.proofs.EvalWords.{◌≤◌, ◌+◌, ◌*◌, [], map, drop, Result, number_text, units, tails_of, exprs_of, choices_of, expr_tree, tail_tree, choice_tree}
+use Rattle.meval.proofs.EvalWords.{Code, Eval, Evaluates, KeepsEval, Leads}
 use Rattle.std.proofs.Common.{List}
 use Rattle.mspec.specs.Act.{Text}
 use Rattle.mmeaning.specs.Expression as meaning

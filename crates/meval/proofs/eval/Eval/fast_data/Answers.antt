@@ -1,5 +1,6 @@
 -- SPDX-License-Identifier: Apache-2.0
-use Rattle.meval.proofs.EvalLaws.{[], ◌∷◌, sym, decides_subscripts, give, ◌>>=◌, ap₂, pos, is_value, is_above, whole_text, data_number, status_at, status_view, evaluates_then, evaluates_gives, asks_locals, let_through}
+use Rattle.meval.proofs.EvalLaws.{[], ◌∷◌, sym, decides_subscripts, give, ◌>>=◌, ap₂, pos, is_value, is_above, whole_text, data_number, status_at, status_view}
+use Rattle.meval.proofs.EvalLaws.{evaluates_then, evaluates_gives, asks_locals, let_through}
 use Rattle.meval.proofs.eval.Eval.fast_data.Goals as goal
 
 pub returns : goal.returns

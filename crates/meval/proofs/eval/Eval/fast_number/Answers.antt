@@ -1,5 +1,6 @@
 -- SPDX-License-Identifier: Apache-2.0
-use Rattle.meval.proofs.EvalLaws.{refl, residual_is, as_number, at_hand_tree, evaluates_then, evaluates_failed, evaluates_seen, evaluates_refused, evaluates_yielded, number_read, variable_primary, number_told, number_refused, charge_failed}
+use Rattle.meval.proofs.EvalLaws.{refl, residual_is, as_number, at_hand_tree, evaluates_then, evaluates_failed, evaluates_seen, evaluates_refused}
+use Rattle.meval.proofs.EvalLaws.{evaluates_yielded, number_read, variable_primary, number_told, number_refused, charge_failed}
 use Rattle.meval.proofs.eval.Eval.fast_number.Goals as goal
 
 pub returns-in_err-charge-clause-does : goal.returns-in_err-charge-clause-does

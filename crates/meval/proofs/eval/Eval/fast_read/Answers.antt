@@ -1,5 +1,6 @@
 -- SPDX-License-Identifier: Apache-2.0
-use Rattle.meval.proofs.EvalLaws.{[], ◌∷◌, refl, sym, decides_subscripts, M6, value_of, give_some, read_at, evaluates_then, evaluates_gives, evaluates_fails, asks_locals, let_through}
+use Rattle.meval.proofs.EvalLaws.{[], ◌∷◌, refl, sym, decides_subscripts, M6, value_of, give_some, read_at, evaluates_then, evaluates_gives, evaluates_fails}
+use Rattle.meval.proofs.EvalLaws.{asks_locals, let_through}
 use Rattle.meval.proofs.eval.Eval.fast_read.Goals as goal
 
 pub returns-in_ok-copy-in-Some : goal.returns-in_ok-copy-in-Some

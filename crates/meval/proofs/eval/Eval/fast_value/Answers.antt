@@ -1,5 +1,6 @@
 -- SPDX-License-Identifier: Apache-2.0
-use Rattle.meval.proofs.EvalLaws.{sym, refl, residual_is, at_hand_tree, computed_outcome, evaluates_then, evaluates_seen, evaluates_refused, evaluates_wanting, evaluates_yielded, variable_primary, charge_failed}
+use Rattle.meval.proofs.EvalLaws.{sym, refl, residual_is, at_hand_tree, computed_outcome, evaluates_then, evaluates_seen, evaluates_refused, evaluates_wanting}
+use Rattle.meval.proofs.EvalLaws.{evaluates_yielded, variable_primary, charge_failed}
 use Rattle.meval.proofs.eval.Eval.fast_value.Goals as goal
 
 pub returns-in_err-charge-clause-does : goal.returns-in_err-charge-clause-does

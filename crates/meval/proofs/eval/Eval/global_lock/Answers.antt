@@ -1,5 +1,6 @@
 -- SPDX-License-Identifier: Apache-2.0
-use Rattle.meval.proofs.EvalLaws.{ap, ◌>>◌, give, unless, Node, LockName, are_subscripts, evaluates_then, evaluates_stopped, evaluates_gives, evaluates_yielded, global_name}
+use Rattle.meval.proofs.EvalLaws.{ap, ◌>>◌, give, unless, Node, LockName, are_subscripts, evaluates_then, evaluates_stopped, evaluates_gives, evaluates_yielded}
+use Rattle.meval.proofs.EvalLaws.{global_name}
 use Rattle.mspec.specs.Code as spec
 use Rattle.meval.proofs.eval.Eval.global_lock.Goals as goal
 

@@ -1,5 +1,6 @@
 -- SPDX-License-Identifier: Apache-2.0
-use Rattle.meval.proofs.EvalLaws.{[], ap, ◌∙◌, unwrap_or, give, name_view, Option, Text, next_subscript, way, evaluates_then, evaluates_stopped, evaluates_gives, asks_locals}
+use Rattle.meval.proofs.EvalLaws.{[], ap, ◌∙◌, unwrap_or, give, name_view, Option, Text, next_subscript, way, evaluates_then, evaluates_stopped}
+use Rattle.meval.proofs.EvalLaws.{evaluates_gives, asks_locals}
 use Rattle.meval.proofs.eval.Eval.next.Goals as goal
 
 pub returns-in_ok-next-in-Local : goal.returns-in_ok-next-in-Local

@@ -1,5 +1,6 @@
 -- SPDX-License-Identifier: Apache-2.0
-use Rattle.meval.proofs.EvalLaws.{Some, ap, ◌>>◌, give, unless, set_naked, Node, are_subscripts, at_node, place_view, evaluates_then, evaluates_stopped, evaluates_gives, evaluates_yielded, as_node_place}
+use Rattle.meval.proofs.EvalLaws.{Some, ap, ◌>>◌, give, unless, set_naked, Node, are_subscripts, at_node, place_view, evaluates_then, evaluates_stopped}
+use Rattle.meval.proofs.EvalLaws.{evaluates_gives, evaluates_yielded, as_node_place}
 use Rattle.mspec.specs.Code as spec
 use Rattle.meval.proofs.eval.Eval.node_place.Goals as goal
 

@@ -1,5 +1,6 @@
 -- SPDX-License-Identifier: Apache-2.0
-use Rattle.meval.proofs.EvalLaws.{Some, ap, ◌>>◌, give, set_naked, Node, at_node, checked, ordering, walk_view, evaluates_then, evaluates_stopped, evaluates_gives, evaluates_yielded, evaluates_wanting}
+use Rattle.meval.proofs.EvalLaws.{Some, ap, ◌>>◌, give, set_naked, Node, at_node, checked, ordering, walk_view, evaluates_then, evaluates_stopped}
+use Rattle.meval.proofs.EvalLaws.{evaluates_gives, evaluates_yielded, evaluates_wanting}
 use Rattle.meval.proofs.eval.Eval.node_walk.Goals as goal
 
 pub returns-in_err-check-clause-does : goal.returns-in_err-check-clause-does

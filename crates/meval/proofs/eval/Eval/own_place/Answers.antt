@@ -1,5 +1,7 @@
 -- SPDX-License-Identifier: Apache-2.0
-use Rattle.meval.proofs.EvalLaws.{[], Some, ap, sym, arith, nat_tests, nil_from_length, length, ◌∙◌, ◌≡◌, ◌>>◌, give, unless, set_naked, Node, are_subscripts, at_node, name_view, place_view, subst, IsAccountName, own_global, evaluates_failed, evaluates_then, evaluates_stopped, evaluates_gives, evaluates_yielded, no_account, own_let_in}
+use Rattle.meval.proofs.EvalLaws.{[], Some, ap, sym, arith, nat_tests, nil_from_length, length, ◌∙◌, ◌≡◌, ◌>>◌, give, unless, set_naked, Node, are_subscripts}
+use Rattle.meval.proofs.EvalLaws.{at_node, name_view, place_view, subst, IsAccountName, own_global, evaluates_failed, evaluates_then, evaluates_stopped}
+use Rattle.meval.proofs.EvalLaws.{evaluates_gives, evaluates_yielded, no_account, own_let_in}
 use Rattle.std.specs.Prelude.{◌<◌}
 use Rattle.mspec.specs.Code as spec
 use Rattle.mspec.specs.Subscripts.{is_account_name}

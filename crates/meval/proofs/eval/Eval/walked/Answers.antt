@@ -1,5 +1,6 @@
 -- SPDX-License-Identifier: Apache-2.0
-use Rattle.meval.proofs.EvalLaws.{refl, give, at_local, node_place, ordering, name_view, walk_view, evaluates_then, evaluates_stopped, evaluates_gives, evaluates_yielded}
+use Rattle.meval.proofs.EvalLaws.{refl, give, at_local, node_place, ordering, name_view, walk_view, evaluates_then, evaluates_stopped, evaluates_gives}
+use Rattle.meval.proofs.EvalLaws.{evaluates_yielded}
 use Rattle.meval.proofs.eval.Eval.walked.Goals as goal
 
 pub returns-in_err-check_walk-in-Local-clause-does : goal.returns-in_err-check_walk-in-Local-clause-does

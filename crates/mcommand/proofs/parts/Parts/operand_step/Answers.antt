@@ -1,0 +1,9 @@
+-- SPDX-License-Identifier: Apache-2.0
+use Rattle.mcommand.proofs.CommandLaws.{does_then, does_stopped, does_evaluated, does_yielded}
+use Rattle.mcommand.proofs.parts.Parts.operand_step.Goals as goal
+
+pub returns-in_err-value : goal.returns-in_err-value
+returns-in_err-value g c = does_stopped _ (does_evaluated c.in_err-value.ensures.does) c.from_residual.ensures
+
+pub returns : goal.returns
+returns g c = does_then _ (does_evaluated c.in_ok-value.ensures.does) (does_yielded c.put.ensures)

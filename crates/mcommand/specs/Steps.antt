@@ -1,0 +1,145 @@
+-- SPDX-License-Identifier: Apache-2.0
+-- The steps of a program where an expression stands: as `step` of the definitions has them, apart from the call of a function, which a
+-- level has to be opened for.
+use Rattle.std.specs.Prelude.{Bool, true, false, cond, List, [], ◌∷◌, ◌++◌, Option, Some, None, map}
+use Rattle.mspec.specs.Code.{Zsyntax}
+use Rattle.mspec.specs.Scopes.{Binding, valued}
+use Rattle.mspec.specs.Act.{Text, Act, ◌>>=◌, ◌>>◌, give, fail, charge, write_formats, test_is}
+use Rattle.mgrammar.specs.Grammar.{SignTree, BinaryTree}
+use Rattle.mmeaning.specs.Operators.{as_truth, unaries, binary, raising}
+use Rattle.mmeaning.specs.Functions.{call_value}
+use Rattle.mmeaning.specs.Expression.{Inside, linked_by, tail_value, operand_value}
+use Rattle.mmeaning.specs.Parameters.{handed}
+use Rattle.mmeaning.specs.LineMeaning.{Prepared, all_prepared, targets}
+use Rattle.mmeaning.specs.Programs.{Item, one_value, some_values, made, handing, on_top, Op, Operand, Tail, Spend, Sign, Join, Raise, Values, Add, Function}
+use Rattle.mmeaning.specs.Programs.{Begin, Actual, Hand, Hand_name, Call, Where, Formats, Prepare}
+use Rattle.mlocal.specs.Bindings.{binding_of}
+use Rattle.mcommand.specs.Prepared.{prepared_view}
+use Rattle.mcommand.specs.declared.items.Item as code
+use Rattle.mcommand.specs.declared.items.Item.TheVariants as item
+
+-- ---- the stack of the code
+
+abbrev pub item_view : code.Item → Item
+item_view (item.Value v) = one_value v
+item_view (item.Values vs) = some_values vs.items
+item_view (item.Made all) = made (map prepared_view all.items)
+item_view (item.Handing test bs) = handing test (map binding_of bs.items)
+
+-- the last item pushed is on top
+abbrev pub items_on : List Item → List code.Item → List Item
+items_on below [] = below
+items_on below (i ∷ is) = items_on (item_view i ∷ below) is
+
+abbrev pub items_view : List code.Item → List Item
+items_view is = items_on [] is
+
+-- ---- what is on top, and what is below it
+
+abbrev pub value_on_top : List Item → Act (Text × List Item)
+value_on_top (one_value v ∷ st) = give (v, st)
+value_on_top st = fail Zsyntax
+
+abbrev pub values_on_top : List Item → Act (List Text × List Item)
+values_on_top (some_values vs ∷ st) = give (vs, st)
+values_on_top st = fail Zsyntax
+
+abbrev pub targets_on_top : List Item → Act (List Prepared × List Item)
+targets_on_top (made ps ∷ st) = give (ps, st)
+targets_on_top st = fail Zsyntax
+
+abbrev pub handing_on_top : List Item → Act ((Bool × List Binding) × List Item)
+handing_on_top (handing b bs ∷ st) = give ((b, bs), st)
+handing_on_top st = fail Zsyntax
+
+-- ---- steps
+
+-- whether a step is the call of a function
+abbrev pub is_call : Op → Bool
+is_call (Call e) = true
+is_call o = false
+
+-- the stack goes on, or the argument ends
+abbrev pub goes_with : Bool → List Item → Option (List Item)
+goes_with goes st = cond goes (Some st) None
+
+-- those that ask nothing of the session
+abbrev pub sign_step : List SignTree → List Item → Act (Option (List Item))
+sign_step signs st = do
+  v ← value_on_top st
+  w ← unaries signs v.0
+  on_top v.1 (one_value w)
+
+abbrev pub join_step : BinaryTree → List Item → Act (Option (List Item))
+join_step b st = do
+  w ← value_on_top st
+  v ← value_on_top w.1
+  z ← binary b v.0 w.0
+  on_top v.1 (one_value z)
+
+abbrev pub add_step : List Item → Act (Option (List Item))
+add_step st = do
+  v ← value_on_top st
+  vs ← values_on_top v.1
+  on_top vs.1 (some_values (vs.0 ++ v.0 ∷ []))
+
+abbrev pub function_step : Text → List Item → Act (Option (List Item))
+function_step word st = do
+  vs ← values_on_top st
+  v ← call_value word vs.0
+  on_top vs.1 (one_value v)
+
+-- one thing more that is handed over
+abbrev pub handed_on_top : (Bool × List Binding) × List Item → Binding → Act (Option (List Item))
+handed_on_top taken b = on_top taken.1 (handing taken.0.0 (taken.0.1 ++ b ∷ []))
+
+abbrev pub hand_step : List Item → Act (Option (List Item))
+hand_step st = do
+  v ← value_on_top st
+  taken ← handing_on_top v.1
+  handed_on_top taken (valued v.0)
+
+abbrev pub where_step : List Item → Act (Option (List Item))
+where_step st = do
+  v ← value_on_top st
+  b ← as_truth v.0
+  give (goes_with b v.1)
+
+abbrev pub step_in : Inside → Op → List Item → Act (Option (List Item))
+step_in i (Operand o) st = do
+  v ← operand_value i o
+  on_top st (one_value v)
+step_in i (Tail t) st = do
+  v ← value_on_top st
+  w ← tail_value i v.0 t
+  on_top v.1 (one_value w)
+step_in i Spend st = charge >> give (Some st)
+step_in i (Sign signs) st = sign_step signs st
+step_in i (Join b) st = join_step b st
+step_in i Raise st = do
+  w ← value_on_top st
+  v ← value_on_top w.1
+  z ← raising v.0 w.0
+  on_top v.1 (one_value z)
+step_in i Values st = on_top st (some_values [])
+step_in i Add st = add_step st
+step_in i (Function word) st = function_step word st
+step_in i Begin st = do
+  b ← test_is
+  on_top st (handing b [])
+step_in i (Actual a) st = do
+  taken ← handing_on_top st
+  h ← handed i a
+  handed_on_top taken h
+step_in i Hand st = hand_step st
+step_in i Hand_name st = do
+  v ← value_on_top st
+  taken ← handing_on_top v.1
+  h ← linked_by i v.0
+  handed_on_top taken h
+step_in i (Call e) st = fail Zsyntax
+step_in i Where st = where_step st
+step_in i (Formats run) st = write_formats run >> give (Some st)
+step_in i (Prepare d) st = do
+  ps ← all_prepared i [] (targets d)
+  on_top st (made ps)

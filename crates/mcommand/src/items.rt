@@ -1,0 +1,111 @@
+// SPDX-License-Identifier: Apache-2.0
+// The stack of a program: what its steps leave for those after them.
+ghost use Rattle.std.specs.Prelude.{◌≡◌, map};
+ghost use Rattle.mmeaning.specs.Programs.{on_top};
+ghost use Rattle.mmeaning.specs.Yields.{Yields};
+ghost use Rattle.moperator.specs.Codes.{fault_of};
+ghost use Rattle.mlocal.specs.Bindings.{binding_of};
+ghost use Rattle.mcommand.specs.Prepared.{prepared_view};
+ghost use Rattle.mcommand.specs.Steps.{item_view, items_view, value_on_top, values_on_top, targets_on_top, handing_on_top, goes_with};
+
+use crate::set::Prepared;
+use mlocal::Binding;
+use moperator::Code;
+use mvalue::Value;
+
+/// An item of a program's stack. Contracts see it by `item_view`, as one of the definitions.
+#[derive(Drop)]
+pub enum Item {
+    /// A value.
+    Value(Value),
+    /// The values of a function's arguments so far.
+    Values(Vec<Value>),
+    /// The targets of SET.
+    Made(Vec<Prepared<'static>>),
+    /// What `$TEST` was before the actuals, and what these hand over so far.
+    Handing(bool, Vec<Binding>),
+}
+
+/// Takes the value on top. Takes no memory.
+///
+/// # Errors
+///
+/// `Zsyntax` if there is none, as there is in no program.
+pub fn take_value(items: &mut Vec<Item>) -> Result<Value, Code>
+    ensures { Yields fault_of (value_on_top (items_view items.old.items)) (λ value. (value, items_view items.new.items)) result }
+{
+    let Some(item) = items.pop() else {
+        return Err(Code::Zsyntax);
+    };
+    match item {
+        Item::Value(value) => Ok(value),
+        Item::Values(_) => Err(Code::Zsyntax),
+        Item::Made(_) => Err(Code::Zsyntax),
+        Item::Handing(_, _) => Err(Code::Zsyntax),
+    }
+}
+
+/// Takes the values of a function's arguments, which are on top. Takes no memory.
+///
+/// # Errors
+///
+/// `Zsyntax` if they are not, as they are in each program.
+pub fn take_values(items: &mut Vec<Item>) -> Result<Vec<Value>, Code>
+    ensures { Yields fault_of (values_on_top (items_view items.old.items)) (λ values. (values.items, items_view items.new.items)) result }
+{
+    let Some(item) = items.pop() else {
+        return Err(Code::Zsyntax);
+    };
+    match item {
+        Item::Value(_) => Err(Code::Zsyntax),
+        Item::Values(values) => Ok(values),
+        Item::Made(_) => Err(Code::Zsyntax),
+        Item::Handing(_, _) => Err(Code::Zsyntax),
+    }
+}
+
+/// Takes the targets of SET, which are on top. Takes no memory.
+///
+/// # Errors
+///
+/// `Zsyntax` if they are not, as they are in each program.
+pub fn take_targets(items: &mut Vec<Item>) -> Result<Vec<Prepared<'static>>, Code>
+    ensures { Yields fault_of (targets_on_top (items_view items.old.items)) (λ all. (map prepared_view all.items, items_view items.new.items)) result }
+{
+    let Some(item) = items.pop() else {
+        return Err(Code::Zsyntax);
+    };
+    match item {
+        Item::Value(_) => Err(Code::Zsyntax),
+        Item::Values(_) => Err(Code::Zsyntax),
+        Item::Made(all) => Ok(all),
+        Item::Handing(_, _) => Err(Code::Zsyntax),
+    }
+}
+
+/// Takes what the actuals so far hand over, which is on top, and what `$TEST` was before them. Takes no memory.
+///
+/// # Errors
+///
+/// `Zsyntax` if it is not, as it is in each program.
+pub fn take_handing(items: &mut Vec<Item>) -> Result<(bool, Vec<Binding>), Code>
+    ensures { Yields fault_of (handing_on_top (items_view items.old.items)) (λ taken. ((taken.0, map binding_of taken.1.items), items_view items.new.items)) result }
+{
+    let Some(item) = items.pop() else {
+        return Err(Code::Zsyntax);
+    };
+    match item {
+        Item::Value(_) => Err(Code::Zsyntax),
+        Item::Values(_) => Err(Code::Zsyntax),
+        Item::Made(_) => Err(Code::Zsyntax),
+        Item::Handing(test, bindings) => Ok((test, bindings)),
+    }
+}
+
+// Puts an item on top, with which the program goes on.
+pub(crate) fn put(items: &mut Vec<Item>, item: Item) -> Result<bool, Code>
+    ensures { Yields fault_of (on_top (items_view items.old.items) (item_view item)) (λ goes. goes_with goes (items_view items.new.items)) result }
+{
+    items.push(item)?;
+    Ok(true)
+}

@@ -1,6 +1,11 @@
 -- SPDX-License-Identifier: Apache-2.0
 -- How the calls of this crate are put together.
-use Rattle.mexec.proofs.ExecWords.{Doubts-same, Doubts-then, undoubted, ◌≡◌, ℕ, zero, suc, ◌≤◌, ◌<◌, ◌+◌, ◌++◌, List, [], ◌∷◌, Result, Ok, Err, length, drop, get_or, refl, sym, ◌∙◌, subst, arith, drop_more, IsErr, IsErrAnd, Text, Act, ◌>>=◌, ◌>>◌, give, set_test, ExprTree, ArgTree, CommandTree, as_truth, Inside, inside, inside_of, context, value, Go_on, after, Standing, Here, Did, View, Rests, Lists, left, frame, Enough, MovedOn, residual_is, did_then, did_failed, did_gives, did_lost, then_follows, then_failed, assoc, ended, Ghosts, fault_of, Code, Zmem, standing_of, depth_of, Parts, Does, DoesAt, KeepsLoans, here_of, Runs, view, stack, stacked, resting, completion_of, position_of, went, listing, at_done, keeps_at_depth, keeps_itself, keeps_on, Completion}
+use Rattle.mexec.proofs.ExecWords.{Doubts-same, Doubts-then, undoubted, ◌≡◌, ℕ, zero, suc, ◌≤◌, ◌<◌, ◌+◌, ◌++◌, List, [], ◌∷◌, Result, Ok, Err, length, drop}
+use Rattle.mexec.proofs.ExecWords.{get_or, refl, sym, ◌∙◌, subst, arith, drop_more, IsErr, IsErrAnd, Text, Act, ◌>>=◌, ◌>>◌, give, set_test, ExprTree, ArgTree}
+use Rattle.mexec.proofs.ExecWords.{CommandTree, as_truth, Inside, inside, inside_of, context, value, Go_on, after, Standing, Here, Did, View, Rests, Lists}
+use Rattle.mexec.proofs.ExecWords.{left, frame, Enough, MovedOn, residual_is, did_then, did_failed, did_gives, did_lost, then_follows, then_failed, assoc}
+use Rattle.mexec.proofs.ExecWords.{ended, Ghosts, fault_of, Code, Zmem, standing_of, depth_of, Parts, Does, DoesAt, KeepsLoans, here_of, Runs, view, stack}
+use Rattle.mexec.proofs.ExecWords.{stacked, resting, completion_of, position_of, went, listing, at_done, keeps_at_depth, keeps_itself, keeps_on, Completion}
 use Rattle.mmeaning.specs.Frames.{Fits}
 use Rattle.mexec.specs.Frames.{RunsIf, RunsWithin}
 use Rattle.mmeaning.specs.LineMeaning as meaning
@@ -28,13 +33,15 @@ at_then {g = g} q {f = f} {j = j} {old = old} {mid = mid} {new = new} {x = x} {r
 -- if the call returns by a `?`
 pub at_stopped : {S A B X Y : Type 0} {g : Ghosts S} {p : Text → ℕ → Act A} (q : Text → ℕ → A → Act B) {f : X → A} {j : Y → B} {old new : Parts S} {e : Code} {r : Result Y Code}
     → DoesAt g p f old (Err e) new → IsErr r × IsErrAnd r (λ x. x ≡ e) → DoesAt g (λ a n. p a n >>= q a n) j old r new
-at_stopped {g = g} {p = p} q {j = j} {old = old} {new = new} {e = e} {r = r} d h = subst (λ r. DoesAt g (λ a n. p a n >>= q a n) j old r new) (sym (residual_is r e h)) (record {
-  at = λ sure. did_failed (q (standing_of old.eval).account) (d.at sure);
-  doubt = d.doubt;
-  keeps = d.keeps;
-})
+at_stopped {g = g} {p = p} q {j = j} {old = old} {new = new} {e = e} {r = r} d h =
+    subst (λ r. DoesAt g (λ a n. p a n >>= q a n) j old r new) (sym (residual_is r e h)) (record {
+      at = λ sure. did_failed (q (standing_of old.eval).account) (d.at sure);
+      doubt = d.doubt;
+      keeps = d.keeps;
+    })
 
-pub at_failed : {S A B X Y : Type 0} {g : Ghosts S} {p : Text → ℕ → Act A} (q : Text → ℕ → A → Act B) {f : X → A} {j : Y → B} {old new : Parts S} {e : Code} → DoesAt g p f old (Err e) new → DoesAt g (λ a n. p a n >>= q a n) j old (Err e) new
+pub at_failed : {S A B X Y : Type 0} {g : Ghosts S} {p : Text → ℕ → Act A} (q : Text → ℕ → A → Act B) {f : X → A} {j : Y → B} {old new : Parts S} {e : Code}
+    → DoesAt g p f old (Err e) new → DoesAt g (λ a n. p a n >>= q a n) j old (Err e) new
 at_failed q d = at_stopped q d (refl, refl)
 
 pub at_gives : {S A X : Type 0} {g : Ghosts S} {parts : Parts S} (a : A) (f : X → A) (x : X) → f x ≡ a → DoesAt g (λ b n. give a) f parts (Ok x) parts
@@ -45,7 +52,8 @@ at_gives a f x same = record {
 }
 
 -- out of memory, if the call returns by a `?`
-pub at_wanting : {S A X : Type 0} {g : Ghosts S} {parts : Parts S} (p : Text → ℕ → Act A) (f : X → A) (r : Result X Code) → IsErr r × IsErrAnd r (λ x. x ≡ Zmem) → DoesAt g p f parts r parts
+pub at_wanting : {S A X : Type 0} {g : Ghosts S} {parts : Parts S} (p : Text → ℕ → Act A) (f : X → A) (r : Result X Code) → IsErr r × IsErrAnd r (λ x. x ≡ Zmem)
+    → DoesAt g p f parts r parts
 at_wanting {g = g} {parts = parts} p f r h = subst (λ r. DoesAt g p f parts r parts) (sym (residual_is r Zmem h)) (record {
   at = λ sure. did_lost (p (standing_of parts.eval).account) f Zmem tt refl (omega arith);
   doubt = Doubts-same _;
@@ -54,7 +62,8 @@ at_wanting {g = g} {parts = parts} p f r h = subst (λ r. DoesAt g p f parts r p
 
 -- a call at a depth of its own, which goes on with what is next
 module _ {S : Type 0} {g : Ghosts S} (p : Inside → Act (Unit {0})) (depth : Depth) {old new : Parts S} where
-  pub goes_on : (r : Result (Unit {0}) Code) → Does g p (λ (u : Unit {0}). u) (record old { eval = record old.eval { depth = depth } }) r new → DoesAt g (λ a n. p (inside a n (depth_of depth)) >> give Go_on) completion_of old (went r) new
+  pub goes_on : (r : Result (Unit {0}) Code) → Does g p (λ (u : Unit {0}). u) (record old { eval = record old.eval { depth = depth } }) r new
+      → DoesAt g (λ a n. p (inside a n (depth_of depth)) >> give Go_on) completion_of old (went r) new
   goes_on (Ok u) d = at_then (λ a n _. give Go_on) (at_done depth d) (at_gives Go_on completion_of completion.GoOn refl)
   goes_on (Err e) d = at_failed (λ a n _. give Go_on) (at_done depth d)
 
@@ -65,28 +74,34 @@ testing_is i e = sym (
     ∙ (λ j. value i e >>= (λ x. assoc (as_truth x) (λ b. set_test b >> give b) (λ b. give (meaning.where_true b)) j)))
 
 -- a completion that passes what is next
-pub passes : (s : Completion) (p : Act meaning.Completion) → (s ≡ completion.GoOn → ⊥) → ◌≡◌ {A = Act meaning.Completion} (after (completion_of s) p) (give (completion_of s))
+pub passes : (s : Completion) (p : Act meaning.Completion) → (s ≡ completion.GoOn → ⊥)
+    → ◌≡◌ {A = Act meaning.Completion} (after (completion_of s) p) (give (completion_of s))
 passes completion.GoOn p not_go = absurd (not_go refl)
 passes s p not_go = refl
 
 -- a call at a depth that plays no part
-pub at_depth : {S A X : Type 0} {g : Ghosts S} {p : Text → ℕ → Act A} {f : X → A} {old new : Parts S} {r : Result X Code} (d : Depth) → DoesAt g p f (record old { eval = record old.eval { depth = d } }) r new → DoesAt g p f old r new
+pub at_depth : {S A X : Type 0} {g : Ghosts S} {p : Text → ℕ → Act A} {f : X → A} {old new : Parts S} {r : Result X Code} (d : Depth)
+    → DoesAt g p f (record old { eval = record old.eval { depth = d } }) r new → DoesAt g p f old r new
 at_depth d k = record { at = λ sure. k.at sure; doubt = k.doubt; keeps = keeps_at_depth d k.keeps }
 
 -- an act by another name
-pub at_as : {S A X : Type 0} {g : Ghosts S} {p q : Text → ℕ → Act A} {f : X → A} {old new : Parts S} {r : Result X Code} → ((a : Text) (n : ℕ) → ◌≡◌ {A = Act A} (p a n) (q a n)) → DoesAt g q f old r new → DoesAt g p f old r new
+pub at_as : {S A X : Type 0} {g : Ghosts S} {p q : Text → ℕ → Act A} {f : X → A} {old new : Parts S} {r : Result X Code}
+    → ((a : Text) (n : ℕ) → ◌≡◌ {A = Act A} (p a n) (q a n)) → DoesAt g q f old r new → DoesAt g p f old r new
 at_as {g = g} {f = f} {old = old} {new = new} {r = r} same k = subst (λ p. DoesAt g p f old r new) (λ i a n. sym (same a n) i) k
 
 -- the same in a line's context, for an act that calls no function
-pub goes_here : {S : Type 0} {g : Ghosts S} (p : positions.Position) (act : Inside → Act (Unit {0})) → InLine (position_of p) act → {old new : Parts S} (r : Result (Unit {0}) Code)
+pub goes_here : {S : Type 0} {g : Ghosts S} (p : positions.Position) (act : Inside → Act (Unit {0})) → InLine (position_of p) act
+    → {old new : Parts S} (r : Result (Unit {0}) Code)
     → Does g act (λ (u : Unit {0}). u) (record old { eval = record old.eval { depth = p.depth } }) r new → DoesAt g (λ a n. act (inside_of (context a n (position_of p))) >> give Go_on) completion_of old (went r) new
 goes_here p act here r d = at_as (λ a n. λ i. here a n i >> give Go_on) (goes_on act p.depth r d)
 
 -- ---- acts before frames
 
-moved_to : {A : Type 0} {b b1 : Standing} {steady : Type 0} (p : Text → Act A) (k : Text → A → Act meaning.Completion) {h h1 : Here} {r : Result Completion Code} {fs : List View} → b1 ≡ b → MovedOn b1 steady fault_of completion_of (p b1.account) (k b1.account) h r fs h1
+moved_to : {A : Type 0} {b b1 : Standing} {steady : Type 0} (p : Text → Act A) (k : Text → A → Act meaning.Completion) {h h1 : Here} {r : Result Completion Code} {fs : List View}
+    → b1 ≡ b → MovedOn b1 steady fault_of completion_of (p b1.account) (k b1.account) h r fs h1
     → MovedOn b steady fault_of completion_of (p b.account) (k b.account) h r fs h1
-moved_to {steady = steady} p k {h = h} {h1 = h1} {r = r} {fs = fs} same m = subst (λ b. MovedOn b steady fault_of completion_of (p b.account) (k b.account) h r fs h1) same m
+moved_to {steady = steady} p k {h = h} {h1 = h1} {r = r} {fs = fs} same m =
+    subst (λ b. MovedOn b steady fault_of completion_of (p b.account) (k b.account) h r fs h1) same m
 
 module _ (fits : (steps n : ℕ) → Type 0) (sound : (s n : ℕ) → fits s n → s ≤ n) (fewer : (m s n : ℕ) → m ≤ s → fits s n → fits m n) where
   pub if_then : {S A X : Type 0} {g : Ghosts S} {p : Text → ℕ → Act A} (q : Text → ℕ → A → Act meaning.Completion) {f : X → A} {x : X} {fs fs' : List View} {old mid new : Parts S} {r : Result Completion Code}
@@ -104,11 +119,12 @@ module _ (fits : (steps n : ℕ) → Type 0) (sound : (s n : ℕ) → fits s n �
   -- an act fails, and the call returns by a `?`
   pub if_stopped : {S A X : Type 0} {g : Ghosts S} {p : Text → ℕ → Act A} (q : Text → ℕ → A → Act meaning.Completion) {f : X → A} {fs fs' : List View} {old new : Parts S} {r : Result Completion Code} {e : Code}
       → DoesAt g p f old (Err e) new → IsErr r × IsErrAnd r (λ x. x ≡ e) → RunsIf fits g (λ a n. p a n >>= q a n) fs old r fs' new
-  if_stopped {g = g} {p = p} q {fs = fs} {fs' = fs'} {old = old} {new = new} {r = r} d h = subst (λ r. RunsIf fits g (λ a n. p a n >>= q a n) fs old r fs' new) (sym (residual_is r _ h)) (record {
-    at = λ sure n ns le e. on_failed (q (standing_of old.eval).account n) n (sound old.eval.steps n le) (d.at sure);
-    doubt = d.doubt;
-    keeps = d.keeps;
-  })
+  if_stopped {g = g} {p = p} q {fs = fs} {fs' = fs'} {old = old} {new = new} {r = r} d h =
+      subst (λ r. RunsIf fits g (λ a n. p a n >>= q a n) fs old r fs' new) (sym (residual_is r _ h)) (record {
+        at = λ sure n ns le e. on_failed (q (standing_of old.eval).account n) n (sound old.eval.steps n le) (d.at sure);
+        doubt = d.doubt;
+        keeps = d.keeps;
+      })
 
   -- if the first act spent the step of an entry: what follows runs with one text fewer
   pub if_spent : (below : (m s n : ℕ) → m < s → fits s (suc n) → fits m n) {S A X : Type 0} {g : Ghosts S} {p : Text → ℕ → Act A} (q : Text → ℕ → A → Act meaning.Completion) {f : X → A} {x : X} {fs fs' : List View} {old mid new : Parts S} {r : Result Completion Code}
@@ -127,7 +143,8 @@ module _ (fits : (steps n : ℕ) → Type 0) (sound : (s n : ℕ) → fits s n �
           (moved_to (λ a. q a (suc n) (f x)) (λ a. left a fs ns) d.keeps.eval.same (k.at sure n ns (below mid.eval.steps old.eval.steps n less le) (enough mid.eval.steps old.eval.steps fs ns (omega arith) e)))
 
   -- an act that leaves the frames as they are
-  pub if_done : {S : Type 0} {g : Ghosts S} {p : Text → ℕ → Act meaning.Completion} {fs : List View} {old new : Parts S} (r : Result Completion Code) → DoesAt g p completion_of old r new → RunsIf fits g p fs old r fs new
+  pub if_done : {S : Type 0} {g : Ghosts S} {p : Text → ℕ → Act meaning.Completion} {fs : List View} {old new : Parts S} (r : Result Completion Code)
+      → DoesAt g p completion_of old r new → RunsIf fits g p fs old r fs new
   if_done {g = g} {p = p} {fs = fs} {old = old} {new = new} (Ok s) d = record {
     at = λ sure n ns le e. record {
       done =
@@ -152,7 +169,8 @@ module _ (fits : (steps n : ℕ) → Type 0) (sound : (s n : ℕ) → fits s n �
 
 module _ {fits : (steps n : ℕ) → Type 0} where
   -- out of memory: the call returns by a `?`
-  pub runs_wanting : {S : Type 0} {g : Ghosts S} (p : Text → ℕ → Act meaning.Completion) {fs fs' : List View} {parts : Parts S} (r : Result Completion Code) → IsErr r × IsErrAnd r (λ x. x ≡ Zmem) → RunsIf fits g p fs parts r fs' parts
+  pub runs_wanting : {S : Type 0} {g : Ghosts S} (p : Text → ℕ → Act meaning.Completion) {fs fs' : List View} {parts : Parts S} (r : Result Completion Code)
+      → IsErr r × IsErrAnd r (λ x. x ≡ Zmem) → RunsIf fits g p fs parts r fs' parts
   runs_wanting {g = g} p {fs = fs} {fs' = fs'} {parts = parts} r h = subst (λ r. RunsIf fits g p fs parts r fs' parts) (sym (residual_is r Zmem h)) (record {
     at = λ sure n ns le e. on_lost (p (standing_of parts.eval).account n) (left (standing_of parts.eval).account fs ns) Zmem tt refl (omega arith);
     doubt = Doubts-same _;
@@ -160,7 +178,8 @@ module _ {fits : (steps n : ℕ) → Type 0} where
   })
 
   -- a completion is given to the frames
-  pub runs_completion : {S : Type 0} {g : Ghosts S} {fs : List View} {parts : Parts S} (s : Completion) → RunsIf fits g (λ a n. give (completion_of s)) fs parts (Ok s) fs parts
+  pub runs_completion : {S : Type 0} {g : Ghosts S} {fs : List View} {parts : Parts S} (s : Completion)
+      → RunsIf fits g (λ a n. give (completion_of s)) fs parts (Ok s) fs parts
   runs_completion s = record {
     at = λ sure n ns le e. on_completion s ns e;
     doubt = Doubts-same _;
@@ -168,11 +187,14 @@ module _ {fits : (steps n : ℕ) → Type 0} where
   }
 
   -- an act by another name
-  pub runs_as : {S : Type 0} {g : Ghosts S} {p q : Text → ℕ → Act meaning.Completion} {fs fs' : List View} {old new : Parts S} {r : Result Completion Code} → ((a : Text) (n : ℕ) → ◌≡◌ {A = Act meaning.Completion} (p a n) (q a n)) → RunsIf fits g q fs old r fs' new → RunsIf fits g p fs old r fs' new
+  pub runs_as : {S : Type 0} {g : Ghosts S} {p q : Text → ℕ → Act meaning.Completion} {fs fs' : List View} {old new : Parts S} {r : Result Completion Code}
+      → ((a : Text) (n : ℕ) → ◌≡◌ {A = Act meaning.Completion} (p a n) (q a n)) → RunsIf fits g q fs old r fs' new → RunsIf fits g p fs old r fs' new
   runs_as {g = g} {fs = fs} {fs' = fs'} {old = old} {new = new} {r = r} same k = subst (λ p. RunsIf fits g p fs old r fs' new) (λ i a n. sym (same a n) i) k
 
   -- a frame stands below what is done, in place of what it does then
-  pub frame_below : {S : Type 0} {g : Ghosts S} {p : Text → ℕ → Act meaning.Completion} (f : View) → ((s n : ℕ) → fits s n → Fits f s n) → {fs fs' : List View} {old new : Parts S} {r : Result Completion Code} → RunsIf fits g p (f ∷ fs) old r fs' new → RunsIf fits g (λ a n. p a n >>= frame a n f) fs old r fs' new
+  pub frame_below : {S : Type 0} {g : Ghosts S} {p : Text → ℕ → Act meaning.Completion} (f : View) → ((s n : ℕ) → fits s n → Fits f s n)
+      → {fs fs' : List View} {old new : Parts S} {r : Result Completion Code} → RunsIf fits g p (f ∷ fs) old r fs' new
+      → RunsIf fits g (λ a n. p a n >>= frame a n f) fs old r fs' new
   frame_below f fit {fs = fs} {old = old} k = record {
     at = λ sure n ns le e. on_frame fs f n ns (k.at sure n (n ∷ ns) le (fit old.eval.steps n le, e));
     doubt = k.doubt;
@@ -180,7 +202,8 @@ module _ {fits : (steps n : ℕ) → Type 0} where
   }
 
   -- a frame is on top, and goes on with what is next
-  pub frame_top : {S : Type 0} {g : Ghosts S} {fs : List View} {parts : Parts S} (f : View) → ((s n : ℕ) → fits s n → Fits f s n) → RunsIf fits g (λ a n. frame a n f Go_on) fs parts (Ok completion.GoOn) (f ∷ fs) parts
+  pub frame_top : {S : Type 0} {g : Ghosts S} {fs : List View} {parts : Parts S} (f : View) → ((s n : ℕ) → fits s n → Fits f s n)
+      → RunsIf fits g (λ a n. frame a n f Go_on) fs parts (Ok completion.GoOn) (f ∷ fs) parts
   frame_top {parts = parts} f fit = record {
     at = λ sure n ns le e. on_top f completion.GoOn n ns (fit parts.eval.steps n le) e;
     doubt = Doubts-same _;
@@ -190,27 +213,34 @@ module _ {fits : (steps n : ℕ) → Type 0} where
 -- ---- as many texts as there are steps
 
 module _ {S A X : Type 0} {g : Ghosts S} {p : Text → ℕ → Act A} (q : Text → ℕ → A → Act meaning.Completion) {f : X → A} where
-  pub runs_then : {x : X} {fs fs' : List View} {old mid new : Parts S} {r : Result Completion Code} → DoesAt g p f old (Ok x) mid → Runs g (λ a n. q a n (f x)) fs mid r fs' new → Runs g (λ a n. p a n >>= q a n) fs old r fs' new
+  pub runs_then : {x : X} {fs fs' : List View} {old mid new : Parts S} {r : Result Completion Code} → DoesAt g p f old (Ok x) mid
+      → Runs g (λ a n. q a n (f x)) fs mid r fs' new → Runs g (λ a n. p a n >>= q a n) fs old r fs' new
   runs_then d k = if_then (λ s n. s ≤ n) (λ s n h. h) (λ m s n le h. omega arith) q d k
 
-  pub runs_spent : {x : X} {fs fs' : List View} {old mid new : Parts S} {r : Result Completion Code} → DoesAt g p f old (Ok x) mid → mid.eval.steps < old.eval.steps → Runs g (λ a n. q a (suc n) (f x)) fs mid r fs' new → Runs g (λ a n. p a n >>= q a n) fs old r fs' new
+  pub runs_spent : {x : X} {fs fs' : List View} {old mid new : Parts S} {r : Result Completion Code} → DoesAt g p f old (Ok x) mid
+      → mid.eval.steps < old.eval.steps → Runs g (λ a n. q a (suc n) (f x)) fs mid r fs' new → Runs g (λ a n. p a n >>= q a n) fs old r fs' new
   runs_spent d less k = if_spent (λ s n. s ≤ n) (λ s n h. h) (λ m s n le h. omega arith) (λ m s n less h. omega arith) q d less k
 
-  pub runs_stopped : {fs fs' : List View} {old new : Parts S} {r : Result Completion Code} {e : Code} → DoesAt g p f old (Err e) new → IsErr r × IsErrAnd r (λ x. x ≡ e) → Runs g (λ a n. p a n >>= q a n) fs old r fs' new
+  pub runs_stopped : {fs fs' : List View} {old new : Parts S} {r : Result Completion Code} {e : Code} → DoesAt g p f old (Err e) new
+      → IsErr r × IsErrAnd r (λ x. x ≡ e) → Runs g (λ a n. p a n >>= q a n) fs old r fs' new
   runs_stopped d h = if_stopped (λ s n. s ≤ n) (λ s n h. h) (λ m s n le h. omega arith) q d h
 
   -- within a command, one more
-  pub within_then : {x : X} {fs fs' : List View} {old mid new : Parts S} {r : Result Completion Code} → DoesAt g p f old (Ok x) mid → RunsWithin g (λ a n. q a n (f x)) fs mid r fs' new → RunsWithin g (λ a n. p a n >>= q a n) fs old r fs' new
+  pub within_then : {x : X} {fs fs' : List View} {old mid new : Parts S} {r : Result Completion Code} → DoesAt g p f old (Ok x) mid
+      → RunsWithin g (λ a n. q a n (f x)) fs mid r fs' new → RunsWithin g (λ a n. p a n >>= q a n) fs old r fs' new
   within_then d k = if_then (λ s n. s < n) (λ s n h. omega arith) (λ m s n le h. omega arith) q d k
 
-  pub within_spent : {x : X} {fs fs' : List View} {old mid new : Parts S} {r : Result Completion Code} → DoesAt g p f old (Ok x) mid → mid.eval.steps < old.eval.steps → RunsWithin g (λ a n. q a (suc n) (f x)) fs mid r fs' new → RunsWithin g (λ a n. p a n >>= q a n) fs old r fs' new
+  pub within_spent : {x : X} {fs fs' : List View} {old mid new : Parts S} {r : Result Completion Code} → DoesAt g p f old (Ok x) mid
+      → mid.eval.steps < old.eval.steps → RunsWithin g (λ a n. q a (suc n) (f x)) fs mid r fs' new → RunsWithin g (λ a n. p a n >>= q a n) fs old r fs' new
   within_spent d less k = if_spent (λ s n. s < n) (λ s n h. omega arith) (λ m s n le h. omega arith) (λ m s n less h. omega arith) q d less k
 
-  pub within_stopped : {fs fs' : List View} {old new : Parts S} {r : Result Completion Code} {e : Code} → DoesAt g p f old (Err e) new → IsErr r × IsErrAnd r (λ x. x ≡ e) → RunsWithin g (λ a n. p a n >>= q a n) fs old r fs' new
+  pub within_stopped : {fs fs' : List View} {old new : Parts S} {r : Result Completion Code} {e : Code} → DoesAt g p f old (Err e) new
+      → IsErr r × IsErrAnd r (λ x. x ≡ e) → RunsWithin g (λ a n. p a n >>= q a n) fs old r fs' new
   within_stopped d h = if_stopped (λ s n. s < n) (λ s n h. omega arith) (λ m s n le h. omega arith) q d h
 
   -- once a step is spent
-  pub spent_within : {x : X} {fs fs' : List View} {old mid new : Parts S} {r : Result Completion Code} → DoesAt g p f old (Ok x) mid → mid.eval.steps < old.eval.steps → RunsWithin g (λ a n. q a n (f x)) fs mid r fs' new → Runs g (λ a n. p a n >>= q a n) fs old r fs' new
+  pub spent_within : {x : X} {fs fs' : List View} {old mid new : Parts S} {r : Result Completion Code} → DoesAt g p f old (Ok x) mid
+      → mid.eval.steps < old.eval.steps → RunsWithin g (λ a n. q a n (f x)) fs mid r fs' new → Runs g (λ a n. p a n >>= q a n) fs old r fs' new
   spent_within {x = x} {fs = fs} {old = old} {mid = mid} d less k =
       let few = d.keeps.eval.fewer in
       record {
@@ -222,11 +252,23 @@ module _ {S A X : Type 0} {g : Ghosts S} {p : Text → ℕ → Act A} (q : Text 
       }
 
 -- what runs anywhere runs within a command
-pub runs_within : {S : Type 0} {g : Ghosts S} {p : Text → ℕ → Act meaning.Completion} {fs fs' : List View} {old new : Parts S} {r : Result Completion Code} → Runs g p fs old r fs' new → RunsWithin g p fs old r fs' new
+pub runs_within : {S : Type 0} {g : Ghosts S} {p : Text → ℕ → Act meaning.Completion} {fs fs' : List View} {old new : Parts S} {r : Result Completion Code}
+    → Runs g p fs old r fs' new → RunsWithin g p fs old r fs' new
 runs_within k = record { at = λ sure n ns less e. k.at sure n ns (omega arith) e; doubt = k.doubt; keeps = k.keeps }
 
+-- what runs with one text more runs within a command, where there is one more
+pub within_entered : {S : Type 0} {g : Ghosts S} {p : Text → ℕ → Act meaning.Completion} {fs fs' : List View} {old new : Parts S} {r : Result Completion Code}
+    → Runs g (λ a n. p a (suc n)) fs old r fs' new → RunsWithin g p fs old r fs' new
+within_entered {g = g} {p = p} {fs = fs} {fs' = fs'} {old = old} {new = new} {r = r} k = record { at = go; doubt = k.doubt; keeps = k.keeps }
+  where
+    go : g.doubt new.eval.store.now ≡ 0 → (n : ℕ) (ns : List ℕ) → old.eval.steps < n → Enough old.eval.steps fs ns
+        → MovedOn (standing_of old.eval) (IsSteady g new.eval.store.now) fault_of completion_of (p (standing_of old.eval).account n) (left (standing_of old.eval).account fs ns) (here_of g old) r fs' (here_of g new)
+    go sure zero ns less e = absurd (omega arith)
+    go sure (suc n) ns less e = k.at sure n ns (omega arith) e
+
 -- an act that leaves the frames as they are
-pub runs_done : {S : Type 0} {g : Ghosts S} {p : Text → ℕ → Act meaning.Completion} {fs : List View} {old new : Parts S} (r : Result Completion Code) → DoesAt g p completion_of old r new → Runs g p fs old r fs new
+pub runs_done : {S : Type 0} {g : Ghosts S} {p : Text → ℕ → Act meaning.Completion} {fs : List View} {old new : Parts S} (r : Result Completion Code)
+    → DoesAt g p completion_of old r new → Runs g p fs old r fs new
 runs_done r d = if_done (λ s n. s ≤ n) (λ s n h. h) (λ m s n le h. omega arith) r d
 
 -- if nothing is next, a completion is given again
@@ -235,7 +277,8 @@ nothing_next Go_on = refl
 nothing_next s = refl
 
 -- an act before the rest of a line that may be empty
-pub within_resting : {S : Type 0} {g : Ghosts S} {p : Text → ℕ → Act meaning.Completion} (d : meaning.Position) (l : List CommandTree) {fs fs' : List View} {old new : Parts S} {r : Result Completion Code} → RunsWithin g p (resting d l fs) old r fs' new → RunsWithin g (λ a n. p a n >>= frame a n (Rests d l)) fs old r fs' new
+pub within_resting : {S : Type 0} {g : Ghosts S} {p : Text → ℕ → Act meaning.Completion} (d : meaning.Position) (l : List CommandTree) {fs fs' : List View} {old new : Parts S} {r : Result Completion Code}
+    → RunsWithin g p (resting d l fs) old r fs' new → RunsWithin g (λ a n. p a n >>= frame a n (Rests d l)) fs old r fs' new
 within_resting {p = p} d [] k = runs_as (λ a n. (λ i. p a n >>= (λ s. nothing_next s i)) ∙ ended (p a n)) k
 within_resting d (c ∷ l) k = frame_below (Rests d (c ∷ l)) (λ s n h. omega arith) k
 

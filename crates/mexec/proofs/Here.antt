@@ -1,11 +1,13 @@
 -- SPDX-License-Identifier: Apache-2.0
 -- What calls no function is in a line as it is where no function is called.
-use Rattle.mexec.proofs.ExecWords.{◌≡◌, ℕ, Bool, false, List, Option, Some, ◌∷◌, [], Text, Act, ◌>>=◌, ◌>>◌, give, ExprTree, ParameterTree, once, onward, until, PrimaryTree, Inside, inside, inside_of, context, holds, primary_value, value, number_of}
+use Rattle.mexec.proofs.ExecWords.{◌≡◌, ℕ, Bool, false, List, Option, Some, ◌∷◌, [], Text, Act, ◌>>=◌, ◌>>◌, give, ExprTree, ParameterTree, once, onward, until}
+use Rattle.mexec.proofs.ExecWords.{PrimaryTree, Inside, inside, inside_of, context, holds, primary_value, value, number_of}
 use Rattle.std.specs.Prelude.{ℤ, ◌||◌}
 use Rattle.mspec.specs.NumberText.{number_text}
 use Rattle.mspec.specs.Scopes.{Binding}
 use Rattle.mgrammar.specs.Grammar.{ReferenceTree, DestinationTree, LockKindTree, LockedTree, ActualsTree}
-use Rattle.mgrammar.specs.CallsIn.{has_call, has_call_primary, has_call_reference, has_call_optional, has_call_destination, has_call_locked, has_call_actuals, has_call_parameter}
+use Rattle.mgrammar.specs.CallsIn.{has_call, has_call_primary, has_call_reference, has_call_optional, has_call_destination, has_call_locked, has_call_actuals}
+use Rattle.mgrammar.specs.CallsIn.{has_call_parameter}
 use Rattle.mmeaning.specs.Courses as courses
 use Rattle.mmeaning.specs.Expression.{Calls}
 use Rattle.mmeaning.specs.Levels.{Position}
@@ -14,7 +16,8 @@ use Rattle.mmeaning.specs.LineMeaning as meaning
 use Rattle.mmeaning.specs.Parameters.{handed_over}
 use Rattle.mmeaning.specs.Variables.{at_local, put_at}
 use Rattle.mmeaning.proofs.Uncalled.{neither}
-use Rattle.mmeaning.proofs.UncalledArguments.{Plain, value_plain, primary_plain, holds_plain, number_plain, setting_plain, showing_plain, formatting_plain, coding_plain, killing_plain, testing_plain, hanging_plain, returning_plain, locking_plain, handed_over_plain}
+use Rattle.mmeaning.proofs.UncalledArguments.{Plain, value_plain, primary_plain, holds_plain, number_plain, setting_plain, showing_plain, formatting_plain}
+use Rattle.mmeaning.proofs.UncalledArguments.{coding_plain, killing_plain, testing_plain, hanging_plain, returning_plain, locking_plain, handed_over_plain}
 use Rattle.mcommand.specs.ForParameters.{started, start_and_increment, begun_within}
 
 -- ---- the parameters of FOR

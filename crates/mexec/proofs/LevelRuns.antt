@@ -1,6 +1,14 @@
 -- SPDX-License-Identifier: Apache-2.0
 -- Lines and texts that are entered, frame by frame.
-use Rattle.mexec.proofs.ExecWords.{Doubts-same, ◌≡◌, ℕ, zero, suc, ◌<◌, ◌≤◌, ◌+◌, Bool, true, false, cond, List, [], ◌∷◌, Option, Some, None, Result, Ok, Err, length, drop, get_or, is_some, slice_get, refl, sym, ap, ◌∙◌, subst, le-ltb, lt-ltb, arith, drop-drop, get_or-drop, IsErr, IsErrAnd, Text, Act, ◌>>=◌, ◌>>◌, give, give_some, charge, ArgTree, CommandTree, BodyTree, short, spaced_out, RoutineLineTree, dots_of, formals_of, indirected, Level, Closing, leaves, restores, deeper, within_indirection, has_dots, commands_of, commands_in, Context, Go_on, texts, context, commands, lines_reached, lines_from, lines_next, lines_called, line_entered, line_reached, after_level, closed, View, Rests, Lists, Levels, frame, assoc, Ghosts, fault_of, Code, Zmem, Evaluates, Parts, Does, DoesAt, here_of, Runs, reached, next_reached, line_then, entering, reaching, level_deeper, so_deep, at_next, text_position, on_body, next_item, Zsyntax, Depth, Yields, read_so, in_language, unless, is_none, routine_line_in, standing_of}
+use Rattle.mexec.proofs.ExecWords.{Doubts-same, ◌≡◌, ℕ, zero, suc, ◌<◌, ◌≤◌, ◌+◌, Bool, true, false, cond, List, [], ◌∷◌, Option, Some, None, Result, Ok, Err}
+use Rattle.mexec.proofs.ExecWords.{length, drop, get_or, is_some, slice_get, refl, sym, ap, ◌∙◌, subst, le-ltb, lt-ltb, arith, drop-drop, get_or-drop, IsErr}
+use Rattle.mexec.proofs.ExecWords.{IsErrAnd, Text, Act, ◌>>=◌, ◌>>◌, give, give_some, charge, ArgTree, CommandTree, BodyTree, short, spaced_out}
+use Rattle.mexec.proofs.ExecWords.{RoutineLineTree, dots_of, formals_of, indirected, Level, Closing, leaves, restores, deeper, within_indirection, has_dots}
+use Rattle.mexec.proofs.ExecWords.{commands_of, commands_in, Context, Go_on, texts, context, commands, lines_reached, lines_from, lines_next, lines_called}
+use Rattle.mexec.proofs.ExecWords.{line_entered, line_reached, after_level, closed, View, Rests, Lists, Levels, frame, assoc, Ghosts, fault_of, Code, Zmem}
+use Rattle.mexec.proofs.ExecWords.{Evaluates, Parts, Does, DoesAt, here_of, Runs, reached, next_reached, line_then, entering, reaching, level_deeper, so_deep}
+use Rattle.mexec.proofs.ExecWords.{at_next, text_position, on_body, next_item, Zsyntax, Depth, Yields, read_so, in_language, unless, is_none, routine_line_in}
+use Rattle.mexec.proofs.ExecWords.{standing_of}
 use Rattle.std.specs.Prelude.{nat_lt, ◌==◌}
 use Rattle.mmeaning.specs.LineMeaning.{Position, Completion}
 use Rattle.mspec.specs.Code as spec
@@ -11,7 +19,10 @@ use Rattle.meval.specs.declared.eval.Eval.{Eval}
 use Rattle.mexec.specs.declared.completion.Completion as completions
 use Rattle.mexec.specs.declared.completion.Completion.TheVariants as completion
 use Rattle.mcommand.proofs.Calls.{keeps_itself}
-use Rattle.mexec.proofs.Calls.{at_then, at_stopped, at_gives, runs_then, runs_spent, runs_stopped, runs_wanting, runs_as, frame_below, frame_top, runs_completion}
+use Rattle.mexec.proofs.Calls.{at_then, at_stopped, at_gives, runs_then, runs_spent, runs_stopped, runs_wanting, runs_as, frame_below, frame_top}
+use Rattle.mexec.proofs.Calls.{runs_completion}
+use Rattle.mmeaning.specs.Levels.{wants}
+use Rattle.mexec.specs.Entering.{one_level_deeper}
 use Rattle.mexec.specs.Frames.{RunsWithin}
 
 -- ---- lists
@@ -31,7 +42,8 @@ then_reached x None = give Go_on
 then_reached x (Some n) = charge >> line_reached x n (get_or x.position.level.copy n [])
 
 module _ (x : Context) where
-  reached_is : (n : ℕ) (lines : List Text) → drop n x.position.level.copy ≡ lines → ◌≡◌ {A = Act Completion} (lines_reached x n lines) (reached x.position.level.dots n lines >>= then_reached x)
+  reached_is : (n : ℕ) (lines : List Text) → drop n x.position.level.copy ≡ lines
+      → ◌≡◌ {A = Act Completion} (lines_reached x n lines) (reached x.position.level.dots n lines >>= then_reached x)
   reached_is n [] e = refl
   reached_is n (text ∷ rest) e =
       λ i s. go (nat_lt x.position.level.dots (dots_of s.given.language text)) (dots_of s.given.language text == x.position.level.dots) (reached_is (n + 1) rest (behind n x.position.level.copy text rest e)) i s
@@ -139,13 +151,16 @@ module _ {S : Type 0} {g : Ghosts S} where
   pub at_any : {A X : Type 0} {p : Act A} {f : X → A} {old new : Parts S} {r : Result X Code} → Does g (λ i. p) f old r new → DoesAt g (λ a n. p) f old r new
   at_any k = record { at = λ sure. k.at sure; doubt = k.doubt; keeps = k.keeps }
 
-  pub at_plain : {A X : Type 0} {p : Act A} {f : X → A} {old : Parts S} {e : Eval S} {r : Result X Code} → Evaluates g (λ i. p) f old.eval r e → DoesAt g (λ a n. p) f old r (record old { eval = e })
+  pub at_plain : {A X : Type 0} {p : Act A} {f : X → A} {old : Parts S} {e : Eval S} {r : Result X Code} → Evaluates g (λ i. p) f old.eval r e
+      → DoesAt g (λ a n. p) f old r (record old { eval = e })
   at_plain {old = old} k = record { at = λ sure. k.at sure old.out.now.items old.locks.now; doubt = k.doubt; keeps = record { eval = k.keeps; locks = refl; out = refl } }
 
   -- the commands of a text that is entered stand on top of its level
   pub text_runs : {fs : List View} {parts : Parts S} (p : Position) (c : Closing) (cs : List CommandTree)
       → Runs g (λ a n. (texts a (suc n)).enter p cs >>= closed c) fs parts (Ok completion.GoOn) (Rests p cs ∷ Levels p c ∷ fs) parts
-  text_runs p c cs = runs_as (λ a n. assoc (commands (context a n p) cs) (after_level (context a n p)) (closed c)) (frame_below (Levels p c) (λ s n h. h) (frame_top (Rests p cs) (λ s n h. h)))
+  text_runs p c cs =
+      runs_as (λ a n. assoc (commands (context a n p) cs) (after_level (context a n p)) (closed c))
+      (frame_below (Levels p c) (λ s n h. h) (frame_top (Rests p cs) (λ s n h. h)))
 
   pub body_runs : {fs : List View} {parts : Parts S} (p : Position) (c : Closing) (b : BodyTree)
       → Runs g (λ a n. (texts a (suc n)).enter p (commands_in b) >>= closed c) fs parts (Ok completion.GoOn) (on_body p c b fs) parts
@@ -159,16 +174,24 @@ module _ {S : Type 0} {g : Ghosts S} where
     from_line : {old new : Parts S} {r : Result (Option ℕ) Code}
         → DoesAt g (λ a n. cond (nat_lt dots (dots_of (standing_of old.eval).given.language x)) (charge >> reached dots (k + 1) (drop (k + 1) lines)) (give (cond (dots_of (standing_of old.eval).given.language x == dots) (Some k) None))) (λ (found : Option ℕ). found) old r new
         → DoesAt g (λ a n. reached dots k (drop k lines)) (λ (found : Option ℕ). found) old r new
-    from_line d = rw (next_item lines k x less is) (at_in (λ l. cond (nat_lt dots (dots_of l x)) (charge >> reached dots (k + 1) (drop (k + 1) lines)) (give (cond (dots_of l x == dots) (Some k) None))) d)
+    from_line d =
+        rw (next_item lines k x less is)
+        (at_in (λ l. cond (nat_lt dots (dots_of l x)) (charge >> reached dots (k + 1) (drop (k + 1) lines)) (give (cond (dots_of l x == dots) (Some k) None))) d)
 
     -- a line with more dots
-    pub passes_line : {X : Type 0} {f : X → Unit {0}} {u : X} {old mid new : Parts S} {r : Result (Option ℕ) Code} → dots < dots_of (standing_of old.eval).given.language x → DoesAt g (λ a n. charge) f old (Ok u) mid
+    pub passes_line : {X : Type 0} {f : X → Unit {0}} {u : X} {old mid new : Parts S} {r : Result (Option ℕ) Code}
+        → dots < dots_of (standing_of old.eval).given.language x → DoesAt g (λ a n. charge) f old (Ok u) mid
         → DoesAt g (λ a n. reached dots (k + 1) (drop (k + 1) lines)) (λ (found : Option ℕ). found) mid r new → DoesAt g (λ a n. reached dots k (drop k lines)) (λ (found : Option ℕ). found) old r new
-    passes_line {old = old} more d then_does = from_line (rw (lt-ltb dots (dots_of (standing_of old.eval).given.language x) more) (at_then (λ a n _. reached dots (k + 1) (drop (k + 1) lines)) d then_does))
+    passes_line {old = old} more d then_does =
+        from_line
+        (rw (lt-ltb dots (dots_of (standing_of old.eval).given.language x) more) (at_then (λ a n _. reached dots (k + 1) (drop (k + 1) lines)) d then_does))
 
-    pub passing_failed : {X : Type 0} {f : X → Unit {0}} {old new : Parts S} {e : Code} {r : Result (Option ℕ) Code} → dots < dots_of (standing_of old.eval).given.language x → DoesAt g (λ a n. charge) f old (Err e) new → IsErr r × IsErrAnd r (λ x. x ≡ e)
+    pub passing_failed : {X : Type 0} {f : X → Unit {0}} {old new : Parts S} {e : Code} {r : Result (Option ℕ) Code}
+        → dots < dots_of (standing_of old.eval).given.language x → DoesAt g (λ a n. charge) f old (Err e) new → IsErr r × IsErrAnd r (λ x. x ≡ e)
         → DoesAt g (λ a n. reached dots k (drop k lines)) (λ (found : Option ℕ). found) old r new
-    passing_failed {old = old} more d h = from_line (rw (lt-ltb dots (dots_of (standing_of old.eval).given.language x) more) (at_stopped (λ a n _. reached dots (k + 1) (drop (k + 1) lines)) d h))
+    passing_failed {old = old} more d h =
+        from_line
+        (rw (lt-ltb dots (dots_of (standing_of old.eval).given.language x) more) (at_stopped (λ a n _. reached dots (k + 1) (drop (k + 1) lines)) d h))
 
     -- one with as many or fewer
     pub stops_at : {parts : Parts S} → dots_of (standing_of parts.eval).given.language x ≤ dots
@@ -184,20 +207,24 @@ module _ {S : Type 0} {g : Ghosts S} where
     pub line_refused : {Y : Type 0} {view : Y → RoutineLineTree} {e : Code} {parts : Parts S} {fs fs' : List View} {r : Result completions.Completion Code}
         → Yields fault_of (give_some Zsyntax (routine_line_in (standing_of parts.eval).given.language text)) view (Err e) → IsErr r × IsErrAnd r (λ x. x ≡ e)
         → Runs g (λ a n. step_spent p c k text a (suc n)) fs parts r fs' parts
-    line_refused y h = runs_as (λ a n. read_is p c k text a (suc n)) (runs_stopped (λ a n. line_read p c k text a (suc n)) (at_read Zsyntax (λ l. routine_line_in l text) y) h)
+    line_refused y h =
+        runs_as (λ a n. read_is p c k text a (suc n)) (runs_stopped (λ a n. line_read p c k text a (suc n)) (at_read Zsyntax (λ l. routine_line_in l text) y) h)
 
-    pub line_runs : {Y : Type 0} {view : Y → RoutineLineTree} {l : Y} {parts : Parts S} {fs : List View} → Yields fault_of (give_some Zsyntax (routine_line_in (standing_of parts.eval).given.language text)) view (Ok l)
+    pub line_runs : {Y : Type 0} {view : Y → RoutineLineTree} {l : Y} {parts : Parts S} {fs : List View}
+        → Yields fault_of (give_some Zsyntax (routine_line_in (standing_of parts.eval).given.language text)) view (Ok l)
         → Runs g (λ a n. step_spent p c k text a (suc n)) fs parts (Ok completion.GoOn) (on_body (at_next p (k + 1)) c (view l).body fs) parts
     line_runs {view = view} {l = l} y =
         runs_as (λ a n. read_is p c k text a (suc n)) (runs_then (λ a n. line_read p c k text a (suc n)) (at_read Zsyntax (λ l. routine_line_in l text) y) (body_runs (at_next p (k + 1)) c (view l).body))
 
     -- its step is spent, and then it is read
-    pub line_begins : {X : Type 0} {f : X → Unit {0}} {u : X} {fs fs' : List View} {old mid new : Parts S} {r : Result completions.Completion Code} → DoesAt g (λ a n. charge) f old (Ok u) mid → mid.eval.steps < old.eval.steps
+    pub line_begins : {X : Type 0} {f : X → Unit {0}} {u : X} {fs fs' : List View} {old mid new : Parts S} {r : Result completions.Completion Code}
+        → DoesAt g (λ a n. charge) f old (Ok u) mid → mid.eval.steps < old.eval.steps
         → Runs g (λ a n. step_spent p c k text a (suc n)) fs mid r fs' new → Runs g (λ a n. entering (context a n p) c k text) fs old r fs' new
     line_begins d less runs = runs_spent (λ a n _. step_spent p c k text a n) d less runs
 
     -- one that no DO names: it has a formal list, or none
-    pub line_listed : {X : Type 0} {f : X → Unit {0}} {u : X} {fs fs' : List View} {old mid : Parts S} → DoesAt g (λ a n. charge) f old (Ok u) mid → is_none (formals_of (standing_of mid.eval).given.language text) ≡ false
+    pub line_listed : {X : Type 0} {f : X → Unit {0}} {u : X} {fs fs' : List View} {old mid : Parts S} → DoesAt g (λ a n. charge) f old (Ok u) mid
+        → is_none (formals_of (standing_of mid.eval).given.language text) ≡ false
         → Runs g (λ a n. reaching (context a n p) c k text) fs old (Err M11) fs' mid
     line_listed {mid = mid} d has =
         let refused : DoesAt g (λ a n. without_list p c k text) (λ (u : Unit {0}). u) mid (Err M11) mid =
@@ -206,7 +233,8 @@ module _ {S : Type 0} {g : Ghosts S} where
         (runs_as (λ a n. reach_is p c k text a n)
         (runs_stopped (λ a n _. step_spent p c k text a n) refused (refl, refl)))
 
-    pub line_unlisted : {X : Type 0} {f : X → Unit {0}} {u : X} {fs fs' : List View} {old mid new : Parts S} {r : Result completions.Completion Code} → DoesAt g (λ a n. charge) f old (Ok u) mid → mid.eval.steps < old.eval.steps
+    pub line_unlisted : {X : Type 0} {f : X → Unit {0}} {u : X} {fs fs' : List View} {old mid new : Parts S} {r : Result completions.Completion Code}
+        → DoesAt g (λ a n. charge) f old (Ok u) mid → mid.eval.steps < old.eval.steps
         → is_none (formals_of (standing_of mid.eval).given.language text) ≡ true → Runs g (λ a n. step_spent p c k text a (suc n)) fs mid r fs' new → Runs g (λ a n. reaching (context a n p) c k text) fs old r fs' new
     line_unlisted {mid = mid} d less none runs =
         let passed : DoesAt g (λ a n. without_list p c k text) (λ (u : Unit {0}). u) mid (Ok tt) mid =
@@ -219,16 +247,19 @@ module _ {S : Type 0} {g : Ghosts S} where
 
   module _ (p : Position) (d : Depth) (is : d ≡ level_deeper p.depth) {fs fs' : List View} {old new : Parts S} {r : Result completions.Completion Code} where
     -- the lines of a block
-    pub lines_opened_as : (l m : Level) → m ≡ l → (b : Bool) → Runs g (λ a n. frame a n (Levels (record { depth = d; level = m }) (restores b)) Go_on) fs old r fs' new
+    pub lines_opened_as : (l m : Level) → m ≡ l → (b : Bool)
+        → Runs g (λ a n. frame a n (Levels (record { depth = d; level = m }) (restores b)) Go_on) fs old r fs' new
         → Runs g (λ a n. lines_next (context a n (deeper (restores b) p l)) >>= closed (restores b)) fs old r fs' new
     lines_opened_as l m same b k =
         let at : Position → Type 0 = λ q. Runs g (λ a n. frame a n (Levels q (restores b)) Go_on) fs old r fs' new in
         subst at (λ i. record { depth = is i; level = same i }) k
 
-    -- the lines that a DO names
-    pub lines_opened : (l : Level) → Runs g (λ a n. lines_called (context a n (record { depth = d; level = l })) >>= closed leaves) fs old r fs' new
-        → Runs g (λ a n. lines_called (context a n (deeper leaves p l)) >>= closed leaves) fs old r fs' new
-    lines_opened l k = subst (λ (d : Depth). Runs g (λ a n. lines_called (context a n (record { depth = d; level = l })) >>= closed leaves) fs old r fs' new) is k
+  -- the lines that a DO or a function names
+  pub lines_opened : (p : Position) (d : Depth) (c : Closing) → d ≡ one_level_deeper (wants c) p.depth
+      → (l : Level) {fs fs' : List View} {old new : Parts S} {r : Result completions.Completion Code}
+      → Runs g (λ a n. lines_called (context a n (record { depth = d; level = l })) >>= closed c) fs old r fs' new → Runs g (λ a n. lines_called (context a n (deeper c p l)) >>= closed c) fs old r fs' new
+  lines_opened p d c is l {fs = fs} {fs' = fs'} {old = old} {new = new} {r = r} k =
+      subst (λ (d : Depth). Runs g (λ a n. lines_called (context a n (record { depth = d; level = l })) >>= closed c) fs old r fs' new) is k
 
   pub text_opened : (p : Position) (d : Depth) → d ≡ level_deeper p.depth → {fs : List View} {parts : Parts S} (cs : List CommandTree)
       → Runs g (λ a n. (texts a (suc n)).enter (deeper leaves p (text_position d p).level) cs >>= closed leaves) fs parts (Ok completion.GoOn) (Rests (text_position d p) cs ∷ Levels (text_position d p) leaves ∷ fs) parts

@@ -1,6 +1,6 @@
 -- SPDX-License-Identifier: Apache-2.0
 -- Lines and texts that are entered, as the code does it: the place of a line first, then its step, then its commands.
-use Rattle.std.specs.Prelude.{ℕ, ◌+◌, false, cond, nat_lt, ◌==◌, List, [], ◌∷◌, drop, Option, Some, None}
+use Rattle.std.specs.Prelude.{ℕ, ◌+◌, Bool, false, cond, nat_lt, ◌==◌, List, [], ◌∷◌, drop, Option, Some, None}
 use Rattle.mspec.specs.Scopes.{Binding}
 use Rattle.mspec.specs.Code.{Zsyntax}
 use Rattle.mspec.specs.Act.{Text, Act, level_begun, ◌>>=◌, ◌>>◌, give, read_so, in_language, charge}
@@ -44,9 +44,13 @@ at_next p n = record p { level = record p.level { next = Some n } }
 abbrev pub at_target : Position → Target → Position
 at_target p t = record p { level = record p.level { copy = t.copy; next = Some t.line } }
 
--- one level deeper, of which no value is wanted
+-- one level deeper, of which a value is wanted or not
+abbrev pub one_level_deeper : Bool → Depth → Depth
+one_level_deeper wanted d = record { levels = d.levels + 1; indirections = d.indirections; wants_value = wanted }
+
+-- of which none is
 abbrev pub level_deeper : Depth → Depth
-level_deeper d = record { levels = d.levels + 1; indirections = d.indirections; wants_value = false }
+level_deeper = one_level_deeper false
 
 -- the formal parameters of the line that a DO names, for what its actuals hand over
 abbrev pub formals_handed : Target → ActualsTree → List Binding → Act (Option (List (Text × Binding)))
@@ -64,7 +68,8 @@ text_position depth p = record { depth = depth; level = record { copy = p.level.
 
 -- once its tree is known
 abbrev pub tree_entered : Context → LineTree → Act Completion
-tree_entered x l = in_level x (record { copy = x.position.level.copy; next = None; dots = 0 }) leaves level_begun (λ y. y.texts.enter y.position (commands_of l))
+tree_entered x l =
+    in_level x (record { copy = x.position.level.copy; next = None; dots = 0 }) leaves level_begun (λ y. y.texts.enter y.position (commands_of l))
 
 -- a text of XECUTE is read and entered
 abbrev pub text_entered : Context → Text → Act Completion

@@ -1,16 +1,17 @@
 -- SPDX-License-Identifier: Apache-2.0
 -- Frames of the program as those of the definitions, and what calls say of them.
-use Rattle.std.specs.Prelude.{◌≡◌, ℕ, ◌≤◌, ◌<◌, List, [], ◌∷◌, Result, Ok, Err, map, drop, true}
+use Rattle.std.specs.Prelude.{◌≡◌, ℕ, ◌≤◌, ◌<◌, List, [], ◌∷◌, Option, Some, None, Result, Ok, Err, map, drop, true}
 use Rattle.mspec.specs.Act.{Text, Act}
-use Rattle.mgrammar.specs.Grammar.{CommandTree}
+use Rattle.mgrammar.specs.Grammar.{CommandTree, quit_word}
 use Rattle.mmeaning.specs.LineMeaning as meaning
 use Rattle.mmeaning.specs.LineMeaning.{Position, Turning}
 use Rattle.mmeaning.specs.Calls.{Follows}
 use Rattle.mmeaning.specs.Levels as levels
-use Rattle.mmeaning.specs.Frames.{View, Rests, Lists, Turns, Levels, left, Enough, MovedOn}
-use Rattle.mtree.specs.Tree.{spaced_tree, parameter_tree, arg_tree}
+use Rattle.mmeaning.specs.Frames.{View, Rests, Lists, Turns, Levels, Programs, Conditions, left, Enough, MovedOn}
+use Rattle.mtree.specs.Tree.{spaced_tree, parameter_tree, arg_tree, command_tree}
 use Rattle.mtree.specs.declared.tree.Arg.{Arg}
 use Rattle.mtree.specs.declared.tree.Line.{Line}
+use Rattle.mtree.specs.declared.tree.Spaced.{Spaced}
 use Rattle.mnodes.specs.Over.{DoubtsOver}
 use Rattle.mnodes.specs.Steady.{IsSteady}
 use Rattle.mnodes.specs.declared.store.NodeStore.{Ghosts}
@@ -21,13 +22,17 @@ use Rattle.mcommand.specs.declared.parts.Parts.{Parts}
 use Rattle.mcommand.specs.Does.{KeepsLoans, here_of}
 use Rattle.mcommand.specs.Targets.{target_view}
 use Rattle.mcommand.specs.ForParameters.{course_view}
-pub use Rattle.mexec.specs.Loops.{loop_in, args_of, args_before, loop_before}
+use Rattle.mcommand.specs.Steps.{items_view}
+pub use Rattle.mexec.specs.Loops.{loop_in, args_of, args_before, loop_before, spaced_before}
+pub use Rattle.mexec.specs.Wholes.{whole_of, steps_within, ending_within}
 use Rattle.mexec.specs.declared.frames.Level as level
 use Rattle.mexec.specs.declared.frames.Position as position
 use Rattle.mexec.specs.declared.frames.Closing.{Closing}
 use Rattle.mexec.specs.declared.frames.Closing.TheVariants as closing
 use Rattle.mexec.specs.declared.frames.Continuation.{Continuation}
 use Rattle.mexec.specs.declared.frames.ForLoop as loops
+use Rattle.mexec.specs.declared.holder.Holder.{Holder}
+use Rattle.mexec.specs.declared.holder.Holder.TheVariants as holder
 use Rattle.mexec.specs.declared.frames.Frame.{Frame}
 use Rattle.mexec.specs.declared.frames.Frame.TheVariants as frame
 use Rattle.mexec.specs.declared.completion.Completion.{Completion}
@@ -80,12 +85,32 @@ abbrev pub source_args : Source → List Arg
 source_args (source.Line behind) = args_before behind.now.line.value behind.now.at
 source_args (source.Text given) = given.now.value.args.items
 
+-- the first language that has all forms of their line, or of their text
+abbrev pub source_since : Source → ℕ
+source_since (source.Line behind) = behind.now.line.value.since
+source_since (source.Text given) = given.now.value.since
+
+-- where a program stands
+abbrev pub holder_position : Holder → position.Position
+holder_position (holder.Line behind at) = behind.position.value
+holder_position (holder.Text given at) = given.value.position
+holder_position (holder.Condition behind) = behind.position.value
+
+-- a command, of which there always is one
+abbrev pub command_in : Option Spaced → CommandTree
+command_in None = record { keyword = quit_word; word = []; condition = None; args = [] }
+command_in (Some s) = command_tree s.command
+
 abbrev pub view : Frame → View
 view (frame.Continuation r) = Rests (position_of r.position.value) (rest_tree r)
 view (frame.PendingArguments l) = Lists (position_of l.behind.position.value) (map arg_tree (drop l.argument (args_before l.behind.line.value l.behind.at)))
 view (frame.IndirectArguments g argument) = Lists (position_of g.value.position) (map arg_tree (drop argument g.value.args.items))
 view (frame.ForLoop t) = Turns (position_of t.value.body.position.value) (turning t.value)
 view (frame.Level p c) = Levels (position_of p.value) (closing_of c)
+view (frame.Program s) =
+    Programs (position_of (holder_position s.value.holder)) (drop s.value.at (steps_within (whole_of s.value.holder))) (ending_within (whole_of s.value.holder))
+    (items_view s.value.items.items)
+view (frame.Condition behind) = Conditions (position_of behind.position.value) (command_in (spaced_before behind.line.value behind.at)) (rest_tree behind)
 
 -- the last frame pushed is on top
 abbrev pub stacked : List View → List Frame → List View
@@ -112,7 +137,8 @@ abbrev pub Runs : {S : Type 0} → Ghosts S → (Text → ℕ → Act meaning.Co
 Runs = RunsIf (λ steps n. steps ≤ n)
 
 -- one more, as within a command, whose own step is spent
-abbrev pub RunsWithin : {S : Type 0} → Ghosts S → (Text → ℕ → Act meaning.Completion) → List View → Parts S → Result Completion Code → List View → Parts S → Type 0
+abbrev pub RunsWithin : {S : Type 0} → Ghosts S → (Text → ℕ → Act meaning.Completion) → List View → Parts S → Result Completion Code → List View → Parts S
+    → Type 0
 RunsWithin = RunsIf (λ steps n. steps < n)
 
 -- what the frames have to do with a completion is what is left of an act

@@ -5,8 +5,13 @@ use Rattle.mspec.specs.Act.{Text, Act, ◌>>=◌, ◌>>◌, give, fail, charge}
 use Rattle.mspec.specs.Code.{M16}
 use Rattle.mgrammar.specs.Grammar.{KeywordTree, for_word, do_word, ParameterTree, ArgTree, loop, CommandTree}
 use Rattle.mmeaning.specs.LineMeaning as meaning
-use Rattle.mmeaning.specs.LineMeaning.{Go_on, Skips, Quits, Goes, Returns, Context, inside_of, holds, after, bare, commands, next_parameter, turns_forever, doing_block, Turning, after_course}
-use Rattle.mtree.specs.Tree.{arg_tree, parameter_tree}
+use Rattle.mmeaning.specs.LineMeaning.{Go_on, Skips, Quits, Goes, Returns, Context, inside_of, holds, after, bare, commands, conditional, next_parameter}
+use Rattle.mmeaning.specs.LineMeaning.{turns_forever, doing_block, Turning, after_course}
+use Rattle.mgrammar.specs.CallsIn.{has_call_optional}
+use Rattle.mgrammar.specs.ProgramsIn.{in_steps_optional}
+use Rattle.mtree.specs.Tree.{arg_tree, command_tree, parameter_tree}
+use Rattle.mtree.specs.declared.tree.Command.{Command}
+use Rattle.mtree.specs.declared.tree.Spaced.{Spaced}
 use Rattle.mtree.specs.declared.tree.Arg.{Arg}
 use Rattle.mtree.specs.declared.tree.Line.{Line}
 use Rattle.moperator.specs.declared.code.Code.{Code}
@@ -16,17 +21,18 @@ use Rattle.mexec.specs.declared.completion.Progress.TheVariants as progress
 use Rattle.mexec.specs.declared.front.Stop as the_stop
 use Rattle.mexec.specs.declared.front.Stop.TheVariants as stop
 use Rattle.mexec.specs.Progress.{Progress, over, stops, behind, progress_of}
-use Rattle.mexec.specs.Arguments.{Entrance, IsUncalled, started, entered_then, start_of, entrance_of}
+use Rattle.mexec.specs.Arguments.{Entrance, IsReady, started, entered_then, start_of, entrance_of}
 use Rattle.mexec.specs.Frames.{commands_from}
 use Rattle.mexec.specs.Loops.{loop_in, is_loop, args_before}
 
 -- where a command needs a frame: at what an argument enters, before those after it; at a FOR with an index and parameters; at one without
--- arguments; or at the block of a DO without arguments
+-- arguments; at the block of a DO without arguments; or at a condition in which functions are called
 pub data Stop : Type 0 where
   at_argument : Entrance → List ArgTree → Stop
   at_loop : Text → List ParameterTree → Stop
   at_turns : Stop
   at_block : Stop
+  at_condition : CommandTree → Stop
 
 -- ---- arguments
 
@@ -56,8 +62,12 @@ effect_started x k [] = word_started x k
 effect_started x k (loop index parameters ∷ more) = give (stops (at_loop index parameters))
 effect_started x k (a ∷ more) = args_started x (a ∷ more) >>= (λ w. give (args_outcome w.0 w.1))
 
+abbrev pub command_started_plainly : Context → CommandTree → Act (Progress Stop)
+command_started_plainly x c = holds (inside_of x) c.condition >>= (λ b. cond b (effect_started x c.keyword c.args) (give (over Go_on)))
+
+-- one whose condition has a call stops there
 abbrev pub command_started : Context → CommandTree → Act (Progress Stop)
-command_started x c = holds (inside_of x) c.condition >>= (λ b. cond b (effect_started x c.keyword c.args) (give (over Go_on)))
+command_started x c = cond (has_call_optional c.condition) (give (stops (at_condition c))) (command_started_plainly x c)
 
 -- what is left of it where it stops, before the rest of its line
 abbrev pub stop_left : Context → List CommandTree → Stop → Act meaning.Completion
@@ -65,6 +75,7 @@ stop_left x rest (at_argument e more) = entered_then x e more
 stop_left x rest (at_loop index parameters) = next_parameter x index rest parameters
 stop_left x rest at_turns = turns_forever x rest
 stop_left x rest at_block = doing_block x
+stop_left x rest (at_condition c) = conditional x c rest
 
 abbrev pub finishes : Context → List CommandTree → Progress Stop → Act meaning.Completion
 finishes x rest (over s) = give s
@@ -109,6 +120,7 @@ stop_of args (stop.Argument e at) = at_argument (entrance_of e) (map arg_tree (d
 stop_of args (stop.Loop index parameters) = at_loop index.now (map parameter_tree parameters.now)
 stop_of args stop.Turns = at_turns
 stop_of args stop.Block = at_block
+stop_of args (stop.Condition c) = at_condition (command_tree c.now)
 
 abbrev pub outcome_of : List Arg → the_progress.Progress the_stop.Stop → Progress Stop
 outcome_of args = progress_of (stop_of args)
@@ -116,12 +128,23 @@ outcome_of args = progress_of (stop_of args)
 abbrev pub front_of : Line → the_progress.Progress the_stop.Stop × ℕ → Progress Stop × List CommandTree
 front_of l w = (outcome_of (args_before l w.1) w.0, commands_from l w.1)
 
--- what a stop says of the arguments of its command, in which no function is called
+-- what a stop says of the arguments of its command, in which each call stands where steps are
 abbrev pub StopsIn : List Arg → the_stop.Stop → Type 0
-StopsIn args (stop.Argument e at) = IsUncalled e
+StopsIn args (stop.Argument e at) = IsReady args at e
 StopsIn args (stop.Loop index parameters) = (loop_in args ≡ (index.now, parameters.now)) × (is_loop args ≡ true)
 StopsIn args stop.Turns = args ≡ []
 StopsIn args stop.Block = Unit {0}
+StopsIn args (stop.Condition c) = ⊥
+
+-- of its command
+abbrev pub StopsAt : Command → the_stop.Stop → Type 0
+StopsAt c (stop.Condition d) = (d.now ≡ c) × (has_call_optional (command_tree c).condition ≡ true) × (in_steps_optional (command_tree c).condition ≡ true)
+StopsAt c st = StopsIn c.args.items st
+
+-- and of the command before a place of a line
+abbrev pub StopsBefore : Option Spaced → the_stop.Stop → Type 0
+StopsBefore None st = ⊥
+StopsBefore (Some s) st = StopsAt s.command st
 
 -- arguments as an outcome
 abbrev pub at_begun : the_progress.Progress entrances.Entrance → ℕ → the_progress.Progress the_stop.Stop

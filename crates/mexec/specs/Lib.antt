@@ -1,7 +1,10 @@
 -- SPDX-License-Identifier: Apache-2.0
 pub mod Loops
 pub mod Uncalled
+pub mod Wholes
 pub mod Frames
+pub mod Places
+pub mod Programs
 pub mod Falls
 pub mod Entering
 pub mod Progress

@@ -14,9 +14,13 @@ abbrev pub args_of : Option Spaced → List Arg
 args_of None = []
 args_of (Some s) = s.command.args.items
 
--- the arguments of the command before a place
+-- the command before a place
+abbrev pub spaced_before : Line → ℕ → Option Spaced
+spaced_before l at = slice_get l.commands.items (at - 1)
+
+-- its arguments
 abbrev pub args_before : Line → ℕ → List Arg
-args_before l at = args_of (slice_get l.commands.items (at - 1))
+args_before l at = args_of (spaced_before l at)
 
 -- the index and the parameters of a FOR; none for another command, or for a FOR without arguments
 abbrev pub loop_in : List Arg → Text × List Parameter

@@ -1,34 +1,39 @@
 // SPDX-License-Identifier: Apache-2.0
 // The arguments of a command, one after another.
-ghost use Rattle.std.specs.Prelude.{◌≡◌, false, map, drop, IfOk};
-ghost use Rattle.std.specs.List.{list_any};
-ghost use Rattle.mgrammar.specs.CallsIn.{has_call, has_call_arg, has_call_optional};
+ghost use Rattle.std.specs.Prelude.{◌≡◌, ◌-◌, ℕ, List, Some, false, true, map, drop, slice_get, IfOk};
+ghost use Rattle.std.specs.List.{list_all, list_any};
+ghost use Rattle.mgrammar.specs.CallsIn.{has_call, has_call_arg as the_has_call_arg, has_call_optional};
+ghost use Rattle.mgrammar.specs.ProgramsIn.{in_steps_arg};
 ghost use Rattle.mmeaning.specs.LineMeaning as meaning;
 ghost use Rattle.mexec.specs.Words.{DoesAt, arg_tree, condition_tree, context, depth_of, entry_tree, expr_tree, inside};
 ghost use Rattle.mexec.specs.Falls.{Falls};
 ghost use Rattle.mexec.specs.Frames.{RunsWithin, completion_of, went, source_args, source_position, position_of, stack};
 ghost use Rattle.mexec.specs.Progress.{IfStops, ends};
 ghost use Rattle.mexec.specs.Fronts.{args_started, begun_of};
-ghost use Rattle.mexec.specs.Arguments.{IsUncalled, started, start_of, where_applies, entrance_of, entered_then};
+ghost use Rattle.mexec.specs.Arguments.{IsReady, started, started_plainly, start_of, where_applies, entrance_of, entered_then};
 
 use crate::completion::{Completion, Progress, over, went_on, where_true};
 use crate::entering::{doing, executing};
 use crate::frames::Position;
 use crate::indirection::giving;
+use crate::programs::{Pause, begun, resume_first};
 use crate::scratch::Scratch;
-use crate::source::Source;
+use crate::source::{Place, Source};
 use mcommand::Parts;
 use mnodes::NodeStore;
 use moperator::Code;
-use mtree::{Arg, Called, Entry, Expr, Keyword, Primary};
+use mprogram::Whole;
+use mtree::{Arg, Called, Entry, Expr, Keyword, Primary, has_call_arg};
 use std::alloc::Global;
 
-// What an argument enters: the lines from the one that is called on; a text; or the arguments that the value of an operand gives.
+// What an argument enters: the lines from the one that is called on; a text; the arguments that the value of an operand gives; or what its
+// own program, in which functions are called, has come to. That is boxed, so that the others stay small: each command hands one on.
 #[derive(Drop)]
 pub(crate) enum Entrance<'t> {
     Lines(&'t Called),
     Text(&'t Expr),
     Indirect(Keyword, &'t Primary),
+    Paused(&'t Arg, Box<Pause<'t>>),
 }
 
 // An argument that goes on with the next, once it is done.
@@ -52,6 +57,19 @@ fn enters<'t>(
     }
 }
 
+// GOTO: the line that it leads to.
+pub(crate) fn leads_to<S: NodeStore>(
+    alloc: Global,
+    parts: &mut Parts<S>,
+    position: &Position,
+    entry: &Entry,
+) -> Result<Completion, Code>
+    ensures { DoesAt S.NodeStore (λ a n. meaning.going (context a n (position_of position.now)) (entry_tree entry.now)) completion_of parts.old result parts.new }
+{
+    let target = parts.target(alloc, &position.level.copy, position.level.dots, entry)?;
+    Ok(Completion::Goes(target))
+}
+
 // GOTO, if its condition holds.
 fn going<S: NodeStore>(
     alloc: Global,
@@ -66,8 +84,7 @@ fn going<S: NodeStore>(
     parts.eval.depth = position.depth;
     let applies = parts.holds(alloc, condition)?;
     if applies {
-        let target = parts.target(alloc, &position.level.copy, position.level.dots, entry)?;
-        Ok(Completion::Goes(target))
+        leads_to(alloc, parts, position, entry)
     } else {
         Ok(Completion::GoOn)
     }
@@ -112,9 +129,9 @@ fn argument<'t, S: NodeStore>(
     position: &Position,
     arg: &'t Arg,
 ) -> Result<Progress<Entrance<'t>>, Code>
-    requires { has_call_arg (arg_tree arg.now) ≡ false }
-    ensures enters { IfOk result (λ progress. IfStops progress IsUncalled) }
-    ensures does { DoesAt S.NodeStore (λ a n. started (context a n (position_of position.now)) (arg_tree arg.now)) start_of parts.old result parts.new }
+    requires { the_has_call_arg (arg_tree arg.now) ≡ false }
+    ensures enters { (all : List Arg) (at : ℕ) → IfOk result (λ progress. IfStops progress (IsReady all at)) }
+    ensures does { DoesAt S.NodeStore (λ a n. started_plainly (context a n (position_of position.now)) (arg_tree arg.now)) start_of parts.old result parts.new }
 {
     parts.eval.depth = position.depth;
     match arg {
@@ -145,21 +162,78 @@ fn argument<'t, S: NodeStore>(
     }
 }
 
-// The arguments from one on, as long as each goes on with the next: what the last of them left, and the place after it.
+// Whether a function is called in an argument, where one may be.
+#[inline(always)]
+fn calls_in_argument(arg: &Arg, may_call: bool) -> bool
+    requires { may_call ≡ false → the_has_call_arg (arg_tree arg.now) ≡ false }
+    ensures { result ≡ the_has_call_arg (arg_tree arg.now) }
+{
+    if may_call { has_call_arg(arg) } else { false }
+}
+
+// What an argument in which functions are called does, up to where its program opens a level. Kept out of line, since it is rare.
+#[inline(never)]
+fn program_begun<'t, S: NodeStore>(
+    alloc: Global,
+    parts: &mut Parts<S>,
+    position: &Position,
+    arg: &'t Arg,
+) -> Result<Progress<Entrance<'t>>, Code>
+    requires calls { the_has_call_arg (arg_tree arg.now) ≡ true }
+    requires stepped { in_steps_arg (arg_tree arg.now) ≡ true }
+    ensures enters { (args : List Arg) (at : ℕ) → slice_get args (at - 1) ≡ Some arg.now → IfOk result (λ progress. IfStops progress (IsReady args at)) }
+    ensures does { DoesAt S.NodeStore (λ a n. started (context a n (position_of position.now)) (arg_tree arg.now)) start_of parts.old result parts.new }
+{
+    let whole = Whole::Argument(arg);
+    let pause = begun(alloc, parts, position, whole, 0, Vec::new(alloc))?;
+    match pause {
+        Pause::Over(completion) => Ok(Progress::Over(completion)),
+        other => {
+            let boxed = Box::new(alloc, other)?;
+            Ok(Progress::Stops(Entrance::Paused(arg, boxed)))
+        }
+    }
+}
+
+// What an argument does, up to where it enters something.
+#[inline(always)]
+fn argument_begun<'t, S: NodeStore>(
+    alloc: Global,
+    parts: &mut Parts<S>,
+    position: &Position,
+    arg: &'t Arg,
+    may_call: bool,
+) -> Result<Progress<Entrance<'t>>, Code>
+    requires plain { may_call ≡ false → the_has_call_arg (arg_tree arg.now) ≡ false }
+    requires stepped { in_steps_arg (arg_tree arg.now) ≡ true }
+    ensures enters { (args : List Arg) (at : ℕ) → slice_get args (at - 1) ≡ Some arg.now → IfOk result (λ progress. IfStops progress (IsReady args at)) }
+    ensures does { DoesAt S.NodeStore (λ a n. started (context a n (position_of position.now)) (arg_tree arg.now)) start_of parts.old result parts.new }
+{
+    if calls_in_argument(arg, may_call) {
+        program_begun(alloc, parts, position, arg)
+    } else {
+        argument(alloc, parts, position, arg)
+    }
+}
+
+// The arguments from one on, as long as each goes on with the next: what the last of them left, and the place after it. Functions may be
+// called in them, or not.
 pub(crate) fn arguments_begun<'t, S: NodeStore>(
     alloc: Global,
     parts: &mut Parts<S>,
     position: &Position,
     args: &'t [Arg],
     from: usize,
+    may_call: bool,
 ) -> Result<(Progress<Entrance<'t>>, usize), Code>
-    requires { list_any has_call_arg (map arg_tree args.now) ≡ false }
-    ensures enters { IfOk result (λ begun. IfStops begun.0 IsUncalled) }
+    requires plain { may_call ≡ false → list_any the_has_call_arg (map arg_tree args.now) ≡ false }
+    requires stepped { list_all in_steps_arg (map arg_tree args.now) ≡ true }
+    ensures enters { IfOk result (λ begun. IfStops begun.0 (IsReady args.now begun.1)) }
     ensures does { DoesAt S.NodeStore (λ a n. args_started (context a n (position_of position.now)) (map arg_tree (drop from args.now))) (begun_of args.now) parts.old result parts.new }
 {
     let mut at = from;
     while at < args.len() {
-        match argument(alloc, parts, position, &args[at])? {
+        match argument_begun(alloc, parts, position, &args[at], may_call)? {
             Progress::Over(completion) => match completion {
                 Completion::GoOn => at += 1,
                 other => return Ok((Progress::Over(other), at + 1)),
@@ -179,7 +253,7 @@ pub(crate) fn enter_argument<S: NodeStore>(
     argument: usize,
     scratch: &mut Scratch,
 ) -> Result<Completion, Code>
-    requires { IsUncalled entrance }
+    requires { IsReady (source_args source) argument entrance }
     ensures falls { Falls parts.old scratch.old result parts.new scratch.new }
     ensures does { RunsWithin S.NodeStore (λ a n. entered_then (context a n (position_of (source_position source.entry))) (entrance_of entrance.entry) (map arg_tree (drop argument (source_args source.entry)))) (stack scratch.old.frames.items) parts.old result (stack scratch.new.frames.items) parts.new }
 {
@@ -190,6 +264,10 @@ pub(crate) fn enter_argument<S: NodeStore>(
         Entrance::Text(e) => executing(alloc, parts, position, e, scratch),
         Entrance::Indirect(keyword, operand) => {
             giving(alloc, parts, position, keyword, operand, scratch)
+        }
+        Entrance::Paused(_, pause) => {
+            let place = Place::Argument(source, argument.saturating_sub(1));
+            resume_first(alloc, parts, place, Box::into_inner(pause), scratch)
         }
     }
 }
@@ -205,7 +283,15 @@ pub(crate) fn arguments<S: NodeStore>(
     ensures falls { Falls parts.old scratch.old result parts.new scratch.new }
     ensures does { RunsWithin S.NodeStore (λ a n. meaning.arguments (context a n (position_of (source_position source.entry))) (map arg_tree (drop from (source_args source.entry)))) (stack scratch.old.frames.items) parts.old result (stack scratch.new.frames.items) parts.new }
 {
-    let (begun, argument) = arguments_begun(alloc, parts, source.position(), source.all(), from)?;
+    let may_call = source.since() > 0;
+    let (begun, argument) = arguments_begun(
+        alloc,
+        parts,
+        source.position(),
+        source.all(),
+        from,
+        may_call,
+    )?;
     match begun {
         Progress::Over(completion) => Ok(completion),
         Progress::Stops(entrance) => {

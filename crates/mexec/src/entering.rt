@@ -2,24 +2,26 @@
 // What opens a level: DO with an argument and without one, and XECUTE.
 ghost use Rattle.std.specs.Prelude.{◌≡◌, ◌≤◌, ◌<◌, ◌+◌, ◌*◌, suc, false, ◌∷◌, length, map, option_map, IfOk, OnOk};
 ghost use Rattle.mspec.specs.Act.{with_locals};
-ghost use Rattle.mgrammar.specs.CallsIn.{has_call, has_call_actuals, has_call_line};
+ghost use Rattle.mgrammar.specs.CallsIn.{has_call, has_call_actuals};
 ghost use Rattle.mmeaning.specs.Levels.{a_level_free, leaves};
 ghost use Rattle.mmeaning.specs.Parameters.{with_formals};
 ghost use Rattle.mmeaning.specs.LineMeaning as meaning;
 ghost use Rattle.mmeaning.specs.LineMeaning.{context};
 ghost use Rattle.mmeaning.specs.Frames.{Rests, Levels};
 ghost use Rattle.mlocal.specs.Bindings.{binding_of, bindings_of};
-ghost use Rattle.mtree.specs.Tree.{called_tree, expr_tree, line_tree};
+ghost use Rattle.mmeaning.specs.Programs.{listed};
+ghost use Rattle.mtree.specs.Tree.{called_tree, entry_tree, expr_tree};
 ghost use Rattle.meval.specs.Evaluates.{depth_of};
 ghost use Rattle.mcommand.specs.Does.{DoesAt};
 ghost use Rattle.mcommand.specs.Targets.{target_view};
-ghost use Rattle.mexec.specs.Falls.{Falls, FallsFurther};
-ghost use Rattle.mexec.specs.Frames.{Runs, stack, position_of, commands_from};
-ghost use Rattle.mexec.specs.Entering.{formals_handed, level_deeper, text_entered, text_position};
+ghost use Rattle.mexec.specs.Falls.{size, Falls, FallsByEntry, FallsFurther};
+ghost use Rattle.mexec.specs.Uncalled.{IsPlayed};
+ghost use Rattle.mexec.specs.Frames.{Runs, stack, position_of, closing_of, commands_from};
+ghost use Rattle.mexec.specs.Entering.{formals_handed, level_deeper, one_level_deeper, text_entered, text_position};
 
 use crate::completion::Completion;
 use crate::frames::{Closing, Level, Position};
-use crate::levels::{enter_line, leave_commands, lines_next};
+use crate::levels::{enter_line, leave_commands, lines_next, wants_value};
 use crate::reading_trees::read_line;
 use crate::scratch::Scratch;
 use mcommand::{Parts, Target, formals_for};
@@ -28,13 +30,18 @@ use mlocal::Binding;
 use mnodes::NodeStore;
 use mnum::{Bytes7, Name};
 use moperator::Code;
-use mtree::{Called, Expr, Line};
+use mtree::{Called, Entry, Expr, Line};
+use mvalue::Value;
 use std::alloc::{AllocError, Global};
 use std::rc::Rc;
 
-// One more level, of which no value is wanted, if one is free.
-fn one_deeper<S: NodeStore>(parts: &mut Parts<S>, depth: Depth) -> Result<Depth, Code>
-    ensures deeper { IfOk result (λ there. depth_of there ≡ level_deeper (depth_of depth)) }
+// One more level, of which a value is wanted or not, if one is free.
+fn one_deeper<S: NodeStore>(
+    parts: &mut Parts<S>,
+    depth: Depth,
+    wants_value: bool,
+) -> Result<Depth, Code>
+    ensures deeper { IfOk result (λ there. depth_of there ≡ one_level_deeper wants_value (depth_of depth)) }
     ensures does { DoesAt S.NodeStore (λ a n. a_level_free (depth_of depth)) (λ there. tt) parts.old result parts.new }
 {
     parts.eval.depth = depth;
@@ -42,7 +49,7 @@ fn one_deeper<S: NodeStore>(parts: &mut Parts<S>, depth: Depth) -> Result<Depth,
     Ok(Depth {
         levels: depth.levels + 1,
         indirections: depth.indirections,
-        wants_value: false,
+        wants_value,
     })
 }
 
@@ -60,24 +67,64 @@ fn open_with<S: NodeStore>(
     }
 }
 
-// The formal parameters of the line that a DO names, for what its actuals hand over.
+// What opens a level of a routine: the entry, whether a list of actuals is written, what they hand over, and how the level closes.
+pub(crate) struct Opening<'t> {
+    pub(crate) entry: &'t Entry,
+    pub(crate) is_listed: bool,
+    pub(crate) bindings: Vec<Binding>,
+    pub(crate) closing: Closing,
+}
+
+// The formal parameters of the line that a DO or a function names, for what its actuals hand over.
+#[inline(always)]
 fn formals_of_target<S: NodeStore>(
     alloc: Global,
     parts: &mut Parts<S>,
-    called: &Called,
+    is_listed: bool,
     target: &Target,
     bindings: Vec<Binding>,
 ) -> Result<Option<Vec<(Name, Binding)>>, Code>
     requires { target.now.line < length target.now.copy.value.items }
-    ensures { DoesAt S.NodeStore (λ a n. formals_handed (target_view target.now) (called_tree called.now).1 (map binding_of bindings.items)) (option_map (λ formals. bindings_of formals.items)) parts.old result parts.new }
+    ensures { DoesAt S.NodeStore (λ a n. formals_handed (target_view target.now) (listed is_listed) (map binding_of bindings.items)) (option_map (λ formals. bindings_of formals.items)) parts.old result parts.new }
 {
     let language = parts.eval.language();
     let line = target.copy[target.line].as_bytes();
-    formals_for(alloc, language, &called.actuals, line, bindings)
+    formals_for(alloc, language, is_listed, line, bindings)
 }
 
-// DO with an argument: what its actuals hand over, and then the lines from the one that it names on. The first of them is entered, which
-// costs a step.
+// The lines from the one that an entry names on, in a level of their own. The first of them is entered, which costs a step.
+#[inline(always)]
+pub(crate) fn entering<S: NodeStore>(
+    alloc: Global,
+    parts: &mut Parts<S>,
+    position: &Position,
+    opening: Opening,
+    scratch: &mut Scratch,
+) -> Result<Completion, Code>
+    ensures falls { FallsByEntry parts.old scratch.old result parts.new scratch.new }
+    ensures does { Runs S.NodeStore (λ a n. meaning.entering (context a n (position_of position.now)) (entry_tree opening.entry.entry.now) (listed opening.entry.is_listed) (map binding_of opening.entry.bindings.items) (closing_of opening.entry.closing)) (stack scratch.old.frames.items) parts.old result (stack scratch.new.frames.items) parts.new }
+{
+    let Opening {
+        entry,
+        is_listed,
+        bindings,
+        closing,
+    } = opening;
+    let depth = one_deeper(parts, position.depth, wants_value(closing))?;
+    let target = parts.target(alloc, &position.level.copy, 0, entry)?;
+    let formals = formals_of_target(alloc, parts, is_listed, &target, bindings)?;
+    open_with(parts, formals)?;
+    let line = target.line;
+    let level = Level {
+        copy: target.copy,
+        next: Some(line),
+        dots: 0,
+    };
+    let inner = Position { depth, level };
+    enter_line(alloc, parts, inner, closing, line, scratch)
+}
+
+// DO with an argument: what its actuals hand over, and then the lines from the one that it names on.
 pub(crate) fn doing<S: NodeStore>(
     alloc: Global,
     parts: &mut Parts<S>,
@@ -91,18 +138,13 @@ pub(crate) fn doing<S: NodeStore>(
 {
     parts.eval.depth = position.depth;
     let bindings = parts.handed_over(alloc, &called.actuals)?;
-    let depth = one_deeper(parts, position.depth)?;
-    let target = parts.target(alloc, &position.level.copy, 0, &called.entry)?;
-    let formals = formals_of_target(alloc, parts, called, &target, bindings)?;
-    open_with(parts, formals)?;
-    let line = target.line;
-    let level = Level {
-        copy: target.copy,
-        next: Some(line),
-        dots: 0,
+    let opening = Opening {
+        entry: &called.entry,
+        is_listed: !called.actuals.is_empty(),
+        bindings,
+        closing: Closing::Leaves,
     };
-    let inner = Position { depth, level };
-    enter_line(alloc, parts, inner, Closing::Leaves, line, scratch)
+    entering(alloc, parts, position, opening, scratch)
 }
 
 // DO without arguments: the lines after this one that have one more dot. $TEST is afterwards what it was.
@@ -115,7 +157,7 @@ pub(crate) fn doing_block<S: NodeStore>(
     ensures falls { Falls parts.old scratch.old result parts.new scratch.new }
     ensures does { Runs S.NodeStore (λ a n. meaning.doing_block (context a n (position_of position.now))) (stack scratch.old.frames.items) parts.old result (stack scratch.new.frames.items) parts.new }
 {
-    let depth = one_deeper(parts, position.depth)?;
+    let depth = one_deeper(parts, position.depth, false)?;
     let test = parts.eval.test();
     let copy = position.level.copy.clone()?;
     parts.eval.open_level()?;
@@ -136,9 +178,9 @@ fn leave_text(
     line: Rc<Line>,
     scratch: &mut Scratch,
 ) -> Result<(), AllocError>
-    requires { has_call_line (line_tree line.value) ≡ false }
+    requires { IsPlayed line.value }
     ensures frames { OnOk result (stack scratch.new.frames.items ≡ Rests (text_position (depth_of depth) (position_of position.now)) (commands_from line.value 0) ∷ Levels (text_position (depth_of depth) (position_of position.now)) leaves ∷ stack scratch.old.frames.items) }
-    ensures most { OnOk result (length scratch.new.frames.items ≤ length scratch.old.frames.items + 2) }
+    ensures most { OnOk result (size scratch.new.frames.items ≤ size scratch.old.frames.items + 2) }
 {
     let level = Level {
         copy: position.level.copy.clone()?,
@@ -159,7 +201,7 @@ fn enter_text<S: NodeStore>(
     scratch: &mut Scratch,
 ) -> Result<Completion, Code>
     requires { depth_of depth ≡ level_deeper (depth_of position.now.depth) }
-    ensures falls { IfOk result (λ _. 6 * parts.new.eval.steps + length scratch.new.frames.items ≤ 6 * parts.old.eval.steps + length scratch.old.frames.items + 2) }
+    ensures falls { IfOk result (λ _. 6 * parts.new.eval.steps + size scratch.new.frames.items ≤ 6 * parts.old.eval.steps + size scratch.old.frames.items + 2) }
     ensures does { Runs S.NodeStore (λ a n. text_entered (context a (suc n) (position_of position.now)) text.now) (stack scratch.old.frames.items) parts.old result (stack scratch.new.frames.items) parts.new }
 {
     let language = parts.eval.language();
@@ -167,6 +209,23 @@ fn enter_text<S: NodeStore>(
     parts.eval.open_level()?;
     leave_text(alloc, depth, position, line, scratch)?;
     Ok(Completion::GoOn)
+}
+
+// XECUTE of a value, as a text.
+#[inline(always)]
+pub(crate) fn executing_value<S: NodeStore>(
+    alloc: Global,
+    parts: &mut Parts<S>,
+    position: &Position,
+    value: Value,
+    scratch: &mut Scratch,
+) -> Result<Completion, Code>
+    ensures falls { IfOk result (λ _. 6 * parts.new.eval.steps + size scratch.new.frames.items ≤ 6 * parts.old.eval.steps + size scratch.old.frames.items + 2) }
+    ensures does { Runs S.NodeStore (λ a n. meaning.text_executed (context a (suc n) (position_of position.now)) value) (stack scratch.old.frames.items) parts.old result (stack scratch.new.frames.items) parts.new }
+{
+    let depth = one_deeper(parts, position.depth, false)?;
+    let text = value.into_text(alloc)?;
+    enter_text(alloc, parts, depth, position, &text, scratch)
 }
 
 // XECUTE: the value of an expression as a text.
@@ -183,7 +242,5 @@ pub(crate) fn executing<S: NodeStore>(
 {
     parts.eval.depth = position.depth;
     let text = parts.eval.eval(alloc, e)?;
-    let depth = one_deeper(parts, position.depth)?;
-    let text = text.into_text(alloc)?;
-    enter_text(alloc, parts, depth, position, &text, scratch)
+    executing_value(alloc, parts, position, text, scratch)
 }

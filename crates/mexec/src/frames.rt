@@ -1,11 +1,13 @@
 // SPDX-License-Identifier: Apache-2.0
 // What is still to be done of a line: frames, the innermost on top.
-ghost use Rattle.std.specs.Prelude.{◌≡◌, ◌≤◌, true, false, map, IfOk};
-ghost use Rattle.std.specs.List.{list_any};
-ghost use Rattle.mgrammar.specs.CallsIn.{has_call_arg, has_call_line};
-ghost use Rattle.mtree.specs.Tree.{arg_tree, line_tree};
+ghost use Rattle.std.specs.Prelude.{◌≡◌, ◌≤◌, true, map, IfOk};
+ghost use Rattle.std.specs.List.{list_all};
+ghost use Rattle.mgrammar.specs.ProgramsIn.{in_steps_arg};
+ghost use Rattle.mtree.specs.Tree.{arg_tree};
 ghost use Rattle.mexec.specs.Loops.{has_course};
+ghost use Rattle.mexec.specs.Uncalled.{ArePlayed, IsPlayed};
 
+use crate::suspended::Suspended;
 use mcommand::Course;
 use meval::Depth;
 use mnum::Bytes7;
@@ -55,13 +57,13 @@ pub(crate) enum Closing {
     Answers(bool),
 }
 
-// The rest of a line, in which no function is called: its commands from a place on.
+// The rest of a line: its commands from a place on.
 #[derive(Drop)]
 pub(crate) struct Continuation {
     pub(crate) position: Rc<Position>,
     pub(crate) line: Rc<Line>,
     pub(crate) at: usize,
-    ghost uncalled: { has_call_line (line_tree line.value) ≡ false },
+    ghost played: { IsPlayed line.value },
 }
 
 impl Continuation {
@@ -104,11 +106,13 @@ impl Drop for PendingArguments {
     }
 }
 
-// Arguments that a text gave, in which no function is called, and where they are done. Frames share them.
+// Arguments that a text gave, the first language that has all their forms, and where they are done. Frames share them.
 pub(crate) struct IndirectArguments {
     pub(crate) position: Position,
     pub(crate) args: Vec<Arg>,
-    ghost uncalled: { list_any has_call_arg (map arg_tree args.items) ≡ false },
+    pub(crate) since: u32,
+    ghost played: { ArePlayed args.items since },
+    ghost stepped: { list_all in_steps_arg (map arg_tree args.items) ≡ true },
 }
 
 // Written out, so that dropping it is one call, which is proved once.
@@ -117,6 +121,7 @@ impl Drop for IndirectArguments {
         let IndirectArguments {
             position: _,
             args: _,
+            since: _,
         } = self;
     }
 }
@@ -142,4 +147,8 @@ pub(crate) enum Frame {
     ForLoop(Box<ForLoop>),
     // a level of which a line is under way, and how it closes
     Level(Rc<Position>, Closing),
+    // in a box, since it is large and rare
+    Program(Box<Suspended>),
+    // the command before the rest of a line, whose condition is under way
+    Condition(Continuation),
 }

@@ -1,16 +1,17 @@
 // SPDX-License-Identifier: Apache-2.0
 // The commands of a line, one after another, as far as they need no frame.
-ghost use Rattle.std.specs.Prelude.{◌≡◌, ◌<◌, [], false, map, IfOk};
-ghost use Rattle.std.specs.List.{list_any};
-ghost use Rattle.mgrammar.specs.CallsIn.{has_call_arg, has_call_line};
+ghost use Rattle.std.specs.Prelude.{◌≡◌, ◌<◌, [], false, true, map, IfOk};
+ghost use Rattle.std.specs.List.{list_all, list_any};
+ghost use Rattle.mgrammar.specs.CallsIn.{has_call_arg, has_call_optional as the_has_call_optional};
+ghost use Rattle.mgrammar.specs.ProgramsIn.{in_steps_arg};
 ghost use Rattle.mmeaning.specs.LineMeaning as meaning;
-ghost use Rattle.mexec.specs.Words.{DoesAt, arg_tree, command_tree, context, keyword_tree, line_tree};
+ghost use Rattle.mexec.specs.Words.{DoesAt, arg_tree, command_tree, condition_tree, context, keyword_tree};
 ghost use Rattle.mexec.specs.Frames.{commands_from, position_of};
-ghost use Rattle.mexec.specs.Loops.{args_before};
-ghost use Rattle.mexec.specs.Uncalled.{has_call_command};
+ghost use Rattle.mexec.specs.Loops.{spaced_before};
+ghost use Rattle.mexec.specs.Uncalled.{IsPlayed, has_call_command, in_steps_command};
 ghost use Rattle.mexec.specs.Fronts as fronts;
 ghost use Rattle.mexec.specs.Progress.{IfStops};
-ghost use Rattle.mexec.specs.Fronts.{StopsIn, command_started, effect_started, front_of, outcome_of, stops_at, word_started};
+ghost use Rattle.mexec.specs.Fronts.{StopsAt, StopsBefore, StopsIn, command_started, effect_started, front_of, outcome_of, stops_at, word_started};
 
 use crate::arguments::{Entrance, arguments_begun};
 use crate::completion::{Completion, Progress, over, went_on, where_true};
@@ -19,20 +20,22 @@ use mcommand::Parts;
 use mnodes::NodeStore;
 use mnum::Name;
 use moperator::Code;
-use mtree::{Arg, Command, Keyword, Line, Parameter};
+use mtree::{Arg, Command, Expr, Keyword, Line, Parameter, has_call_optional};
 use std::alloc::Global;
 
 // Where a command needs a frame: at what an argument enters, before the arguments from one on; at a FOR with its index and its
-// parameters; at one without an index; or at the block of a DO.
+// parameters; at one without an index; at the block of a DO; or at a condition in which functions are called.
 #[derive(Drop)]
 pub(crate) enum Stop<'t> {
     Argument(Entrance<'t>, usize),
     Loop(&'t Name, &'t [Parameter]),
     Turns,
     Block,
+    Condition(&'t Command),
 }
 
 // A command whose arguments have begun.
+#[inline(always)]
 fn stopped<'t>(
     begun: Result<(Progress<Entrance<'t>>, usize), Code>,
 ) -> Result<Progress<Stop<'t>>, Code>
@@ -48,6 +51,7 @@ fn stopped<'t>(
 }
 
 // What a command without arguments does.
+#[inline(always)]
 fn bare<'t, S: NodeStore>(
     alloc: Global,
     parts: &mut Parts<S>,
@@ -81,15 +85,18 @@ fn bare<'t, S: NodeStore>(
     }
 }
 
-// What a command with this word and these arguments does, if its condition holds.
-fn effect<'t, S: NodeStore>(
+// What a command with this word and these arguments does, if its condition holds. Functions may be called in them, or not.
+#[inline(always)]
+pub(crate) fn effect<'t, S: NodeStore>(
     alloc: Global,
     parts: &mut Parts<S>,
     position: &Position,
     keyword: Keyword,
     args: &'t [Arg],
+    may_call: bool,
 ) -> Result<Progress<Stop<'t>>, Code>
-    requires { list_any has_call_arg (map arg_tree args.now) ≡ false }
+    requires plain { may_call ≡ false → list_any has_call_arg (map arg_tree args.now) ≡ false }
+    requires stepped { list_all in_steps_arg (map arg_tree args.now) ≡ true }
     ensures stops { IfOk result (λ outcome. IfStops outcome (StopsIn args.now)) }
     ensures does { DoesAt S.NodeStore (λ a n. effect_started (context a n (position_of position.now)) (keyword_tree keyword) (map arg_tree args.now)) (outcome_of args.now) parts.old result parts.new }
 {
@@ -99,26 +106,52 @@ fn effect<'t, S: NodeStore>(
             Arg::Loop(index, parameters) => {
                 Ok(Progress::Stops(Stop::Loop(index, parameters.as_slice())))
             }
-            _ => stopped(arguments_begun(alloc, parts, position, args, 0)),
+            _ => stopped(arguments_begun(alloc, parts, position, args, 0, may_call)),
         },
     }
 }
 
-// What a command does.
+// Whether a function is called in a condition, where one may be.
+#[inline(always)]
+fn calls_in_condition(condition: &Option<Box<Expr>>, may_call: bool) -> bool
+    requires { may_call ≡ false → the_has_call_optional (condition_tree condition.now) ≡ false }
+    ensures { result ≡ the_has_call_optional (condition_tree condition.now) }
+{
+    if may_call {
+        has_call_optional(condition)
+    } else {
+        false
+    }
+}
+
+// What a command does. Functions may be called in it, or not.
+#[inline(always)]
 fn command<'t, S: NodeStore>(
     alloc: Global,
     parts: &mut Parts<S>,
     position: &Position,
     command: &'t Command,
+    may_call: bool,
 ) -> Result<Progress<Stop<'t>>, Code>
-    requires { has_call_command (command_tree command.now) ≡ false }
-    ensures stops { IfOk result (λ outcome. IfStops outcome (StopsIn command.now.args.items)) }
+    requires plain { may_call ≡ false → has_call_command (command_tree command.now) ≡ false }
+    requires stepped { in_steps_command (command_tree command.now) ≡ true }
+    ensures stops { IfOk result (λ outcome. IfStops outcome (StopsAt command.now)) }
     ensures does { DoesAt S.NodeStore (λ a n. command_started (context a n (position_of position.now)) (command_tree command.now)) (outcome_of command.now.args.items) parts.old result parts.new }
 {
+    if calls_in_condition(&command.condition, may_call) {
+        return Ok(Progress::Stops(Stop::Condition(command)));
+    }
     parts.eval.depth = position.depth;
     let applies = parts.holds(alloc, &command.condition)?;
     if applies {
-        effect(alloc, parts, position, command.keyword, &command.args)
+        effect(
+            alloc,
+            parts,
+            position,
+            command.keyword,
+            &command.args,
+            may_call,
+        )
     } else {
         Ok(Progress::Over(Completion::GoOn))
     }
@@ -132,15 +165,16 @@ pub(crate) fn front<'t, S: NodeStore>(
     line: &'t Line,
     from: usize,
 ) -> Result<(Progress<Stop<'t>>, usize), Code>
-    requires { has_call_line (line_tree line.now) ≡ false }
+    requires { IsPlayed line.now }
     ensures spent { IfOk result (λ x. IfStops x.0 (λ _. parts.new.eval.steps < parts.old.eval.steps)) }
-    ensures stops { IfOk result (λ x. IfStops x.0 (StopsIn (args_before line.now x.1))) }
+    ensures stops { IfOk result (λ x. IfStops x.0 (StopsBefore (spaced_before line.now x.1))) }
     ensures does { DoesAt S.NodeStore (λ a n. fronts.front (context a n (position_of position.now)) (commands_from line.now from)) (front_of line.now) parts.old result parts.new }
 {
+    let may_call = line.since > 0;
     let mut at = from;
     while at < line.commands.len() {
         parts.eval.charge()?;
-        match command(alloc, parts, position, &line.commands[at].command)? {
+        match command(alloc, parts, position, &line.commands[at].command, may_call)? {
             Progress::Over(completion) => match completion {
                 Completion::GoOn => at += 1,
                 other => return Ok((Progress::Over(other), at + 1)),

@@ -1,11 +1,13 @@
 // SPDX-License-Identifier: Apache-2.0
 // Argument indirection: arguments that the text of an operand's value gives.
-ghost use Rattle.std.specs.Prelude.{◌≡◌, ◌≤◌, ◌+◌, ◌∷◌, false, map, length, IfOk, OnOk};
-ghost use Rattle.std.specs.List.{list_any};
-ghost use Rattle.mgrammar.specs.CallsIn.{has_call_arg, has_call_primary};
+ghost use Rattle.std.specs.Prelude.{◌≡◌, ◌≤◌, ◌+◌, ◌∷◌, false, true, map, length, IfOk, OnOk};
+ghost use Rattle.std.specs.List.{list_all};
+ghost use Rattle.mgrammar.specs.CallsIn.{has_call_primary};
+ghost use Rattle.mgrammar.specs.ProgramsIn.{in_steps_arg};
 ghost use Rattle.mexec.specs.Words.{Lists, Yields, an_indirection_free, arg_tree, context, depth_of, fault_of, form_of, indirected, keyword_tree, primary_tree};
 ghost use Rattle.mmeaning.specs.LineMeaning as meaning;
-ghost use Rattle.mexec.specs.Falls.{FallsFurther};
+ghost use Rattle.mexec.specs.Falls.{size, FallsFurther};
+ghost use Rattle.mexec.specs.Uncalled.{ArePlayed};
 ghost use Rattle.mexec.specs.Frames.{RunsWithin, position_of, stack};
 ghost use Rattle.mexec.specs.Entering.{so_deep};
 
@@ -32,18 +34,21 @@ fn one_indirection_deeper(depth: Depth) -> Result<Depth, Code>
     }
 }
 
-// Leaves arguments that a text gave on the frames, at this depth, in the level that the indirection is in.
+// Leaves arguments that a text gave on the frames, with the first language that has all their forms, at this depth, in the level that the
+// indirection is in.
 fn leave_given(
     alloc: Global,
     depth: Depth,
     position: &Position,
     args: Vec<Arg>,
+    since: u32,
     scratch: &mut Scratch,
 ) -> Result<(), AllocError>
     requires deep { position.now.level.dots ≤ depth.levels }
-    requires uncalled { list_any has_call_arg (map arg_tree args.items) ≡ false }
+    requires played { ArePlayed args.items since }
+    requires stepped { list_all in_steps_arg (map arg_tree args.items) ≡ true }
     ensures frames { OnOk result (stack scratch.new.frames.items ≡ Lists (so_deep (depth_of depth) (position_of position.now)) (map arg_tree args.items) ∷ stack scratch.old.frames.items) }
-    ensures most { OnOk result (length scratch.new.frames.items ≤ length scratch.old.frames.items + 1) }
+    ensures most { OnOk result (size scratch.new.frames.items ≤ size scratch.old.frames.items + 1) }
 {
     let level = Level {
         copy: position.level.copy.clone()?,
@@ -51,7 +56,14 @@ fn leave_given(
         dots: position.level.dots,
     };
     let position = Position { depth, level };
-    let given = Rc::new(alloc, IndirectArguments { position, args })?;
+    let given = Rc::new(
+        alloc,
+        IndirectArguments {
+            position,
+            args,
+            since,
+        },
+    )?;
     scratch.frames.push(Frame::IndirectArguments(given, 0))?;
     Ok(())
 }
@@ -75,7 +87,7 @@ pub(crate) fn giving<S: NodeStore>(
     let depth = one_indirection_deeper(position.depth)?;
     let text = text.into_text(alloc)?;
     let language = parts.eval.language();
-    let args = read_arguments(alloc, language, keyword, text.as_bytes())?;
-    leave_given(alloc, depth, position, args, scratch)?;
+    let (args, since) = read_arguments(alloc, language, keyword, text.as_bytes())?;
+    leave_given(alloc, depth, position, args, since, scratch)?;
     Ok(Completion::GoOn)
 }

@@ -1,19 +1,18 @@
 // SPDX-License-Identifier: Apache-2.0
 // The lines of a level, one after another, until it closes.
-ghost use Rattle.std.specs.Prelude.{◌≡◌, ◌≤◌, ◌<◌, ◌+◌, ◌*◌, suc, false, cond, Ok, Some, None, [], ◌∷◌, get_or, drop, length, IfOk, IfSome, OnOk};
-ghost use Rattle.mgrammar.specs.CallsIn.{has_call_line};
+ghost use Rattle.std.specs.Prelude.{◌≡◌, ◌≤◌, ◌<◌, ◌+◌, ◌*◌, suc, cond, Ok, Some, None, [], ◌∷◌, get_or, drop, length, IfOk, IfSome, OnOk};
 ghost use Rattle.mmeaning.specs.Levels as levels;
 ghost use Rattle.mmeaning.specs.LineMeaning as meaning;
 ghost use Rattle.mmeaning.specs.Frames.{frame, Levels, Rests};
 ghost use Rattle.mmeaning.specs.LineMeaning.{context, Go_on};
-ghost use Rattle.mtree.specs.Tree.{body_tree, line_tree};
+ghost use Rattle.mtree.specs.Tree.{body_tree};
 ghost use Rattle.meval.specs.Evaluates.{standing_of};
 ghost use Rattle.mcommand.specs.Targets.{target_view};
 ghost use Rattle.mcommand.specs.Does.{DoesAt};
-ghost use Rattle.mexec.specs.Falls.{Falls, FallsFurther};
+ghost use Rattle.mexec.specs.Falls.{size, Falls, FallsByEntry, FallsFurther};
 ghost use Rattle.mexec.specs.Frames.{Runs, stack, completion_of, position_of, closing_of, commands_from};
 ghost use Rattle.mexec.specs.Entering.{reached as first_reached, next_reached, line_then, entering, reaching, at_next, at_target, on_body};
-ghost use Rattle.mexec.specs.Uncalled.{has_call_body};
+ghost use Rattle.mexec.specs.Uncalled.{IsBodyPlayed, IsPlayed};
 
 use crate::completion::Completion;
 use crate::frames::{Closing, Continuation, Frame, Level, Position};
@@ -29,7 +28,7 @@ use std::alloc::{AllocError, Global};
 use std::rc::Rc;
 
 // Whether a value is wanted of a level that closes so.
-fn wants_value(closing: Closing) -> bool
+pub(crate) fn wants_value(closing: Closing) -> bool
     ensures { result ≡ levels.wants (closing_of closing) }
 {
     match closing {
@@ -140,9 +139,9 @@ pub(crate) fn leave_commands(
     line: Rc<Line>,
     scratch: &mut Scratch,
 ) -> Result<(), AllocError>
-    requires { has_call_line (line_tree line.value) ≡ false }
+    requires { IsPlayed line.value }
     ensures frames { OnOk result (stack scratch.new.frames.items ≡ Rests (position_of position.value) (commands_from line.value 0) ∷ Levels (position_of position.value) (closing_of closing) ∷ stack scratch.old.frames.items) }
-    ensures most { OnOk result (length scratch.new.frames.items ≤ length scratch.old.frames.items + 2) }
+    ensures most { OnOk result (size scratch.new.frames.items ≤ size scratch.old.frames.items + 2) }
 {
     let level = Frame::Level(position.clone()?, closing);
     scratch.frames.push(level)?;
@@ -163,9 +162,9 @@ fn enter_body(
     body: &Body,
     scratch: &mut Scratch,
 ) -> Result<(), AllocError>
-    requires { has_call_body (body_tree body.now) ≡ false }
+    requires { IsBodyPlayed body.now }
     ensures frames { OnOk result (stack scratch.new.frames.items ≡ on_body (at_next (position_of position) next) (closing_of closing) (body_tree body.now) (stack scratch.old.frames.items)) }
-    ensures most { OnOk result (length scratch.new.frames.items ≤ length scratch.old.frames.items + 2) }
+    ensures most { OnOk result (size scratch.new.frames.items ≤ size scratch.old.frames.items + 2) }
 {
     let mut there = position;
     there.level.next = Some(next);
@@ -195,7 +194,7 @@ fn read_and_enter<S: NodeStore>(
     requires within { at < length position.level.copy.value.items }
     requires language { language ≡ (standing_of parts.old.eval).given.language }
     requires known { language ≤ 1 }
-    ensures falls { IfOk result (λ _. 6 * parts.new.eval.steps + length scratch.new.frames.items ≤ 6 * parts.old.eval.steps + length scratch.old.frames.items + 2) }
+    ensures falls { IfOk result (λ _. 6 * parts.new.eval.steps + size scratch.new.frames.items ≤ 6 * parts.old.eval.steps + size scratch.old.frames.items + 2) }
     ensures does { Runs S.NodeStore (λ a n. line_then (context a (suc n) (position_of position)) (closing_of closing) at (get_or position.level.copy.value.items at [])) (stack scratch.old.frames.items) parts.old result (stack scratch.new.frames.items) parts.new }
 {
     let text = position.level.copy[at].as_bytes();
@@ -215,7 +214,7 @@ pub(crate) fn enter_line<S: NodeStore>(
     scratch: &mut Scratch,
 ) -> Result<Completion, Code>
     requires { at < length position.level.copy.value.items }
-    ensures falls { FallsFurther parts.old scratch.old result parts.new scratch.new }
+    ensures falls { FallsByEntry parts.old scratch.old result parts.new scratch.new }
     ensures does { Runs S.NodeStore (λ a n. entering (context a n (position_of position)) (closing_of closing) at (get_or position.level.copy.value.items at [])) (stack scratch.old.frames.items) parts.old result (stack scratch.new.frames.items) parts.new }
 {
     parts.eval.charge()?;
@@ -233,7 +232,7 @@ fn reach_line<S: NodeStore>(
     scratch: &mut Scratch,
 ) -> Result<Completion, Code>
     requires { at < length position.now.level.copy.value.items }
-    ensures falls { FallsFurther parts.old scratch.old result parts.new scratch.new }
+    ensures falls { FallsByEntry parts.old scratch.old result parts.new scratch.new }
     ensures does { Runs S.NodeStore (λ a n. reaching (context a n (position_of position.now)) (closing_of closing) at (get_or position.now.level.copy.value.items at [])) (stack scratch.old.frames.items) parts.old result (stack scratch.new.frames.items) parts.new }
 {
     parts.eval.charge()?;

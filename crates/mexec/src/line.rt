@@ -1,18 +1,19 @@
 // SPDX-License-Identifier: Apache-2.0
 // A line, from its first command to its end.
-ghost use Rattle.std.specs.Prelude.{◌≡◌, [], ◌∷◌, false, IfOk, OnOk};
-ghost use Rattle.mgrammar.specs.CallsIn.{has_call_line};
+ghost use Rattle.std.specs.Prelude.{◌≡◌, ◌≤◌, ◌+◌, ◌*◌, [], ◌∷◌, IfOk, OnOk};
 ghost use Rattle.mexec.specs.Words.{DoesAt, Levels, commands_of, frame, line_tree, stays};
 ghost use Rattle.mmeaning.specs.LineMeaning as meaning;
-ghost use Rattle.mexec.specs.Falls.{Falls};
+ghost use Rattle.mexec.specs.Falls.{size, weight};
+ghost use Rattle.mexec.specs.Uncalled.{IsPlayed};
 ghost use Rattle.mmeaning.specs.Frames.{Fits};
 ghost use Rattle.mexec.specs.Frames.{RunsIf, view, stack, completion_of, position_of};
 
 use crate::arguments::arguments;
 use crate::completion::Completion;
-use crate::continuation::next_command;
+use crate::continuation::{held, next_command};
 use crate::frames::{Closing, Continuation, Frame};
 use crate::levels::after_level;
+use crate::programs::after_call;
 use crate::scratch::Scratch;
 use crate::source::Source;
 use crate::turns::after_turn;
@@ -31,7 +32,7 @@ fn run_frame<S: NodeStore>(
     completion: Completion,
     scratch: &mut Scratch,
 ) -> Result<Completion, Code>
-    ensures falls { Falls parts.old scratch.old result parts.new scratch.new }
+    ensures falls { IfOk result (λ _. 6 * parts.new.eval.steps + size scratch.new.frames.items + 1 ≤ 6 * parts.old.eval.steps + size scratch.old.frames.items + weight top) }
     ensures does { RunsIf (Fits (view top)) S.NodeStore (λ a n. frame a n (view top) (completion_of completion)) (stack scratch.old.frames.items) parts.old result (stack scratch.new.frames.items) parts.new }
 {
     match top {
@@ -54,12 +55,17 @@ fn run_frame<S: NodeStore>(
         Frame::Level(position, closing) => {
             after_level(alloc, parts, &position, closing, completion, scratch)
         }
+        Frame::Program(suspended) => after_call(alloc, parts, suspended, completion, scratch),
+        Frame::Condition(behind) => match completion {
+            Completion::GoOn => held(alloc, parts, &behind, scratch),
+            _ => Ok(Completion::GoOn),
+        },
     }
 }
 
 // Begins a line: nothing but its level is put on the frames, and all its commands are still left.
 fn begin(line: Rc<Line>, scratch: &mut Scratch) -> Result<Continuation, AllocError>
-    requires { has_call_line (line_tree line.value) ≡ false }
+    requires { IsPlayed line.value }
     ensures frames { OnOk result (stack scratch.new.frames.items ≡ Levels meaning.top_level stays ∷ []) }
     ensures position { IfOk result (λ rest. position_of rest.position.value ≡ meaning.top_level) }
     ensures line { IfOk result (λ rest. rest.line.value ≡ line.value) }
@@ -76,14 +82,14 @@ fn begin(line: Rc<Line>, scratch: &mut Scratch) -> Result<Continuation, AllocErr
     })
 }
 
-// A line in which no function is called, from its first command to its end.
+// A line of a language that there is, from its first command to its end.
 pub(crate) fn run_line<S: NodeStore>(
     alloc: Global,
     parts: &mut Parts<S>,
     line: Rc<Line>,
     scratch: &mut Scratch,
 ) -> Result<Completion, Code>
-    requires { has_call_line (line_tree line.value) ≡ false }
+    requires { IsPlayed line.value }
     ensures { DoesAt S.NodeStore (λ a n. meaning.run_within a n (commands_of (line_tree line.value))) completion_of parts.old result parts.new }
 {
     let first = begin(line, scratch)?;

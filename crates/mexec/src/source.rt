@@ -1,15 +1,25 @@
 // SPDX-License-Identifier: Apache-2.0
 // Where arguments come from: the line of their command, or a text that gave them.
-ghost use Rattle.std.specs.Prelude.{◌≡◌, ◌≤◌, ◌+◌, map, drop, length, IfOk, OnOk};
-ghost use Rattle.mmeaning.specs.Frames.{Lists};
+ghost use Rattle.std.specs.Prelude.{◌≡◌, ◌≤◌, ◌+◌, ◌∷◌, is_some, true, map, option_map, drop, length, IfOk, OnOk};
+ghost use Rattle.mmeaning.specs.Frames.{Lists, Programs};
+ghost use Rattle.mprogram.specs.Views.{whole_view};
+ghost use Rattle.mcommand.specs.Steps.{items_view};
+ghost use Rattle.mexec.specs.Wholes.{argument_of, condition_of, whole_of, steps_within, ending_within};
+ghost use Rattle.mexec.specs.Places.{whole_at, place_position};
+ghost use Rattle.mexec.specs.Loops.{spaced_before};
 ghost use Rattle.mtree.specs.Tree.{arg_tree};
-ghost use Rattle.mexec.specs.Frames.{args_before as the_args_before, position_of, stack, source_position, source_args, view};
+ghost use Rattle.mexec.specs.Frames.{args_before as the_args_before, position_of, stack, source_position, source_args, source_since, holder_position, view};
 ghost use Rattle.mexec.specs.Arguments.{listing};
+ghost use Rattle.mexec.specs.Falls.{size};
 
 use crate::frames::{Continuation, Frame, IndirectArguments, PendingArguments, Position};
+use crate::holder::Holder;
 use crate::scratch::Scratch;
+use crate::suspended::Suspended;
+use mcommand::Item;
+use mprogram::Whole;
 use mtree::{Arg, Line};
-use std::alloc::AllocError;
+use std::alloc::{AllocError, Global};
 use std::rc::Rc;
 
 // The arguments of a command: of the one before the rest of a line, or those that a text gave in its place.
@@ -50,6 +60,16 @@ impl<'t> Source<'t> {
         }
     }
 
+    // The first language that has all forms of the line, or of the text.
+    pub(crate) fn since(self) -> u32
+        ensures { result ≡ source_since self.entry }
+    {
+        match self {
+            Source::Line(behind) => behind.line.since,
+            Source::Text(given) => given.since,
+        }
+    }
+
     // A frame of those from one on.
     fn frame(self, argument: usize) -> Result<Frame, AllocError>
         ensures { IfOk result (λ frame. view frame ≡ Lists (position_of (source_position self.entry)) (map arg_tree (drop argument (source_args self.entry)))) }
@@ -66,12 +86,112 @@ impl<'t> Source<'t> {
     // Leaves those from one onwards on the frames, unless there are none.
     pub(crate) fn leave(self, argument: usize, scratch: &mut Scratch) -> Result<(), AllocError>
         ensures frames { OnOk result (stack scratch.new.frames.items ≡ listing (position_of (source_position self.entry)) (map arg_tree (drop argument (source_args self.entry))) (stack scratch.old.frames.items)) }
-        ensures most { OnOk result (length scratch.new.frames.items ≤ length scratch.old.frames.items + 1) }
+        ensures most { OnOk result (size scratch.new.frames.items ≤ size scratch.old.frames.items + 1) }
     {
         if argument >= self.all().len() {
             return Ok(());
         }
         scratch.frames.push(self.frame(argument)?)?;
+        Ok(())
+    }
+}
+
+// Where a program stands: at one of some arguments, or at the condition of the command before the rest of a line.
+#[derive(Clone, Copy)]
+pub(crate) enum Place<'t> {
+    Argument(Source<'t>, usize),
+    Condition(&'t Continuation),
+}
+
+// The condition of the command before a place of a line, if it has one.
+fn condition_before(line: &Line, at: usize) -> Option<Whole<'_>>
+    ensures { option_map whole_view result ≡ condition_of (spaced_before line.now at) }
+{
+    match line.commands.get(at.saturating_sub(1)) {
+        None => None,
+        Some(spaced) => match &spaced.command.condition {
+            None => None,
+            Some(condition) => Some(Whole::Condition(condition)),
+        },
+    }
+}
+
+// An argument with a program, if there is one at this place.
+fn argument_at(args: &[Arg], at: usize) -> Option<Whole<'_>>
+    ensures { option_map whole_view result ≡ argument_of args.now at }
+{
+    match args.get(at) {
+        None => None,
+        Some(arg) => Some(Whole::Argument(arg)),
+    }
+}
+
+impl Holder {
+    // The place, which this holds.
+    pub(crate) fn place(&self) -> Place<'_>
+        ensures whole { whole_at result ≡ whole_of self.now }
+        ensures position { place_position result ≡ holder_position self.now }
+    {
+        match self {
+            Holder::Line(behind, at) => Place::Argument(Source::Line(behind), *at),
+            Holder::Text(given, at) => Place::Argument(Source::Text(given), *at),
+            Holder::Condition(behind) => Place::Condition(behind),
+        }
+    }
+}
+
+impl<'t> Place<'t> {
+    // Where it is done.
+    pub(crate) fn position(self) -> &'t Position
+        ensures { result.now ≡ place_position self.entry }
+    {
+        match self {
+            Place::Argument(source, _) => source.position(),
+            Place::Condition(behind) => &behind.position,
+        }
+    }
+
+    // What has the program.
+    pub(crate) fn whole(self) -> Option<Whole<'t>>
+        ensures { option_map whole_view result ≡ whole_at self.entry }
+    {
+        match self {
+            Place::Argument(source, at) => argument_at(source.all(), at),
+            Place::Condition(behind) => condition_before(&behind.line, behind.at),
+        }
+    }
+
+    // A holder of it.
+    fn holder(self) -> Result<Holder, AllocError>
+        ensures whole { IfOk result (λ holder. whole_of holder ≡ whole_at self.entry) }
+        ensures position { IfOk result (λ holder. position_of (holder_position holder) ≡ position_of (place_position self.entry)) }
+    {
+        match self {
+            Place::Argument(source, at) => match source {
+                Source::Line(behind) => Ok(Holder::Line(behind.copy()?, at)),
+                Source::Text(given) => Ok(Holder::Text(given.clone()?, at)),
+            },
+            Place::Condition(behind) => Ok(Holder::Condition(behind.copy()?)),
+        }
+    }
+
+    // Leaves what is left of its program after the call of a function on the frames.
+    pub(crate) fn leave(
+        self,
+        alloc: Global,
+        at: usize,
+        items: Vec<Item>,
+        scratch: &mut Scratch,
+    ) -> Result<(), AllocError>
+        requires { is_some (whole_at self) ≡ true }
+        ensures frames { OnOk result (stack scratch.new.frames.items ≡ Programs (position_of (place_position self.entry)) (drop at (steps_within (whole_at self.entry))) (ending_within (whole_at self.entry)) (items_view items.items) ∷ stack scratch.old.frames.items) }
+        ensures most { OnOk result (size scratch.new.frames.items ≤ size scratch.old.frames.items + 3) }
+    {
+        let holder = self.holder()?;
+        let suspended = Suspended { holder, at, items };
+        scratch
+            .frames
+            .push(Frame::Program(Box::new(alloc, suspended)?))?;
         Ok(())
     }
 }

@@ -10,7 +10,7 @@ ghost use Rattle.mmeaning.specs.Frames.{Turns};
 ghost use Rattle.mmeaning.specs.Yields.{Yields};
 ghost use Rattle.moperator.specs.Codes.{fault_of};
 ghost use Rattle.mexec.specs.Fronts as fronts;
-ghost use Rattle.mexec.specs.Falls.{Falls};
+ghost use Rattle.mexec.specs.Falls.{size, Falls};
 ghost use Rattle.mexec.specs.Frames.{Runs, commands_from, turning, stack, completion_of, position_of};
 ghost use Rattle.mexec.specs.Loops.{has_index, loop_before as the_loop_before};
 
@@ -137,7 +137,7 @@ fn turn_ends(completion: Completion) -> Result<Option<Completion>, Code>
 #[inline(always)]
 fn leave_turns(turns: Box<ForLoop>, scratch: &mut Scratch) -> Result<(), AllocError>
     ensures frames { OnOk result (stack scratch.new.frames.items ≡ Turns (position_of turns.value.body.position.value) (turning turns.value) ∷ stack scratch.old.frames.items) }
-    ensures most { OnOk result (length scratch.new.frames.items ≤ length scratch.old.frames.items + 1) }
+    ensures most { OnOk result (size scratch.new.frames.items ≤ size scratch.old.frames.items + 1) }
 {
     scratch.frames.push(Frame::ForLoop(turns))?;
     Ok(())

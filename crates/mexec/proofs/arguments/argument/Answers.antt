@@ -1,8 +1,13 @@
 -- SPDX-License-Identifier: Apache-2.0
-use Rattle.mexec.proofs.ExecLaws.{Ok, [], ◌∷◌, refl, with_locals, killed_except, newed, newed_except, form_of, destination_tree, expr_tree, reference_tree, condition_tree, kind_tree, locked_tree, keyword_tree, primary_tree, called_tree, does_evaluated, at_done, stops, into_given, entrance_of, start_of, completion_of, position_of, at_as, at_gives, at_depth, goes_on, goes_here, gives_over, enters_where, entered_where, neither, where_enters, coding_here, formatting_here, hanging_here, killing_here, locking_here, returning_here, setting_here, showing_here, testing_here}
+use Rattle.mexec.proofs.ExecLaws.{Ok, [], ◌∷◌, refl, with_locals, killed_except, newed, newed_except, form_of, destination_tree, expr_tree, reference_tree}
+use Rattle.mexec.proofs.ExecLaws.{condition_tree, kind_tree, locked_tree, keyword_tree, primary_tree, called_tree, does_evaluated, at_done, stops, into_given}
+use Rattle.mexec.proofs.ExecLaws.{entrance_of, start_of, completion_of, position_of, at_as, at_gives, at_depth, goes_on, goes_here, gives_over, enters_where}
+use Rattle.mexec.proofs.ExecLaws.{entered_where, neither, where_enters, coding_here, formatting_here, hanging_here, killing_here, locking_here, returning_here}
+use Rattle.mexec.proofs.ExecLaws.{setting_here, showing_here, testing_here}
 use Rattle.mgrammar.specs.CallsIn.{has_call, has_call_actuals, has_call_optional}
 use Rattle.mmeaning.specs.LineMeaning as meaning
 use Rattle.mmeaning.specs.Locking.{locking}
+use Rattle.mexec.specs.Arguments.{IsReady}
 use Rattle.mexec.specs.declared.completion.Completion.TheVariants as completion
 use Rattle.mexec.proofs.arguments.argument.Goals as goal
 
@@ -73,12 +78,13 @@ returns-in-DoOne-clause-does g c =
     rw (c.in-DoOne.is, c.enters.ensures) (entered_where c.args.position.now (condition_tree c.in-DoOne.condition) both.1 _ c.holds.result c.holds.ensures)
 
 pub returns-in-DoOne-clause-enters : goal.returns-in-DoOne-clause-enters
-returns-in-DoOne-clause-enters g c =
+returns-in-DoOne-clause-enters g c all at =
     let both = neither (has_call_actuals (called_tree c.in-DoOne.called).1) (has_call_optional (condition_tree c.in-DoOne.condition)) (rw c.in-DoOne.is at c.requires) in
-    rw c.enters.ensures (where_enters c.holds.result _ both.0)
+    rw c.enters.ensures (where_enters (IsReady all at) c.holds.result _ both.0)
 
 pub returns-in-GoTo-clause-does : goal.returns-in-GoTo-clause-does
-returns-in-GoTo-clause-does g c = rw (c.in-GoTo.is, c.over-in-GoTo.ensures) (gives_over entrance_of c.going.result (at_depth c.args.position.now.depth c.going.ensures))
+returns-in-GoTo-clause-does g c =
+    rw (c.in-GoTo.is, c.over-in-GoTo.ensures) (gives_over entrance_of c.going.result (at_depth c.args.position.now.depth c.going.ensures))
 
 pub returns-in-Executed-clause-does : goal.returns-in-Executed-clause-does
 returns-in-Executed-clause-does g c =
@@ -86,9 +92,9 @@ returns-in-Executed-clause-does g c =
     rw (c.in-Executed.is, c.enters-in-Executed.ensures) (entered_where c.args.position.now (condition_tree c.in-Executed.condition) both.1 _ c.holds-in-Executed.result c.holds-in-Executed.ensures)
 
 pub returns-in-Executed-clause-enters : goal.returns-in-Executed-clause-enters
-returns-in-Executed-clause-enters g c =
+returns-in-Executed-clause-enters g c all at =
     let both = neither (has_call (expr_tree c.in-Executed.e)) (has_call_optional (condition_tree c.in-Executed.condition)) (rw c.in-Executed.is at c.requires) in
-    rw c.enters-in-Executed.ensures (where_enters c.holds-in-Executed.result _ both.0)
+    rw c.enters-in-Executed.ensures (where_enters (IsReady all at) c.holds-in-Executed.result _ both.0)
 
 pub returns-in-Lock-clause-does : goal.returns-in-Lock-clause-does
 returns-in-Lock-clause-does g c =
@@ -108,4 +114,4 @@ returns-in-Indirect-clause-does g c =
     rw c.in-Indirect.is (at_depth c.args.position.now.depth (at_gives begun start_of _ refl))
 
 pub returns-in-Indirect-clause-enters : goal.returns-in-Indirect-clause-enters
-returns-in-Indirect-clause-enters g c = rw c.in-Indirect.is at c.requires
+returns-in-Indirect-clause-enters g c all at = rw c.in-Indirect.is at c.requires

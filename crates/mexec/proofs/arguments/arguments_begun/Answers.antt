@@ -1,6 +1,9 @@
 -- SPDX-License-Identifier: Apache-2.0
-use Rattle.mexec.proofs.ExecLaws.{◌+◌, [], map, drop, refl, arith, none_left, context, arg_tree, over, stops, entrance_of, args_started, begun_of, completion_of, position_of, at_gives, at_as, argument_begins, argument_stopped, passes_next, one_uncalled}
+use Rattle.mexec.proofs.ExecLaws.{◌+◌, [], map, drop, refl, arith, none_left, context, arg_tree, over, stops, entrance_of, args_started, begun_of}
+use Rattle.mexec.proofs.ExecLaws.{completion_of, position_of, at_gives, at_as, argument_begins, argument_stopped, passes_next, one_uncalled, one_stepped}
+use Rattle.mexec.proofs.ExecLaws.{item_there}
 use Rattle.mgrammar.specs.CallsIn.{has_call_arg}
+use Rattle.mgrammar.specs.ProgramsIn.{in_steps_arg}
 use Rattle.mmeaning.specs.LineMeaning as meaning
 use Rattle.mexec.specs.declared.completion.Progress.TheVariants as progress
 use Rattle.mexec.specs.declared.completion.Completion.TheVariants as completion
@@ -44,7 +47,14 @@ returns-in-Stops-clause-does g c =
     (at_gives (stops (entrance_of e), map arg_tree (drop (c.loop-at.at + 1) all)) (begun_of all) (progress.Stops e, c.loop-at.at + 1) refl))
 
 pub returns-in-Stops-clause-enters : goal.returns-in-Stops-clause-enters
-returns-in-Stops-clause-enters g c = rw c.in-Stops.is at c.in_ok-completion.ensures.enters
+returns-in-Stops-clause-enters g c =
+    let there = item_there c.args.args.now c.loop-at.at c.index-args-at.result c.loop-at-test.true c.index-args-at.is in
+    rw c.in-Stops.is at (c.in_ok-completion.ensures.enters c.args.args.now (c.loop-at.at + 1) there)
 
-pub argument-requires : goal.argument-requires
-argument-requires g c = one_uncalled has_call_arg arg_tree c.args.args.now c.loop-at.at c.index-args-at.result c.loop-at-test.true c.index-args-at.is c.requires
+pub argument_begun-requires-clause-plain : goal.argument_begun-requires-clause-plain
+argument_begun-requires-clause-plain g c =
+    λ h. one_uncalled has_call_arg arg_tree c.args.args.now c.loop-at.at c.index-args-at.result c.loop-at-test.true c.index-args-at.is (c.requires.plain h)
+
+pub argument_begun-requires-clause-stepped : goal.argument_begun-requires-clause-stepped
+argument_begun-requires-clause-stepped g c =
+    one_stepped in_steps_arg arg_tree c.args.args.now c.loop-at.at c.index-args-at.result c.loop-at-test.true c.index-args-at.is c.requires.stepped

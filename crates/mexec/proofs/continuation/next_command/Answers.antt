@@ -6,19 +6,19 @@ pub returns-in_err-outcome-clause-does : goal.returns-in_err-outcome-clause-does
 returns-in_err-outcome-clause-does g c =
     let r = c.args.rest in
     let does = rw (c.deref.ensures, c.deref-2.ensures) at c.in_err-outcome.ensures.does in
-    front_stopped (position_of r.position.value) r.line.value r.at does c.from_residual.ensures
+    front_stopped (position_of r.position.value) r.line.value r.played r.at does c.from_residual.ensures
 
 pub returns-in-Over-clause-does : goal.returns-in-Over-clause-does
 returns-in-Over-clause-does g c =
     let r = c.args.rest in
     let does = rw (c.deref.ensures, c.deref-2.ensures, c.in-Over.is) at c.in_ok-outcome.ensures.does in
-    front_runs (position_of r.position.value) r.line.value r.at does (runs_completion c.in-Over.completion)
+    front_runs (position_of r.position.value) r.line.value r.played r.at does (runs_completion c.in-Over.completion)
 
 pub returns-in_err-behind-in-Stops-clause-does : goal.returns-in_err-behind-in-Stops-clause-does
 returns-in_err-behind-in-Stops-clause-does g c =
     let r = c.args.rest in
     let does = rw (c.deref.ensures, c.deref-2.ensures) at c.in_ok-outcome.ensures.does in
-    front_runs (position_of r.position.value) r.line.value r.at does (runs_wanting _ _ c.from_residual-in_err-behind-in-Stops.ensures)
+    front_runs (position_of r.position.value) r.line.value r.played r.at does (runs_wanting _ _ c.from_residual-in_err-behind-in-Stops.ensures)
 
 pub go_on-requires : goal.go_on-requires
 go_on-requires g c =
@@ -36,7 +36,7 @@ returns-clause-does g c =
     let does = rw (c.deref.ensures, c.deref-2.ensures, c.in-Stops.is) at c.in_ok-outcome.ensures.does in
     let goes = rw (c.in_ok-behind-in-Stops.ensures.position, c.in_ok-behind-in-Stops.ensures.line, c.in_ok-behind-in-Stops.ensures.at) at c.go_on.ensures.does in
     let spent = rw c.in-Stops.is at c.in_ok-outcome.ensures.spent in
-    front_stops (position_of r.position.value) r.line.value r.at does spent goes
+    front_stops (position_of r.position.value) r.line.value r.played r.at does spent goes
 
 pub front-requires : goal.front-requires
-front-requires g c = rw c.deref-2.ensures c.args.rest.uncalled
+front-requires g c = rw c.deref-2.ensures c.args.rest.played

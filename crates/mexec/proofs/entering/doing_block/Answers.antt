@@ -1,5 +1,6 @@
 -- SPDX-License-Identifier: Apache-2.0
-use Rattle.mexec.proofs.ExecLaws.{◌≡◌, Bool, ◌+◌, arith, Act, ◌>>=◌, test_is, Level, deeper, restores, Context, context, closed, in_level, lines_next, depth_of, position_of, Position, Completion, runs_then, runs_stopped, runs_wanting, at_plain, lines_opened_as}
+use Rattle.mexec.proofs.ExecLaws.{◌≡◌, Bool, ◌+◌, arith, Act, ◌>>=◌, test_is, Level, deeper, restores, Context, context, closed, in_level, lines_next, depth_of}
+use Rattle.mexec.proofs.ExecLaws.{position_of, Position, Completion, runs_then, runs_stopped, runs_wanting, at_plain, lines_opened_as}
 use Rattle.mspec.specs.Act.{level_begun}
 use Rattle.mexec.proofs.entering.doing_block.Goals as goal
 
@@ -12,10 +13,13 @@ abbrev there : Context → Bool → Act Completion
 there x b = in_level x (block x.position) (restores b) level_begun lines_next
 
 pub returns-in_err-depth-clause-does : goal.returns-in_err-depth-clause-does
-returns-in_err-depth-clause-does g c = runs_stopped (λ a n _. test_is >>= there (context a n (position_of c.args.position.now))) c.in_err-depth.ensures.does c.from_residual.ensures
+returns-in_err-depth-clause-does g c =
+    runs_stopped (λ a n _. test_is >>= there (context a n (position_of c.args.position.now))) c.in_err-depth.ensures.does c.from_residual.ensures
 
 pub returns-in_err-copy-clause-does : goal.returns-in_err-copy-clause-does
-returns-in_err-copy-clause-does g c = runs_then (λ a n _. test_is >>= there (context a n (position_of c.args.position.now))) c.in_ok-depth.ensures.does (runs_wanting _ _ c.from_residual-in_err-copy.ensures)
+returns-in_err-copy-clause-does g c =
+    runs_then (λ a n _. test_is >>= there (context a n (position_of c.args.position.now))) c.in_ok-depth.ensures.does
+    (runs_wanting _ _ c.from_residual-in_err-copy.ensures)
 
 pub returns-in_err-open_level-clause-does : goal.returns-in_err-open_level-clause-does
 returns-in_err-open_level-clause-does g c =

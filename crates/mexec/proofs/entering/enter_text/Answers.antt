@@ -1,5 +1,7 @@
 -- SPDX-License-Identifier: Apache-2.0
-use Rattle.mexec.proofs.ExecLaws.{suc, List, arith, ◌>>=◌, Act, leaves, deeper, commands_of, line_tree, Context, context, closed, depth_of, CommandTree, position_of, text_position, tree_entered, Completion, runs_then, runs_stopped, runs_wanting, at_plain, text_opened, at_read, line_in, Zsyntax}
+use Rattle.mexec.proofs.ExecLaws.{suc, List, arith, ◌>>=◌, Act, leaves, deeper, commands_of, line_tree, Context, context, closed, depth_of, CommandTree}
+use Rattle.mexec.proofs.ExecLaws.{position_of, text_position, tree_entered, Completion, runs_then, runs_stopped, runs_wanting, at_plain, text_opened, at_read}
+use Rattle.mexec.proofs.ExecLaws.{line_in, Zsyntax}
 use Rattle.mexec.proofs.entering.enter_text.Goals as goal
 
 -- once its level is open
@@ -38,4 +40,4 @@ pub read_line-requires : goal.read_line-requires
 read_line-requires g c = c.language-language.ensures.known
 
 pub leave_text-requires : goal.leave_text-requires
-leave_text-requires g c = c.in_ok-line.ensures.uncalled
+leave_text-requires g c = c.in_ok-line.ensures.played

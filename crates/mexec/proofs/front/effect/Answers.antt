@@ -1,5 +1,6 @@
 -- SPDX-License-Identifier: Apache-2.0
-use Rattle.mexec.proofs.ExecLaws.{◌≡◌, List, [], ◌∷◌, Some, None, slice_get, unwrap_or, map, ap, sym, refl, ◌∙◌, context, keyword_tree, arg_tree, parameter_tree, position_of, stops, at_loop, at_gives, at_as, gives_stop, begun_stops, other_started}
+use Rattle.mexec.proofs.ExecLaws.{◌≡◌, List, [], ◌∷◌, Some, None, slice_get, unwrap_or, map, ap, sym, refl, ◌∙◌, context, keyword_tree, arg_tree}
+use Rattle.mexec.proofs.ExecLaws.{parameter_tree, position_of, stops, at_loop, at_gives, at_as, gives_stop, begun_stops, other_started}
 use Rattle.mtree.specs.declared.tree.Arg.TheVariants as arg
 use Rattle.mexec.proofs.front.effect.Goals as goal
 

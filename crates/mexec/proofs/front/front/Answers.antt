@@ -1,6 +1,10 @@
 -- SPDX-License-Identifier: Apache-2.0
-use Rattle.mexec.proofs.ExecLaws.{[], ◌+◌, ◌<◌, ◌≤◌, length, refl, arith, none_left, context, commands_from, completion_of, position_of, over, stops, front, front_of, stop_of, at_gives, at_as, at_plain, command_begins, command_stopped, charge_stopped, passes_next, args_there, one_uncalled}
+use Rattle.mexec.proofs.ExecLaws.{[], ◌+◌, ◌<◌, ◌≤◌, length, refl, arith, none_left, context, commands_from, completion_of, position_of, over, stops, front}
+use Rattle.mexec.proofs.ExecLaws.{front_of, stop_of, at_gives, at_as, at_plain, command_begins, command_stopped, charge_stopped, passes_next, args_there}
+use Rattle.mexec.proofs.ExecLaws.{item_there, one_stepped, one_uncalled, played_plain, played_stepped}
+use Rattle.std.proofs.lemmas.Bool.{ltb-false}
 use Rattle.mgrammar.specs.CallsIn.{has_call_spaced}
+use Rattle.mgrammar.specs.ProgramsIn.{in_steps_spaced}
 use Rattle.mtree.specs.Tree.{spaced_tree}
 use Rattle.mmeaning.specs.LineMeaning as meaning
 use Rattle.mexec.specs.declared.completion.Completion.TheVariants as completion
@@ -74,7 +78,7 @@ returns-in-Stops-clause-stops g c =
     let test = rw c.len.ensures at c.loop-at-test.true in
     let less : c.loop-at.at < length l.commands.items = omega (arith, test, l.commands.ok) in
     let there = rw c.in-Stops.is at c.in_ok-completion.ensures.stops in
-    rw (args_there l c.loop-at.at c.index.result.now less c.index.ensures) there
+    rw (item_there l.commands.items c.loop-at.at c.index.result.now less c.index.ensures) there
 
 pub returns-in-Stops-clause-does : goal.returns-in-Stops-clause-does
 returns-in-Stops-clause-does g c =
@@ -89,9 +93,18 @@ returns-in-Stops-clause-does g c =
     (command_begins (position_of c.args.position.now) l c.loop-at.at x less c.index.ensures (at_plain c.in_ok-charge.ensures.does) does
     (at_gives (stops (stop_of x.command.args.items st), commands_from l (c.loop-at.at + 1)) (front_of l) (progress.Stops st, c.loop-at.at + 1) (rw there refl)))
 
-pub command-requires : goal.command-requires
-command-requires g c =
+pub command-requires-clause-plain : goal.command-requires-clause-plain
+command-requires-clause-plain g c =
     let v = c.args.line.now.commands in
     let test = rw c.len.ensures at c.loop-at-test.true in
     let less : c.loop-at.at < length v.items = omega (arith, test, v.ok) in
-    one_uncalled has_call_spaced spaced_tree v.items c.loop-at.at c.index.result.now less c.index.ensures c.requires
+    λ h.
+    let few = ltb-false 0 c.args.line.now.since h in
+    one_uncalled has_call_spaced spaced_tree v.items c.loop-at.at c.index.result.now less c.index.ensures (played_plain c.args.line.now c.requires (omega (arith, few)))
+
+pub command-requires-clause-stepped : goal.command-requires-clause-stepped
+command-requires-clause-stepped g c =
+    let v = c.args.line.now.commands in
+    let test = rw c.len.ensures at c.loop-at-test.true in
+    let less : c.loop-at.at < length v.items = omega (arith, test, v.ok) in
+    one_stepped in_steps_spaced spaced_tree v.items c.loop-at.at c.index.result.now less c.index.ensures (played_stepped c.args.line.now c.requires)

@@ -1,5 +1,8 @@
 -- SPDX-License-Identifier: Apache-2.0
-use Rattle.mexec.proofs.ExecLaws.{◌<◌, suc, List, Result, Ok, arith, Text, Act, ◌>>=◌, read_so, at_read, ArgTree, FormTree, form_of, keyword_tree, primary_tree, within_indirection, Context, context, given_by, View, Ghosts, Code, fault_of, Parts, DoesAt, depth_of, at_evaluated, position_of, Zsyntax, PrimaryTree, an_indirection_free, primary_value, Yields, Completion, given, within_then, within_spent, within_stopped, runs_wanting, at_yielded, list_opened, at_as, inside_of, primary_here}
+use Rattle.mexec.proofs.ExecLaws.{◌<◌, suc, List, Result, Ok, arith, Text, Act, ◌>>=◌, read_so, at_read, ArgTree, FormTree, form_of, keyword_tree, primary_tree}
+use Rattle.mexec.proofs.ExecLaws.{within_indirection, Context, context, given_by, View, Ghosts, Code, fault_of, Parts, DoesAt, depth_of, at_evaluated}
+use Rattle.mexec.proofs.ExecLaws.{position_of, Zsyntax, PrimaryTree, an_indirection_free, primary_value, Yields, Completion, given, within_then, within_spent}
+use Rattle.mexec.proofs.ExecLaws.{within_stopped, runs_wanting, at_yielded, list_opened, at_as, inside_of, primary_here}
 use Rattle.mgrammar.specs.Languages.{args_in}
 use Rattle.mexec.specs.Frames.{RunsWithin}
 use Rattle.mmeaning.specs.LineMeaning.{Position}
@@ -18,7 +21,8 @@ read x f text = read_so Zsyntax (λ l. args_in f l text) >>= listed x
 read_then : {S X : Type 0} {g : Ghosts S} {there : X → Unit {0}} {d : X} {fs fs' : List View} {old mid new : Parts S} {r : Result completions.Completion Code} (p : Position) (f : FormTree) (o : PrimaryTree) (text : Text)
     → DoesAt g (λ a n. primary_value (inside_of (context a n p)) o) (λ (v : Text). v) old (Ok text) mid → mid.eval.steps < old.eval.steps → Yields fault_of (an_indirection_free p.depth) there (Ok d)
     → RunsWithin g (λ a n. read (context a (suc n) p) f text) fs mid r fs' new → RunsWithin g (λ a n. given (context a n p) f o) fs old r fs' new
-read_then p f o text does less free k = within_spent (λ a n. given_by (context a n p) f) does less (within_then (λ a n _. read (context a (suc n) p) f text) (at_yielded free) k)
+read_then p f o text does less free k =
+    within_spent (λ a n. given_by (context a n p) f) does less (within_then (λ a n _. read (context a (suc n) p) f text) (at_yielded free) k)
 
 pub returns-in_err-text-clause-does : goal.returns-in_err-text-clause-does
 returns-in_err-text-clause-does g c =
@@ -62,5 +66,8 @@ returns-clause-does g c =
 pub read_arguments-requires : goal.read_arguments-requires
 read_arguments-requires g c = c.language-language.ensures.known
 
-pub leave_given-requires-clause-uncalled : goal.leave_given-requires-clause-uncalled
-leave_given-requires-clause-uncalled g c = c.in_ok-args.ensures.uncalled
+pub leave_given-requires-clause-played : goal.leave_given-requires-clause-played
+leave_given-requires-clause-played g c = c.in_ok-args.ensures.played
+
+pub leave_given-requires-clause-stepped : goal.leave_given-requires-clause-stepped
+leave_given-requires-clause-stepped g c = c.in_ok-args.ensures.stepped

@@ -1,5 +1,6 @@
 -- SPDX-License-Identifier: Apache-2.0
-use Rattle.mexec.proofs.ExecLaws.{refl, give, closing_of, completion_of, at_as, at_then, at_gives, at_yielded, value_taken, value_refused, value_missed, closed_plainly}
+use Rattle.mexec.proofs.ExecLaws.{refl, give, closing_of, completion_of, at_as, at_then, at_gives, at_yielded, value_taken, value_refused, value_missed}
+use Rattle.mexec.proofs.ExecLaws.{closed_plainly}
 use Rattle.mmeaning.specs.LineMeaning.{Returns}
 use Rattle.mexec.specs.declared.completion.Completion.TheVariants as completion
 use Rattle.mexec.proofs.levels.closed.Goals as goal

@@ -1,6 +1,9 @@
 -- SPDX-License-Identifier: Apache-2.0
-use Rattle.mexec.proofs.ExecLaws.{refl, stack_push}
+use Rattle.mexec.proofs.ExecLaws.{refl, stack_push, arith, size_push}
 use Rattle.mexec.proofs.levels.leave_commands.Goals as goal
 
 pub returns-clause-frames : goal.returns-clause-frames
 returns-clause-frames c = rw (c.in_ok-push-2.ensures.items, stack_push, c.in_ok-push.ensures.items, stack_push, c.in_ok-clone.ensures.cases) refl
+
+pub returns-clause-most : goal.returns-clause-most
+returns-clause-most c = rw (c.in_ok-push-2.ensures.items, size_push, c.in_ok-push.ensures.items, size_push) (omega arith)

@@ -2,11 +2,13 @@
 use Rattle.mexec.proofs.ExecWords.{◌≡◌, ℕ, List, Result, View, Ghosts, Code, Parts, Runs, Position, Closing, context, suc, subst}
 use Rattle.mexec.specs.Entering.{line_then}
 use Rattle.mexec.specs.declared.completion.Completion as completions
-use Rattle.mexec.proofs.ExecLaws.{ap, get_or, [], get_or_read, position_of, closing_of, runs_stopped, runs_wanting, at_plain, line_listed, line_unlisted, listed, unlisted}
+use Rattle.mexec.proofs.ExecLaws.{ap, get_or, [], get_or_read, position_of, closing_of, runs_stopped, runs_wanting, at_plain, line_listed, line_unlisted}
+use Rattle.mexec.proofs.ExecLaws.{listed, unlisted}
 use Rattle.mexec.proofs.levels.reach_line.Goals as goal
 
 -- a line at a position that is the same
-line_there : {S : Type 0} {g : Ghosts S} (q p : Position) (c : Closing) (at : ℕ) {fs fs' : List View} {old new : Parts S} {r : Result completions.Completion Code} → q ≡ p
+line_there : {S : Type 0} {g : Ghosts S} (q p : Position) (c : Closing) (at : ℕ) {fs fs' : List View} {old new : Parts S} {r : Result completions.Completion Code}
+    → q ≡ p
     → Runs g (λ a n. line_then (context a (suc n) q) c at (get_or q.level.copy at [])) fs old r fs' new → Runs g (λ a n. line_then (context a (suc n) p) c at (get_or p.level.copy at [])) fs old r fs' new
 line_there {g = g} q p c at {fs = fs} {fs' = fs'} {old = old} {new = new} {r = r} e k =
     subst (λ (q : Position). Runs g (λ a n. line_then (context a (suc n) q) c at (get_or q.level.copy at [])) fs old r fs' new) e k

@@ -24,4 +24,4 @@ pub read_routine_line-requires : goal.read_routine_line-requires
 read_routine_line-requires g c = c.requires.known
 
 pub enter_body-requires : goal.enter_body-requires
-enter_body-requires g c = rw c.deref-2.ensures c.in_ok-line.ensures.uncalled
+enter_body-requires g c = rw c.deref-2.ensures c.in_ok-line.ensures.played

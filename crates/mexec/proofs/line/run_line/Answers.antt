@@ -1,5 +1,6 @@
 -- SPDX-License-Identifier: Apache-2.0
-use Rattle.mexec.proofs.ExecLaws.{◌≡◌, ◌≤◌, [], Option, Some, None, Err, length, refl, arith, none_left, Zmem, commands_of, line_tree, runs_wanting, stack_push, leads_first, leads_on, leads_stopped, leads_ends}
+use Rattle.mexec.proofs.ExecLaws.{◌≡◌, ◌≤◌, [], Option, Some, None, Err, length, refl, arith, none_left, Zmem, commands_of, line_tree, runs_wanting, stack_push}
+use Rattle.mexec.proofs.ExecLaws.{size_push, leads_first, leads_on, leads_stopped, leads_ends}
 use Rattle.mexec.proofs.line.run_line.Goals as goal
 
 pub returns-in_err-first : goal.returns-in_err-first
@@ -20,6 +21,11 @@ pub loop-frame-preserved : goal.loop-frame-preserved
 loop-frame-preserved g c =
     let leads = rw (c.in-Some.ensures.items, stack_push) at c.loop-frame.invariant in
     leads_on _ _ _ leads c.in_ok-completion-2.ensures.does
+
+pub loop-frame-smaller : goal.loop-frame-smaller
+loop-frame-smaller g c =
+    let falls = c.in_ok-completion-2.ensures.falls in
+    rw (c.in-Some.ensures.items, size_push) (omega (arith, falls))
 
 pub returns-in_err-completion-2 : goal.returns-in_err-completion-2
 returns-in_err-completion-2 g c =

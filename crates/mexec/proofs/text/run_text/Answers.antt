@@ -1,5 +1,5 @@
 -- SPDX-License-Identifier: Apache-2.0
-use Rattle.mexec.proofs.ExecLaws.{◌∙◌, ap, Err, line_in, standing_of, line_tree, refused, done, failed, never_refused, line_uncalled}
+use Rattle.mexec.proofs.ExecLaws.{◌∙◌, ap, Err, line_in, standing_of, line_tree, refused, done, failed, never_refused, line_played}
 use Rattle.mexec.proofs.text.run_text.Goals as goal
 use Rattle.mexec.proofs.text.run_text.Goals.{in-Err, in-Ok-run_line}
 
@@ -9,7 +9,7 @@ returns-in-Err-Syntax-clause-does g c =
     refused (line_in (standing_of c.args.parts.now.eval).given.language c.args.text.now) c.args.parts.now (none (c.in-Err-Syntax.is ∙ ap Err c.in-Err-Syntax.field-0-is))
 
 pub run_line-requires : goal.run_line-requires
-run_line-requires g c = line_uncalled _ _ _ c.language.ensures.known c.in-Ok.ensures.tree
+run_line-requires g c = line_played _ _ c.in-Ok.line.value c.language.ensures.known c.in-Ok.ensures.tree c.in-Ok.ensures.counted
 
 pub returns-after-run_line-clause-does : goal.returns-after-run_line-clause-does
 returns-after-run_line-clause-does g c =

@@ -1,5 +1,7 @@
 -- SPDX-License-Identifier: Apache-2.0
-use Rattle.mexec.proofs.ExecLaws.{refl, arith, context, completion_of, position_of, turning, runs_completion, runs_wanting, runs_as, at_plain, course_runs, not_gone_on, turn_charge_failed, falls_within, after_turn_is, turn_left, runs_then, runs_stopped, at_yielded, turn_stops, turn_stopped, turn_over}
+use Rattle.mexec.proofs.ExecLaws.{refl, arith, context, completion_of, position_of, turning, runs_completion, runs_wanting, runs_as, at_plain, course_runs}
+use Rattle.mexec.proofs.ExecLaws.{not_gone_on, turn_charge_failed, falls_within, after_turn_is, turn_left, runs_then, runs_stopped, at_yielded, turn_stops}
+use Rattle.mexec.proofs.ExecLaws.{turn_stopped, turn_over}
 use Rattle.mexec.proofs.turns.after_course.Goals as goal
 
 pub turns-init : goal.turns-init
@@ -122,4 +124,4 @@ returns-in_err-turn_ends-in-Over-clause-does g c =
     (runs_stopped (λ a n. turn_left (context a n (position_of t.body.position.value)) (turning t)) (at_yielded c.in_err-turn_ends-in-Over.ensures) c.from_residual-in_err-turn_ends-in-Over.ensures))))
 
 pub front-requires : goal.front-requires
-front-requires g c = rw (c.deref-in-turns-3.ensures, c.in_ok-body.ensures.line, c.deref.ensures) c.args.turns.value.body.uncalled
+front-requires g c = rw (c.deref-in-turns-3.ensures, c.in_ok-body.ensures.line, c.deref.ensures) c.args.turns.value.body.played

@@ -1,5 +1,6 @@
 -- SPDX-License-Identifier: Apache-2.0
-use Rattle.mexec.proofs.ExecLaws.{context, completion_of, position_of, turning, runs_completion, runs_as, runs_then, runs_stopped, at_yielded, after_turn_is, turn_left}
+use Rattle.mexec.proofs.ExecLaws.{context, completion_of, position_of, turning, runs_completion, runs_as, runs_then, runs_stopped, at_yielded, after_turn_is}
+use Rattle.mexec.proofs.ExecLaws.{turn_left}
 use Rattle.mexec.proofs.turns.after_turn.Goals as goal
 
 pub returns-in_err-turn_ends-clause-does : goal.returns-in_err-turn_ends-clause-does

@@ -1,5 +1,6 @@
 -- SPDX-License-Identifier: Apache-2.0
-use Rattle.mexec.proofs.ExecLaws.{◌+◌, ◌≤◌, length, refl, arith, none_left, at_done, ForLoop, commands_from, position_of, runs_completion, runs_wanting, any_course, falls_failed, falls_within, parameter_runs, parameter_stopped, begun_runs, parameter_uncalled}
+use Rattle.mexec.proofs.ExecLaws.{◌+◌, ◌≤◌, length, refl, arith, none_left, at_done, ForLoop, commands_from, position_of, runs_completion, runs_wanting}
+use Rattle.mexec.proofs.ExecLaws.{any_course, falls_failed, falls_within, parameter_runs, parameter_stopped, begun_runs, parameter_uncalled}
 use Rattle.mexec.specs.declared.completion.Completion.TheVariants as completion
 use Rattle.mexec.proofs.turns.next_parameter.Goals as goal
 

@@ -1,5 +1,6 @@
 -- SPDX-License-Identifier: Apache-2.0
-use Rattle.mexec.proofs.ExecWords.{◌≡◌, ◌≤◌, ◌-◌, length, List, map, drop, Result, context, View, parameter_tree, Code, Parts, Runs, commands_from, stack, position_of, Completion}
+use Rattle.mexec.proofs.ExecWords.{◌≡◌, ◌≤◌, ◌-◌, length, List, map, drop, Result, context, View, parameter_tree, Code, Parts, Runs, commands_from, stack}
+use Rattle.mexec.proofs.ExecWords.{position_of, Completion}
 use Rattle.mmeaning.specs.LineMeaning as meaning
 use Rattle.mexec.proofs.turns.next_parameter.Given as goal
 
@@ -7,7 +8,8 @@ abbrev pub invariant-loop-next : goal.invariant-loop-next
 invariant-loop-next g l = record {
   fewer : l.parts.eval.steps ≤ l.fn.parts.eval.steps;
   scratch : l.scratch ≡ l.fn.scratch;
-  leads : (r : Result Completion Code) (fs : List View) (p : Parts _) → Runs g.S.NodeStore (λ a n. meaning.next_parameter (context a n (position_of l.turns.body.position.value)) l.index (commands_from l.turns.body.line.value l.turns.body.at) (map parameter_tree (drop l.next l.parameters))) (stack l.fn.scratch.frames.items) l.parts r fs p
+  leads : (r : Result Completion Code) (fs : List View) (p : Parts _)
+      → Runs g.S.NodeStore (λ a n. meaning.next_parameter (context a n (position_of l.turns.body.position.value)) l.index (commands_from l.turns.body.line.value l.turns.body.at) (map parameter_tree (drop l.next l.parameters))) (stack l.fn.scratch.frames.items) l.parts r fs p
       → Runs g.S.NodeStore (λ a n. meaning.next_parameter (context a n (position_of l.turns.body.position.value)) l.index (commands_from l.turns.body.line.value l.turns.body.at) (map parameter_tree (drop l.turns.parameter l.parameters))) (stack l.fn.scratch.frames.items) l.fn.parts r fs p;
 }
 

@@ -1,0 +1,198 @@
+-- SPDX-License-Identifier: Apache-2.0
+-- Programs, a step at a time: what the code does up to where a level opens.
+use Rattle.mexec.proofs.ExecWords.{◌≡◌, ℕ, zero, suc, ◌+◌, ◌-◌, ◌<◌, Bool, true, false, List, [], ◌∷◌, Option, None, Some, Result, Ok, Err, slice_get, length}
+use Rattle.mexec.proofs.ExecWords.{drop, refl, sym, ◌∙◌, subst, arith, ap, IsErr, IsErrAnd, Text, Act, ◌>>=◌, ◌>>◌, give, set_test, as_truth, Context, Go_on}
+use Rattle.mexec.proofs.ExecWords.{context, Position, depth_of, inside, position_of, assoc, Ghosts, Code, Parts, Does, DoesAt, completion_of, went, at_done}
+use Rattle.mexec.proofs.ExecWords.{Completion}
+use Rattle.std.specs.Prelude.{option_map}
+use Rattle.mgrammar.specs.Grammar.{EntryTree}
+use Rattle.mmeaning.specs.LineMeaning as meaning
+use Rattle.mspec.specs.Act.{fail}
+use Rattle.mspec.specs.Code as spec
+use Rattle.moperator.specs.declared.code.Code.TheVariants as code
+use Rattle.mmeaning.specs.LineMeaning.{where_true, truth_tested, returned_value}
+use Rattle.mmeaning.specs.Operators.{as_number}
+use Rattle.mmeaning.specs.Programs.{Item, one_value, some_values, made, handing, Op, Call, Ending, plain, step, Pause, over, calls, begun_on, begun}
+use Rattle.mprogram.specs.Views.{op_view, ending_view}
+use Rattle.mprogram.specs.Wholes.{WholeTree, steps_of, ending_of}
+use Rattle.mprogram.specs.declared.op.Ending as the_ending
+use Rattle.mprogram.specs.declared.op.Ending.TheVariants as ending
+use Rattle.mprogram.specs.declared.op.Op as the_op
+use Rattle.mprogram.specs.declared.op.Op.TheVariants as op
+use Rattle.mcommand.specs.Conditions.{hung, truth_set}
+use Rattle.mcommand.specs.Steps.{step_in, is_call, goes_with, handing_on_top, value_on_top}
+use Rattle.mcommand.proofs.StepsIn.{step_is}
+use Rattle.mexec.specs.Programs.{calls_with, pause_of, pauses, ends, ends_with}
+use Rattle.mexec.specs.declared.frames.Position as positions
+use Rattle.mexec.specs.declared.programs.Pause as the_pause
+use Rattle.mexec.specs.declared.programs.Pause.TheVariants as pause
+use Rattle.mexec.specs.declared.completion.Completion.TheVariants as completion
+use Rattle.mexec.proofs.Calls.{at_then, at_failed, at_stopped, at_gives, at_as}
+use Rattle.mexec.proofs.LevelRuns.{at_any, at_yielded}
+use Rattle.mexec.proofs.ProgramEnds.{ends_is}
+
+-- ---- a list from a place on
+
+-- what stands at a place comes first from there on
+pub drop_at : {A : Type 0} (all : List A) (at : ℕ) (x : A) → slice_get all at ≡ Some x → drop at all ≡ x ∷ drop (at + 1) all
+drop_at [] at x h = absurd (let clash : ◌≡◌ {A = Option _} None (Some x) = h in cc)
+drop_at (y ∷ all) zero x h = let same : y ≡ x = cc in ap (λ z. z ∷ all) same
+drop_at (y ∷ all) (suc at) x h =
+    let same : suc at + 1 ≡ suc (at + 1) = omega arith in
+    subst (λ n. drop at all ≡ x ∷ drop n (y ∷ all)) (sym same) (drop_at all at x h)
+
+-- if nothing stands there, nothing is left
+pub drop_past : {A : Type 0} (all : List A) (at : ℕ) → slice_get all at ≡ None → drop at all ≡ []
+drop_past [] zero h = refl
+drop_past [] (suc at) h = refl
+drop_past (y ∷ all) zero h = absurd (let clash : ◌≡◌ {A = Option _} (Some y) None = h in cc)
+drop_past (y ∷ all) (suc at) h = drop_past all at h
+
+-- a place at which something stands is one of the list
+pub within_list : {A : Type 0} (all : List A) (at : ℕ) (x : A) → slice_get all at ≡ Some x → at < length all
+within_list [] at x h = absurd (let clash : ◌≡◌ {A = Option _} None (Some x) = h in cc)
+within_list (y ∷ all) zero x h = omega arith
+within_list (y ∷ all) (suc at) x h = let rest = within_list all at x h in omega (arith, rest)
+
+-- what is not something is nothing
+pub no_item : {A : Type 0} (r : Option A) → ((x : A) → r ≡ Some x → ⊥) → r ≡ None
+no_item None h = refl
+no_item (Some x) h = absurd (h x refl)
+
+-- a step of the code that is no call
+pub no_call : (o : the_op.Op) → ((e : _) → o ≡ op.Call e → ⊥) → is_call (op_view o) ≡ false
+no_call (op.Call e) h = absurd (h e refl)
+no_call o h = refl
+
+-- ---- acts
+
+module _ (x : Context) where
+  abbrev Same : Act Pause → Act Pause → Type 0
+  Same p q = ◌≡◌ {A = Act Pause} p q
+
+  -- a step that is no call
+  step_begun : (o : Op) (ops : List Op) (k : Ending) (st : List Item) → is_call o ≡ false
+      → Same (begun x (o ∷ ops) k st) (step x o st >>= begun_on (begun x ops k))
+  step_begun (Call e) ops k st h = absurd (let clash : true ≡ false = h in cc)
+  step_begun o ops k st h = refl
+
+  pub begun_is : (o : Op) (ops : List Op) (k : Ending) (st : List Item) → is_call o ≡ false
+      → Same (begun x (o ∷ ops) k st) (step_in (plain x) o st >>= begun_on (begun x ops k))
+  begun_is o ops k st h = step_begun o ops k st h ∙ (λ i. step_is x o st h i >>= begun_on (begun x ops k))
+
+  -- the call of a function
+  pub call_begun : (e : EntryTree) (ops : List Op) (k : Ending) (st : List Item)
+      → Same (begun x (Call e ∷ ops) k st) (handing_on_top st >>= (λ taken. give (calls e taken.0.0 taken.0.1 ops taken.1)))
+  call_begun e ops k [] = refl
+  call_begun e ops k (one_value v ∷ st) = refl
+  call_begun e ops k (some_values vs ∷ st) = refl
+  call_begun e ops k (made ps ∷ st) = refl
+  call_begun e ops k (handing b bs ∷ st) = refl
+
+-- what a command does in the end with a value
+pub ends_by_value : (x : Context) (k : the_ending.Ending) (st : List Item) → (k ≡ ending.Assign → ⊥)
+    → ((e : _) (is_listed : Bool) → k ≡ ending.Enter e is_listed → ⊥) → ((e : _) → k ≡ ending.Go e → ⊥)
+    → ◌≡◌ {A = Act Pause} (ends x (ending_view k) st) (value_on_top st >>= (λ v. ends_with (ending_view k) v.0))
+ends_by_value x ending.Assign st assigns enters goes = absurd (assigns refl)
+ends_by_value x (ending.Enter e is_listed) st assigns enters goes = absurd (enters e is_listed refl)
+ends_by_value x (ending.Go e) st assigns enters goes = absurd (goes e refl)
+ends_by_value x k st assigns enters goes = refl
+
+-- ---- calls
+
+module _ {S : Type 0} {g : Ghosts S} (w : WholeTree) where
+  -- what gives its completion
+  pub pauses_over : {p : Text → ℕ → Act meaning.Completion} {old new : Parts S} (r : Result Completion Code) → DoesAt g p completion_of old r new
+      → DoesAt g (λ a n. p a n >>= (λ s. give (over s))) (pause_of w) old (pauses r) new
+  pauses_over (Ok s) d = at_then (λ a n s. give (over s)) d (at_gives (over (completion_of s)) (pause_of w) (pause.Over s) refl)
+  pauses_over (Err c) d = at_failed (λ a n s. give (over s)) d
+
+  -- what goes on with what is next
+  pub goes_over : (p : Act (Unit {0})) {old new : Parts S} (r : Result (Unit {0}) Code) → Does g (λ i. p) (λ (u : Unit {0}). u) old r new
+      → DoesAt g (λ a n. p >> give (over Go_on)) (pause_of w) old (pauses (went r)) new
+  goes_over p (Ok u) d = at_then (λ a n _. give (over Go_on)) (at_any d) (at_gives (over Go_on) (pause_of w) (pause.Over completion.GoOn) refl)
+  goes_over p (Err c) d = at_failed (λ a n _. give (over Go_on)) (at_any d)
+
+  -- what goes on where a truth holds
+  pub holds_over : (s : Completion) (b : Bool) {parts : Parts S} → completion_of s ≡ where_true b
+      → DoesAt g (λ a n. give (over (where_true b))) (pause_of w) parts (Ok (pause.Over s)) parts
+  holds_over s b same = at_gives (over (where_true b)) (pause_of w) (pause.Over s) (ap over same)
+
+hung_is : (v : Text) → ◌≡◌ {A = Act Pause} (as_number v >> give (over Go_on)) (hung v >> give (over Go_on))
+hung_is v = sym (assoc (as_number v) (λ _. give tt) (λ _. give (over Go_on)))
+
+pub waits_over : {S : Type 0} {g : Ghosts S} (w : WholeTree) (v : Text) {old new : Parts S} (r : Result (Unit {0}) Code)
+    → Does g (λ i. hung v) (λ (u : Unit {0}). u) old r new → DoesAt g (λ a n. as_number v >> give (over Go_on)) (pause_of w) old (pauses (went r)) new
+waits_over w v r d = at_as (λ a n. hung_is v) (goes_over w (hung v) r d)
+
+pub tested_is : (v : Text) → ◌≡◌ {A = Act Pause} (truth_tested v >>= (λ s. give (over s))) (truth_set v >>= (λ b. give (over (where_true b))))
+tested_is v =
+    assoc (as_truth v) (λ b. set_test b >> give (where_true b)) (λ s. give (over s))
+    ∙ (λ j. as_truth v >>= (λ b. assoc (set_test b) (λ _. give (where_true b)) (λ s. give (over s)) j))
+    ∙ sym (assoc (as_truth v) (λ b. set_test b >> give b) (λ b. give (over (where_true b)))
+    ∙ (λ j. as_truth v >>= (λ b. assoc (set_test b) (λ _. give b) (λ b. give (over (where_true b))) j)))
+
+-- ---- the value of a function
+
+no_value : (s : Completion) → ((v : _) → s ≡ completion.Returns v → ⊥) → ◌≡◌ {A = Act Text} (returned_value (completion_of s)) (fail spec.M17)
+no_value (completion.Returns v) h = absurd (h v refl)
+no_value s h = refl
+
+-- a completion without one
+pub value_lacks : {S : Type 0} {g : Ghosts S} (s : Completion) → ((v : _) → s ≡ completion.Returns v → ⊥) → {parts : Parts S}
+    → DoesAt g (λ a n. returned_value (completion_of s)) (λ (v : Text). v) parts (Err code.M17) parts
+value_lacks s none = at_as (λ a n. no_value s none) (at_yielded (record { ends = λ s. refl }))
+
+-- ---- a program from a place on, on a stack
+
+abbrev pub From : {S : Type 0} (g : Ghosts S) (w : WholeTree) (p : positions.Position) → ℕ → List Item → Parts S → Result the_pause.Pause Code → Parts S
+    → Type 0
+From g w p at st old r new = DoesAt g (λ a n. begun (context a n (position_of p)) (drop at (steps_of w)) (ending_of w) st) (pause_of w) old r new
+
+module _ {S : Type 0} {g : Ghosts S} (w : WholeTree) (p : positions.Position) where
+  -- a step, at the depth of its line
+  pub step_at : (o : Op) (st st' : List Item) {old new : Parts S} {r : Result Bool Code} → old.eval.depth ≡ p.depth
+      → Does g (λ i. step_in i o st) (λ (goes : Bool). goes_with goes st') old r new
+      → DoesAt g (λ a n. step_in (inside a n (depth_of p.depth)) o st) (λ (goes : Bool). goes_with goes st') old r new
+  step_at o st st' same d = rw (sym same) (record { at = λ sure. d.at sure; doubt = d.doubt; keeps = d.keeps })
+
+  from_steps : (at : ℕ) (o : Op) (st : List Item) → slice_get (steps_of w) at ≡ Some o → {old new : Parts S} {r : Result the_pause.Pause Code}
+      → DoesAt g (λ a n. begun (context a n (position_of p)) (o ∷ drop (at + 1) (steps_of w)) (ending_of w) st) (pause_of w) old r new → From g w p at st old r new
+  from_steps at o st there {old = old} {new = new} {r = r} d =
+      subst (λ ops. DoesAt g (λ a n. begun (context a n (position_of p)) ops (ending_of w) st) (pause_of w) old r new) (sym (drop_at (steps_of w) at o there)) d
+
+  -- the call of a function
+  pub comes_to_call : (at : ℕ) (e : EntryTree) (st : List Item) → slice_get (steps_of w) at ≡ Some (Call e)
+      → {old new : Parts S} {r : Result the_pause.Pause Code} → DoesAt g (λ a n. calls_with w e (at + 1) st) (pause_of w) old r new → From g w p at st old r new
+  comes_to_call at e st there d =
+      from_steps at (Call e) st there (at_as (λ a n. call_begun (context a n (position_of p)) e (drop (at + 1) (steps_of w)) (ending_of w) st) d)
+
+  -- where no step is left
+  pub comes_to_end : (at : ℕ) (st : List Item) → slice_get (steps_of w) at ≡ None → {old new : Parts S} {r : Result the_pause.Pause Code}
+      → DoesAt g (λ a n. ends (context a n (position_of p)) (ending_of w) st) (pause_of w) old r new → From g w p at st old r new
+  comes_to_end at st none {old = old} {new = new} {r = r} d =
+      subst (λ ops. DoesAt g (λ a n. begun (context a n (position_of p)) ops (ending_of w) st) (pause_of w) old r new) (sym (drop_past (steps_of w) at none))
+      (at_as (λ a n. ends_is (context a n (position_of p)) (ending_of w) st) d)
+
+  module _ (at : ℕ) (o : Op) (st st' : List Item) (there : slice_get (steps_of w) at ≡ Some o) (quiet : is_call o ≡ false) {old : Parts S} (same : old.eval.depth ≡ p.depth) where
+    by_step : {new : Parts S} {r : Result the_pause.Pause Code}
+        → DoesAt g (λ a n. step_in (inside a n (depth_of p.depth)) o st >>= begun_on (begun (context a n (position_of p)) (drop (at + 1) (steps_of w)) (ending_of w))) (pause_of w) old r new → From g w p at st old r new
+    by_step d = from_steps at o st there (at_as (λ a n. begun_is (context a n (position_of p)) o (drop (at + 1) (steps_of w)) (ending_of w) st quiet) d)
+
+    -- a step is done, and then the others
+    pub step_goes_on : {mid new : Parts S} {r : Result the_pause.Pause Code}
+        → Does g (λ i. step_in i o st) (λ (goes : Bool). goes_with goes st') old (Ok true) mid → From g w p (at + 1) st' mid r new → From g w p at st old r new
+    step_goes_on d k =
+        by_step (at_then (λ a n. begun_on (begun (context a n (position_of p)) (drop (at + 1) (steps_of w)) (ending_of w))) (step_at o st st' same d) k)
+
+    -- one after which the argument ends
+    pub step_ends : {mid : Parts S} → Does g (λ i. step_in i o st) (λ (goes : Bool). goes_with goes st') old (Ok false) mid
+        → From g w p at st old (Ok (pause.Over completion.GoOn)) mid
+    step_ends d =
+        by_step
+        (at_then (λ a n. begun_on (begun (context a n (position_of p)) (drop (at + 1) (steps_of w)) (ending_of w))) (step_at o st st' same d) (at_gives (over Go_on) (pause_of w) (pause.Over completion.GoOn) refl))
+
+    pub step_stopped : {new : Parts S} {r : Result the_pause.Pause Code} {e : Code}
+        → Does g (λ i. step_in i o st) (λ (goes : Bool). goes_with goes st') old (Err e) new → IsErr r × IsErrAnd r (λ x. x ≡ e) → From g w p at st old r new
+    step_stopped d h =
+        by_step (at_stopped (λ a n. begun_on (begun (context a n (position_of p)) (drop (at + 1) (steps_of w)) (ending_of w))) (step_at o st st' same d) h)

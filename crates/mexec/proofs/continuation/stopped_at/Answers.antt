@@ -1,0 +1,58 @@
+-- SPDX-License-Identifier: Apache-2.0
+use Rattle.mexec.proofs.ExecLaws.{runs_wanting, runs_within, argument_before, condition_stop, loop_stop, turns_stop, ap, sym, ◌∙◌}
+use Rattle.mexec.specs.Frames.{spaced_before}
+use Rattle.mexec.proofs.continuation.stopped_at.Goals as goal
+
+pub enter_argument-requires : goal.enter_argument-requires
+enter_argument-requires g c =
+    let stops = rw c.in-Argument.is at c.requires in
+    argument_before (spaced_before c.args.behind.now.line.value c.args.behind.now.at) _ _ stops
+
+pub returns-in-Argument-clause-does : goal.returns-in-Argument-clause-does
+returns-in-Argument-clause-does g c = rw c.in-Argument.is c.enter_argument.ensures.does
+
+pub returns-in_err-copy-in-Loop-clause-does : goal.returns-in_err-copy-in-Loop-clause-does
+returns-in_err-copy-in-Loop-clause-does g c = runs_wanting _ _ c.from_residual.ensures
+
+pub next_parameter-requires-clause-found : goal.next_parameter-requires-clause-found
+next_parameter-requires-clause-found g c =
+    let stops = loop_stop (spaced_before c.args.behind.now.line.value c.args.behind.now.at) _ _ (rw c.in-Loop.is at c.requires) in
+    rw (c.in_ok-copy-in-Loop.ensures.line, c.in_ok-copy-in-Loop.ensures.at) stops.0
+
+pub next_parameter-requires-clause-indexed : goal.next_parameter-requires-clause-indexed
+next_parameter-requires-clause-indexed g c =
+    let stops = loop_stop (spaced_before c.args.behind.now.line.value c.args.behind.now.at) _ _ (rw c.in-Loop.is at c.requires) in
+    rw (c.in_ok-copy-in-Loop.ensures.line, c.in_ok-copy-in-Loop.ensures.at) stops.1
+
+pub returns-in_ok-copy-in-Loop-clause-does : goal.returns-in_ok-copy-in-Loop-clause-does
+returns-in_ok-copy-in-Loop-clause-does g c =
+    let does = rw (c.in_ok-copy-in-Loop.ensures.position, c.in_ok-copy-in-Loop.ensures.line, c.in_ok-copy-in-Loop.ensures.at) at c.next_parameter.ensures.does in
+    rw c.in-Loop.is (runs_within does)
+
+pub forever-requires : goal.forever-requires
+forever-requires g c = turns_stop (spaced_before c.args.behind.now.line.value c.args.behind.now.at) (rw c.in-Turns.is at c.requires)
+
+pub returns-in-Turns-clause-does : goal.returns-in-Turns-clause-does
+returns-in-Turns-clause-does g c = rw c.in-Turns.is (runs_within c.forever.ensures.does)
+
+pub returns-in-Block-clause-does : goal.returns-in-Block-clause-does
+returns-in-Block-clause-does g c =
+    let does = rw c.deref.ensures at c.doing_block.ensures.does in
+    rw c.in-Block.is (runs_within does)
+
+pub conditioned-requires-clause-calls : goal.conditioned-requires-clause-calls
+conditioned-requires-clause-calls g c =
+    (condition_stop (spaced_before c.args.behind.now.line.value c.args.behind.now.at) _ (rw c.in-Condition.is at c.requires)).1
+
+pub conditioned-requires-clause-stepped : goal.conditioned-requires-clause-stepped
+conditioned-requires-clause-stepped g c =
+    (condition_stop (spaced_before c.args.behind.now.line.value c.args.behind.now.at) _ (rw c.in-Condition.is at c.requires)).2
+
+pub returns-in-Condition-clause-does : goal.returns-in-Condition-clause-does
+returns-in-Condition-clause-does g c =
+    let there = condition_stop (spaced_before c.args.behind.now.line.value c.args.behind.now.at) _ (rw c.in-Condition.is at c.requires) in
+    let does = rw there.0 at c.conditioned.ensures.does in
+    rw c.in-Condition.is does
+
+pub returns-in-Condition-clause-within : goal.returns-in-Condition-clause-within
+returns-in-Condition-clause-within g c = λ h. absurd (rw c.in-Condition.is at h)

@@ -1,0 +1,59 @@
+-- SPDX-License-Identifier: Apache-2.0
+use Rattle.mexec.proofs.ExecLaws.{refl, sym, ◌∙◌, arith, at_depth, at_wanting, at_yielded, residual_is, position_of}
+use Rattle.mprogram.specs.Views.{op_view, whole_view}
+use Rattle.mcommand.specs.Steps.{items_view}
+use Rattle.mexec.proofs.ProgramRuns.{comes_to_call, comes_to_end, no_call, step_goes_on, step_ends, step_stopped, within_list, no_item}
+use Rattle.mexec.proofs.programs.begun.Goals as goal
+
+pub loop-op-init : goal.loop-op-init
+loop-op-init g c = record { depth = refl; leads = λ r p k. at_depth c.args.position.now.depth k }
+
+pub loop-op-preserved : goal.loop-op-preserved
+loop-op-preserved g c =
+    let there = rw c.in-Some.is at c.op_at.ensures in
+    let quiet = no_call c.in-Some.op c.in_default-op.not-Call in
+    let does = rw c.if-not-goes_on.false at c.in_ok-goes_on-in_default-op.ensures in
+    record {
+      depth = c.in_ok-goes_on-in_default-op.ensures.depth ∙ c.loop-op.invariant.depth;
+      leads = λ r q k.
+          c.loop-op.invariant.leads r q
+          (step_goes_on (whole_view c.args.whole) c.args.position.now c.loop-op.at (op_view c.in-Some.op) (items_view c.loop-op.stack.items) _ (sym there) quiet c.loop-op.invariant.depth does (rw c.in_ok-next.ensures.next at k));
+    }
+
+pub loop-op-smaller : goal.loop-op-smaller
+loop-op-smaller g c =
+    let there = rw c.in-Some.is at c.op_at.ensures in
+    let less = within_list _ c.loop-op.at _ (sym there) in
+    let next = c.in_ok-next.ensures.next in
+    omega (arith, less, next)
+
+pub returns-in_err-goes_on-in_default-op : goal.returns-in_err-goes_on-in_default-op
+returns-in_err-goes_on-in_default-op g c =
+    let there = rw c.in-Some.is at c.op_at.ensures in
+    let quiet = no_call c.in-Some.op c.in_default-op.not-Call in
+    c.loop-op.invariant.leads _ _
+    (step_stopped (whole_view c.args.whole) c.args.position.now c.loop-op.at (op_view c.in-Some.op) (items_view c.loop-op.stack.items) _ (sym there) quiet c.loop-op.invariant.depth c.in_err-goes_on-in_default-op.ensures c.from_residual-in_err-goes_on-in_default-op.ensures)
+
+pub returns-then-not-goes_on : goal.returns-then-not-goes_on
+returns-then-not-goes_on g c =
+    let there = rw c.in-Some.is at c.op_at.ensures in
+    let quiet = no_call c.in-Some.op c.in_default-op.not-Call in
+    let does = rw c.if-not-goes_on.true at c.in_ok-goes_on-in_default-op.ensures in
+    c.loop-op.invariant.leads _ _
+    (step_ends (whole_view c.args.whole) c.args.position.now c.loop-op.at (op_view c.in-Some.op) (items_view c.loop-op.stack.items) _ (sym there) quiet c.loop-op.invariant.depth does)
+
+pub returns-in-Call : goal.returns-in-Call
+returns-in-Call g c =
+    let there = rw (c.in-Some.is, c.in-Call.is) at c.op_at.ensures in
+    let called = rw c.in_ok-next.ensures.next at (c.called.ensures (whole_view c.args.whole)) in
+    c.loop-op.invariant.leads _ _ (comes_to_call (whole_view c.args.whole) c.args.position.now c.loop-op.at _ (items_view c.loop-op.stack.items) (sym there) (at_yielded called))
+
+pub returns-in_err-next : goal.returns-in_err-next
+returns-in_err-next g c =
+    c.loop-op.invariant.leads _ _ (at_wanting _ _ _ (rw c.in_err-next.ensures.wants at c.from_residual.ensures))
+
+pub returns : goal.returns
+returns g c =
+    let none = rw (no_item _ c.in_default.not-Some) at c.op_at.ensures in
+    let does = rw c.ending_of.ensures at (c.ended.ensures (whole_view c.args.whole)) in
+    c.loop-op.invariant.leads _ _ (comes_to_end (whole_view c.args.whole) c.args.position.now c.loop-op.at (items_view c.loop-op.stack.items) (sym none) does)

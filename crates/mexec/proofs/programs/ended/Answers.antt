@@ -1,0 +1,26 @@
+-- SPDX-License-Identifier: Apache-2.0
+use Rattle.mexec.proofs.ExecLaws.{[], context, position_of, at_as, at_then, at_stopped, at_yielded}
+use Rattle.mprogram.specs.Views.{ending_view}
+use Rattle.mcommand.specs.Steps.{items_view}
+use Rattle.mexec.specs.Programs.{ends_with}
+use Rattle.mexec.proofs.ProgramRuns.{pauses_over, ends_by_value}
+use Rattle.mexec.proofs.programs.ended.Goals as goal
+
+pub returns-in-Assign : goal.returns-in-Assign
+returns-in-Assign g c = λ w. rw c.in-Assign.is (c.assigned.ensures (context [] 0 (position_of c.args.position.now)) w)
+
+pub returns-in-Enter : goal.returns-in-Enter
+returns-in-Enter g c = λ w. rw c.in-Enter.is (at_yielded (c.entered.ensures (context [] 0 (position_of c.args.position.now)) w))
+
+pub returns-in-Go : goal.returns-in-Go
+returns-in-Go g c = λ w. rw (c.in-Go.is, c.paused.ensures) (pauses_over w c.leads_to.result c.leads_to.ensures)
+
+pub returns-in_err-value-in_default : goal.returns-in_err-value-in_default
+returns-in_err-value-in_default g c = λ w.
+    at_as (λ a n. ends_by_value (context a n (position_of c.args.position.now)) c.args.ending (items_view c.args.items.items) c.in_default.not-Assign c.in_default.not-Enter c.in_default.not-Go)
+    (at_stopped (λ a n v. ends_with (ending_view c.args.ending) v.0) (at_yielded c.in_err-value-in_default.ensures) c.from_residual.ensures)
+
+pub returns-in_ok-value-in_default : goal.returns-in_ok-value-in_default
+returns-in_ok-value-in_default g c = λ w.
+    at_as (λ a n. ends_by_value (context a n (position_of c.args.position.now)) c.args.ending (items_view c.args.items.items) c.in_default.not-Assign c.in_default.not-Enter c.in_default.not-Go)
+    (at_then (λ a n v. ends_with (ending_view c.args.ending) v.0) (at_yielded c.in_ok-value-in_default.ensures) (c.ended_with.ensures w))

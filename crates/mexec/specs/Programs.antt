@@ -1,0 +1,68 @@
+-- SPDX-License-Identifier: Apache-2.0
+-- Programs as the code carries them out: what they come to, and what a command does in the end.
+use Rattle.std.specs.Prelude.{ℕ, List, Result, Ok, Err, map, drop}
+use Rattle.mspec.specs.Act.{Text, Act, ◌>>=◌, ◌>>◌, give, write}
+use Rattle.mmeaning.specs.Operators.{as_number, as_truth}
+use Rattle.mmeaning.specs.LineMeaning as meaning
+use Rattle.mmeaning.specs.LineMeaning.{Go_on, Returns, Context, all_assigned, spaced_to, character_written, truth_tested, where_true, going}
+use Rattle.mmeaning.specs.Programs.{Item, Ending, Assign, Show, Tab, Character, Test, Hold, Wait, Return, Run, Enter, Go, Pause, over, calls, enters, executes}
+use Rattle.mgrammar.specs.Grammar.{EntryTree}
+use Rattle.mtree.specs.Tree.{entry_tree}
+use Rattle.mlocal.specs.Bindings.{binding_of}
+use Rattle.moperator.specs.declared.code.Code.{Code}
+use Rattle.mprogram.specs.Wholes.{WholeTree, steps_of}
+use Rattle.mcommand.specs.Steps.{items_view, value_on_top, targets_on_top, handing_on_top}
+use Rattle.mexec.specs.Frames.{completion_of}
+use Rattle.mexec.specs.declared.completion.Completion.{Completion}
+use Rattle.mexec.specs.declared.programs.Call as the_call
+use Rattle.mexec.specs.declared.programs.Pause as the_pause
+use Rattle.mexec.specs.declared.programs.Pause.TheVariants as pause
+
+-- the call of a function by a program of the code
+abbrev pub call_of : WholeTree → the_call.Call → Pause
+call_of w c = calls (entry_tree c.entry.now) c.test (map binding_of c.bindings.items) (drop c.at (steps_of w)) (items_view c.items.items)
+
+-- how far a program of the code comes by itself
+abbrev pub pause_of : WholeTree → the_pause.Pause → Pause
+pause_of w (pause.Over s) = over (completion_of s)
+pause_of w (pause.Calls c) = call_of w c
+pause_of w (pause.Enters e is_listed bs) = enters (entry_tree e.now) is_listed (map binding_of bs.items)
+pause_of w (pause.Executes v) = executes v
+
+-- a completion as such
+abbrev pub pauses : Result Completion Code → Result the_pause.Pause Code
+pauses (Ok s) = Ok (pause.Over s)
+pauses (Err c) = Err c
+
+-- the call of a function, with what its actuals handed over on top; the steps from one on are left
+abbrev pub calls_with : WholeTree → EntryTree → ℕ → List Item → Act Pause
+calls_with w e at st = do
+  taken ← handing_on_top st
+  give (calls e taken.0.0 taken.0.1 (drop at (steps_of w)) taken.1)
+
+-- ---- what a command does in the end
+
+-- with the value on top
+abbrev pub ends_with : Ending → Text → Act Pause
+ends_with Show v = write v >> give (over Go_on)
+ends_with Tab v = spaced_to v >> give (over Go_on)
+ends_with Character v = character_written v >> give (over Go_on)
+ends_with Test v = truth_tested v >>= (λ s. give (over s))
+ends_with Hold v = as_truth v >>= (λ b. give (over (where_true b)))
+ends_with Wait v = as_number v >> give (over Go_on)
+ends_with Return v = give (over (Returns v))
+ends_with k v = give (executes v)
+
+abbrev pub ends : Context → Ending → List Item → Act Pause
+ends x Assign st = do
+  v ← value_on_top st
+  ps ← targets_on_top v.1
+  all_assigned v.0 ps.0
+  give (over Go_on)
+ends x (Enter e is_listed) st = do
+  taken ← handing_on_top st
+  give (enters e is_listed taken.0.1)
+ends x (Go e) st = going x e >>= (λ s. give (over s))
+ends x k st = do
+  v ← value_on_top st
+  ends_with k v.0

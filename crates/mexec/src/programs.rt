@@ -1,0 +1,360 @@
+// SPDX-License-Identifier: Apache-2.0
+// Programs: an argument, or a condition, in which functions are called, a step at a time. Where a function's level opens, what is left of
+// the program stays on the frames.
+ghost use Rattle.std.specs.Prelude.{◌≡◌, ◌+◌, Some, IfErr, IfOk, is_some, map, drop, true};
+ghost use Rattle.mmeaning.specs.Frames.{frame, Programs, resumed};
+ghost use Rattle.mmeaning.specs.LineMeaning as meaning;
+ghost use Rattle.mmeaning.specs.LineMeaning.{context};
+ghost use Rattle.mmeaning.specs.Levels.{leaves};
+ghost use Rattle.mmeaning.specs.Programs as programs;
+ghost use Rattle.mmeaning.specs.Programs.{listed};
+ghost use Rattle.mlocal.specs.Bindings.{binding_of};
+ghost use Rattle.mmeaning.specs.Yields.{Yields};
+ghost use Rattle.moperator.specs.Codes.{fault_of};
+ghost use Rattle.moperator.specs.declared.code.Code.TheVariants.{Zmem};
+ghost use Rattle.mtree.specs.Tree.{entry_tree};
+ghost use Rattle.mprogram.specs.Wholes.{WholeTree, steps_of, ending_of as the_ending_of};
+ghost use Rattle.mprogram.specs.Views.{ending_view, whole_view};
+ghost use Rattle.mcommand.specs.Does.{DoesAt};
+ghost use Rattle.mcommand.specs.Steps.{items_view};
+ghost use Rattle.mexec.specs.Falls.{FallsByTwo, FallsFurther};
+ghost use Rattle.mexec.specs.Frames.{RunsIf, RunsWithin, completion_of, holder_position, position_of, stack, view};
+ghost use Rattle.mexec.specs.Places.{place_position, whole_at};
+ghost use Rattle.mexec.specs.Programs.{call_of, calls_with, ends, ends_with, pause_of, pauses};
+ghost use Rattle.mexec.specs.Wholes.{ending_within, steps_within, whole_of};
+
+use crate::arguments::leads_to;
+use crate::completion::{Completion, went_on, where_true};
+use crate::entering::{Opening, entering, executing_value};
+use crate::frames::{Closing, Position};
+use crate::scratch::Scratch;
+use crate::source::Place;
+use crate::suspended::Suspended;
+use mcommand::{Item, Parts, take_handing, take_targets, take_value};
+use mlocal::Binding;
+use mnodes::NodeStore;
+use moperator::{Code, truth_of};
+use mprogram::{Ending, Op, Whole, ending_of, op_at};
+use mtree::Entry;
+use mvalue::Value;
+use std::alloc::Global;
+
+// The call of a function: where that stands, what `$TEST` was before its actuals, what these hand over, and what is then left of the
+// program: its steps from one on, and its stack.
+#[derive(Drop)]
+pub(crate) struct Call<'t> {
+    pub(crate) entry: &'t Entry,
+    pub(crate) test: bool,
+    pub(crate) bindings: Vec<Binding>,
+    pub(crate) at: usize,
+    pub(crate) items: Vec<Item>,
+}
+
+// How far a program comes by itself: to its end; to the call of a function; to the lines that a DO calls, whether a list of actuals is
+// written, and what they hand over; or to a text of XECUTE.
+#[derive(Drop)]
+pub(crate) enum Pause<'t> {
+    Over(Completion),
+    Calls(Call<'t>),
+    Enters(&'t Entry, bool, Vec<Binding>),
+    Executes(Value),
+}
+
+// What gave its completion.
+fn paused<'t>(completion: Result<Completion, Code>) -> Result<Pause<'t>, Code>
+    ensures { result ≡ pauses completion }
+{
+    match completion {
+        Ok(completion) => Ok(Pause::Over(completion)),
+        Err(code) => Err(code),
+    }
+}
+
+// At the call of a function, after which the steps from one on are left.
+fn called<'t>(entry: &'t Entry, at: usize, items: Vec<Item>) -> Result<Pause<'t>, Code>
+    ensures { (w : WholeTree) → Yields fault_of (calls_with w (entry_tree entry.now) at (items_view items.items)) (pause_of w) result }
+{
+    let mut items = items;
+    let (test, bindings) = take_handing(&mut items)?;
+    Ok(Pause::Calls(Call {
+        entry,
+        test,
+        bindings,
+        at,
+        items,
+    }))
+}
+
+// SET, in the end.
+fn assigned<'t, S: NodeStore>(
+    alloc: Global,
+    parts: &mut Parts<S>,
+    items: Vec<Item>,
+) -> Result<Pause<'t>, Code>
+    ensures { (x : meaning.Context) (w : WholeTree) → DoesAt S.NodeStore (λ a n. ends x programs.Assign (items_view items.items)) (pause_of w) parts.old result parts.new }
+{
+    let mut items = items;
+    let value = take_value(&mut items)?;
+    let all = take_targets(&mut items)?;
+    paused(went_on(parts.assign_all(alloc, &value, all)))
+}
+
+// DO, in the end.
+fn entered<'t>(entry: &'t Entry, is_listed: bool, items: Vec<Item>) -> Result<Pause<'t>, Code>
+    ensures { (x : meaning.Context) (w : WholeTree) → Yields fault_of (ends x (programs.Enter (entry_tree entry.now) is_listed) (items_view items.items)) (pause_of w) result }
+{
+    let mut items = items;
+    let (_, bindings) = take_handing(&mut items)?;
+    Ok(Pause::Enters(entry, is_listed, bindings))
+}
+
+// A command that does something with one value, in the end.
+fn ended_with<'t, S: NodeStore>(
+    alloc: Global,
+    parts: &mut Parts<S>,
+    ending: Ending,
+    value: Value,
+) -> Result<Pause<'t>, Code>
+    ensures { (w : WholeTree) → DoesAt S.NodeStore (λ a n. ends_with (ending_view ending.entry) value) (pause_of w) parts.old result parts.new }
+{
+    match ending {
+        Ending::Show => paused(went_on(parts.write_value(&value))),
+        Ending::Tab => paused(went_on(parts.spaced_to(&value))),
+        Ending::Character => paused(went_on(parts.character_written(&value))),
+        Ending::Test => {
+            let is_true = parts.truth_tested(&value)?;
+            Ok(Pause::Over(where_true(is_true)))
+        }
+        Ending::Hold => {
+            let is_true = truth_of(&value)?;
+            Ok(Pause::Over(where_true(is_true)))
+        }
+        Ending::Wait => paused(went_on(parts.hang(&value))),
+        Ending::Return => {
+            let value = Box::new(alloc, value)?;
+            Ok(Pause::Over(Completion::Returns(value)))
+        }
+        Ending::Run => Ok(Pause::Executes(value)),
+        Ending::Assign => Ok(Pause::Executes(value)),
+        Ending::Enter(_, _) => Ok(Pause::Executes(value)),
+        Ending::Go(_) => Ok(Pause::Executes(value)),
+    }
+}
+
+// What a command does in the end.
+fn ended<'t, S: NodeStore>(
+    alloc: Global,
+    parts: &mut Parts<S>,
+    position: &Position,
+    ending: Ending<'t>,
+    items: Vec<Item>,
+) -> Result<Pause<'t>, Code>
+    ensures { (w : WholeTree) → DoesAt S.NodeStore (λ a n. ends (context a n (position_of position.now)) (ending_view ending.entry) (items_view items.items)) (pause_of w) parts.old result parts.new }
+{
+    match ending {
+        Ending::Assign => assigned(alloc, parts, items),
+        Ending::Enter(entry, is_listed) => entered(entry, is_listed, items),
+        Ending::Go(entry) => paused(leads_to(alloc, parts, position, entry)),
+        _ => {
+            let mut items = items;
+            let value = take_value(&mut items)?;
+            ended_with(alloc, parts, ending, value)
+        }
+    }
+}
+
+// The number of the step after this one. No tree has as many steps as a number can count; that one would be out of memory.
+#[inline(always)]
+fn after_step(at: usize) -> Result<usize, Code>
+    ensures next { IfOk result (λ next. next ≡ at + 1) }
+    ensures wants { IfErr result (λ code. code ≡ Zmem) }
+{
+    match at.checked_add(1) {
+        Some(next) => Ok(next),
+        None => Err(Code::Zmem),
+    }
+}
+
+// A program from one of its steps on, with this stack, as far as it comes by itself.
+pub(crate) fn begun<'t, S: NodeStore>(
+    alloc: Global,
+    parts: &mut Parts<S>,
+    position: &Position,
+    whole: Whole<'t>,
+    from: usize,
+    items: Vec<Item>,
+) -> Result<Pause<'t>, Code>
+    ensures { DoesAt S.NodeStore (λ a n. programs.begun (context a n (position_of position.now)) (drop from (steps_of (whole_view whole.entry))) (the_ending_of (whole_view whole.entry)) (items_view items.items)) (pause_of (whole_view whole.entry)) parts.old result parts.new }
+{
+    parts.eval.depth = position.depth;
+    let mut stack = items;
+    let mut at = from;
+    while let Some(op) = op_at(whole, at) {
+        let next = after_step(at)?;
+        match op {
+            Op::Call(entry) => return called(entry, next, stack),
+            other => {
+                let goes_on = parts.step(alloc, other, &mut stack)?;
+                if !goes_on {
+                    return Ok(Pause::Over(Completion::GoOn));
+                }
+                at = next;
+            }
+        }
+    }
+    ended(alloc, parts, position, ending_of(whole), stack)
+}
+
+// The function that a program calls, on top of what is then left of the program.
+fn calling<S: NodeStore>(
+    alloc: Global,
+    parts: &mut Parts<S>,
+    place: Place,
+    call: Call,
+    scratch: &mut Scratch,
+) -> Result<Completion, Code>
+    requires { is_some (whole_at place) ≡ true }
+    ensures falls { FallsFurther parts.old scratch.old result parts.new scratch.new }
+    ensures does { (w : WholeTree) → whole_at place.entry ≡ Some w → RunsWithin S.NodeStore (λ a n. resumed a n (position_of (place_position place.entry)) (the_ending_of w) (call_of w call.entry)) (stack scratch.old.frames.items) parts.old result (stack scratch.new.frames.items) parts.new }
+{
+    let Call {
+        entry,
+        test,
+        bindings,
+        at,
+        items,
+    } = call;
+    place.leave(alloc, at, items, scratch)?;
+    let opening = Opening {
+        entry,
+        is_listed: true,
+        bindings,
+        closing: Closing::Answers(test),
+    };
+    entering(alloc, parts, place.position(), opening, scratch)
+}
+
+// The lines that a DO enters.
+fn entering_lines<S: NodeStore>(
+    alloc: Global,
+    parts: &mut Parts<S>,
+    position: &Position,
+    entry: &Entry,
+    is_listed: bool,
+    bindings: Vec<Binding>,
+    scratch: &mut Scratch,
+) -> Result<Completion, Code>
+    ensures falls { FallsFurther parts.old scratch.old result parts.new scratch.new }
+    ensures does { RunsWithin S.NodeStore (λ a n. meaning.entering (context a n (position_of position.now)) (entry_tree entry.now) (listed is_listed) (map binding_of bindings.items) leaves) (stack scratch.old.frames.items) parts.old result (stack scratch.new.frames.items) parts.new }
+{
+    let opening = Opening {
+        entry,
+        is_listed,
+        bindings,
+        closing: Closing::Leaves,
+    };
+    entering(alloc, parts, position, opening, scratch)
+}
+
+// What a program leads to where it opens a level.
+fn resume<S: NodeStore>(
+    alloc: Global,
+    parts: &mut Parts<S>,
+    place: Place,
+    pause: Pause,
+    scratch: &mut Scratch,
+) -> Result<Completion, Code>
+    requires { is_some (whole_at place) ≡ true }
+    ensures falls { FallsByTwo parts.old scratch.old result parts.new scratch.new }
+    ensures does { (w : WholeTree) → whole_at place.entry ≡ Some w → RunsWithin S.NodeStore (λ a n. resumed a n (position_of (place_position place.entry)) (the_ending_of w) (pause_of w pause.entry)) (stack scratch.old.frames.items) parts.old result (stack scratch.new.frames.items) parts.new }
+{
+    match pause {
+        Pause::Over(completion) => Ok(completion),
+        Pause::Calls(call) => calling(alloc, parts, place, call, scratch),
+        Pause::Enters(entry, is_listed, bindings) => entering_lines(
+            alloc,
+            parts,
+            place.position(),
+            entry,
+            is_listed,
+            bindings,
+            scratch,
+        ),
+        Pause::Executes(value) => {
+            executing_value(alloc, parts, place.position(), value, scratch)
+        }
+    }
+}
+
+// What a program leads to where it first opens a level. No text is executed there: a function was called before that, and it opened one.
+#[inline(never)]
+pub(crate) fn resume_first<S: NodeStore>(
+    alloc: Global,
+    parts: &mut Parts<S>,
+    place: Place,
+    pause: Pause,
+    scratch: &mut Scratch,
+) -> Result<Completion, Code>
+    requires { is_some (whole_at place) ≡ true }
+    ensures falls { FallsFurther parts.old scratch.old result parts.new scratch.new }
+    ensures does { (w : WholeTree) → whole_at place.entry ≡ Some w → RunsWithin S.NodeStore (λ a n. resumed a n (position_of (place_position place.entry)) (the_ending_of w) (pause_of w pause.entry)) (stack scratch.old.frames.items) parts.old result (stack scratch.new.frames.items) parts.new }
+{
+    match pause {
+        Pause::Over(_) => Err(Code::Zmem),
+        Pause::Calls(call) => calling(alloc, parts, place, call, scratch),
+        Pause::Enters(entry, is_listed, bindings) => entering_lines(
+            alloc,
+            parts,
+            place.position(),
+            entry,
+            is_listed,
+            bindings,
+            scratch,
+        ),
+        Pause::Executes(_) => Err(Code::Zmem),
+    }
+}
+
+// A program from one of its steps on, with this stack.
+pub(crate) fn carried<S: NodeStore>(
+    alloc: Global,
+    parts: &mut Parts<S>,
+    place: Place,
+    from: usize,
+    items: Vec<Item>,
+    scratch: &mut Scratch,
+) -> Result<Completion, Code>
+    requires { is_some (whole_at place) ≡ true }
+    ensures falls { FallsByTwo parts.old scratch.old result parts.new scratch.new }
+    ensures does { RunsWithin S.NodeStore (λ a n. programs.carried (context a n (position_of (place_position place.entry))) (drop from (steps_within (whole_at place.entry))) (ending_within (whole_at place.entry)) (items_view items.items)) (stack scratch.old.frames.items) parts.old result (stack scratch.new.frames.items) parts.new }
+{
+    let Some(whole) = place.whole() else {
+        return Err(Code::Zsyntax);
+    };
+    let pause = begun(alloc, parts, place.position(), whole, from, items)?;
+    resume(alloc, parts, place, pause, scratch)
+}
+
+// What is left of a program, with the value that a function gave.
+#[inline(never)]
+pub(crate) fn after_call<S: NodeStore>(
+    alloc: Global,
+    parts: &mut Parts<S>,
+    suspended: Box<Suspended>,
+    completion: Completion,
+    scratch: &mut Scratch,
+) -> Result<Completion, Code>
+    ensures falls { FallsByTwo parts.old scratch.old result parts.new scratch.new }
+    ensures does { RunsWithin S.NodeStore (λ a n. frame a n (Programs (position_of (holder_position suspended.value.holder)) (drop suspended.value.at (steps_within (whole_of suspended.value.holder))) (ending_within (whole_of suspended.value.holder)) (items_view suspended.value.items.items)) (completion_of completion)) (stack scratch.old.frames.items) parts.old result (stack scratch.new.frames.items) parts.new }
+{
+    let Completion::Returns(value) = completion else {
+        return Err(Code::M17);
+    };
+    let Suspended {
+        holder,
+        at,
+        mut items,
+    } = Box::into_inner(suspended);
+    items.push(Item::Value(Box::into_inner(value)))?;
+    carried(alloc, parts, holder.place(), at, items, scratch)
+}

@@ -1,6 +1,8 @@
 -- SPDX-License-Identifier: Apache-2.0
 -- A change of chunks: its rows, and what takes it back.
-use Rattle.mmemory.proofs.MemoryWords.{set-get_or, set-set, ◌≡◌, ℕ, zero, suc, ◌+◌, ◌<◌, ◌≤◌, List, [], ◌∷◌, ◌++◌, length, take, drop, set, get_or, refl, sym, ap, ◌∙◌, arith, add-one, append_assoc, insert, remove, lt-ltb, le-leb, append-nil, length-insert, length-remove, flat_map-append, Row, joined, put_in, taken, over, joined_at}
+use Rattle.mmemory.proofs.MemoryWords.{set-get_or, set-set, ◌≡◌, ℕ, zero, suc, ◌+◌, ◌<◌, ◌≤◌, List, [], ◌∷◌, ◌++◌, length, take, drop, set, get_or, refl, sym}
+use Rattle.mmemory.proofs.MemoryWords.{ap, ◌∙◌, arith, add-one, append_assoc, insert, remove, lt-ltb, le-leb, append-nil, length-insert, length-remove}
+use Rattle.mmemory.proofs.MemoryWords.{flat_map-append, Row, joined, put_in, taken, over, joined_at}
 
 -- ---- one row
 

@@ -1,6 +1,7 @@
 -- SPDX-License-Identifier: Apache-2.0
 -- A search over chunks and rows.
-use Rattle.mmemory.proofs.MemoryWords.{◌≡◌, ℕ, ◌+◌, ◌-◌, ◌≤◌, max, Bool, List, [], length, take, drop, get_or, refl, subst, length-map, Row, all-append, Chunk, joined, front, back, chunk_rows, nest, IsEdge, Falls, Splits}
+use Rattle.mmemory.proofs.MemoryWords.{◌≡◌, ℕ, ◌+◌, ◌-◌, ◌≤◌, max, Bool, List, [], length, take, drop, get_or, refl, subst, length-map, Row, all-append, Chunk}
+use Rattle.mmemory.proofs.MemoryWords.{joined, front, back, chunk_rows, nest, IsEdge, Falls, Splits}
 use Rattle.mmemory.proofs.Nests.{around}
 use Rattle.mmemory.proofs.Splits.{up_left, up_right, rows_passed, rows_failed, parts_passed, parts_failed, edge_map}
 use Rattle.mmemory.proofs.Some.{chunks_some}

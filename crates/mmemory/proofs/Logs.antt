@@ -1,6 +1,11 @@
 -- SPDX-License-Identifier: Apache-2.0
 -- A log with one more change.
-use Rattle.mmemory.proofs.MemoryWords.{if◌then◌else◌, Result, Ok, Err, OnOk, OnErr, IsOk, is_ok, All, ◌≡◌, ◌⊎◌, ℕ, zero, suc, ◌+◌, ◌<◌, ◌≤◌, true, false, cond, eqb, List, [], ◌∷◌, ◌++◌, length, map, drop, set, get_or, refl, sym, ap, subst, ◌∙◌, arith, inl, inr, eq-eqb, ne_eqb, cases_eq, drop-append-le, map-set, set-get_or, get_or-set_same, length-map, length-append, map-set_same, ∥∥₁_map, ∥∥₁_elim, Row, with_tree, IsShaped, get_or-set_cases, Tree, Undo, Held, Plain, nest, plain, no_plain, heading, plain_rows, undone_step, Makes, State, state_of, undone_one, undone, headings, rows_of, IsInOrder, AreInOrder, now, Keeps, Writes, shape_at, nest_at, Heading}
+use Rattle.mmemory.proofs.MemoryWords.{if◌then◌else◌, Result, Ok, Err, OnOk, OnErr, IsOk, is_ok, All, ◌≡◌, ◌⊎◌, ℕ, zero, suc, ◌+◌, ◌<◌, ◌≤◌, true, false, cond}
+use Rattle.mmemory.proofs.MemoryWords.{eqb, List, [], ◌∷◌, ◌++◌, length, map, drop, set, get_or, refl, sym, ap, subst, ◌∙◌, arith, inl, inr, eq-eqb, ne_eqb}
+use Rattle.mmemory.proofs.MemoryWords.{cases_eq, drop-append-le, map-set, set-get_or, get_or-set_same, length-map, length-append, map-set_same, ∥∥₁_map}
+use Rattle.mmemory.proofs.MemoryWords.{∥∥₁_elim, Row, with_tree, IsShaped, get_or-set_cases, Tree, Undo, Held, Plain, nest, plain, no_plain, heading}
+use Rattle.mmemory.proofs.MemoryWords.{plain_rows, undone_step, Makes, State, state_of, undone_one, undone, headings, rows_of, IsInOrder, AreInOrder, now}
+use Rattle.mmemory.proofs.MemoryWords.{Keeps, Writes, shape_at, nest_at, Heading}
 use Rattle.std.specs.Prelude.{slice_index}
 use Rattle.sqlite_trees.specs.Props.{IsShaped-prop}
 use mathlib.Core.Path.{fun_ext}

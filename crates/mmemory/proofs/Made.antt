@@ -1,10 +1,14 @@
 -- SPDX-License-Identifier: Apache-2.0
 -- What each change makes of a tree.
-use Rattle.mmemory.proofs.MemoryWords.{◌≡◌, ℕ, zero, suc, ◌+◌, ◌<◌, ◌≤◌, min, List, [], ◌∷◌, ◌++◌, length, take, drop, set, get_or, refl, sym, ap, subst, ◌∙◌, arith, add-one, insert, remove, map-set, length-map, length-append, map-append, take-map, drop-map, take_min, drop_min, lt-ltb, le-leb, length-remove, Row, Chunk, Tree, DropRow, PutRow, SetRow, DropChunk, PutChunk, Join, joined, put_in, taken, over, joined_at, front, back, Plain, plain, chunk_rows, nest, tree_nest, with_chunks, plain_rows, Makes, HalvedAt}
+use Rattle.mmemory.proofs.MemoryWords.{◌≡◌, ℕ, zero, suc, ◌+◌, ◌<◌, ◌≤◌, min, List, [], ◌∷◌, ◌++◌, length, take, drop, set, get_or, refl, sym, ap, subst, ◌∙◌}
+use Rattle.mmemory.proofs.MemoryWords.{arith, add-one, insert, remove, map-set, length-map, length-append, map-append, take-map, drop-map, take_min, drop_min}
+use Rattle.mmemory.proofs.MemoryWords.{lt-ltb, le-leb, length-remove, Row, Chunk, Tree, DropRow, PutRow, SetRow, DropChunk, PutChunk, Join, joined, put_in}
+use Rattle.mmemory.proofs.MemoryWords.{taken, over, joined_at, front, back, Plain, plain, chunk_rows, nest, tree_nest, with_chunks, plain_rows, Makes, HalvedAt}
 use Rattle.mmemory.specs.declared.step.Step.{Step}
 use Rattle.mmemory.proofs.Shown.{shown_at}
 use Rattle.mmemory.proofs.Some.{some_length}
-use Rattle.mmemory.proofs.Backs.{put_fits, remove_inserted, insert_removed, set_back, put_taken, taken_put, over_back, over_rows, put_rows, cut_rows, changed_rows, inserted_rows, gone_rows, joined_back, joined_rows}
+use Rattle.mmemory.proofs.Backs.{put_fits, remove_inserted, insert_removed, set_back, put_taken, taken_put, over_back, over_rows, put_rows, cut_rows}
+use Rattle.mmemory.proofs.Backs.{changed_rows, inserted_rows, gone_rows, joined_back, joined_rows}
 
 -- ---- from chunks to their rows
 

@@ -1,6 +1,9 @@
 -- SPDX-License-Identifier: Apache-2.0
 -- A place of a chunk that is split in two.
-use Rattle.mmemory.proofs.MemoryWords.{◌≡◌, ℕ, zero, suc, ◌+◌, ◌-◌, ◌<◌, ◌≤◌, Bool, true, false, leb, cond, List, [], ◌∷◌, ◌++◌, length, take, drop, get_or, refl, sym, ap, subst, ◌∙◌, arith, add-one, append_assoc, leb-true, leb-false, take-append-le, drop-append-le, length-append, take-append-add, drop-append-add, Row, joined, Held, Place, Tree, rows_at, Plain, plain, no_plain, tree_nest, HalvedAt, IsMoved, is_moved, Keeps, nest_at, IsShaped, shape_at, before, after, Writes}
+use Rattle.mmemory.proofs.MemoryWords.{◌≡◌, ℕ, zero, suc, ◌+◌, ◌-◌, ◌<◌, ◌≤◌, Bool, true, false, leb, cond, List, [], ◌∷◌, ◌++◌, length, take, drop, get_or}
+use Rattle.mmemory.proofs.MemoryWords.{refl, sym, ap, subst, ◌∙◌, arith, add-one, append_assoc, leb-true, leb-false, take-append-le, drop-append-le}
+use Rattle.mmemory.proofs.MemoryWords.{length-append, take-append-add, drop-append-add, Row, joined, Held, Place, Tree, rows_at, Plain, plain, no_plain}
+use Rattle.mmemory.proofs.MemoryWords.{tree_nest, HalvedAt, IsMoved, is_moved, Keeps, nest_at, IsShaped, shape_at, before, after, Writes}
 use Rattle.mmemory.proofs.Shown.{shown_at}
 use Rattle.mmemory.proofs.Logs.{same_count, same_shape, then_wrote}
 use Rattle.mmemory.proofs.Nests.{from_place, up_to_place}

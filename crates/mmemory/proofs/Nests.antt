@@ -1,6 +1,8 @@
 -- SPDX-License-Identifier: Apache-2.0
 -- The rows around a place.
-use Rattle.mmemory.proofs.MemoryWords.{◌≡◌, ℕ, zero, suc, ◌+◌, ◌≤◌, List, [], ◌∷◌, ◌++◌, length, take, drop, get_or, slice_get, Some, refl, sym, ap, ◌∙◌, arith, add-one, append_assoc, flat_map, take-append-drop, append-nil, take-nil, drop-nil, flat_map-append, Row, Place, joined, before, after}
+use Rattle.mmemory.proofs.MemoryWords.{◌≡◌, ℕ, zero, suc, ◌+◌, ◌≤◌, List, [], ◌∷◌, ◌++◌, length, take, drop, get_or, slice_get, Some, refl, sym, ap, ◌∙◌, arith}
+use Rattle.mmemory.proofs.MemoryWords.{add-one, append_assoc, flat_map, take-append-drop, append-nil, take-nil, drop-nil, flat_map-append, Row, Place, joined}
+use Rattle.mmemory.proofs.MemoryWords.{before, after}
 
 module _ {A : Type 0} (f : A → List Row) (d : A) (none : f d ≡ []) where
   -- a list from a place on: what stands there, and the rest

@@ -1,6 +1,12 @@
 -- SPDX-License-Identifier: Apache-2.0
 -- Trees that are made, replaced and described, with what the log has to take that back.
-use Rattle.mmemory.proofs.MemoryWords.{◌≡◌, ℕ, zero, suc, ◌+◌, ◌-◌, ◌<◌, ◌≤◌, List, [], ◌∷◌, ◌++◌, length, map, take, drop, replicate, set, get_or, refl, sym, ap, subst, ◌∙◌, arith, ∥∥₁_map, take-append_seam, append-nil, map-append, map-set, length-map, length-append, Row, Object, Shape, Absent, Table, Index, Pageless, FrozenTable, FrozenIndex, Heading, no_heading, shape_in, reals_in, reals_unless_absent, padded, snapshot_of, catalog_tree, version_tree, set_at, with_version, description, Trees, with_tree, IsShaped, Tree, Undo, Put, Shorten, Held, Plain, plain, no_plain, heading, plain_rows, Describes, State, state_of, undone_one, undone, headings, rows_of, shown, IsInOrder, AreInOrder, Labels, now, moment, KeepsPast, KeepsShown, Pads, Puts, Relabels}
+use Rattle.mmemory.proofs.MemoryWords.{◌≡◌, ℕ, zero, suc, ◌+◌, ◌-◌, ◌<◌, ◌≤◌, List, [], ◌∷◌, ◌++◌, length, map, take, drop, replicate, set, get_or, refl, sym}
+use Rattle.mmemory.proofs.MemoryWords.{ap, subst, ◌∙◌, arith, ∥∥₁_map, take-append_seam, append-nil, map-append, map-set, length-map, length-append, Row}
+use Rattle.mmemory.proofs.MemoryWords.{Object, Shape, Absent, Table, Index, Pageless, FrozenTable, FrozenIndex, Heading, no_heading, shape_in, reals_in}
+use Rattle.mmemory.proofs.MemoryWords.{reals_unless_absent, padded, snapshot_of, catalog_tree, version_tree, set_at, with_version, description, Trees}
+use Rattle.mmemory.proofs.MemoryWords.{with_tree, IsShaped, Tree, Undo, Put, Shorten, Held, Plain, plain, no_plain, heading, plain_rows, Describes, State}
+use Rattle.mmemory.proofs.MemoryWords.{state_of, undone_one, undone, headings, rows_of, shown, IsInOrder, AreInOrder, Labels, now, moment, KeepsPast}
+use Rattle.mmemory.proofs.MemoryWords.{KeepsShown, Pads, Puts, Relabels}
 use mathlib.Core.Path.{fun_ext}
 use Rattle.mmemory.specs.declared.step.Step.{Step}
 use Rattle.mmemory.specs.declared.undo.Undo.TheVariants.{Step as OfTree}

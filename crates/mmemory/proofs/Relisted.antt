@@ -1,6 +1,9 @@
 -- SPDX-License-Identifier: Apache-2.0
 -- Trees that are listed as other objects, one after another.
-use Rattle.mmemory.proofs.MemoryWords.{◌≡◌, ℕ, zero, suc, ◌+◌, ◌<◌, ◌≤◌, List, [], ◌∷◌, length, take, drop, get_or, Result, Ok, Err, OnOk, OnErr, is_err, true, false, true≢false, refl, sym, ap, ◌∙◌, arith, inl, AllByRecursion, take_more, length-map, Object, StoreError, Relists, MayRelist, FailsToRelist, shape_in, relists_more, Held, Memory, plain, heading, headings, shown, undone, now, moment, KeepsPast, KeepsShown, Relabels, memory_view, current, marks_of, all_kept, View}
+use Rattle.mmemory.proofs.MemoryWords.{◌≡◌, ℕ, zero, suc, ◌+◌, ◌<◌, ◌≤◌, List, [], ◌∷◌, length, take, drop, get_or, Result, Ok, Err, OnOk, OnErr, is_err, true}
+use Rattle.mmemory.proofs.MemoryWords.{false, true≢false, refl, sym, ap, ◌∙◌, arith, inl, AllByRecursion, take_more, length-map, Object, StoreError, Relists}
+use Rattle.mmemory.proofs.MemoryWords.{MayRelist, FailsToRelist, shape_in, relists_more, Held, Memory, plain, heading, headings, shown, undone, now, moment}
+use Rattle.mmemory.proofs.MemoryWords.{KeepsPast, KeepsShown, Relabels, memory_view, current, marks_of, all_kept, View}
 use Rattle.mmemory.proofs.Views.{shape_at, present_within, beside, relabelled, fails}
 
 pub each_at : {X : Type 0} (P : X → Type 0) (xs : List X) (at : ℕ) (d : X) → AllByRecursion P xs → at < length xs → P (get_or xs at d)
@@ -9,7 +12,7 @@ each_at P (x ∷ xs) zero d all within = all.0
 each_at P (x ∷ xs) (suc at) d all within = each_at P xs at d all.1 (omega arith)
 
 module _ (s m : Memory) (done : List (ℕ × Object)) (change : ℕ × Object) (h : Relists (memory_view s) (memory_view m) done) (may : MayRelist (memory_view s) change) where
-  -- a tree that may be listed anew has its object's shape still, after some others were
+  -- a tree that may be listed again has its object's shape still, after some others were
   pub still_shaped : shape_in (headings (current m)) change.0 ≡ change.1.shape
   still_shaped = let low = may.low in sym (shape_at m change.0 (omega arith)) ∙ ap (λ (v : View). v.shape change.0) h.is ∙ may.shaped
 

@@ -1,6 +1,10 @@
 -- SPDX-License-Identifier: Apache-2.0
 -- A tree of the list, and what the transaction sees of it.
-use Rattle.mmemory.proofs.MemoryWords.{◌≡◌, ◌≢◌, ℕ, ℤ, zero, suc, ◌^◌, ◌<◌, true, false, not, is_lt, is_gt, is_eq, List, [], ◌∷◌, filter, length, map, get_or, refl, sym, ap, subst, ◌∙◌, arith, length-map, Row, value_cmp, prefix_cmp, rowid, has_rowid, order_of, sought, IsTable, named, unnumbered, Place, before, after, Splits, Order, Shape, Absent, Table, Index, Heading, no_heading, shape_in, IsShaped, Tree, Held, Memory, joined, Plain, plain, no_plain, heading, tree_nest, tree_rows, headings, rows_of, now, shape_at, nest_at, memory_view, left_from}
+use Rattle.mmemory.proofs.MemoryWords.{◌≡◌, ◌≢◌, ℕ, ℤ, zero, suc, ◌^◌, ◌<◌, true, false, not, is_lt, is_gt, is_eq, List, [], ◌∷◌, filter, length, map, get_or}
+use Rattle.mmemory.proofs.MemoryWords.{refl, sym, ap, subst, ◌∙◌, arith, length-map, Row, value_cmp, prefix_cmp, rowid, has_rowid, order_of, sought, IsTable}
+use Rattle.mmemory.proofs.MemoryWords.{named, unnumbered, Place, before, after, Splits, Order, Shape, Absent, Table, Index, Heading, no_heading, shape_in}
+use Rattle.mmemory.proofs.MemoryWords.{IsShaped, Tree, Held, Memory, joined, Plain, plain, no_plain, heading, tree_nest, tree_rows, headings, rows_of, now}
+use Rattle.mmemory.proofs.MemoryWords.{shape_at, nest_at, memory_view, left_from}
 use Rattle.sqlite_value.specs.declared.value.Value.TheVariants.{Int}
 use Rattle.sqlite_trees.specs.declared.store.Direction.TheVariants.{Forward, Backward}
 use Rattle.mmemory.proofs.Shown.{shown_at}

@@ -1,6 +1,7 @@
 -- SPDX-License-Identifier: Apache-2.0
 -- Each chunk of a tree has a row.
-use Rattle.mmemory.proofs.MemoryWords.{◌≡◌, ◌≢◌, ℕ, zero, suc, ◌<◌, ◌≤◌, List, [], ◌∷◌, length, drop, get_or, refl, arith, AllByRecursion, Row, Chunk, joined, nest}
+use Rattle.mmemory.proofs.MemoryWords.{◌≡◌, ◌≢◌, ℕ, zero, suc, ◌<◌, ◌≤◌, List, [], ◌∷◌, length, drop, get_or, refl, arith, AllByRecursion, Row, Chunk, joined}
+use Rattle.mmemory.proofs.MemoryWords.{nest}
 
 abbrev pub AreSome : List (List Row) → Type 0
 AreSome = AllByRecursion (λ rows. rows ≢ [])

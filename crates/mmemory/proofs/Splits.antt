@@ -1,6 +1,8 @@
 -- SPDX-License-Identifier: Apache-2.0
 -- A binary search finds where the rows cease to pass.
-use Rattle.mmemory.proofs.MemoryWords.{slice_get-get_or, ◌≡◌, ◌≢◌, ℕ, zero, suc, ◌+◌, ◌-◌, ◌<◌, ◌≤◌, max, Bool, true, false, List, [], ◌∷◌, ◌++◌, length, map, take, drop, get_or, slice_get, Some, refl, sym, ap, subst, ◌∙◌, arith, add-one, true≢false, inl, inr, eq-or-lt_of_le, flat_map, AllByRecursion, take-append-drop, Row, IsAscending, all-append, all_weaker, not_true, IsEdge, Falls}
+use Rattle.mmemory.proofs.MemoryWords.{slice_get-get_or, ◌≡◌, ◌≢◌, ℕ, zero, suc, ◌+◌, ◌-◌, ◌<◌, ◌≤◌, max, Bool, true, false, List, [], ◌∷◌, ◌++◌, length, map}
+use Rattle.mmemory.proofs.MemoryWords.{take, drop, get_or, slice_get, Some, refl, sym, ap, subst, ◌∙◌, arith, add-one, true≢false, inl, inr, eq-or-lt_of_le}
+use Rattle.mmemory.proofs.MemoryWords.{flat_map, AllByRecursion, take-append-drop, Row, IsAscending, all-append, all_weaker, not_true, IsEdge, Falls}
 use Rattle.mmemory.proofs.Shown.{drop_past}
 use Rattle.mmemory.proofs.Nests.{around, from_place, drop_at, take_at}
 

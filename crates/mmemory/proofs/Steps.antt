@@ -1,6 +1,7 @@
 -- SPDX-License-Identifier: Apache-2.0
 -- The row that comes next at a place, and the one that comes before it.
-use Rattle.mmemory.proofs.MemoryWords.{◌≡◌, ℕ, zero, suc, ◌+◌, ◌<◌, ◌≤◌, min, List, [], ◌∷◌, length, take, drop, get_or, Option, Some, None, refl, sym, ap, ◌∙◌, arith, IfSome, append-nil, take_min, Row, Place, joined, front, rows_at, before, after}
+use Rattle.mmemory.proofs.MemoryWords.{◌≡◌, ℕ, zero, suc, ◌+◌, ◌<◌, ◌≤◌, min, List, [], ◌∷◌, length, take, drop, get_or, Option, Some, None, refl, sym, ap, ◌∙◌}
+use Rattle.mmemory.proofs.MemoryWords.{arith, IfSome, append-nil, take_min, Row, Place, joined, front, rows_at, before, after}
 use Rattle.mmemory.proofs.Shown.{drop_past}
 use Rattle.mmemory.proofs.Nests.{up_to_place, take_past}
 use Rattle.mmemory.proofs.Some.{AreSome, no_chunk}

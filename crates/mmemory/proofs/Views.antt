@@ -1,6 +1,14 @@
 -- SPDX-License-Identifier: Apache-2.0
 -- From the trees of a store to what it shows.
-use Rattle.mmemory.proofs.MemoryWords.{All, ◌≡◌, ◌≢◌, ℕ, zero, suc, ◌+◌, ◌-◌, ◌^◌, ◌<◌, ◌≤◌, pos, true, false, cond, eqb, List, [], ◌∷◌, ◌++◌, length, map, replicate, get_or, set, Option, Some, option_map, Result, Ok, Err, OnErr, IfErr, refl, sym, ap, subst, ◌∙◌, arith, eq-eqb, ne_eqb, inl, inr, cases_eq, length-append, length-replicate, length-map, Row, StoreError, Object, Shape, Absent, Table, with_tree, put_row, without_rowid, View, Snapshot, SetsTree, OnlyWrites, IsFailure, padded, catalog_tree, version_tree, with_version, description, object_row, set_at, SetsObject, Relists, Heading, no_heading, shape_in, reals_in, reals_unless_absent, objects_from, objects_from-set, objects_from-unset, named, unnumbered, under_version, versioned_edit, versioned_object, get_or-set_cases, present_reals, Tree, Memory, snapshot_of, Plain, plain, heading, plain_rows, State, headings, rows_of, shown, WithTree, Labels, now, moment, KeepsPast, Keeps, KeepsShown, Writes, Puts, Held, current, marks_of, view_of, memory_view}
+use Rattle.mmemory.proofs.MemoryWords.{All, ◌≡◌, ◌≢◌, ℕ, zero, suc, ◌+◌, ◌-◌, ◌^◌, ◌<◌, ◌≤◌, pos, true, false, cond, eqb, List, [], ◌∷◌, ◌++◌, length, map}
+use Rattle.mmemory.proofs.MemoryWords.{replicate, get_or, set, Option, Some, option_map, Result, Ok, Err, OnErr, IfErr, refl, sym, ap, subst, ◌∙◌, arith}
+use Rattle.mmemory.proofs.MemoryWords.{eq-eqb, ne_eqb, inl, inr, cases_eq, length-append, length-replicate, length-map, Row, StoreError, Object, Shape, Absent}
+use Rattle.mmemory.proofs.MemoryWords.{Table, with_tree, put_row, without_rowid, View, Snapshot, SetsTree, OnlyWrites, IsFailure, padded, catalog_tree}
+use Rattle.mmemory.proofs.MemoryWords.{version_tree, with_version, description, object_row, set_at, SetsObject, Relists, Heading, no_heading, shape_in}
+use Rattle.mmemory.proofs.MemoryWords.{reals_in, reals_unless_absent, objects_from, objects_from-set, objects_from-unset, named, unnumbered, under_version}
+use Rattle.mmemory.proofs.MemoryWords.{versioned_edit, versioned_object, get_or-set_cases, present_reals, Tree, Memory, snapshot_of, Plain, plain, heading}
+use Rattle.mmemory.proofs.MemoryWords.{plain_rows, State, headings, rows_of, shown, WithTree, Labels, now, moment, KeepsPast, Keeps, KeepsShown, Writes, Puts}
+use Rattle.mmemory.proofs.MemoryWords.{Held, current, marks_of, view_of, memory_view}
 use mathlib.Core.Path.{fun_ext}
 use Rattle.mmemory.proofs.Shown.{shown_at, not_shown}
 use Rattle.mmemory.proofs.Logs.{after_error}

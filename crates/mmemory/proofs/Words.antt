@@ -1,6 +1,10 @@
 -- SPDX-License-Identifier: Apache-2.0
 -- What is around the place of a search gives the words of the contracts.
-use Rattle.mmemory.proofs.MemoryWords.{◌≡◌, ℤ, Bool, true, false, not, List, [], ◌∷◌, ◌++◌, filter, reverse, drop, get_or, refl, sym, ap, subst, ◌∙◌, Ordering, Less, Equal, Greater, is_lt, is_gt, is_eq, true≢false, AllByRecursion, Order, Row, value_cmp, entry_cmp, prefix_cmp, rowid, has_rowid, IsAscending, IsTable, IsIndex, from_key, up_to_key, put_row, insert_entry, without_rowid, remove_entry, ascending_weaker, all_weaker, filter_all, filter_none, AtMost, IsSortedTree, prefix_cmp_follows, not_true, Place, joined, before, after, Falls, Splits, Skips}
+use Rattle.mmemory.proofs.MemoryWords.{◌≡◌, ℤ, Bool, true, false, not, List, [], ◌∷◌, ◌++◌, filter, reverse, drop, get_or, refl, sym, ap, subst, ◌∙◌, Ordering}
+use Rattle.mmemory.proofs.MemoryWords.{Less, Equal, Greater, is_lt, is_gt, is_eq, true≢false, AllByRecursion, Order, Row, value_cmp, entry_cmp, prefix_cmp}
+use Rattle.mmemory.proofs.MemoryWords.{rowid, has_rowid, IsAscending, IsTable, IsIndex, from_key, up_to_key, put_row, insert_entry, without_rowid, remove_entry}
+use Rattle.mmemory.proofs.MemoryWords.{ascending_weaker, all_weaker, filter_all, filter_none, AtMost, IsSortedTree, prefix_cmp_follows, not_true, Place, joined}
+use Rattle.mmemory.proofs.MemoryWords.{before, after, Falls, Splits, Skips}
 use Rattle.std.specs.Cmp.{IsTotalOrder}
 use Rattle.std.proofs.lemmas.Cmp.{alike_right}
 use Rattle.sqlite_value.specs.declared.value.Value.{Value}

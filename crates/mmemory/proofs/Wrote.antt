@@ -1,6 +1,9 @@
 -- SPDX-License-Identifier: Apache-2.0
 -- What the writes make of a tree of the transaction.
-use Rattle.mmemory.proofs.MemoryWords.{Bor, ◌≡◌, ℕ, ℤ, ◌+◌, ◌<◌, true, false, List, ◌∷◌, ◌++◌, length, get_or, refl, sym, ap, subst, ◌∙◌, inl, inr, eq-eqb, ne_eqb, arith, cases_eq, Order, owned, Row, rowid, IsTable, IsIndex, put_row, insert_entry, without_rowid, remove_entry, IsShaped, Held, Tree, Place, joined, before, after, after_row, Plain, plain, no_plain, tree_nest, tree_rows, rows_of, now, Writes, shape_at, nest_at}
+use Rattle.mmemory.proofs.MemoryWords.{Bor, ◌≡◌, ℕ, ℤ, ◌+◌, ◌<◌, true, false, List, ◌∷◌, ◌++◌, length, get_or, refl, sym, ap, subst, ◌∙◌, inl, inr, eq-eqb}
+use Rattle.mmemory.proofs.MemoryWords.{ne_eqb, arith, cases_eq, Order, owned, Row, rowid, IsTable, IsIndex, put_row, insert_entry, without_rowid, remove_entry}
+use Rattle.mmemory.proofs.MemoryWords.{IsShaped, Held, Tree, Place, joined, before, after, after_row, Plain, plain, no_plain, tree_nest, tree_rows, rows_of}
+use Rattle.mmemory.proofs.MemoryWords.{now, Writes, shape_at, nest_at}
 use mathlib.Core.Path.{fun_ext}
 use Rattle.sqlite_value.specs.declared.row.Row.{Row as Given}
 use Rattle.sqlite_value.specs.declared.value.ValueRef.{ValueRef}

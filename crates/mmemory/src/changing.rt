@@ -54,7 +54,8 @@ impl Tree {
     // Puts a row in as a chunk of its own.
     fn add_chunk(&mut self, alloc: Global, at: usize, row: Packed) -> Result<Step, AllocError>
         requires { at ≤ length (tree_nest self.old) }
-        ensures ok { let n = tree_nest self.old in IfOk result (λ step. Makes (plain self.old) (plain self.new) step (joined (take at n) ++ row ∷ joined (drop at n))) }
+        ensures ok { let n = tree_nest self.old in IfOk result (λ step. Makes (plain self.old) (plain self.new) step (joined (take at n) ++ row ∷ joined
+            (drop at n))) }
         ensures err { OnErr result (plain self.new ≡ plain self.old) }
     {
         let chunk = Chunk::of_row(alloc, row)?;

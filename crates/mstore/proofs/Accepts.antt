@@ -1,11 +1,12 @@
 -- SPDX-License-Identifier: Apache-2.0
 -- The statements are accepted: each is one, takes the parameters that it is given, and is well typed.
-use Rattle.mstore.proofs.Words.{◌≡◌, ℕ, ℤ, Bool, true, false, List, [], ◌∷◌, refl, inl, inr, Int, Blob, Row, Query, Key, everything, understood, schema, Get, Put, Kill, Step, sql, Term, Trees}
+use Rattle.mstore.proofs.Words.{◌≡◌, ℕ, Bool, true, false, List, [], ◌∷◌, refl, inl, inr, Blob, Row, Query, Key, everything, understood, schema, Add, Get, Kill}
+use Rattle.mstore.proofs.Words.{Replace, Step, sql, Term, Trees}
 use Rattle.sqlite_schema.specs.Program.{lets_of}
 use Rattle.sqlite_sql.specs.Program.{ProgramOverflows}
 use Rattle.sqlite_typing.specs.Types.{accepts_program, accepts_terms}
 use Rattle.sqlite_rules.proofs.ListLemmas.{any_has}
-use Rattle.mstore.proofs.Texts.{program, table_query, put_query, kill_query, step_query, at_key}
+use Rattle.mstore.proofs.Texts.{program, table_query, replace_query, kill_query, step_query, at_key}
 use Rattle.mstore.proofs.Causes.{Takes, IsChange}
 use Rattle.sqlite.specs.Term.{col, lit}
 use Rattle.sqlite.specs.declared.types.Value.TheVariants.{Null}
@@ -14,9 +15,13 @@ pub get_takes : (k : List ℕ) → Takes (sql Get) (Blob k ∷ []) (understood s
 unfolding understood everything
 get_takes k = (refl, refl, refl)
 
-pub put_takes : (k v : List ℕ) → Takes (sql Put) (Blob k ∷ Blob v ∷ []) (understood schema (sql Put))
+pub add_takes : (k v : List ℕ) → Takes (sql Add) (Blob k ∷ Blob v ∷ []) (understood schema (sql Add))
 unfolding understood everything
-put_takes k v = (refl, refl, refl)
+add_takes k v = (refl, refl, refl)
+
+pub replace_takes : (k v : List ℕ) → Takes (sql Replace) (Blob k ∷ Blob v ∷ []) (understood schema (sql Replace))
+unfolding understood everything
+replace_takes k v = (refl, refl, refl)
 
 pub kill_takes : (low high : List ℕ) → Takes (sql Kill) (Blob low ∷ Blob high ∷ []) (understood schema (sql Kill))
 unfolding understood everything
@@ -27,9 +32,13 @@ unfolding understood everything
 step_takes true low high = (refl, refl, refl)
 step_takes false low high = (refl, refl, refl)
 
-pub put_changes : IsChange (understood schema (sql Put))
+pub add_changes : IsChange (understood schema (sql Add))
 unfolding understood everything
-put_changes = refl
+add_changes = refl
+
+pub replace_changes : IsChange (understood schema (sql Replace))
+unfolding understood everything
+replace_changes = refl
 
 pub kill_changes : IsChange (understood schema (sql Kill))
 unfolding understood everything
@@ -51,9 +60,8 @@ pub step_typed : (down : Bool) (low high : List ℕ) → IsTyped (step_query dow
 step_typed true low high = refl
 step_typed false low high = refl
 
--- the update of a row that is there
-pub put_typed : (k v : List ℕ) (m n : ℤ) → IsTyped put_query (Blob k ∷ Blob v ∷ Int m ∷ Int n ∷ Blob k ∷ Blob v ∷ [])
-put_typed k v m n = refl
+pub replace_typed : (k v : List ℕ) → IsTyped replace_query (Blob k ∷ Blob v ∷ [])
+replace_typed k v = refl
 
 pub put_terms : (k v : List ℕ) → accepts_terms (lit Null ∷ col 0 0 ∷ col 0 1 ∷ []) (Blob k ∷ Blob v ∷ []) ≡ true
 put_terms k v = refl

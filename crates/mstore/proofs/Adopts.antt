@@ -1,6 +1,11 @@
 -- SPDX-License-Identifier: Apache-2.0
 -- The rows of a database whose columns are blobs are a map.
-use Rattle.mstore.proofs.Words.{◌≡◌, ℕ, ℤ, true, false, not, ◌&&◌, List, [], ◌∷◌, drop, Option, Some, None, int_lt, refl, sym, ap, ap₂, subst, ◌∙◌, inl, inr, arith, int_eq, IsTrue, and_parts, not-true, false_from_ne_true, ints, Int, Blob, Null, Row, column, Binary, Key, first_key-plain, is_true, Compare, Eq, Ne, Ghosts, rowid, Has, id_in, some_from, at_ints, at_blobs, last_term, bytes_eq_refl, Database, IsDatabase, Held, state, col, State, IsLive, IsPlain, reads_as, bytes, plain, binary, node, schema, IsCalm, AreNumbered, RiseFrom, Value, IsStore, Stays, ShowsAll, ShowsNodes, AreNodes, AreRows, IsNode, ShowsNodeBy, HasOtherBy, key_of, value_of, shown_of, Shown, understood, Each, sql, is_eq, true≢false, HasVersion, this_version}
+use Rattle.mstore.proofs.Words.{◌≡◌, ℕ, ℤ, true, false, not, ◌&&◌, List, [], ◌∷◌, drop, Option, Some, None, int_lt, refl, sym, ap, ap₂, subst, ◌∙◌, inl, inr}
+use Rattle.mstore.proofs.Words.{arith, int_eq, IsTrue, and_parts, not-true, false_from_ne_true, ints, Int, Blob, Null, Row, column, Binary, Key}
+use Rattle.mstore.proofs.Words.{first_key-plain, is_true, Compare, Eq, Ne, Ghosts, rowid, Has, id_in, some_from, at_ints, at_blobs, last_term, bytes_eq_refl}
+use Rattle.mstore.proofs.Words.{Database, IsDatabase, Held, state, col, State, IsLive, IsPlain, reads_as, bytes, plain, binary, node, schema, IsCalm}
+use Rattle.mstore.proofs.Words.{AreNumbered, RiseFrom, Value, IsStore, Stays, ShowsAll, ShowsNodes, AreNodes, AreRows, IsNode, ShowsNodeBy, HasOtherBy, key_of}
+use Rattle.mstore.proofs.Words.{value_of, shown_of, Shown, understood, Each, sql, is_eq, true≢false, HasVersion, this_version}
 use Rattle.sqlite_schema.specs.declared.schema.Constraint.TheVariants.{Datatype, Unique}
 use Rattle.sqlite_schema.specs.Rules.{are_typed, clashes, agree, differ}
 use Rattle.sqlite_trees.specs.View.{is_int}

@@ -1,6 +1,8 @@
 -- SPDX-License-Identifier: Apache-2.0
 -- What a query of one table answers: the rows that pass its tests.
-use Rattle.mstore.proofs.Words.{arith, ◌≡◌, ℕ, Bool, true, cond, List, [], ◌∷◌, map, flat_map, refl, sym, ap, subst, ◌∙◌, inl, inr, IsPermutation, list_all, IsPermutation-sym, Contains-permutation, Null, Row, Key, Query, IsAnswer, output, Output, overlay, Has, has_either, has_left, has_right, has_contained, contains_had}
+use Rattle.mstore.proofs.Words.{arith, ◌≡◌, ℕ, Bool, true, cond, List, [], ◌∷◌, map, flat_map, refl, sym, ap, subst, ◌∙◌, inl, inr, IsPermutation, list_all}
+use Rattle.mstore.proofs.Words.{IsPermutation-sym, Contains-permutation, Null, Row, Key, Query, IsAnswer, output, Output, overlay, Has, has_either, has_left}
+use Rattle.mstore.proofs.Words.{has_right, has_contained, contains_had}
 use Rattle.sqlite_trees.specs.Tree.{Trees}
 use Rattle.sqlite_sql.specs.Term.{Term, Env, eval_all, holds}
 use Rattle.sqlite_sql.specs.Query.{matches_as}

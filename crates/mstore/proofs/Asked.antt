@@ -1,6 +1,7 @@
 -- SPDX-License-Identifier: Apache-2.0
--- Over a store beneath that has no fault, a query of the table fails only for want of memory.
-use Rattle.mstore.proofs.Words.{arith, ◌≡◌, ◌≢◌, ◌⊎◌, ℕ, Bool, List, [], ◌∷◌, Option, None, Result, Ok, Err, refl, ap, subst, inl, inr, Ghosts, Held, state, Row, Blob, Error, QueryReturnedNoRows, QueriesRow, RefusesToRead, IsStore, schema, Get, Step, sql}
+-- Over a store beneath that has no fault, a query of the table fails only for lack of memory.
+use Rattle.mstore.proofs.Words.{arith, ◌≡◌, ◌≢◌, ◌⊎◌, ℕ, Bool, List, [], ◌∷◌, Option, None, Result, Ok, Err, refl, ap, subst, inl, inr, Ghosts, Held, state}
+use Rattle.mstore.proofs.Words.{Row, Blob, Error, QueryReturnedNoRows, QueriesRow, RefusesToRead, IsStore, schema, Get, Step, sql}
 use Rattle.sqlite_disk.specs.Disk.{MoreFaults}
 use Rattle.mnodes.specs.declared.store.StoreFault.{StoreFault}
 use Rattle.mnodes.specs.declared.store.StoreFault.TheVariants.{Store}

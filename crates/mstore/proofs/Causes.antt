@@ -1,6 +1,9 @@
 -- SPDX-License-Identifier: Apache-2.0
--- Why a statement fails, where the disk has no fault: for want of memory, or because of what it is.
-use Rattle.mstore.proofs.Words.{arith, ◌≡◌, ◌⊎◌, ◌≤◌, ℕ, true, false, List, [], length, Option, Some, None, Result, Ok, Err, IsTrue, refl, sym, ap, subst, ◌∙◌, inl, inr, true≢false, append-nil, Row, Command, Database, RefusesToRead, Error, QueryReturnedNoRows, State, IsUnchanged, Executes, shows_rows, IsPlain, command_of, statement_of, understood, reads_listing, IsNotRun, FailsToQuery, QueriesRow, ExecutesIn, Does, mode_of, Program, store_error, StoreError, OutOfMemory, Io, Corrupt, Full, Broken, Unstorable}
+-- Why a statement fails, where the disk has no fault: for lack of memory, or because of what it is.
+use Rattle.mstore.proofs.Words.{arith, ◌≡◌, ◌⊎◌, ◌≤◌, ℕ, true, false, List, [], length, Option, Some, None, Result, Ok, Err, IsTrue, refl, sym, ap, subst, ◌∙◌}
+use Rattle.mstore.proofs.Words.{inl, inr, true≢false, append-nil, Row, Command, Database, RefusesToRead, Error, QueryReturnedNoRows, State, IsUnchanged}
+use Rattle.mstore.proofs.Words.{Executes, shows_rows, IsPlain, command_of, statement_of, understood, reads_listing, IsNotRun, FailsToQuery, QueriesRow}
+use Rattle.mstore.proofs.Words.{ExecutesIn, Does, mode_of, Program, store_error, StoreError, OutOfMemory, Io, Corrupt, Full, Broken, Unstorable}
 use Rattle.std.proofs.Common.{subst₂, nat_le}
 use Rattle.std.proofs.lemmas.Bool.Decides.{nat_tests}
 use Rattle.sqlite_disk.specs.Disk.{MoreFaults}

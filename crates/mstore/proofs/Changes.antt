@@ -1,6 +1,10 @@
 -- SPDX-License-Identifier: Apache-2.0
 -- What may stop a statement that changes the table: nothing but a rowid that no row may have, among those that it puts.
-use Rattle.mstore.proofs.Words.{arith, ◌≡◌, ◌≤◌, ℕ, zero, suc, ℤ, pos, negsuc, Bool, true, false, not, ◌&&◌, List, [], ◌∷◌, length, Option, Some, None, option_map, Result, Err, IsTrue, refl, sym, ap, subst, ◌∙◌, inl, inr, true≢false, false_from_ne_true, and_parts, All-cons, All-nil, list_all, AllByRecursion, Value, Int, Blob, Row, column, Error, IsDatabase, Enforced, rowid, Has, id_in, are_fresh, all_from, node, meta, schema, AreRows, IsNode, key_of, Trees, same_bytes, at_ints, at_blobs, last_term, first_key-plain, plain, Key, is_at, ap₂, ints, is_true, binary, Binary, Compare, Ne, Eq, Ghosts, Held, state}
+use Rattle.mstore.proofs.Words.{arith, ◌≡◌, ◌⊎◌, ◌≤◌, cases_Bool, int_eq, ℕ, zero, suc, ℤ, pos, negsuc, Bool, true, false, not, ◌&&◌, List, [], ◌∷◌, length}
+use Rattle.mstore.proofs.Words.{Option, Some, None, option_map, Result, Err, IsTrue, refl, sym, ap, subst, ◌∙◌, inl, inr, true≢false, false_from_ne_true}
+use Rattle.mstore.proofs.Words.{and_parts, All-cons, All-nil, list_all, AllByRecursion, Value, Int, Blob, Row, column, Error, IsDatabase, Enforced, rowid, Has}
+use Rattle.mstore.proofs.Words.{id_in, are_fresh, all_from, node, meta, schema, AreRows, IsNode, key_of, Trees, same_bytes, at_ints, at_blobs, last_term}
+use Rattle.mstore.proofs.Words.{first_key-plain, plain, Key, is_at, ap₂, ints, is_true, binary, Binary, Compare, Ne, Eq, Ghosts, Held, state}
 use Rattle.std.proofs.lemmas.List.{length-append}
 use Rattle.std.proofs.lemmas.Nat.Bits.{bit_at-zero}
 use Rattle.std.specs.Int.{bit_at}
@@ -25,24 +29,26 @@ use Rattle.sqlite_rules.proofs.ListLemmas.{test_from, fails_has, some_has}
 use Rattle.sqlite.specs.Effect.{edit_error}
 use Rattle.sqlite.specs.Rows.{Edited}
 use Rattle.mstore.specs.Room.{IsFaultless}
-use Rattle.mstore.proofs.Puts.{row_of}
+use Rattle.mstore.proofs.Puts.{int_same, row_of}
 use Rattle.mstore.proofs.RowTests.{key_column}
 
--- it may stop only where a row has the last number
-abbrev pub Wants : Type 0 → Option Error → Type 0
-Wants full None = ⊥
-Wants full (Some e) = full
+-- what stopped it has a cause that is known
+abbrev pub Wants : (Refusal → Type 0) → Option Error → Type 0
+Wants Why None = ⊥
+Wants Why (Some e) = (why : Refusal) × (e ≡ edit_error why) × Why why
 
 pub same_stop : {B E : Type 0} {a b : E} → ◌≡◌ {A = Result B E} (Err a) (Err b) → a ≡ b
 same_stop e = cc
 
 -- ---- one edit
 
-pub edit_stops : (full : Type 0) (db : Trees) (edit : Edit) → works schema Enforced 0 edit.table.tree (taken_by db edit) edit.news ≡ [] → ((why : Refusal) → IsRefused schema Enforced db edit why → full)
-    → ((row : Row) → Has edit.news row → IsOversized schema edit.table row → ⊥) → (s : Option Error) → Edited schema Enforced db edit (Err s) → Wants full s
-edit_stops full db edit none refused small s (why, inl h, is) = subst (Wants full) (sym (is ∙ ap (option_map edit_error) (same_stop h.2))) (refused h.0 h.1)
-edit_stops full db edit none refused small s (why, inr (inl h), is) = absurd (small h.0 h.1 h.2)
-edit_stops full db edit none refused small s (why, inr (inr h), is) = absurd (settled h.2.0 (rw none at h.2.1))
+pub edit_stops : (Why : Refusal → Type 0) (db : Trees) (edit : Edit) → works schema Enforced 0 edit.table.tree (taken_by db edit) edit.news ≡ []
+    → ((why : Refusal) → IsRefused schema Enforced db edit why → Why why)
+    → ((row : Row) → Has edit.news row → IsOversized schema edit.table row → ⊥) → (s : Option Error) → Edited schema Enforced db edit (Err s) → Wants Why s
+edit_stops Why db edit none refused small s (why, inl h, is) =
+    subst (Wants Why) (sym (is ∙ ap (option_map edit_error) (same_stop h.2))) (h.0, refl, refused h.0 h.1)
+edit_stops Why db edit none refused small s (why, inr (inl h), is) = absurd (small h.0 h.1 h.2)
+edit_stops Why db edit none refused small s (why, inr (inr h), is) = absurd (settled h.2.0 (rw none at h.2.1))
   where
     settled : (n : ℕ) → Leads schema Enforced n h.0 [] (Err why) → ⊥
     settled zero led = let e = led.1 in cc
@@ -55,23 +61,27 @@ referred false true = refl
 referred false false = refl
 
 -- the rows that an edit puts are copies of one row
-module _ (full : Type 0) (db : Trees) (edit : Edit) (is : edit.table ≡ node) (id : ℤ) (k v : List ℕ) (copies : (x : Row) → Has edit.news x → x ≡ row_of id k v)
-    (fresh : are_fresh (left_by db edit) edit.news ≡ true) (unique : Keeps Unique schema (with_tree db edit.table.tree (edited db edit))) (fits : fits_i64 id ≡ false → full) where
+module _ (Why : Refusal → Type 0) (db : Trees) (edit : Edit) (is : edit.table ≡ node) (id : ℤ) (k v : List ℕ) (copies : (x : Row) → Has edit.news x → x ≡ row_of id k v)
+    (fresh : are_fresh (left_by db edit) edit.news ≡ true) (unique : (Keeps Unique schema (with_tree db edit.table.tree (edited db edit)) → ⊥) → Why (Violates Unique)) (fits : fits_i64 id ≡ false → Why NoRowid) where
   each : (test : Row → Bool) → test (row_of id k v) ≡ true → list_all test edit.news ≡ true
   each test holds = test_from test edit.news (λ x h. subst (λ r. test r ≡ true) (sym (copies x h)) holds)
 
-  pub refusal_is : (why : Refusal) → IsRefused schema Enforced db edit why → full
-  refusal_is (Violates Datatype) h = absurd (true≢false (sym (each (passes Datatype schema db node) refl) ∙ subst (λ t. list_all (passes Datatype schema db t) edit.news ≡ false) is h))
-  refusal_is (Violates NotNull) h = absurd (true≢false (sym (each (passes NotNull schema db node) refl) ∙ subst (λ t. list_all (passes NotNull schema db t) edit.news ≡ false) is h))
-  refusal_is (Violates Check) h = absurd (true≢false (sym (each (passes Check schema db node) refl) ∙ subst (λ t. list_all (passes Check schema db t) edit.news ≡ false) is h))
+  pub refusal_is : (why : Refusal) → IsRefused schema Enforced db edit why → Why why
+  refusal_is (Violates Datatype) h =
+      absurd (true≢false (sym (each (passes Datatype schema db node) refl) ∙ subst (λ t. list_all (passes Datatype schema db t) edit.news ≡ false) is h))
+  refusal_is (Violates NotNull) h =
+      absurd (true≢false (sym (each (passes NotNull schema db node) refl) ∙ subst (λ t. list_all (passes NotNull schema db t) edit.news ≡ false) is h))
+  refusal_is (Violates Check) h =
+      absurd (true≢false (sym (each (passes Check schema db node) refl) ∙ subst (λ t. list_all (passes Check schema db t) edit.news ≡ false) is h))
   refusal_is (Violates PrimaryKey) h = absurd (true≢false (sym fresh ∙ h))
-  refusal_is (Violates Unique) h = absurd (h unique)
+  refusal_is (Violates Unique) h = unique h
   refusal_is (Violates ForeignKey) h = absurd h
   refusal_is Mismatch h = absurd (true≢false (sym (each (λ r. is_int (rowid r)) refl) ∙ h))
   refusal_is NoRowid h =
       let one = fails_has (λ r. fits_i64 (id_in (rowid r))) edit.news h in
       fits (subst (λ r. fits_i64 (id_in (rowid r)) ≡ false) (copies one.0 one.1) one.2)
-  refusal_is BadReference h = absurd (true≢false (sym (referred _ _) ∙ subst (λ t. references_fit schema t (nat_lt 0 (length edit.news)) (nat_lt 0 (length edit.gone)) ≡ false) is h))
+  refusal_is BadReference h =
+      absurd (true≢false (sym (referred _ _) ∙ subst (λ t. references_fit schema t (nat_lt 0 (length edit.news)) (nat_lt 0 (length edit.gone)) ≡ false) is h))
   refusal_is TooDeep h = absurd h
 
 -- ---- a row is never too large
@@ -93,7 +103,9 @@ storable_row id k v short low = (
   record {
     typed = typed;
     columns = (omega arith, omega arith);
-    numbers = All-cons IsNumber (Int id) (Blob k ∷ Blob v ∷ []) (not_nan id) (All-cons IsNumber (Blob k) (Blob v ∷ []) (nor_bytes k) (All-cons IsNumber (Blob v) [] (nor_bytes v) (All-nil IsNumber)));
+    numbers =
+        All-cons IsNumber (Int id) (Blob k ∷ Blob v ∷ []) (not_nan id)
+        (All-cons IsNumber (Blob k) (Blob v ∷ []) (nor_bytes k) (All-cons IsNumber (Blob v) [] (nor_bytes v) (All-nil IsNumber)));
     short = omega (arith, short, low);
   },
   omega arith,
@@ -118,13 +130,17 @@ never_oversized id k v short low (inl h) = h (storable_row id k v short low)
 never_oversized id k v short low (inr h) = h.3 (entry h.0 h.1)
   where
     entry : (i : Index) → Has schema.indexes i → IsStorable (index_reals (table_reals node) i.columns) (entry_of i.columns (row_of id k v))
-    entry i (inl same) = subst (λ (i : Index). IsStorable (index_reals (table_reals node) i.columns) (entry_of i.columns (row_of id k v))) (sym same) (storable_entry id k v short)
+    entry i (inl same) =
+        subst (λ (i : Index). IsStorable (index_reals (table_reals node) i.columns) (entry_of i.columns (row_of id k v))) (sym same)
+        (storable_entry id k v short)
     entry i (inr (inr never)) = absurd never
-    entry i (inr (inl same)) = subst (λ (i : Index). IsStorable (index_reals (table_reals node) i.columns) (entry_of i.columns (row_of id k v))) (sym same) (storable_entry id k v short)
+    entry i (inr (inl same)) =
+        subst (λ (i : Index). IsStorable (index_reals (table_reals node) i.columns) (entry_of i.columns (row_of id k v))) (sym same)
+        (storable_entry id k v short)
 
 -- ---- no two rows have one key
 
-agree_is : (a b : Row) → IsNode a → IsNode b → agree plain (1 ∷ []) a (1 ∷ []) b ≡ is_at (key_of b) a
+pub agree_is : (a b : Row) → IsNode a → IsNode b → agree plain (1 ∷ []) a (1 ∷ []) b ≡ is_at (key_of b) a
 agree_is a b m n =
     ap (λ (f : Key). is_true (binary (Compare Eq f.collation) (column a 1) (column b 1)) && true) first_key-plain
     ∙ last_term (ap₂ (λ x y. is_true (binary (Compare Eq Binary) x y)) (key_column a m) (key_column b n) ∙ at_blobs false Eq (key_of a) (key_of b))
@@ -134,6 +150,16 @@ alike n h = let e = sym (at_ints false Ne n n) ∙ h in absurd (grind (arith, in
 
 own_id : (r : Row) → IsNode r → rowid r ≡ Int (id_in (rowid r))
 own_id r node = ap (λ s. rowid s) node
+
+-- two rows have one number, or two
+pub same_or_differ : (a b : Row) → IsNode a → IsNode b → (rowid a ≡ rowid b) ⊎ (differ (rowid a) (rowid b) ≡ true)
+same_or_differ a b m n =
+    let i = id_in (rowid a) in
+    let j = id_in (rowid b) in
+    elim (cases_Bool (int_eq i j)) [
+      | inl same ↦ inl (own_id a m ∙ ap Int (int_same i j same) ∙ sym (own_id b n))
+      | inr other ↦ inr (ap₂ differ (own_id a m) (own_id b n) ∙ at_ints false Ne i j ∙ ap not other)
+    ]
 
 module _ {F : List ℕ → List ℕ → Type 0} (rows : List Row) (nodes : AreRows F rows) where
   no_clash : (row : Row) → Has rows row → clashes plain (1 ∷ []) rows row ≡ false

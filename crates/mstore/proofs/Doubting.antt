@@ -1,7 +1,12 @@
 -- SPDX-License-Identifier: Apache-2.0
 -- What a statement does to the doubt of a connection.
-use Rattle.mstore.proofs.Words.{◌&&◌, arith, ◌≡◌, ◌≤◌, ℕ, Bool, true, false, if◌then◌else◌, List, [], Option, Some, None, Result, Ok, Err, OnOk, IfOk, IfErr, IsTrue, refl, sym, subst, inl, inr, cases_Bool, is_ok, no_doubt, Ghosts, Held, state, Row, Command, Error, State, HasCleanDisk, IsUnchanged, IsRolledBack, FailsToShow, Executes, ExecutesInside, RunsCommand, Shows, ShowsRows, shows_rows, IsPlain, understood, IsNotRun, FailsToQuery, QueriesRow, ExecutesIn, Shown, Gives, FailsToCommit, IsMemory, IsStore, TableOver, Doubts, DoubtsStore, doubt_as, doubt_in, doubt_of, table_doubt}
-use Rattle.sqlite.specs.Command.TheVariants.{Select, Insert, InsertOr, Update, Delete, CreateTable, CreateIndex, DropTable, DropIndex, Begin, Commit, Rollback, Savepoint as Save, Release, RollbackTo, Nothing, CreateView, DropView, Rows}
+use Rattle.mstore.proofs.Words.{◌&&◌, arith, ◌≡◌, ◌≤◌, ℕ, Bool, true, false, if◌then◌else◌, List, [], Option, Some, None, Result, Ok, Err, OnOk, IfOk, IfErr}
+use Rattle.mstore.proofs.Words.{IsTrue, refl, sym, subst, inl, inr, cases_Bool, is_ok, no_doubt, Ghosts, Held, state, Row, Command, Error, State, HasCleanDisk}
+use Rattle.mstore.proofs.Words.{IsUnchanged, IsRolledBack, FailsToShow, Executes, ExecutesInside, RunsCommand, Shows, ShowsRows, shows_rows, IsPlain}
+use Rattle.mstore.proofs.Words.{understood, IsNotRun, FailsToQuery, QueriesRow, ExecutesIn, Shown, Gives, FailsToCommit, IsMemory, IsStore, TableOver, Doubts}
+use Rattle.mstore.proofs.Words.{DoubtsStore, doubt_as, doubt_in, doubt_of, table_doubt}
+use Rattle.sqlite.specs.Command.TheVariants.{Select, Insert, InsertOr, Update, Delete, CreateTable, CreateIndex, DropTable, DropIndex, Begin, Commit, Rollback}
+use Rattle.sqlite.specs.Command.TheVariants.{Savepoint as Save, Release, RollbackTo, Nothing, CreateView, DropView, Rows}
 use Rattle.sqlite_schema.specs.declared.command.Returning.{Returning}
 use Rattle.sqlite_trees.specs.View.{doubt}
 use Rattle.sqlite_trees.proofs.Doubt.{clean_of}

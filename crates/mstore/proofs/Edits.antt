@@ -1,6 +1,9 @@
 -- SPDX-License-Identifier: Apache-2.0
 -- What an edit leaves of the rows, as a map.
-use Rattle.mstore.proofs.Words.{◌≡◌, ℕ, ℤ, Bool, true, false, not, List, [], ◌∷◌, Option, Some, None, refl, sym, ap, subst, ◌∙◌, inl, inr, int_cmp, arith, ints, not-true, false_from_ne_true, tied_itself, Int, Row, value_cmp_total, value_cmp-Int, rowid, has_rowid, without_rowid, Has, id_in, without_all, is_taken, has_filtered, has_kept, some_from, value_cmp, IsNode, AreRows, lookup, key_of, value_of, is_eq, true≢false}
+use Rattle.mstore.proofs.Words.{◌≡◌, ℕ, ℤ, Bool, true, false, not, List, [], ◌∷◌, Option, Some, None, refl, sym, ap, subst, ◌∙◌, inl, inr, int_cmp, arith, ints}
+use Rattle.mstore.proofs.Words.{not-true, false_from_ne_true, tied_itself, Int, Row, value_cmp_total, value_cmp-Int, rowid, has_rowid, without_rowid, Has}
+use Rattle.mstore.proofs.Words.{id_in, without_all, is_taken, has_filtered, has_kept, some_from, value_cmp, IsNode, AreRows, lookup, key_of, value_of, is_eq}
+use Rattle.mstore.proofs.Words.{true≢false}
 use Rattle.mstore.proofs.Maps.{lookup_some, lookup_has, lookup_none}
 
 -- the rows that are left are those that do not pass

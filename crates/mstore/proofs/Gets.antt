@@ -1,6 +1,7 @@
 -- SPDX-License-Identifier: Apache-2.0
 -- What `get` finds.
-use Rattle.mstore.proofs.Words.{◌≡◌, ℕ, List, [], ◌∷◌, Some, None, Ok, Err, refl, sym, ap, subst, ◌∙◌, inl, Null, Blob, Row, State, QueryReturnedNoRows, first_as, reads_as, same_bytes, QueriesRow, schema, IsStore, content, key_of, value_of, Get, sql}
+use Rattle.mstore.proofs.Words.{◌≡◌, ℕ, List, [], ◌∷◌, Some, None, Ok, Err, refl, sym, ap, subst, ◌∙◌, inl, Null, Blob, Row, State, QueryReturnedNoRows}
+use Rattle.mstore.proofs.Words.{first_as, reads_as, same_bytes, QueriesRow, schema, IsStore, content, key_of, value_of, Get, sql}
 use Rattle.mstore.proofs.Texts.{get_is, get_command, at_key}
 use Rattle.mstore.proofs.Answer.{rows_from, rows_to}
 use Rattle.mstore.proofs.Maps.{lookup_has, lookup_none, at_itself}

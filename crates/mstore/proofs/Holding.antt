@@ -1,6 +1,8 @@
 -- SPDX-License-Identifier: Apache-2.0
 -- What rows hold are nodes of a store, with texts that they may have.
-use Rattle.mstore.proofs.Words.{◌≡◌, List, [], ◌∷◌, length, All, refl, sym, ◌∙◌, subst, inl, inr, arith, entries, empty, entries-insert, len-entries, len-empty, node_of, Node, node_cmp, significant_digits, IsStored, node_cmp_total, Row, Has, Ghosts, Held, state, stored, IsHeld, AreHeld, globals_by, IsInForm, key_of, value_of, Text, IsStore}
+use Rattle.mstore.proofs.Words.{◌≡◌, List, [], ◌∷◌, length, All, refl, sym, ◌∙◌, subst, inl, inr, arith, entries, empty, entries-insert, len-entries, len-empty}
+use Rattle.mstore.proofs.Words.{node_of, Node, node_cmp, significant_digits, IsStored, node_cmp_total, Row, Has, Ghosts, Held, state, stored, IsHeld, AreHeld}
+use Rattle.mstore.proofs.Words.{globals_by, IsInForm, key_of, value_of, Text, IsStore}
 use Rattle.mnodes.proofs.Holding.{put_held}
 use Rattle.mstore.proofs.KeyedRows.{node_at}
 

@@ -1,6 +1,9 @@
 -- SPDX-License-Identifier: Apache-2.0
 -- What an opening takes from two files, what a closing leaves in them, and that the one finds what the other left.
-use Rattle.mstore.proofs.Words.{ℕ, arith, ◌≡◌, ◌∙◌, pos, List, [], ◌∷◌, refl, sym, ap, subst, inl, inr, length, Value, Int, Row, column, Has, Trees, Database, IsDatabase, Held, State, IsLive, Opens, GivesVersion, HasVersion, IsStore, globals_in, globals_by, key_of, value_of, old_version, this_version, no_schema, schema, node, stored, Bool, true, false, if◌then◌else◌, IsTrue, TableOver, doubt_of, table_doubt}
+use Rattle.mstore.proofs.Words.{ℕ, arith, ◌≡◌, ◌∙◌, pos, List, [], ◌∷◌, refl, sym, ap, subst, inl, inr, length, Value, Int, Row, column, Has, Trees, Database}
+use Rattle.mstore.proofs.Words.{IsDatabase, Held, State, IsLive, Opens, GivesVersion, HasVersion, IsStore, globals_in, globals_by, key_of, value_of}
+use Rattle.mstore.proofs.Words.{old_version, this_version, no_schema, schema, node, stored, Bool, true, false, if◌then◌else◌, IsTrue, TableOver, doubt_of}
+use Rattle.mstore.proofs.Words.{table_doubt}
 use Rattle.std.proofs.Math.Logic.{∥∥₁_elim}
 use Rattle.std.specs.List.{AllZip}
 use Rattle.sqlite_disk.specs.declared.Disk as disk

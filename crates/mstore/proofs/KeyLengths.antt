@@ -1,6 +1,7 @@
 -- SPDX-License-Identifier: Apache-2.0
 -- How long a key is at most.
-use Rattle.mstore.proofs.Words.{arith, ◌≡◌, ◌≤◌, ℕ, ℤ, List, [], ◌∷◌, length, Option, Some, None, subst, All, All-head, All-tail, IsKey, key_bytes, Text, significant_digits}
+use Rattle.mstore.proofs.Words.{arith, ◌≡◌, ◌≤◌, ℕ, ℤ, List, [], ◌∷◌, length, Option, Some, None, subst, All, All-head, All-tail, IsKey, key_bytes, Text}
+use Rattle.mstore.proofs.Words.{significant_digits}
 use Rattle.std.proofs.lemmas.List.{length-append}
 use Rattle.std.specs.Prelude.{◌*◌}
 use Rattle.mspec.specs.KeyBytes.{IsSubscript, text_bytes, number_bytes, raised, subscript_by, subscript_bytes, subscripts_bytes, local_bytes}

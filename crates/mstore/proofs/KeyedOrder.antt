@@ -1,6 +1,11 @@
 -- SPDX-License-Identifier: Apache-2.0
 -- The first and the last key of rows within bounds, as those of the globals that the rows hold.
-use Rattle.mstore.proofs.Words.{ℕ, ◌≡◌, ◌⊎◌, inl, inr, Bool, true, false, cond, ◌&&◌, Option, Some, None, option_map, is_some, List, [], ◌∷◌, map, length, reverse, refl, sym, ◌∙◌, ap, subst, arith, Ordering, Less, Equal, Greater, and_parts, option_or, AllByRecursion, eq_by_cmp, ordering_reverse, eq_by_cmp_equiv, Equal-is, slice_cmp, nat_list_cmp_total, nat_cmp-IsAntisymmetric, slice_cmp-IsAntisymmetric, len-entries, len-empty, entries, entries_sorted, entries-insert, get-entries, empty, reverse-append, find-append, Node, significant_digits, node_cmp, NoneEmpty, node_of, Globals, keys_of, is_between, node_cmp_total, key_order, IsKey, none_empty, ShowsBytes, is_below, is_nearer, lookup_by, globals_by, AreKeyed, step_key, Text}
+use Rattle.mstore.proofs.Words.{ℕ, ◌≡◌, ◌⊎◌, inl, inr, Bool, true, false, cond, ◌&&◌, Option, Some, None, option_map, is_some, List, [], ◌∷◌, map, length}
+use Rattle.mstore.proofs.Words.{reverse, refl, sym, ◌∙◌, ap, subst, arith, Ordering, Less, Equal, Greater, and_parts, option_or, AllByRecursion, eq_by_cmp}
+use Rattle.mstore.proofs.Words.{ordering_reverse, eq_by_cmp_equiv, Equal-is, slice_cmp, nat_list_cmp_total, nat_cmp-IsAntisymmetric, slice_cmp-IsAntisymmetric}
+use Rattle.mstore.proofs.Words.{len-entries, len-empty, entries, entries_sorted, entries-insert, get-entries, empty, reverse-append, find-append, Node}
+use Rattle.mstore.proofs.Words.{significant_digits, node_cmp, NoneEmpty, node_of, Globals, keys_of, is_between, node_cmp_total, key_order, IsKey, none_empty}
+use Rattle.mstore.proofs.Words.{ShowsBytes, is_below, is_nearer, lookup_by, globals_by, AreKeyed, step_key, Text}
 use Rattle.mnodes.proofs.SortedEntries.{from_T}
 use Rattle.std.specs.Prelude.{⊤, T, IsSome}
 use Rattle.std.specs.List.{find}

@@ -1,6 +1,11 @@
 -- SPDX-License-Identifier: Apache-2.0
 -- What calls do to rows by their keys, they do to the globals that the rows hold.
-use Rattle.mstore.proofs.Words.{ℕ, ◌≡◌, ◌≢◌, ◌<◌, ◌⊎◌, inl, inr, Bool, true, false, cond, not, Some, None, List, [], ◌∷◌, map, length, refl, sym, ◌∙◌, ap, subst, arith, and_parts, and_from, eq_by_cmp, IsTotalOrder, eq_by_cmp_equiv, Equal-is, both_ways, slice_cmp, get, get-from_entries, get-insert, get-retain_keys, same_map, All-head, All-tail, All-cons, All-nil, Node, significant_digits, node_cmp, key_bytes, subtree_end, NoneEmpty, node_of, Globals, is_node_within, without_subtree, node_cmp_total, node_cmp_exact, key_order, keys_are_injective, subtrees_are_ranges, keys_are_read, IsKey, none_empty, PutsAt, RemovesWithin, in_bounds, lookup_by, globals_by, AreKeyed, insert, Text}
+use Rattle.mstore.proofs.Words.{ℕ, ◌≡◌, ◌≢◌, ◌<◌, ◌⊎◌, inl, inr, Bool, true, false, cond, not, Some, None, List, [], ◌∷◌, map, length, refl, sym, ◌∙◌, ap}
+use Rattle.mstore.proofs.Words.{subst, arith, and_parts, and_from, eq_by_cmp, IsTotalOrder, eq_by_cmp_equiv, Equal-is, both_ways, slice_cmp, get}
+use Rattle.mstore.proofs.Words.{get-from_entries, get-insert, get-retain_keys, same_map, All-head, All-tail, All-cons, All-nil, Node, significant_digits}
+use Rattle.mstore.proofs.Words.{node_cmp, key_bytes, subtree_end, NoneEmpty, node_of, Globals, is_node_within, without_subtree, node_cmp_total, node_cmp_exact}
+use Rattle.mstore.proofs.Words.{key_order, keys_are_injective, subtrees_are_ranges, keys_are_read, IsKey, none_empty, PutsAt, RemovesWithin, in_bounds}
+use Rattle.mstore.proofs.Words.{lookup_by, globals_by, AreKeyed, insert, Text}
 use Rattle.mnodes.proofs.SortedEntries.{less}
 use Rattle.mnodes.proofs.Subtrees.{told_within, within_told}
 use Rattle.std.specs.Ordering.{nat_cmp, is_eq, is_lt, is_le}

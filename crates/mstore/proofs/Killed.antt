@@ -1,6 +1,8 @@
 -- SPDX-License-Identifier: Apache-2.0
 -- A statement that removes a range of keys is never refused.
-use Rattle.mstore.proofs.Words.{arith, ◌≡◌, ◌≢◌, ℕ, pos, List, [], ◌∷◌, Option, Some, None, Result, Ok, Err, IsTrue, refl, subst, inl, inr, Row, Blob, Error, IsDatabase, Does, mode_of, Deletes, Executes, State, AreRows, Given, ids_of, edit_of, without_all, node, schema, Kill, sql, statement_of, understood, all_from}
+use Rattle.mstore.proofs.Words.{arith, ◌≡◌, ◌≢◌, ℕ, pos, List, [], ◌∷◌, Option, Some, None, Result, Ok, Err, IsTrue, refl, subst, inl, inr, Row, Blob, Error}
+use Rattle.mstore.proofs.Words.{IsDatabase, Does, mode_of, Deletes, Executes, State, AreRows, Given, ids_of, edit_of, without_all, node, schema, Kill, sql}
+use Rattle.mstore.proofs.Words.{statement_of, understood, all_from}
 use Rattle.mstore.proofs.Texts.{kill_is, kill_command, kill_query, program, in_range}
 use Rattle.mstore.proofs.Writes.{task}
 use Rattle.mstore.proofs.Causes.{IsLack, change_is, reads_all}
@@ -11,6 +13,7 @@ use Rattle.mnodes.specs.declared.store.StoreFault.TheVariants.{Store}
 use Rattle.mstore.specs.Statements.{IsRefusal}
 use Rattle.sqlite_catalog.specs.Listing.{IsSound}
 use Rattle.sqlite_rules.proofs.TableLemmas.{without_all_has}
+use Rattle.sqlite_rules.specs.declared.error.Refusal.{Refusal}
 use Rattle.sqlite_trees.specs.Tree.{with_tree}
 use Rattle.sqlite.specs.Does.{Concludes}
 use Rattle.sqlite.specs.Rows.{Then}
@@ -25,9 +28,12 @@ module _ {F : List ℕ → List ℕ → Type 0} (old : State) (has : old.now.sch
   abbrev rows : List Row
   rows = old.now.trees 0
 
-  wants : (s : Option Error) → Wants ⊥ s → ⊥
+  abbrev Never : Refusal → Type 0
+  Never why = ⊥
+
+  wants : (s : Option Error) → Wants Never s → ⊥
   wants None h = h
-  wants (Some e) h = h
+  wants (Some e) h = h.2
 
   listed : IsSound schema old.now.trees
   listed = subst (λ s. IsSound s old.now.trees) has sound
@@ -39,9 +45,9 @@ module _ {F : List ℕ → List ℕ → Type 0} (old : State) (has : old.now.sch
   stops s (inl (stop, inr (asked, answer, inl (why, edited, again)), same)) =
       let ids = ids_of asked in
       let left = without_all rows ids in
-      wants why (edit_stops ⊥ old.now.trees (edit_of old.now.trees node ids Given 0 []) refl
-      (refusal_is ⊥ old.now.trees (edit_of old.now.trees node ids Given 0 []) refl (pos 0) [] [] (λ x h. absurd h) refl
-      (unique_in left (fewer rows left nodes (λ r h. without_all_has ids rows r h)) old.now.trees (with_tree old.now.trees 0 left) refl refl listed) (λ unfit. absurd cc))
+      wants why (edit_stops Never old.now.trees (edit_of old.now.trees node ids Given 0 []) refl
+      (refusal_is Never old.now.trees (edit_of old.now.trees node ids Given 0 []) refl (pos 0) [] [] (λ x h. absurd h) refl
+      (λ broken. broken (unique_in left (fewer rows left nodes (λ r h. without_all_has ids rows r h)) old.now.trees (with_tree old.now.trees 0 left) refl refl listed)) (λ unfit. absurd cc))
       (λ row h big. h) why edited)
   stops s (inl (stop, inr (asked, answer, inr (next, edited, gives)), same)) = absurd cc
   stops s (inr (w, wrote, inl (stop, tested, same))) = tested.0 (all_from _ (w.trees 0) (λ row h. refl), (all_from _ (w.trees 2) (λ row h. refl), tt))
@@ -57,13 +63,15 @@ module _ {F : List ℕ → List ℕ → Type 0} (old : State) (has : old.now.sch
   abbrev text : List ℕ
   text = statement_of (sql Kill) (understood schema (sql Kill))
 
-  pub kill_causes : (new : State) → IsTrue old.is_open → (MoreFaults old.faults new.faults → ⊥) → (e : Error) → Executes (sql Kill) params old new (Err e) → IsLack e
+  pub kill_causes : (new : State) → IsTrue old.is_open → (MoreFaults old.faults new.faults → ⊥) → (e : Error) → Executes (sql Kill) params old new (Err e)
+      → IsLack e
   kill_causes new was_open none e h = elim (change_is old new was_open none (sql Kill) params schema has (kill_takes low high) kill_command kill_is.0 kill_is.1 kill_changes placed (kill_stops text None) e h) [
     | inl lack ↦ lack
     | inr does ↦ absurd (kill_stops text (Some e) does.0)
   ]
 
 -- what the code makes of it
-pub undone : {U : Type 0} (count : Result ℕ Error) (result : Result U StoreFault) → ((e : Error) → count ≡ Err e → IsLack e) → (result ≡ Err Store → IsRefusal count) → result ≢ Err Store
+pub undone : {U : Type 0} (count : Result ℕ Error) (result : Result U StoreFault) → ((e : Error) → count ≡ Err e → IsLack e)
+    → (result ≡ Err Store → IsRefusal count) → result ≢ Err Store
 undone (Ok n) result causes refusal h = refusal h
 undone (Err e) result causes refusal h = refusal h (causes e refl)

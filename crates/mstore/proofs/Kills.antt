@@ -1,6 +1,8 @@
 -- SPDX-License-Identifier: Apache-2.0
 -- What `kill` takes out.
-use Rattle.mstore.proofs.Words.{◌≡◌, ℕ, ℤ, true, List, [], ◌∷◌, Ok, refl, sym, ap, subst, ◌∙◌, Null, Blob, Row, col, Written, Database, IsAnswer, overlay, Enforced, Given, rowid, Has, id_in, without_all, ids_of, State, Executes, runs_as, one_step, node, schema, IsIdle, in_bounds, RemovesWithin, AreRows, lookup, Kill, sql, Trees, edit_of}
+use Rattle.mstore.proofs.Words.{◌≡◌, ℕ, ℤ, true, List, [], ◌∷◌, Ok, refl, sym, ap, subst, ◌∙◌, Null, Blob, Row, col, Written, Database, IsAnswer, overlay}
+use Rattle.mstore.proofs.Words.{Enforced, Given, rowid, Has, id_in, without_all, ids_of, State, Executes, runs_as, one_step, node, schema, IsIdle, in_bounds}
+use Rattle.mstore.proofs.Words.{RemovesWithin, AreRows, lookup, Kill, sql, Trees, edit_of}
 use Rattle.std.proofs.Common.{true≢false}
 use Rattle.mstore.proofs.Texts.{kill_is, kill_command, kill_query, program, in_range}
 use Rattle.mstore.proofs.Answer.{rows_from, rows_to, has_mapped, mapped_has}

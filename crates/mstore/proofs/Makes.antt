@@ -1,6 +1,10 @@
 -- SPDX-License-Identifier: Apache-2.0
 -- How the tables are made.
-use Rattle.mstore.proofs.Words.{◌≡◌, ℕ, pos, true, false, List, [], ◌∷◌, codes, None, Ok, refl, sym, ap, ap₂, subst, ◌∙◌, inl, inr, arith, Null, Int, Row, lit, Source, CreateTable, Insert, Enforced, Chosen, Tally, Does, lacks_sequence, Written, Database, State, mode_of, Opens, Writes, Executes, IsPlain, command_of, statement_of, runs_as, one_step, put_all_adds, put_all_has, Has, Values, over_memory, everything, understood, node, meta, schema, no_schema, version_name, this_version, IsBare, IsBlank, IsMemory, IsOneVersion, GivesVersion, key_of, value_of, globals_by, empty, no_doubt, NodeTable, MetaTable, Version, sql, Trees}
+use Rattle.mstore.proofs.Words.{◌≡◌, ℕ, pos, true, false, List, [], ◌∷◌, codes, None, Ok, refl, sym, ap, ap₂, subst, ◌∙◌, inl, inr, arith, Null, Int, Row, lit}
+use Rattle.mstore.proofs.Words.{Source, CreateTable, Insert, Enforced, Chosen, Tally, Does, lacks_sequence, Written, Database, State, mode_of, Opens, Writes}
+use Rattle.mstore.proofs.Words.{Executes, IsPlain, command_of, statement_of, runs_as, one_step, put_all_adds, put_all_has, Has, Values, over_memory, everything}
+use Rattle.mstore.proofs.Words.{understood, node, meta, schema, no_schema, version_name, this_version, IsBare, IsBlank, IsMemory, IsOneVersion, GivesVersion}
+use Rattle.mstore.proofs.Words.{key_of, value_of, globals_by, empty, no_doubt, NodeTable, MetaTable, Version, sql, Trees}
 use Rattle.sqlite.specs.declared.types.Value.TheVariants.{Text}
 use Rattle.sqlite.specs.Table.{Table}
 use Rattle.sqlite.specs.Edit.{edit_of, numbered, next_rowid, put_all}

@@ -1,6 +1,7 @@
 -- SPDX-License-Identifier: Apache-2.0
 -- The map that the rows are.
-use Rattle.mstore.proofs.Words.{◌≡◌, ◌≢◌, ℕ, Bool, cond, true, false, List, [], ◌∷◌, option_map, Option, Some, None, refl, sym, ap, subst, ◌∙◌, inl, inr, Row, Has, has_found, same_bytes, bytes_eq_refl, AreRows, lookup, is_at, key_of, value_of}
+use Rattle.mstore.proofs.Words.{◌≡◌, ◌≢◌, ℕ, Bool, cond, true, false, List, [], ◌∷◌, option_map, Option, Some, None, refl, sym, ap, subst, ◌∙◌, inl, inr, Row}
+use Rattle.mstore.proofs.Words.{Has, has_found, same_bytes, bytes_eq_refl, AreRows, lookup, is_at, key_of, value_of}
 use Rattle.std.proofs.Common.{find, true≢false}
 
 pub at_itself : (r : Row) (k : List ℕ) → key_of r ≡ k → is_at k r ≡ true

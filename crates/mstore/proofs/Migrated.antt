@@ -1,6 +1,11 @@
 -- SPDX-License-Identifier: Apache-2.0
 -- A store of version 1 whose rows have all been moved.
-use Rattle.mstore.proofs.Words.{arith, ◌≡◌, ℕ, true, false, List, [], ◌∷◌, drop, map, Option, Some, refl, sym, ap, ap₂, subst, ◌∙◌, inl, inr, OnErr, Result, IsTrue, Value, Blob, Row, column, Has, all_from, Ghosts, Database, Held, state, Error, State, Shows, IsRolledBack, FailsToCommit, Node, significant_digits, key_bytes, IsStored, IsKey, old_digits, none_empty, globals_by, AreKeyed, HoldBy, AreRows, AreNodes, IsNode, IsInForm, IsInFormBy, IsValue, key_of, value_of, lookup, shown_of, version_name, old_version, IsStore, IsUntouched, IsMigrated, HasVersion, OnlyGives, Int, ℤ, this_version, ShowsAll, content, IsAny, IsWorking, IsMoving, IsOldStore, ShowContent}
+use Rattle.mstore.proofs.Words.{arith, ◌≡◌, ℕ, true, false, List, [], ◌∷◌, drop, map, Option, Some, refl, sym, ap, ap₂, subst, ◌∙◌, inl, inr, OnErr, Result}
+use Rattle.mstore.proofs.Words.{IsTrue, Value, Blob, Row, column, Has, all_from, Ghosts, Database, Held, state, Error, State, Shows, IsRolledBack}
+use Rattle.mstore.proofs.Words.{FailsToCommit, Node, significant_digits, key_bytes, IsStored, IsKey, old_digits, none_empty, globals_by, AreKeyed, HoldBy}
+use Rattle.mstore.proofs.Words.{AreRows, AreNodes, IsNode, IsInForm, IsInFormBy, IsValue, key_of, value_of, lookup, shown_of, version_name, old_version}
+use Rattle.mstore.proofs.Words.{IsStore, IsUntouched, IsMigrated, HasVersion, OnlyGives, Int, ℤ, this_version, ShowsAll, content, IsAny, IsWorking, IsMoving}
+use Rattle.mstore.proofs.Words.{IsOldStore, ShowContent}
 use Rattle.mstore.proofs.Answer.{has_mapped, mapped_has}
 use Rattle.mstore.proofs.Holding.{rows_held}
 use Rattle.mstore.proofs.KeyedRows as keyed_rows
@@ -17,7 +22,7 @@ same_bytes a b e = cc
 shown_is : (r : Row) → IsNode r → drop 1 (shown_of r) ≡ Blob (key_of r) ∷ Blob (value_of r) ∷ []
 shown_is r node = ap₂ (λ a b. a ∷ b ∷ []) (key_column r node) (value_column r node)
 
--- what the rows show behind their rowids is what the map has
+-- what the rows show after their rowids is what the map has
 pub shows_content : (s : State) (rows : List Row) → IsOldStore s → ShowsAll s rows → ShowContent (content s) (map (drop 1) rows)
 shows_content s rows was shown = record {
   each = λ k v e.

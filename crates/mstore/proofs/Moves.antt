@@ -1,6 +1,9 @@
 -- SPDX-License-Identifier: Apache-2.0
 -- Rows that go from their keys by fifteen digits to those of this version.
-use Rattle.mstore.proofs.Words.{arith, ◌≡◌, ◌≢◌, ◌⊎◌, ℕ, suc, true, List, [], ◌∷◌, Option, Some, None, sym, ap, subst, ◌∙◌, inl, inr, drop-cons, ◌+◌, ◌<◌, length, drop, map, get_or, add-one, cases_Bool, slice_cmp, Blob, Row, Has, same_bytes, bytes_eq_refl, has_at, State, Node, significant_digits, key_bytes, IsStored, node_of, keys_are_read, IsKeyBy, old_digits, Content, content, MovesKey, MovesRow, IsMoving, ShowContent, true≢false}
+use Rattle.mstore.proofs.Words.{arith, ◌≡◌, ◌≢◌, ◌⊎◌, ℕ, suc, true, List, [], ◌∷◌, Option, Some, None, sym, ap, subst, ◌∙◌, inl, inr, drop-cons, ◌+◌, ◌<◌}
+use Rattle.mstore.proofs.Words.{length, drop, map, get_or, add-one, cases_Bool, slice_cmp, Blob, Row, Has, same_bytes, bytes_eq_refl, has_at, State, Node}
+use Rattle.mstore.proofs.Words.{significant_digits, key_bytes, IsStored, node_of, keys_are_read, IsKeyBy, old_digits, Content, content, MovesKey, MovesRow}
+use Rattle.mstore.proofs.Words.{IsMoving, ShowContent, true≢false}
 use Rattle.std.proofs.Common.{is_eq, nat_cmp}
 use Rattle.mstore.proofs.Answer.{mapped_has}
 

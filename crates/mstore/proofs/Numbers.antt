@@ -1,11 +1,14 @@
 -- SPDX-License-Identifier: Apache-2.0
 -- What statements do to the numbers of rows: a put gives at most one more, and nothing else gives any.
-use Rattle.mstore.proofs.Words.{arith, ◌≡◌, ◌∙◌, ◌≤◌, ◌<◌, ◌+◌, ℕ, ℤ, pos, Bool, true, false, not, ◌&&◌, ◌||◌, List, [], ◌∷◌, Result, Ok, Err, IsTrue, refl, sym, ap, subst, inl, inr, true≢false, cases_Bool, Row, Blob, Error, Database, State, Executes, IsStore, Has, id_in, rowid, next_rowid, Kill, Put, sql}
-use Rattle.std.proofs.Common.{fold, ◌+ℤ◌, ◌^◌, nat_lt, if◌then◌else◌}
+use Rattle.mstore.proofs.Words.{arith, ◌≡◌, ◌∙◌, ◌≤◌, ◌+◌, ℕ, ℤ, pos, Bool, true, not, ◌&&◌, ◌||◌, List, [], ◌∷◌, Result, Ok, Err, IsTrue, refl, sym, ap, subst}
+use Rattle.mstore.proofs.Words.{inl, inr, true≢false, cases_Bool, Row, Blob, Error, Database, State, Executes, IsStore, Has, id_in, rowid, next_rowid, Add}
+use Rattle.mstore.proofs.Words.{Kill, Replace, sql}
+use Rattle.std.proofs.Common.{fold, ◌+ℤ◌, nat_lt, if◌then◌else◌}
 use Rattle.sqlite_sql.specs.Ops.{fits_i64}
 use Rattle.mstore.specs.Room.{AreCounted, AreUpTo, counted_on, has_next, is_full, last_number}
-use Rattle.mstore.proofs.Edits.{IsLeft}
-use Rattle.mstore.proofs.Puts.{IsPut, puts}
+use Rattle.mstore.proofs.Adds.{adds}
+use Rattle.mstore.proofs.Puts.{IsPut}
+use Rattle.mstore.proofs.Replaces.{replaces}
 use Rattle.mstore.proofs.Kills.{kills}
 use Rattle.mstore.proofs.States.{failed_execute_stays}
 
@@ -41,9 +44,16 @@ module _ (old new : State) (was : IsStore old) (is_open : IsTrue new.is_open) (n
   failed : (s : List ℕ) (params : Row) (e : Error) → Executes s params old new (Err e) → AreUpTo n (new.now.trees 0)
   failed s params e h = subst (λ (d : Database). AreUpTo n (d.trees 0)) (sym (failed_execute_stays old new was.calm.idle is_open s params e h).same) up
 
-  pub put_counts : (k v : List ℕ) (count : Result ℕ Error) → Executes (sql Put) (Blob k ∷ Blob v ∷ []) old new count → AreUpTo (n + 1) (new.now.trees 0)
-  put_counts k v (Ok count) h = put_up _ _ k v n (puts old was.calm.schema_is was.nodes k v new count h).2 up
-  put_counts k v (Err e) h = λ r has. one_up n _ (failed (sql Put) (Blob k ∷ Blob v ∷ []) e h r has)
+  pub add_counts : (k v : List ℕ) (count : Result ℕ Error) → Executes (sql Add) (Blob k ∷ Blob v ∷ []) old new count → AreUpTo (n + 1) (new.now.trees 0)
+  add_counts k v (Ok count) h = put_up _ _ k v n (adds old was.calm.schema_is was.nodes k v new count h).2 up
+  add_counts k v (Err e) h = λ r has. one_up n _ (failed (sql Add) (Blob k ∷ Blob v ∷ []) e h r has)
+
+  pub replace_counts : (k v : List ℕ) (count : Result ℕ Error) → Executes (sql Replace) (Blob k ∷ Blob v ∷ []) old new count → AreUpTo (n + 1) (new.now.trees 0)
+  replace_counts k v (Ok count) h = elim (replaces old was.calm.schema_is was.nodes k v new count h).2 [
+    | inl put ↦ put_up _ _ k v n put.0 up
+    | inr none ↦ λ r has. one_up n _ (up r (subst (λ l. Has l r) none.0 has))
+  ]
+  replace_counts k v (Err e) h = λ r has. one_up n _ (failed (sql Replace) (Blob k ∷ Blob v ∷ []) e h r has)
 
   pub kill_counts : (low high : List ℕ) (count : Result ℕ Error) → Executes (sql Kill) (Blob low ∷ Blob high ∷ []) old new count → AreUpTo n (new.now.trees 0)
   kill_counts low high (Ok count) h = λ r has. up r ((kills old was.calm.schema_is was.nodes low high new count h).2.was r has).0

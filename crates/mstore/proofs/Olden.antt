@@ -1,6 +1,8 @@
 -- SPDX-License-Identifier: Apache-2.0
 -- A store of version 1 whose rows were read.
-use Rattle.mstore.proofs.Words.{arith, ◌∙◌, Result, OnErr, List, ap, subst, sym, HoldBy, globals_in, Row, column, Database, Held, state, State, IsLive, Ghosts, old_digits, AreRows, IsInFormBy, IsTrue, IsDatabase, AreNumbered, OnlyGives, IsIdle, IsCalm, IsUntouched, IsMigrated, HasVersion, old_version, Stays, ShowsAll, ShowsNodesBy, IsOldCalm, IsOldStore}
+use Rattle.mstore.proofs.Words.{arith, ◌∙◌, Result, OnErr, List, ap, subst, sym, HoldBy, globals_in, Row, column, Database, Held, state, State, IsLive, Ghosts}
+use Rattle.mstore.proofs.Words.{old_digits, AreRows, IsInFormBy, IsTrue, IsDatabase, AreNumbered, OnlyGives, IsIdle, IsCalm, IsUntouched, IsMigrated}
+use Rattle.mstore.proofs.Words.{HasVersion, old_version, Stays, ShowsAll, ShowsNodesBy, IsOldCalm, IsOldStore}
 use Rattle.mstore.proofs.Adopts.{nodes_from}
 use Rattle.mstore.proofs.States.{stays_calm}
 

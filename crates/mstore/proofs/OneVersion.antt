@@ -1,6 +1,7 @@
 -- SPDX-License-Identifier: Apache-2.0
 -- No two rows give a version, where each that does shows the same.
-use Rattle.mstore.proofs.Words.{◌≡◌, ℕ, ℤ, true, List, [], ◌∷◌, arith, drop, None, sym, ◌∙◌, inl, inr, refl, subst, IsTrue, and_parts, Int, Row, column, Ghosts, Has, IsDatabase, Held, state, schema, IsLive, OnlyGives, GivesVersion, HasVersion, IsOneVersion, version_name}
+use Rattle.mstore.proofs.Words.{◌≡◌, ℕ, ℤ, true, List, [], ◌∷◌, arith, drop, None, sym, ◌∙◌, inl, inr, refl, subst, IsTrue, and_parts, Int, Row, column, Ghosts}
+use Rattle.mstore.proofs.Words.{Has, IsDatabase, Held, state, schema, IsLive, OnlyGives, GivesVersion, HasVersion, IsOneVersion, version_name}
 use Rattle.sqlite.specs.declared.types.Value.TheVariants.{Text}
 use Rattle.sqlite_schema.specs.declared.schema.Constraint.TheVariants.{Datatype}
 use Rattle.sqlite_schema.specs.Rules.{are_typed}

@@ -1,6 +1,12 @@
 -- SPDX-License-Identifier: Apache-2.0
 -- What `put` writes.
-use Rattle.mstore.proofs.Words.{◌≡◌, ◌≢◌, ◌⊎◌, ℕ, ℤ, Bool, true, false, ◌&&◌, ◌||◌, List, [], ◌∷◌, map, drop, Option, Some, None, Ok, refl, sym, ap, ap₂, arith, int_eq, subst, ◌∙◌, inl, inr, false_from_ne_true, and_parts, not-true, Value, Null, Int, Blob, Row, column, Binary, col, is_true, Compare, Eq, Written, Puts, Updates, Upserts, Tries, TriesEach, Clears, Meets, Judged, count_of, nothing, first_key-plain, Key, given, Database, IsAnswer, overlay, Integer, cast, cast_row, Enforced, Abort, Given, Chosen, rowid, Has, id_in, without_all, are_fresh, is_taken, with_rowid, ids_of, put_all_has, put_all_keeps, put_all_adds, at_ints, at_blobs, last_term, same_bytes, State, Executes, runs_as, one_step, binary, ints, node, schema, IsIdle, PutsAt, AreRows, IsNode, key_of, value_of, lookup, is_at, Put, sql, true≢false, Trees, next_rowid, put_all, edit_of}
+use Rattle.mstore.proofs.Words.{◌≡◌, ◌≢◌, ◌⊎◌, ℕ, ℤ, Bool, true, false, ◌&&◌, ◌||◌, List, [], ◌∷◌, map, drop, Option, Some, None, Ok, refl, sym, ap, ap₂, arith}
+use Rattle.mstore.proofs.Words.{int_eq, subst, ◌∙◌, inl, inr, false_from_ne_true, and_parts, not-true, Value, Null, Int, Blob, Row, column, Binary, col}
+use Rattle.mstore.proofs.Words.{is_true, Compare, Eq, Written, Puts, Updates, Upserts, Tries, TriesEach, Clears, Meets, Judged, count_of, nothing}
+use Rattle.mstore.proofs.Words.{first_key-plain, Key, given, Database, IsAnswer, overlay, Integer, cast, cast_row, Enforced, Abort, Given, Chosen, rowid, Has}
+use Rattle.mstore.proofs.Words.{id_in, without_all, are_fresh, is_taken, with_rowid, ids_of, put_all_has, put_all_keeps, put_all_adds, at_ints, at_blobs}
+use Rattle.mstore.proofs.Words.{last_term, same_bytes, State, Executes, runs_as, one_step, binary, ints, node, schema, IsIdle, PutsAt, AreRows, IsNode, key_of}
+use Rattle.mstore.proofs.Words.{value_of, lookup, is_at, Put, sql, true≢false, Trees, next_rowid, put_all, edit_of}
 use Rattle.sqlite_rules.specs.declared.error.Refusal.{Refusal}
 use Rattle.sqlite_rules.specs.Keys.{conflicts, AreConflicts}
 use Rattle.mstore.proofs.Texts.{put_is, put_command, put_query, put_clauses, put_source, program, at_rowid}

@@ -1,6 +1,8 @@
 -- SPDX-License-Identifier: Apache-2.0
 -- What there is from a key on and before the bytes that come next after it: the key alone.
-use Rattle.mstore.proofs.Words.{◌≡◌, ◌≢◌, ◌⊎◌, ◌<◌, ℕ, true, false, List, [], ◌∷◌, ◌++◌, refl, sym, ap, subst, ◌∙◌, inl, inr, arith, Equal, Greater, and_parts, and_from, false_from_ne_true, cases_order, nat_cmp_is, slice_cmp, ordering_then, Content, in_bounds, PutsAt, RemovesWithin, MovesKey, true≢false, is_lt, is_le}
+use Rattle.mstore.proofs.Words.{◌≡◌, ◌≢◌, ◌⊎◌, ◌<◌, ℕ, true, false, List, [], ◌∷◌, ◌++◌, refl, sym, ap, subst, ◌∙◌, inl, inr, arith, Equal, Greater, and_parts}
+use Rattle.mstore.proofs.Words.{and_from, false_from_ne_true, cases_order, nat_cmp_is, slice_cmp, ordering_then, Content, in_bounds, PutsAt, RemovesWithin}
+use Rattle.mstore.proofs.Words.{MovesKey, true≢false, is_lt, is_le}
 use Rattle.std.proofs.Common.{nat_cmp}
 use Rattle.mspec.proofs.KeyRanges.{same_bytes}
 

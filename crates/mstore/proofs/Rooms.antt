@@ -1,6 +1,7 @@
 -- SPDX-License-Identifier: Apache-2.0
 -- What is known of a table over a store without faults, if it has room after a call.
-use Rattle.mstore.proofs.Words.{◌≡◌, ◌∙◌, Bool, true, sym, None, List, [], ◌∷◌, ℕ, Some, IsTrue, true≢false, not-true, and_parts, Row, Blob, Ghosts, Held, state, IsStore, IsValue, ShowsValue, doubt_of, holds, subst, State, inl, inr}
+use Rattle.mstore.proofs.Words.{◌≡◌, Bool, true, sym, None, List, [], ◌∷◌, ℕ, Some, IsTrue, and_parts, Row, Blob, Ghosts, Held, state, IsStore, IsValue}
+use Rattle.mstore.proofs.Words.{ShowsValue, doubt_of, holds, subst, State, inl, inr}
 use Rattle.mstore.specs.Database.{IsOpenedFrom, node_rows}
 use Rattle.std.specs.Prelude.{◌+◌, ◌&&◌, nat_lt}
 use Rattle.mstore.specs.Room.{AreCounted, AreUpTo, IsFaultless, is_full, last_number}
@@ -9,13 +10,15 @@ use Rattle.mstore.proofs.Doubting.{memory_is_sure}
 use Rattle.mstore.proofs.Maps.{lookup_some}
 
 -- a store is one whatever its limit on steps
-pub unlimited_store : {S : Type 0} (g : Ghosts S) (old new : Held S) → new ≡ record old { step_limit = None } → (doubt_of g old ≡ 0 → IsStore (state g old)) → doubt_of g new ≡ 0 → IsStore (state g new)
+pub unlimited_store : {S : Type 0} (g : Ghosts S) (old new : Held S) → new ≡ record old { step_limit = None } → (doubt_of g old ≡ 0 → IsStore (state g old))
+    → doubt_of g new ≡ 0 → IsStore (state g new)
 unlimited_store g old new is was = subst (λ h. doubt_of g h ≡ 0 → IsStore (state g h)) (sym is) (λ sure.
     let store = was sure in
     record { calm = record { idle = record { autocommit = store.calm.idle.autocommit; settled = store.calm.idle.settled }; schema_is = store.calm.schema_is }; version = store.version; nodes = store.nodes })
 
 -- and it was opened as it was
-pub unlimited_opened : {S : Type 0} (g : Ghosts S) (was : State) (old new : Held S) → new ≡ record old { step_limit = None } → (doubt_of g old ≡ 0 → IsOpenedFrom was (state g old)) → doubt_of g new ≡ 0 → IsOpenedFrom was (state g new)
+pub unlimited_opened : {S : Type 0} (g : Ghosts S) (was : State) (old new : Held S) → new ≡ record old { step_limit = None }
+    → (doubt_of g old ≡ 0 → IsOpenedFrom was (state g old)) → doubt_of g new ≡ 0 → IsOpenedFrom was (state g new)
 unlimited_opened g was old new is opened = subst (λ h. doubt_of g h ≡ 0 → IsOpenedFrom was (state g h)) (sym is) (λ sure. elim (opened sure) [
   | inl made ↦ inl made
   | inr (inl same) ↦ inr (inl same)
@@ -33,7 +36,8 @@ module _ {S : Type 0} (g : Ghosts S) (beneath : IsFaultless g) (old new : Held S
   store_is = was.0 alone (memory_is_sure g old beneath.memory)
 
   -- after a put, whose row has the next number at most
-  pub not_full : (numbers' : ℕ) → IsTrue (nat_lt numbers' last_number) → (IsTrue (nat_lt numbers' last_number) → IsTrue (nat_lt numbers last_number) × (numbers' ≡ numbers + 1))
+  pub not_full : (numbers' : ℕ) → IsTrue (nat_lt numbers' last_number)
+      → (IsTrue (nat_lt numbers' last_number) → IsTrue (nat_lt numbers last_number) × (numbers' ≡ numbers + 1))
       → ((n : ℕ) → AreUpTo n (node_rows g old) → AreUpTo (n + 1) (node_rows g new)) → is_full (node_rows g new) ≡ true → ⊥
   not_full numbers' less more up =
       let it = more less in

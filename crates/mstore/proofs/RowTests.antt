@@ -1,6 +1,7 @@
 -- SPDX-License-Identifier: Apache-2.0
 -- What the tests of the statements say of a row.
-use Rattle.mstore.proofs.Words.{arith, ◌≡◌, ℕ, Bool, false, List, [], ◌∷◌, ap, ◌∙◌, Blob, Row, column, Binary, Compare, Eq, is_true, at_blobs, last_term, binary, in_bounds, IsNode, key_of, value_of, is_at}
+use Rattle.mstore.proofs.Words.{arith, ◌≡◌, ℕ, Bool, false, List, [], ◌∷◌, ap, ◌∙◌, Blob, Row, column, Binary, Compare, Eq, is_true, at_blobs, last_term}
+use Rattle.mstore.proofs.Words.{binary, in_bounds, IsNode, key_of, value_of, is_at}
 use Rattle.mstore.proofs.Texts.{at_key, in_range}
 use Rattle.mstore.proofs.Answer.{passes}
 

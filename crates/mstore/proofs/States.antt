@@ -1,6 +1,9 @@
 -- SPDX-License-Identifier: Apache-2.0
 -- What a statement leaves, whatever became of it.
-use Rattle.mstore.proofs.Words.{arith, ◌≡◌, ℕ, false, List, [], Option, Some, None, Result, Ok, Err, IsTrue, sym, ap, subst, ◌∙◌, inl, inr, cases_Bool, Row, Command, Database, RefusesToRead, Error, QueryReturnedNoRows, State, IsUnchanged, FailsToShow, Executes, RunsCommand, ShowsRows, shows_rows, IsPlain, understood, IsNotRun, FailsToQuery, QueriesRow, ExecutesIn, Shown, IsIdle, IsCalm, Stays, IsUntouched, Gives, IfOk, OnErr, OnOk, Statement, is_ok, schema, sql, Value, Has, HasVersion, version_name, column}
+use Rattle.mstore.proofs.Words.{arith, ◌≡◌, ℕ, false, List, [], Option, Some, None, Result, Ok, Err, IsTrue, sym, ap, subst, ◌∙◌, inl, inr, cases_Bool, Row}
+use Rattle.mstore.proofs.Words.{Command, Database, RefusesToRead, Error, QueryReturnedNoRows, State, IsUnchanged, FailsToShow, Executes, RunsCommand, ShowsRows}
+use Rattle.mstore.proofs.Words.{shows_rows, IsPlain, understood, IsNotRun, FailsToQuery, QueriesRow, ExecutesIn, Shown, IsIdle, IsCalm, Stays, IsUntouched}
+use Rattle.mstore.proofs.Words.{Gives, IfOk, OnErr, OnOk, Statement, is_ok, schema, sql, Value, Has, HasVersion, version_name, column}
 use Rattle.mstore.proofs.Texts.{Asks}
 
 pub stays_calm : (old new : State) → IsCalm old → Stays old new → IsCalm new
@@ -67,7 +70,7 @@ not_run_is : (old new : State) (sql : List ℕ) (params : Row) → IsNotRun old 
 unfolding IsNotRun
 not_run_is old new sql params h = grind arith
 
--- no row is told only where the answer has none
+-- no row is given only where the answer has none
 pub no_row_is : (sql : List ℕ) (params : Row) (old new : State) → IsPlain (understood old.now.schema sql) → QueriesRow sql params old new (Err QueryReturnedNoRows) → Shown sql params old new []
 unfolding QueriesRow FailsToQuery
 no_row_is sql params old new plain (inl (inl h)) = absurd (not_run_is old new sql params h)

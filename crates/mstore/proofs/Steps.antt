@@ -1,6 +1,9 @@
 -- SPDX-License-Identifier: Apache-2.0
 -- The first key of a range, and the last.
-use Rattle.mstore.proofs.Words.{◌≡◌, ℕ, suc, ◌<◌, Bool, true, false, List, [], ◌∷◌, length, get_or, map, Option, Some, None, Ok, Err, refl, sym, ap, ap₂, subst, ◌∙◌, inl, inr, arith, IsSorted, sorted_far, ranks_by, Value, Null, Blob, Row, column, Binary, Key, by_key_total, then-Equal, value_cmp-Blob, col, IsAnswer, output, output_cmp, Output, overlay, State, QueryReturnedNoRows, first_as, reads_as, Has, by_key, QueriesRow, schema, IsStore, content, in_bounds, is_nearer, IsNearest, HasNone, key_of, lookup, Step, sql}
+use Rattle.mstore.proofs.Words.{◌≡◌, ℕ, suc, ◌<◌, Bool, true, false, List, [], ◌∷◌, length, get_or, map, Option, Some, None, Ok, Err, refl, sym, ap, ap₂, subst}
+use Rattle.mstore.proofs.Words.{◌∙◌, inl, inr, arith, IsSorted, sorted_far, ranks_by, Value, Null, Blob, Row, column, Binary, Key, by_key_total, then-Equal}
+use Rattle.mstore.proofs.Words.{value_cmp-Blob, col, IsAnswer, output, output_cmp, Output, overlay, State, QueryReturnedNoRows, first_as, reads_as, Has, by_key}
+use Rattle.mstore.proofs.Words.{QueriesRow, schema, IsStore, content, in_bounds, is_nearer, IsNearest, HasNone, key_of, lookup, Step, sql}
 use Rattle.std.proofs.Common.{IsSome, is_lt, IsSortedBy}
 use Rattle.mstore.proofs.Texts.{Asks, step_is, step_query, step_command, in_range}
 use Rattle.mstore.proofs.Answer.{outputs_from, outputs_to, rows_to}

@@ -3,7 +3,8 @@
 use Rattle.std.specs.Prelude.{◌&&◌, nat_lt, if◌then◌else◌}
 use Rattle.mstore.specs.Database.{IsKept, node_rows}
 use Rattle.mstore.specs.Room.{AreCounted, AreUpTo, has_room, last_number}
-use Rattle.mstore.proofs.Words.{arith, ◌≡◌, ◌≤◌, ℕ, Bool, false, IsTrue, subst, sym, ◌∙◌, ap, AreHeld, Doubts, DoubtsStore, Ghosts, Held, state, stored, IsMemory, IsStore, TableOver, doubt_of, table_doubt}
+use Rattle.mstore.proofs.Words.{arith, ◌≡◌, ◌≤◌, ℕ, Bool, false, IsTrue, subst, sym, ◌∙◌, ap, AreHeld, Doubts, DoubtsStore, Ghosts, Held, state, stored}
+use Rattle.mstore.proofs.Words.{IsMemory, IsStore, TableOver, doubt_of, table_doubt}
 use Rattle.mstore.proofs.Doubting.{sure_table, table_doubts}
 use Rattle.mstore.proofs.Holding.{table_held}
 

@@ -1,6 +1,7 @@
 -- SPDX-License-Identifier: Apache-2.0
 -- What `prepare` says of a statement that the columns do not take.
-use Rattle.mstore.proofs.Words.{arith, ◌≡◌, ℕ, List, [], Result, Ok, Err, IsTrue, IfOk, IfErr, Row, Error, SqlInputError, State, IsUnchanged, understood, IsNotRun, IsIdle, Stays}
+use Rattle.mstore.proofs.Words.{arith, ◌≡◌, ℕ, List, [], Result, Ok, Err, IsTrue, IfOk, IfErr, Row, Error, SqlInputError, State, IsUnchanged, understood}
+use Rattle.mstore.proofs.Words.{IsNotRun, IsIdle, Stays}
 use Rattle.sqlite_resolve.specs.declared.error.CompileError.{CompileError}
 use Rattle.mstore.proofs.Doubting.{not_run_open}
 use Rattle.mstore.proofs.States.{unchanged_stays, not_run_stays}

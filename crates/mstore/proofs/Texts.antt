@@ -1,6 +1,9 @@
 -- SPDX-License-Identifier: Apache-2.0
 -- What the statements are compiled to.
-use Rattle.mstore.proofs.Words.{◌≡◌, ℕ, Bool, List, [], ◌∷◌, codes, Ok, refl, pos, negsuc, true, false, Some, None, Query, inner, end, lit, col, op2, Source, Command, Key, Binary, Null, Int, Compare, Eq, Ge, Lt, Abort, Select, InsertOr, Delete, IsPlain, command_of, Upsert, Program, Values, everything, understood, reads_listing, version_name, node, meta, schema, NodeTable, MetaTable, Get, Put, Kill, Which, Each, sql, Statement, Step, Term}
+use Rattle.mstore.proofs.Words.{◌≡◌, ℕ, Bool, List, [], ◌∷◌, codes, Ok, refl, pos, negsuc, true, false, Some, None, Query, inner, end, lit, col, op2, Source}
+use Rattle.mstore.proofs.Words.{Command, Key, Binary, Null, Int, Compare, Eq, Ge, Lt, Abort, Select, Insert, InsertOr, Update, Delete, IsPlain, command_of}
+use Rattle.mstore.proofs.Words.{Upsert, Program, Values, everything, understood, reads_listing, version_name, node, meta, schema, NodeTable, MetaTable, Add}
+use Rattle.mstore.proofs.Words.{Get, Put, Kill, Replace, Which, Each, sql, Statement, Step, Term}
 use Rattle.sqlite.specs.Compile.{table_defined_by}
 
 pub node_is : table_defined_by (sql NodeTable) ≡ Ok node
@@ -70,6 +73,25 @@ put_command = InsertOr 0 Abort put_source put_clauses
 pub put_is : Compiles Put put_command
 unfolding understood everything
 put_is = (refl, (refl, refl))
+
+-- a row of a key that no row has
+abbrev pub add_command : Command
+add_command = Insert 0 put_source
+
+pub add_is : Compiles Add add_command
+unfolding understood everything
+add_is = (refl, (refl, refl))
+
+-- the row of a key with another value
+abbrev pub replace_query : Query
+replace_query = table_query 0 at_key (col 1 0 ∷ col 1 0 ∷ col 1 1 ∷ col 0 1 ∷ []) []
+
+abbrev pub replace_command : Command
+replace_command = Update 0 (program replace_query)
+
+pub replace_is : Compiles Replace replace_command
+unfolding understood everything
+replace_is = (refl, (refl, refl))
 
 abbrev pub kill_query : Query
 kill_query = table_query 0 in_range (col 1 0 ∷ []) []

@@ -1,6 +1,8 @@
 -- SPDX-License-Identifier: Apache-2.0
 -- What the statements do, of the globals that the rows are.
-use Rattle.mstore.proofs.Words.{arith, ◌≡◌, ℕ, Bool, List, [], ◌∷◌, Some, None, Result, Ok, Err, OnOk, sym, ap, subst, ◌∙◌, get, Value, Blob, Row, column, Ghosts, all_from, Held, state, Node, significant_digits, key_bytes, subtree_end, IsStored, without_subtree, IsKey, none_empty, AreKeyed, PutsAt, RemovesWithin, IsNearest, ShowsValue, ShowsKey, key_of, value_of, stored, step_key, insert, IsStore, holds}
+use Rattle.mstore.proofs.Words.{arith, ◌≡◌, ℕ, Bool, List, [], ◌∷◌, Some, None, Result, Ok, Err, OnOk, sym, ap, subst, ◌∙◌, get, Value, Blob, Row, column}
+use Rattle.mstore.proofs.Words.{Ghosts, all_from, Held, state, Node, significant_digits, key_bytes, subtree_end, IsStored, without_subtree, IsKey, none_empty}
+use Rattle.mstore.proofs.Words.{AreKeyed, PutsAt, RemovesWithin, IsNearest, ShowsValue, ShowsKey, key_of, value_of, stored, step_key, insert, IsStore, holds}
 use Rattle.mstore.proofs.KeyedRows as keyed_rows
 use Rattle.mstore.proofs.KeyedOrder as keyed_order
 

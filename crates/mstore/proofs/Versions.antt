@@ -1,6 +1,10 @@
 -- SPDX-License-Identifier: Apache-2.0
 -- The row of the version.
-use Rattle.mstore.proofs.Words.{◌≡◌, ◌≢◌, ◌≤◌, ◌<◌, ◌++◌, ℕ, ℤ, zero, suc, arith, length, Result, Ok, Err, IfOk, OnOk, true, false, List, [], ◌∷◌, codes, Some, None, Option, refl, sym, ap, subst, ◌∙◌, inl, inr, IsTrue, Value, Null, Int, Real, Blob, Row, column, Binary, col, is_true, Compare, Eq, at_texts, last_term, same_bytes, bytes_eq_refl, Database, GivesVersion, OnlyGives, number_of, this_version, old_version, IsAnswer, overlay, Has, Shown, version_name, State, reads_as, value_cmp, binary, and_parts, schema, Which, IsCalm, Stays, ShowsVersion, sql}
+use Rattle.mstore.proofs.Words.{◌≡◌, ◌≢◌, ◌≤◌, ◌<◌, ◌++◌, ℕ, ℤ, zero, suc, arith, length, Result, Ok, Err, IfOk, OnOk, true, false, List, [], ◌∷◌, codes, Some}
+use Rattle.mstore.proofs.Words.{None, Option, refl, sym, ap, subst, ◌∙◌, inl, inr, IsTrue, Value, Null, Int, Real, Blob, Row, column, Binary, col, is_true}
+use Rattle.mstore.proofs.Words.{Compare, Eq, at_texts, last_term, same_bytes, bytes_eq_refl, Database, GivesVersion, OnlyGives, number_of, this_version}
+use Rattle.mstore.proofs.Words.{old_version, IsAnswer, overlay, Has, Shown, version_name, State, reads_as, value_cmp, binary, and_parts, schema, Which, IsCalm}
+use Rattle.mstore.proofs.Words.{Stays, ShowsVersion, sql}
 use Rattle.sqlite.specs.declared.types.Value.TheVariants.{Text}
 use Rattle.std.proofs.Common.{length-append}
 use Rattle.std.specs.Prelude.{◌↔◌, IsSome}

@@ -1,6 +1,11 @@
 -- SPDX-License-Identifier: Apache-2.0
 -- What the statements do inside the transaction of a migration.
-use Rattle.mstore.proofs.Words.{arith, ◌≡◌, ◌⊎◌, ℕ, ℤ, pos, true, false, List, [], ◌∷◌, codes, drop, map, None, Ok, refl, sym, ap, subst, ◌∙◌, Value, Null, Row, column, col, lit, Query, IsAnswer, Command, Update, overlay, cast, cast_row, Written, Task, Updates, Tally, Does, Database, State, mode_of, ExecutesInside, runs_as, one_step, statement_of, Enforced, Given, Has, without_all, are_fresh, ids_of, put_all_adds, given, rowid, last_term, inl, inr, and_parts, id_in, has_rowid, put_all_has, Int, understood, everything, schema, PutsAt, RemovesWithin, Kill, Put, Set, content, this_version, GivesVersion, IsOneVersion, OnlyGives, true≢false, version_name, IsAny, IsWorking, sql, MovesKey, RanInside, ◌++◌, ◌≢◌, Trees, edit_of, put_all}
+use Rattle.mstore.proofs.Words.{arith, ◌≡◌, ◌⊎◌, ℕ, ℤ, pos, true, false, List, [], ◌∷◌, codes, drop, map, None, Ok, refl, sym, ap, subst, ◌∙◌, Value, Null, Row}
+use Rattle.mstore.proofs.Words.{column, col, lit, Query, IsAnswer, Command, Update, overlay, cast, cast_row, Written, Task, Updates, Tally, Does, Database}
+use Rattle.mstore.proofs.Words.{State, mode_of, ExecutesInside, runs_as, one_step, statement_of, Enforced, Given, Has, without_all, are_fresh, ids_of}
+use Rattle.mstore.proofs.Words.{put_all_adds, given, rowid, last_term, inl, inr, and_parts, id_in, has_rowid, put_all_has, Int, understood, everything, schema}
+use Rattle.mstore.proofs.Words.{PutsAt, RemovesWithin, Kill, Put, Set, content, this_version, GivesVersion, IsOneVersion, OnlyGives, true≢false, version_name}
+use Rattle.mstore.proofs.Words.{IsAny, IsWorking, sql, MovesKey, RanInside, ◌++◌, ◌≢◌, Trees, edit_of, put_all}
 use Rattle.sqlite.specs.Kind.TheVariants.{Text as KindText}
 use Rattle.mstore.proofs.Answer.{rows_from, rows_to, has_mapped, mapped_has}
 use Rattle.mstore.proofs.Edits.{left_nodes, left_from, has_own}

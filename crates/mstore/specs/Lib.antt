@@ -11,4 +11,5 @@ pub mod Versions
 pub mod Moving
 pub mod InMemory
 pub mod Room
+pub mod Putting
 pub mod InFiles

@@ -67,7 +67,7 @@ abbrev pub ShowsKey : Bool → Content → List ℕ → List ℕ → Option Row 
 ShowsKey down m low high None = HasNone m low high
 ShowsKey down m low high (Some row) = (k : List ℕ) × (row ≡ Blob k ∷ []) × IsNearest down m low high k
 
--- behind a rowid the row is a key and a value, in form
+-- after a rowid the row is a key and a value, in form
 abbrev pub ShowsNode : Row → Type 0
 ShowsNode row = (id : Value) × (k : List ℕ) × (v : List ℕ) × (row ≡ id ∷ Blob k ∷ Blob v ∷ []) × IsInForm k v
 

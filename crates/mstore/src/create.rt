@@ -18,7 +18,8 @@ fn create_tables<S: Alter>(conn: &mut Connection<S>) -> Result<(), Error>
     ensures settled { doubt_of S.Store conn.new ≡ 0 → OnOk result ((state S.Store conn.new).now ≡ (state S.Store conn.new).committed) }
     ensures ended { conn.new.in_transaction ≡ false }
     ensures undone { HasCleanDisk (state S.Store conn.new) → IsTrue (state S.Store conn.new).is_open
-        → OnErr result (((state S.Store conn.new).now ≡ (state S.Store conn.old).committed) × ((state S.Store conn.new).committed ≡ (state S.Store conn.old).committed)) }
+        → OnErr result (((state S.Store conn.new).now ≡ (state S.Store conn.old).committed) × ((state S.Store conn.new).committed ≡
+        (state S.Store conn.old).committed)) }
 {
     let mut tx = conn.transaction();
     tx.execute(
@@ -37,7 +38,8 @@ pub(crate) fn make_tables<S: Alter>(conn: &mut Connection<S>) -> Result<(), Open
     ensures order { doubt_of S.Store conn.old ≤ doubt_of S.Store conn.new }
     ensures store { doubt_of S.Store conn.new ≡ 0 → IsBlank (state S.Store conn.old) → OnOk result (IsStore (state S.Store conn.new)) }
     ensures made { doubt_of S.Store conn.new ≡ 0 → IsBlank (state S.Store conn.old) → OnOk result (IsBare (state S.Store conn.new).now) }
-    ensures untouched { doubt_of S.Store conn.new ≡ 0 → IsIdle (state S.Store conn.old) → OnErr result (IsUntouched (state S.Store conn.old) (state S.Store conn.new)) }
+    ensures untouched { doubt_of S.Store conn.new ≡ 0 → IsIdle (state S.Store conn.old) → OnErr result (IsUntouched (state S.Store conn.old)
+        (state S.Store conn.new)) }
     ensures key { result ≢ Err OpenFault.BadKey }
     ensures version { result ≢ Err OpenFault.BadVersion }
 {

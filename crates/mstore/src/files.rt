@@ -52,7 +52,8 @@ impl<D: Disk + Drop> Table<FileStore<D>> {
     ///
     /// What the files refuse, and out of memory. The files are then closed, and the log beside the file may have what the file lacks.
     pub fn close_file(self) -> Result<Files<D>, Error>
-        ensures left { IfOk result (λ files. IsTrue self.is_alone → AreClean D.Disk files.log files.db → LeavesTable D.Disk files (stored over_files self.conn)) }
+        ensures left { IfOk result (λ files. IsTrue self.is_alone → AreClean D.Disk files.log files.db → LeavesTable D.Disk files
+            (stored over_files self.conn)) }
         ensures sure { IfOk result (λ files. IsTrue self.is_alone → AreClean D.Disk files.log files.db → table_doubt over_files self ≡ 0) }
     {
         let conn = self.into_connection();

@@ -3,7 +3,8 @@
 
 ghost use Rattle.std.specs.Prelude.{◌≡◌, [], ◌∷◌, true, false, IsTrue, codes, ◌↔◌};
 ghost use Rattle.mstore.specs.Layout.{column_of, table_of, index_of, no_schema, schema as schema_of};
-ghost use Rattle.mstore.specs.Beside.{has_table, refers, is_referred, is_further, is_restricted, node_at, meta_at, HasNode, HasMeta, HasBoth, HasNeither, IsUnreferred};
+ghost use Rattle.mstore.specs.Beside.{has_table, refers, is_referred, is_further, is_restricted, node_at, meta_at, HasNode, HasMeta, HasBoth, HasNeither};
+ghost use Rattle.mstore.specs.Beside.{IsUnreferred};
 
 use sqlite_schema::code::Terms;
 use sqlite_schema::names::same_name;

@@ -48,8 +48,10 @@ fn change_inside<S: Alter>(
 ) -> Result<(), StoreFault>
     ensures same_reference { tx.new.conn.ghost_name ≡ tx.old.conn.ghost_name }
     ensures order { doubt_of S.Store tx.old.conn.now ≤ doubt_of S.Store tx.new.conn.now }
-    ensures committed { doubt_of S.Store tx.new.conn.now ≡ 0 → IsWorking (state S.Store tx.old.conn.now) → (state S.Store tx.new.conn.now).committed ≡ (state S.Store tx.old.conn.now).committed }
-    ensures ran { doubt_of S.Store tx.new.conn.now ≡ 0 → IsWorking (state S.Store tx.old.conn.now) → OnOk result (RanInside text.now first.now second.now (state S.Store tx.old.conn.now) (state S.Store tx.new.conn.now)) }
+    ensures committed { doubt_of S.Store tx.new.conn.now ≡ 0 → IsWorking (state S.Store tx.old.conn.now) → (state S.Store tx.new.conn.now).committed ≡
+        (state S.Store tx.old.conn.now).committed }
+    ensures ran { doubt_of S.Store tx.new.conn.now ≡ 0 → IsWorking (state S.Store tx.old.conn.now) → OnOk result (RanInside text.now first.now second.now
+        (state S.Store tx.old.conn.now) (state S.Store tx.new.conn.now)) }
 {
     done(tx.execute(text, params![first, second]))
 }
@@ -58,10 +60,15 @@ fn change_inside<S: Alter>(
 fn set_version<S: Alter>(tx: &mut Transaction<'_, S>) -> Result<(), StoreFault>
     ensures same_reference { tx.new.conn.ghost_name ≡ tx.old.conn.ghost_name }
     ensures order { doubt_of S.Store tx.old.conn.now ≤ doubt_of S.Store tx.new.conn.now }
-    ensures committed { doubt_of S.Store tx.new.conn.now ≡ 0 → IsWorking (state S.Store tx.old.conn.now) → (state S.Store tx.new.conn.now).committed ≡ (state S.Store tx.old.conn.now).committed }
-    ensures working { doubt_of S.Store tx.new.conn.now ≡ 0 → IsWorking (state S.Store tx.old.conn.now) → OnOk result (IsWorking (state S.Store tx.new.conn.now)) }
-    ensures rows { doubt_of S.Store tx.new.conn.now ≡ 0 → IsWorking (state S.Store tx.old.conn.now) → OnOk result ((state S.Store tx.new.conn.now).now.trees 0 ≡ (state S.Store tx.old.conn.now).now.trees 0) }
-    ensures version { doubt_of S.Store tx.new.conn.now ≡ 0 → IsWorking (state S.Store tx.old.conn.now) → HasVersion (state S.Store tx.old.conn.now).now old_version → OnlyGives (state S.Store tx.old.conn.now).now old_version → OnOk result (HasVersion (state S.Store tx.new.conn.now).now this_version) }
+    ensures committed { doubt_of S.Store tx.new.conn.now ≡ 0 → IsWorking (state S.Store tx.old.conn.now) → (state S.Store tx.new.conn.now).committed ≡
+        (state S.Store tx.old.conn.now).committed }
+    ensures working { doubt_of S.Store tx.new.conn.now ≡ 0 → IsWorking (state S.Store tx.old.conn.now) → OnOk result (IsWorking
+        (state S.Store tx.new.conn.now)) }
+    ensures rows { doubt_of S.Store tx.new.conn.now ≡ 0 → IsWorking (state S.Store tx.old.conn.now) → OnOk result ((state S.Store tx.new.conn.now).now.trees 0 ≡
+        (state S.Store tx.old.conn.now).now.trees 0) }
+    ensures version { doubt_of S.Store tx.new.conn.now ≡ 0 → IsWorking (state S.Store tx.old.conn.now) → HasVersion
+        (state S.Store tx.old.conn.now).now old_version → OnlyGives (state S.Store tx.old.conn.now).now old_version → OnOk result (HasVersion
+        (state S.Store tx.new.conn.now).now this_version) }
 {
     done(tx.execute(SET, &[]))
 }
@@ -75,10 +82,14 @@ fn move_key<S: Alter>(
 ) -> Result<(), StoreFault>
     ensures same_reference { tx.new.conn.ghost_name ≡ tx.old.conn.ghost_name }
     ensures order { doubt_of S.Store tx.old.conn.now ≤ doubt_of S.Store tx.new.conn.now }
-    ensures committed { doubt_of S.Store tx.new.conn.now ≡ 0 → IsWorking (state S.Store tx.old.conn.now) → (state S.Store tx.new.conn.now).committed ≡ (state S.Store tx.old.conn.now).committed }
-    ensures working { doubt_of S.Store tx.new.conn.now ≡ 0 → IsWorking (state S.Store tx.old.conn.now) → OnOk result (IsWorking (state S.Store tx.new.conn.now)) }
-    ensures moved { doubt_of S.Store tx.new.conn.now ≡ 0 → IsWorking (state S.Store tx.old.conn.now) → OnOk result ((n : Node) × IsKeyBy old_digits n key.now × MovesKey (content (state S.Store tx.old.conn.now)) (content (state S.Store tx.new.conn.now)) key.now (key_bytes significant_digits n) value.now) }
-    ensures version { doubt_of S.Store tx.new.conn.now ≡ 0 → IsWorking (state S.Store tx.old.conn.now) → OnOk result ((state S.Store tx.new.conn.now).now.trees 2 ≡ (state S.Store tx.old.conn.now).now.trees 2) }
+    ensures committed { doubt_of S.Store tx.new.conn.now ≡ 0 → IsWorking (state S.Store tx.old.conn.now) → (state S.Store tx.new.conn.now).committed ≡
+        (state S.Store tx.old.conn.now).committed }
+    ensures working { doubt_of S.Store tx.new.conn.now ≡ 0 → IsWorking (state S.Store tx.old.conn.now) → OnOk result (IsWorking
+        (state S.Store tx.new.conn.now)) }
+    ensures moved { doubt_of S.Store tx.new.conn.now ≡ 0 → IsWorking (state S.Store tx.old.conn.now) → OnOk result ((n : Node) × IsKeyBy old_digits n key.now
+        × MovesKey (content (state S.Store tx.old.conn.now)) (content (state S.Store tx.new.conn.now)) key.now (key_bytes significant_digits n) value.now) }
+    ensures version { doubt_of S.Store tx.new.conn.now ≡ 0 → IsWorking (state S.Store tx.old.conn.now) → OnOk result
+        ((state S.Store tx.new.conn.now).now.trees 2 ≡ (state S.Store tx.old.conn.now).now.trees 2) }
 {
     let node = new_key(alloc, key)?;
     let place = node.as_bytes();
@@ -98,9 +109,12 @@ fn move_row<S: Alter>(
 ) -> Result<(), StoreFault>
     ensures same_reference { tx.new.conn.ghost_name ≡ tx.old.conn.ghost_name }
     ensures order { doubt_of S.Store tx.old.conn.now ≤ doubt_of S.Store tx.new.conn.now }
-    ensures committed { doubt_of S.Store tx.new.conn.now ≡ 0 → IsWorking (state S.Store tx.old.conn.now) → (state S.Store tx.new.conn.now).committed ≡ (state S.Store tx.old.conn.now).committed }
-    ensures working { doubt_of S.Store tx.new.conn.now ≡ 0 → IsWorking (state S.Store tx.old.conn.now) → OnOk result (IsWorking (state S.Store tx.new.conn.now)) }
-    ensures moved { doubt_of S.Store tx.new.conn.now ≡ 0 → IsWorking (state S.Store tx.old.conn.now) → OnOk result (MovesRow (drop 1 row.now) (state S.Store tx.old.conn.now) (state S.Store tx.new.conn.now)) }
+    ensures committed { doubt_of S.Store tx.new.conn.now ≡ 0 → IsWorking (state S.Store tx.old.conn.now) → (state S.Store tx.new.conn.now).committed ≡
+        (state S.Store tx.old.conn.now).committed }
+    ensures working { doubt_of S.Store tx.new.conn.now ≡ 0 → IsWorking (state S.Store tx.old.conn.now) → OnOk result (IsWorking
+        (state S.Store tx.new.conn.now)) }
+    ensures moved { doubt_of S.Store tx.new.conn.now ≡ 0 → IsWorking (state S.Store tx.old.conn.now) → OnOk result (MovesRow (drop 1 row.now)
+        (state S.Store tx.old.conn.now) (state S.Store tx.new.conn.now)) }
 {
     if row.column_count() != 3 {
         return Err(StoreFault::Store);
@@ -119,10 +133,14 @@ fn move_rows<S: Alter>(
 ) -> Result<(), StoreFault>
     ensures same_reference { tx.new.conn.ghost_name ≡ tx.old.conn.ghost_name }
     ensures order { doubt_of S.Store tx.old.conn.now ≤ doubt_of S.Store tx.new.conn.now }
-    ensures committed { doubt_of S.Store tx.new.conn.now ≡ 0 → IsWorking (state S.Store tx.old.conn.now) → (state S.Store tx.new.conn.now).committed ≡ (state S.Store tx.old.conn.now).committed }
-    ensures working { doubt_of S.Store tx.new.conn.now ≡ 0 → IsWorking (state S.Store tx.old.conn.now) → OnOk result (IsWorking (state S.Store tx.new.conn.now)) }
-    ensures moved { doubt_of S.Store tx.new.conn.now ≡ 0 → IsWorking (state S.Store tx.old.conn.now) → ShowContent (content (state S.Store tx.old.conn.now)) (map (drop 1) rows.now) → OnOk result (IsMoving (content (state S.Store tx.old.conn.now)) (content (state S.Store tx.new.conn.now)) []) }
-    ensures version { doubt_of S.Store tx.new.conn.now ≡ 0 → IsWorking (state S.Store tx.old.conn.now) → OnOk result ((state S.Store tx.new.conn.now).now.trees 2 ≡ (state S.Store tx.old.conn.now).now.trees 2) }
+    ensures committed { doubt_of S.Store tx.new.conn.now ≡ 0 → IsWorking (state S.Store tx.old.conn.now) → (state S.Store tx.new.conn.now).committed ≡
+        (state S.Store tx.old.conn.now).committed }
+    ensures working { doubt_of S.Store tx.new.conn.now ≡ 0 → IsWorking (state S.Store tx.old.conn.now) → OnOk result (IsWorking
+        (state S.Store tx.new.conn.now)) }
+    ensures moved { doubt_of S.Store tx.new.conn.now ≡ 0 → IsWorking (state S.Store tx.old.conn.now) → ShowContent (content (state S.Store tx.old.conn.now))
+        (map (drop 1) rows.now) → OnOk result (IsMoving (content (state S.Store tx.old.conn.now)) (content (state S.Store tx.new.conn.now)) []) }
+    ensures version { doubt_of S.Store tx.new.conn.now ≡ 0 → IsWorking (state S.Store tx.old.conn.now) → OnOk result
+        ((state S.Store tx.new.conn.now).now.trees 2 ≡ (state S.Store tx.old.conn.now).now.trees 2) }
 {
     for row in rows {
         move_row(alloc, tx, row)?;
@@ -139,9 +157,12 @@ pub(crate) fn migrate<S: Alter>(
 ) -> Result<(), StoreFault>
     requires { conn.old.in_transaction ≡ false }
     ensures order { doubt_of S.Store conn.old ≤ doubt_of S.Store conn.new }
-    ensures store { doubt_of S.Store conn.new ≡ 0 → IsOldStore (state S.Store conn.old) → ShowsAll (state S.Store conn.old) rows.now → OnOk result (IsStore (state S.Store conn.new)) }
-    ensures migrated { doubt_of S.Store conn.new ≡ 0 → IsOldStore (state S.Store conn.old) → ShowsAll (state S.Store conn.old) rows.now → OnOk result (IsMigrated (state S.Store conn.old) (state S.Store conn.new)) }
-    ensures untouched { doubt_of S.Store conn.new ≡ 0 → IsOldStore (state S.Store conn.old) → OnErr result (IsUntouched (state S.Store conn.old) (state S.Store conn.new)) }
+    ensures store { doubt_of S.Store conn.new ≡ 0 → IsOldStore (state S.Store conn.old) → ShowsAll (state S.Store conn.old) rows.now → OnOk result (IsStore
+        (state S.Store conn.new)) }
+    ensures migrated { doubt_of S.Store conn.new ≡ 0 → IsOldStore (state S.Store conn.old) → ShowsAll (state S.Store conn.old) rows.now → OnOk result
+        (IsMigrated (state S.Store conn.old) (state S.Store conn.new)) }
+    ensures untouched { doubt_of S.Store conn.new ≡ 0 → IsOldStore (state S.Store conn.old) → OnErr result (IsUntouched (state S.Store conn.old)
+        (state S.Store conn.new)) }
 {
     let mut tx = conn.transaction();
     move_rows(alloc, &mut tx, rows)?;

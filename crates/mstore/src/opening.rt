@@ -12,7 +12,8 @@ ghost use Rattle.sqlite_rules.specs.Lists.{Has};
 ghost use Rattle.sqlite.specs.State.{IsLive};
 ghost use Rattle.mspec.specs.Node.{Node};
 ghost use Rattle.mkey.specs.Key.{IsKeyBy, old_digits};
-ghost use Rattle.mstore.specs.Database.{doubt_of, IsIdle, IsCalm, IsStore, IsUntouched, IsOpenedFrom, IsMigrated, IsBadlyKeyed, Stays, ShowsAll, ShowsNodesBy, ShowsVersion, GivesVersion, OnlyGives, RefusesColumns, IsOtherVersion, old_version, this_version};
+ghost use Rattle.mstore.specs.Database.{doubt_of, IsIdle, IsCalm, IsStore, IsUntouched, IsOpenedFrom, IsMigrated, IsBadlyKeyed, Stays, ShowsAll, ShowsNodesBy};
+ghost use Rattle.mstore.specs.Database.{ShowsVersion, GivesVersion, OnlyGives, RefusesColumns, IsOtherVersion, old_version, this_version};
 ghost use Rattle.mstore.specs.Versions.{digits_of, number_of};
 ghost use Rattle.mstore.specs.Moving.{IsOldCalm};
 ghost use Rattle.mstore.specs.Layout.{no_schema, schema as schema_of};
@@ -71,7 +72,7 @@ fn is_in_form(alloc: Global, key: &[u8], value: &[u8], version: Version) -> Resu
     is_key(alloc, key, version)
 }
 
-// Whether a row shows a key and a value behind its rowid, in form.
+// Whether a row shows a key and a value after its rowid, in form.
 fn is_node(alloc: Global, row: &Row, version: Version) -> Result<bool, AllocError>
     ensures { IfOk result (λ right. IsTrue right ↔ ShowsNodeBy (digits_of version) row.now) }
 {
@@ -160,7 +161,8 @@ fn find_version<S: Alter>(conn: &mut Connection<S>) -> Result<Option<Row>, Store
 fn takes<S: Alter>(conn: &mut Connection<S>, text: &str) -> Result<bool, StoreFault>
     ensures order { doubt_of S.Store conn.old ≤ doubt_of S.Store conn.new }
     ensures stays { doubt_of S.Store conn.new ≡ 0 → IsIdle (state S.Store conn.old) → Stays (state S.Store conn.old) (state S.Store conn.new) }
-    ensures other { doubt_of S.Store conn.new ≡ 0 → IfOk result (λ taken. taken ≡ false → (fault : CompileError) × (understood (state S.Store conn.old).now.schema text.now ≡ Err fault)) }
+    ensures other { doubt_of S.Store conn.new ≡ 0 → IfOk result (λ taken. taken ≡ false → (fault : CompileError) × (understood
+        (state S.Store conn.old).now.schema text.now ≡ Err fault)) }
 {
     match conn.prepare(text) {
         Ok(_) => Ok(true),
@@ -188,7 +190,8 @@ fn statement(number: usize) -> &'static str
 fn takes_each<S: Alter>(conn: &mut Connection<S>) -> Result<bool, StoreFault>
     ensures order { doubt_of S.Store conn.old ≤ doubt_of S.Store conn.new }
     ensures stays { doubt_of S.Store conn.new ≡ 0 → IsIdle (state S.Store conn.old) → Stays (state S.Store conn.old) (state S.Store conn.new) }
-    ensures other { doubt_of S.Store conn.new ≡ 0 → IsIdle (state S.Store conn.old) → IfOk result (λ taken. taken ≡ false → RefusesOne (state S.Store conn.old).now.schema) }
+    ensures other { doubt_of S.Store conn.new ≡ 0 → IsIdle (state S.Store conn.old) → IfOk result (λ taken. taken ≡ false → RefusesOne
+        (state S.Store conn.old).now.schema) }
 {
     for number in 0..7 {
         if !takes(conn, statement(number))? {
@@ -202,7 +205,8 @@ fn takes_each<S: Alter>(conn: &mut Connection<S>) -> Result<bool, StoreFault>
 fn refusal<S: Alter>(conn: &mut Connection<S>) -> OpenFault
     ensures order { doubt_of S.Store conn.old ≤ doubt_of S.Store conn.new }
     ensures stays { doubt_of S.Store conn.new ≡ 0 → IsIdle (state S.Store conn.old) → Stays (state S.Store conn.old) (state S.Store conn.new) }
-    ensures version { doubt_of S.Store conn.new ≡ 0 → IsIdle (state S.Store conn.old) → result ≡ OpenFault.BadVersion → RefusesColumns (state S.Store conn.old).now.schema }
+    ensures version { doubt_of S.Store conn.new ≡ 0 → IsIdle (state S.Store conn.old) → result ≡ OpenFault.BadVersion → RefusesColumns
+        (state S.Store conn.old).now.schema }
     ensures key { result ≢ OpenFault.BadKey }
 {
     let schema = conn.schema();
@@ -216,7 +220,7 @@ fn refusal<S: Alter>(conn: &mut Connection<S>) -> OpenFault
     }
 }
 
-// The version that a row shows behind its rowid.
+// The version that a row shows after its rowid.
 fn version_in(row: &Row) -> Result<Version, OpenFault>
     ensures found { IfOk result (λ version. column row.now 1 ≡ number_of version) }
     ensures id { OnOk result ((n : ℤ) × (column row.now 0 ≡ Int n)) }
@@ -238,8 +242,10 @@ fn read_version<S: Alter>(conn: &mut Connection<S>) -> Result<Version, OpenFault
     ensures order { doubt_of S.Store conn.old ≤ doubt_of S.Store conn.new }
     ensures mode { conn.old.in_transaction ≡ false → conn.new.in_transaction ≡ false }
     ensures stays { doubt_of S.Store conn.new ≡ 0 → IsCalm (state S.Store conn.old) → Stays (state S.Store conn.old) (state S.Store conn.new) }
-    ensures found { doubt_of S.Store conn.new ≡ 0 → IsCalm (state S.Store conn.old) → IfOk result (λ version. GivesVersion (state S.Store conn.old).now (number_of version) × OnlyGives (state S.Store conn.old).now (number_of version)) }
-    ensures version { doubt_of S.Store conn.new ≡ 0 → IsCalm (state S.Store conn.old) → result ≡ Err OpenFault.BadVersion → IsOtherVersion (state S.Store conn.old).now }
+    ensures found { doubt_of S.Store conn.new ≡ 0 → IsCalm (state S.Store conn.old) → IfOk result (λ version. GivesVersion (state S.Store conn.old).now
+        (number_of version) × OnlyGives (state S.Store conn.old).now (number_of version)) }
+    ensures version { doubt_of S.Store conn.new ≡ 0 → IsCalm (state S.Store conn.old) → result ≡ Err OpenFault.BadVersion → IsOtherVersion
+        (state S.Store conn.old).now }
     ensures key { result ≢ Err OpenFault.BadKey }
 {
     let Some(row) = find_version(conn)? else {
@@ -259,8 +265,10 @@ fn read_nodes<S: Alter>(
     ensures stays { doubt_of S.Store conn.new ≡ 0 → IsCalm (state S.Store conn.old) → Stays (state S.Store conn.old) (state S.Store conn.new) }
     ensures all { doubt_of S.Store conn.new ≡ 0 → IsCalm (state S.Store conn.old) → IfOk result (λ rows. ShowsAll (state S.Store conn.old) rows.items) }
     ensures numbered { doubt_of S.Store conn.new ≡ 0 → IsCalm (state S.Store conn.old) → OnOk result (AreNumbered ((state S.Store conn.old).now.trees 0)) }
-    ensures nodes { doubt_of S.Store conn.new ≡ 0 → IsCalm (state S.Store conn.old) → OnOk result (ShowsNodesBy (digits_of version) (state S.Store conn.old).now) }
-    ensures key { doubt_of S.Store conn.new ≡ 0 → IsCalm (state S.Store conn.old) → result ≡ Err OpenFault.BadKey → HasOtherBy (digits_of version) ((state S.Store conn.old).now.trees 0) }
+    ensures nodes { doubt_of S.Store conn.new ≡ 0 → IsCalm (state S.Store conn.old) → OnOk result (ShowsNodesBy (digits_of version)
+        (state S.Store conn.old).now) }
+    ensures key { doubt_of S.Store conn.new ≡ 0 → IsCalm (state S.Store conn.old) → result ≡ Err OpenFault.BadKey → HasOtherBy (digits_of version)
+        ((state S.Store conn.old).now.trees 0) }
     ensures version { result ≢ Err OpenFault.BadVersion }
 {
     let rows = read_all(conn)?;
@@ -279,8 +287,10 @@ fn test_nodes<S: Alter>(alloc: Global, conn: &mut Connection<S>) -> Result<(), O
     ensures order { doubt_of S.Store conn.old ≤ doubt_of S.Store conn.new }
     ensures stays { doubt_of S.Store conn.new ≡ 0 → IsCalm (state S.Store conn.old) → Stays (state S.Store conn.old) (state S.Store conn.new) }
     ensures numbered { doubt_of S.Store conn.new ≡ 0 → IsCalm (state S.Store conn.old) → OnOk result (AreNumbered ((state S.Store conn.old).now.trees 0)) }
-    ensures nodes { doubt_of S.Store conn.new ≡ 0 → IsCalm (state S.Store conn.old) → OnOk result (ShowsNodesBy (digits_of Version.Second) (state S.Store conn.old).now) }
-    ensures key { doubt_of S.Store conn.new ≡ 0 → IsCalm (state S.Store conn.old) → result ≡ Err OpenFault.BadKey → HasOtherBy (digits_of Version.Second) ((state S.Store conn.old).now.trees 0) }
+    ensures nodes { doubt_of S.Store conn.new ≡ 0 → IsCalm (state S.Store conn.old) → OnOk result (ShowsNodesBy (digits_of Version.Second)
+        (state S.Store conn.old).now) }
+    ensures key { doubt_of S.Store conn.new ≡ 0 → IsCalm (state S.Store conn.old) → result ≡ Err OpenFault.BadKey → HasOtherBy (digits_of Version.Second)
+        ((state S.Store conn.old).now.trees 0) }
     ensures version { result ≢ Err OpenFault.BadVersion }
 {
     match read_nodes(alloc, conn, Version::Second) {
@@ -294,9 +304,12 @@ fn migrate_tables<S: Alter>(alloc: Global, conn: &mut Connection<S>) -> Result<(
     requires { conn.old.in_transaction ≡ false }
     ensures order { doubt_of S.Store conn.old ≤ doubt_of S.Store conn.new }
     ensures store { doubt_of S.Store conn.new ≡ 0 → IsOldCalm (state S.Store conn.old) → OnOk result (IsStore (state S.Store conn.new)) }
-    ensures migrated { doubt_of S.Store conn.new ≡ 0 → IsOldCalm (state S.Store conn.old) → OnOk result (IsMigrated (state S.Store conn.old) (state S.Store conn.new)) }
-    ensures untouched { doubt_of S.Store conn.new ≡ 0 → IsOldCalm (state S.Store conn.old) → OnErr result (IsUntouched (state S.Store conn.old) (state S.Store conn.new)) }
-    ensures key { doubt_of S.Store conn.new ≡ 0 → IsOldCalm (state S.Store conn.old) → result ≡ Err OpenFault.BadKey → HasOtherBy old_digits ((state S.Store conn.old).now.trees 0) }
+    ensures migrated { doubt_of S.Store conn.new ≡ 0 → IsOldCalm (state S.Store conn.old) → OnOk result (IsMigrated (state S.Store conn.old)
+        (state S.Store conn.new)) }
+    ensures untouched { doubt_of S.Store conn.new ≡ 0 → IsOldCalm (state S.Store conn.old) → OnErr result (IsUntouched (state S.Store conn.old)
+        (state S.Store conn.new)) }
+    ensures key { doubt_of S.Store conn.new ≡ 0 → IsOldCalm (state S.Store conn.old) → result ≡ Err OpenFault.BadKey → HasOtherBy old_digits
+        ((state S.Store conn.old).now.trees 0) }
     ensures version { result ≢ Err OpenFault.BadVersion }
 {
     let rows = read_nodes(alloc, conn, Version::First)?;
@@ -310,11 +323,16 @@ fn migrate_tables<S: Alter>(alloc: Global, conn: &mut Connection<S>) -> Result<(
 fn settle_tables<S: Alter>(alloc: Global, conn: &mut Connection<S>) -> Result<(), OpenFault>
     requires { conn.old.in_transaction ≡ false }
     ensures order { doubt_of S.Store conn.old ≤ doubt_of S.Store conn.new }
-    ensures store { doubt_of S.Store conn.new ≡ 0 → IsLive (state S.Store conn.old) → IsCalm (state S.Store conn.old) → OnOk result (IsStore (state S.Store conn.new)) }
-    ensures opened { doubt_of S.Store conn.new ≡ 0 → IsLive (state S.Store conn.old) → IsCalm (state S.Store conn.old) → OnOk result (IsOpenedFrom (state S.Store conn.old) (state S.Store conn.new)) }
-    ensures untouched { doubt_of S.Store conn.new ≡ 0 → IsLive (state S.Store conn.old) → IsCalm (state S.Store conn.old) → OnErr result (IsUntouched (state S.Store conn.old) (state S.Store conn.new)) }
-    ensures version { doubt_of S.Store conn.new ≡ 0 → IsLive (state S.Store conn.old) → IsCalm (state S.Store conn.old) → result ≡ Err OpenFault.BadVersion → IsOtherVersion (state S.Store conn.old).now }
-    ensures key { doubt_of S.Store conn.new ≡ 0 → IsLive (state S.Store conn.old) → IsCalm (state S.Store conn.old) → result ≡ Err OpenFault.BadKey → IsBadlyKeyed (state S.Store conn.old).now }
+    ensures store { doubt_of S.Store conn.new ≡ 0 → IsLive (state S.Store conn.old) → IsCalm (state S.Store conn.old) → OnOk result (IsStore
+        (state S.Store conn.new)) }
+    ensures opened { doubt_of S.Store conn.new ≡ 0 → IsLive (state S.Store conn.old) → IsCalm (state S.Store conn.old) → OnOk result (IsOpenedFrom
+        (state S.Store conn.old) (state S.Store conn.new)) }
+    ensures untouched { doubt_of S.Store conn.new ≡ 0 → IsLive (state S.Store conn.old) → IsCalm (state S.Store conn.old) → OnErr result (IsUntouched
+        (state S.Store conn.old) (state S.Store conn.new)) }
+    ensures version { doubt_of S.Store conn.new ≡ 0 → IsLive (state S.Store conn.old) → IsCalm (state S.Store conn.old) → result ≡ Err OpenFault.BadVersion
+        → IsOtherVersion (state S.Store conn.old).now }
+    ensures key { doubt_of S.Store conn.new ≡ 0 → IsLive (state S.Store conn.old) → IsCalm (state S.Store conn.old) → result ≡ Err OpenFault.BadKey
+        → IsBadlyKeyed (state S.Store conn.old).now }
 {
     match read_version(conn)? {
         Version::First => migrate_tables(alloc, conn),
@@ -329,7 +347,8 @@ pub fn open_tables<S: Alter>(alloc: Global, conn: &mut Connection<S>) -> Result<
     ensures opened { doubt_of S.Store conn.new ≡ 0 → OnOk result (IsOpenedFrom (state S.Store conn.old) (state S.Store conn.new)) }
     ensures untouched { doubt_of S.Store conn.new ≡ 0 → OnErr result (IsUntouched (state S.Store conn.old) (state S.Store conn.new)) }
     ensures version { doubt_of S.Store conn.new ≡ 0 → result ≡ Err OpenFault.BadVersion → IsOtherVersion (state S.Store conn.old).now }
-    ensures key { doubt_of S.Store conn.new ≡ 0 → result ≡ Err OpenFault.BadKey → ((state S.Store conn.old).now.schema ≡ schema_of) × IsBadlyKeyed (state S.Store conn.old).now }
+    ensures key { doubt_of S.Store conn.new ≡ 0 → result ≡ Err OpenFault.BadKey → ((state S.Store conn.old).now.schema ≡ schema_of) × IsBadlyKeyed
+        (state S.Store conn.old).now }
 {
     if !conn.is_autocommit() {
         return Err(OpenFault::Store);
@@ -348,7 +367,8 @@ pub fn open_tables<S: Alter>(alloc: Global, conn: &mut Connection<S>) -> Result<
 pub fn open_beside<S: Alter>(alloc: Global, conn: &mut Connection<S>) -> Result<bool, OpenFault>
     ensures beside { OnOk result (IsBeside (state S.Store conn.old).now.schema) }
     ensures order { doubt_of S.Store conn.old ≤ doubt_of S.Store conn.new }
-    ensures alone { IfOk result (λ alone. ((state S.Store conn.old).now.schema ≡ no_schema) ⊎ ((state S.Store conn.old).now.schema ≡ schema_of) → IsTrue alone) }
+    ensures alone { IfOk result (λ alone. ((state S.Store conn.old).now.schema ≡ no_schema) ⊎ ((state S.Store conn.old).now.schema ≡ schema_of)
+        → IsTrue alone) }
     ensures store { doubt_of S.Store conn.new ≡ 0 → IfOk result (λ alone. IsTrue alone → IsStore (state S.Store conn.new)) }
     ensures opened { doubt_of S.Store conn.new ≡ 0 → IfOk result (λ alone. IsTrue alone → IsOpenedFrom (state S.Store conn.old) (state S.Store conn.new)) }
 {

@@ -1,13 +1,14 @@
 // SPDX-License-Identifier: Apache-2.0
 // The statements, each alone.
 
-ghost use Rattle.std.specs.Prelude.{◌≡◌, ◌≢◌, ◌↔◌, ◌+◌, ℕ, IfOk, OnOk, OnErr, is_ok, true, Ok, Err, None};
+ghost use Rattle.std.specs.Prelude.{◌≡◌, ◌≢◌, ◌↔◌, ◌⊎◌, ℕ, IfOk, IsTrue, OnOk, OnErr, is_ok, false, Ok, Err, None};
 ghost use Rattle.sqlite.specs.Held.{state};
 ghost use Rattle.mstore.specs.Database.{DoubtsStore, IsKept, IsStore, doubt_of, holds, node_rows, stored};
-ghost use Rattle.mstore.specs.Map.{PutsAt, RemovesWithin, is_down};
+ghost use Rattle.mstore.specs.Map.{RemovesWithin, is_down};
+ghost use Rattle.mstore.specs.Putting.{FailsIfFull, PutsAs, PutsBy};
 ghost use Rattle.mstore.specs.Rows.{IsInForm, ShowsValue, ShowsKey};
-ghost use Rattle.mstore.specs.Room.{AreUpTo, IsFaultless, is_full};
-ghost use Rattle.mstore.specs.Statements.{Gives, IsRefusal, Step, sql};
+ghost use Rattle.mstore.specs.Room.{AreUpTo, IsFaultless};
+ghost use Rattle.mstore.specs.Statements.{AddsRow, Gives, IsRefusal, MeetsRow, Step, is_put, sql};
 
 use mkey::Direction;
 use mnodes::StoreFault;
@@ -15,8 +16,13 @@ use sqlite::{Alter, Connection, Error, ErrorCode, Row, params};
 
 pub(crate) const GET: &str = "SELECT v FROM node WHERE k = ?1";
 
+// For the rows of a store of version 1 that are moved. A database has to take it, as it has the other statements that are tried.
 pub(crate) const PUT: &str =
     "INSERT INTO node (k, v) VALUES (?1, ?2) ON CONFLICT (k) DO UPDATE SET v = excluded.v";
+
+pub(crate) const ADD: &str = "INSERT INTO node (k, v) VALUES (?1, ?2)";
+
+pub(crate) const REPLACE: &str = "UPDATE node SET v = ?2 WHERE k = ?1";
 
 pub(crate) const KILL: &str = "DELETE FROM node WHERE k >= ?1 AND k < ?2";
 
@@ -27,7 +33,7 @@ pub(crate) const PREV: &str = "SELECT k FROM node WHERE k >= ?1 AND k < ?2 ORDER
 // For a store of version 1, whose rows are moved by the two that put and take away.
 pub(crate) const SET: &str = "UPDATE meta SET n = 2 WHERE name = 'version'";
 
-// What went wrong. Only running out of memory is told apart.
+// What went wrong. Only running out of memory is distinguished.
 pub(crate) fn fault_of(error: &Error) -> StoreFault
     ensures { (result ≡ StoreFault.Memory) ↔ (error.now ≡ Error.SqliteFailure ErrorCode.OutOfMemory) }
 {
@@ -95,30 +101,167 @@ pub(crate) fn find_key<S: Alter>(
     ensures limit { conn.new.step_limit ≡ conn.old.step_limit }
     ensures doubt { DoubtsStore S.Store conn.old conn.new (is_ok result) }
     ensures kept { IsKept S.Store conn.old conn.new }
-    ensures found { IsStore (state S.Store conn.old) → doubt_of S.Store conn.new ≡ 0 → IfOk result (ShowsKey (is_down direction) (holds S.Store conn.old) low.now high.now) }
+    ensures found { IsStore (state S.Store conn.old) → doubt_of S.Store conn.new ≡ 0 → IfOk result (ShowsKey (is_down direction)
+        (holds S.Store conn.old) low.now high.now) }
     ensures store { IsFaultless S.Store → IsStore (state S.Store conn.old) → conn.old.step_limit ≡ None → result ≢ Err StoreFault.Store }
 {
     found(conn.query_row(step(direction), params![low, high]))
 }
 
-// Puts a value at a key.
+// Whether a change met a row.
+fn met(count: Result<usize, Error>) -> Result<bool, StoreFault>
+    ensures { MeetsRow count result }
+{
+    match count {
+        Ok(rows) => Ok(rows > 0),
+        Err(error) => Err(fault_of(&error)),
+    }
+}
+
+// Whether a row was put. One with its key is in the way of another.
+fn added(count: Result<usize, Error>) -> Result<bool, StoreFault>
+    ensures { AddsRow count result }
+{
+    match count {
+        Ok(_) => Ok(true),
+        Err(Error::SqliteFailure(ErrorCode::ConstraintViolation(_))) => Ok(false),
+        Err(error) => Err(fault_of(&error)),
+    }
+}
+
+// Puts a value in the place of the one at a key. Answers whether there was one.
+fn replace_value<S: Alter>(
+    conn: &mut Connection<S>,
+    key: &[u8],
+    value: &[u8],
+) -> Result<bool, StoreFault>
+    requires { IsInForm key.now value.now }
+    ensures puts { PutsAs S.Store conn.old conn.new key.now value.now result }
+    ensures none { IsStore (state S.Store conn.old) → doubt_of S.Store conn.new ≡ 0 → result ≡ Ok false → holds S.Store conn.old key.now ≡ None }
+    ensures full { FailsIfFull S.Store conn.old conn.new result }
+{
+    // The contract of `schema` says that the database obeys its schema.
+    conn.schema();
+    met(conn.execute(REPLACE, params![key, value]))
+}
+
+// Puts a value at a key that has none. Answers whether it had none.
+fn add_value<S: Alter>(
+    conn: &mut Connection<S>,
+    key: &[u8],
+    value: &[u8],
+) -> Result<bool, StoreFault>
+    requires { IsInForm key.now value.now }
+    ensures puts { PutsAs S.Store conn.old conn.new key.now value.now result }
+    ensures some { IsFaultless S.Store → IsStore (state S.Store conn.old) → conn.old.step_limit ≡ None → result ≡ Ok false
+        → holds S.Store conn.old key.now ≢ None }
+    ensures full { FailsIfFull S.Store conn.old conn.new result }
+{
+    // The contract of `schema` says that the database obeys its schema.
+    conn.schema();
+    added(conn.execute(ADD, params![key, value]))
+}
+
+// Whether a statement was done, but did not serve.
+fn is_idle(first: &Result<bool, StoreFault>) -> bool
+    ensures { IsTrue result ↔ (first.now ≡ Ok false) }
+{
+    match first {
+        Ok(put) => !*put,
+        Err(_) => false,
+    }
+}
+
+// What is made of the last of the statements that were tried. Answers which of them served.
+fn served(last: Result<bool, StoreFault>, adds: bool) -> Result<bool, StoreFault>
+    ensures done { is_ok result ≡ is_put last }
+    ensures refused { result ≡ Err StoreFault.Store → (last ≡ Err StoreFault.Store) ⊎ (last ≡ Ok false) }
+{
+    match last {
+        Ok(true) => Ok(adds),
+        Ok(false) => Err(StoreFault::Store),
+        Err(fault) => Err(fault),
+    }
+}
+
+// Puts a value at a key, which most likely has one. Answers whether it had none.
+fn replace_or_add<S: Alter>(
+    conn: &mut Connection<S>,
+    key: &[u8],
+    value: &[u8],
+) -> Result<bool, StoreFault>
+    requires { IsInForm key.now value.now }
+    ensures puts { PutsBy S.Store conn.old conn.new key.now value.now (is_ok result) (is_ok result) }
+    ensures full { FailsIfFull S.Store conn.old conn.new result }
+{
+    let first = replace_value(conn, key, value);
+    if is_idle(&first) {
+        return served(add_value(conn, key, value), true);
+    }
+    served(first, false)
+}
+
+// Puts a value at a key, which most likely has none. Answers whether it had none.
+fn add_or_replace<S: Alter>(
+    conn: &mut Connection<S>,
+    key: &[u8],
+    value: &[u8],
+) -> Result<bool, StoreFault>
+    requires { IsInForm key.now value.now }
+    ensures puts { PutsBy S.Store conn.old conn.new key.now value.now (is_ok result) (is_ok result) }
+    ensures full { FailsIfFull S.Store conn.old conn.new result }
+{
+    let first = add_value(conn, key, value);
+    if is_idle(&first) {
+        return served(replace_value(conn, key, value), false);
+    }
+    served(first, true)
+}
+
+// Puts a value at a key, first as it was done last. Answers whether the key had none.
+fn put_value<S: Alter>(
+    conn: &mut Connection<S>,
+    adds: bool,
+    key: &[u8],
+    value: &[u8],
+) -> Result<bool, StoreFault>
+    requires { IsInForm key.now value.now }
+    ensures puts { PutsBy S.Store conn.old conn.new key.now value.now (is_ok result) (is_ok result) }
+    ensures full { FailsIfFull S.Store conn.old conn.new result }
+{
+    if adds {
+        return add_or_replace(conn, key, value);
+    }
+    replace_or_add(conn, key, value)
+}
+
+// Keeps which statement served.
+fn noted(put: Result<bool, StoreFault>, adds: &mut bool) -> Result<(), StoreFault>
+    ensures done { is_ok result ≡ is_ok put }
+    ensures refused { result ≡ Err StoreFault.Store → put ≡ Err StoreFault.Store }
+{
+    match put {
+        Ok(added) => {
+            *adds = added;
+            Ok(())
+        }
+        Err(fault) => Err(fault),
+    }
+}
+
+// Puts a value at a key by two statements, of which one writes and the other changes nothing. The one that served last goes first.
 pub(crate) fn store_value<S: Alter>(
     conn: &mut Connection<S>,
+    adds: &mut bool,
     key: &[u8],
     value: &[u8],
 ) -> Result<(), StoreFault>
     requires { IsInForm key.now value.now }
-    ensures limit { conn.new.step_limit ≡ conn.old.step_limit }
-    ensures doubt { DoubtsStore S.Store conn.old conn.new (is_ok result) }
-    ensures store { IsStore (state S.Store conn.old) → doubt_of S.Store conn.new ≡ 0 → IsStore (state S.Store conn.new) }
-    ensures put { IsStore (state S.Store conn.old) → doubt_of S.Store conn.new ≡ 0 → OnOk result (PutsAt (holds S.Store conn.old) (holds S.Store conn.new) key.now value.now) }
-    ensures fault { IsStore (state S.Store conn.old) → doubt_of S.Store conn.new ≡ 0 → OnErr result (stored S.Store conn.new ≡ stored S.Store conn.old) }
-    ensures numbers { IsStore (state S.Store conn.old) → doubt_of S.Store conn.new ≡ 0 → (n : ℕ) → AreUpTo n (node_rows S.Store conn.old) → AreUpTo (n + 1) (node_rows S.Store conn.new) }
-    ensures full { IsFaultless S.Store → IsStore (state S.Store conn.old) → conn.old.step_limit ≡ None → result ≡ Err StoreFault.Store → is_full (node_rows S.Store conn.new) ≡ true }
+    ensures puts { PutsBy S.Store conn.old conn.new key.now value.now (is_ok result) (is_ok result) }
+    ensures full { FailsIfFull S.Store conn.old conn.new result }
 {
-    // The contract of `schema` says that the database obeys its schema.
-    conn.schema();
-    done(conn.execute(PUT, params![key, value]))
+    let put = put_value(conn, *adds, key, value);
+    noted(put, adds)
 }
 
 // Removes the rows of a range of keys.
@@ -130,9 +273,11 @@ pub(crate) fn remove_range<S: Alter>(
     ensures limit { conn.new.step_limit ≡ conn.old.step_limit }
     ensures doubt { DoubtsStore S.Store conn.old conn.new (is_ok result) }
     ensures store { IsStore (state S.Store conn.old) → doubt_of S.Store conn.new ≡ 0 → IsStore (state S.Store conn.new) }
-    ensures removed { IsStore (state S.Store conn.old) → doubt_of S.Store conn.new ≡ 0 → OnOk result (RemovesWithin (holds S.Store conn.old) (holds S.Store conn.new) low.now high.now) }
+    ensures removed { IsStore (state S.Store conn.old) → doubt_of S.Store conn.new ≡ 0 → OnOk result (RemovesWithin (holds S.Store conn.old)
+        (holds S.Store conn.new) low.now high.now) }
     ensures fault { IsStore (state S.Store conn.old) → doubt_of S.Store conn.new ≡ 0 → OnErr result (stored S.Store conn.new ≡ stored S.Store conn.old) }
-    ensures numbers { IsStore (state S.Store conn.old) → doubt_of S.Store conn.new ≡ 0 → (n : ℕ) → AreUpTo n (node_rows S.Store conn.old) → AreUpTo n (node_rows S.Store conn.new) }
+    ensures numbers { IsStore (state S.Store conn.old) → doubt_of S.Store conn.new ≡ 0 → (n : ℕ) → AreUpTo n (node_rows S.Store conn.old) → AreUpTo n
+        (node_rows S.Store conn.new) }
     ensures refused { IsFaultless S.Store → IsStore (state S.Store conn.old) → conn.old.step_limit ≡ None → result ≢ Err StoreFault.Store }
 {
     // The contract of `schema` says that the database obeys its schema.

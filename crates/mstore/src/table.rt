@@ -41,6 +41,8 @@ pub struct Table<S: Alter> {
     // How many numbers its rows may have got: none has a greater one, as long as this is below the last number of all. What was opened
     // with rows in it begins there.
     numbers: u64,
+    // The last put was of a key that had no value: then the next one most likely is, too.
+    adds: bool,
     alloc: Global,
 }
 
@@ -51,6 +53,7 @@ impl<S: Alter + Drop> Drop for Table<S> {
             conn: _,
             alone: _,
             numbers: _,
+            adds: _,
             alloc: _,
         } = self;
     }
@@ -106,6 +109,7 @@ impl Table<Memory> {
             conn,
             alone: true,
             numbers: 0,
+            adds: true,
             alloc,
         })
     }
@@ -140,6 +144,7 @@ impl<D: Disk> Table<FileStore<D>> {
                     conn,
                     alone,
                     numbers: LAST_NUMBER,
+                    adds: false,
                     alloc,
                 })
             }
@@ -174,7 +179,8 @@ impl<S: Alter> Table<S> {
         ensures opened { IfOk result (λ t. doubt_of S.Store t.conn ≡ 0 → IsOpenedFrom (state S.Store conn) (state S.Store t.conn)) }
         ensures back { IfErr result (λ e. doubt_of S.Store e.1 ≡ 0 → IsUntouched (state S.Store conn) (state S.Store e.1)) }
         ensures version { IfErr result (λ e. doubt_of S.Store e.1 ≡ 0 → e.0 ≡ OpenFault.BadVersion → IsOtherVersion (state S.Store conn).now) }
-        ensures key { IfErr result (λ e. doubt_of S.Store e.1 ≡ 0 → e.0 ≡ OpenFault.BadKey → ((state S.Store conn).now.schema ≡ schema) × IsBadlyKeyed (state S.Store conn).now) }
+        ensures key { IfErr result (λ e. doubt_of S.Store e.1 ≡ 0 → e.0 ≡ OpenFault.BadKey → ((state S.Store conn).now.schema ≡ schema) × IsBadlyKeyed
+            (state S.Store conn).now) }
     {
         match open_tables(alloc, &mut conn) {
             Ok(()) => {
@@ -183,6 +189,7 @@ impl<S: Alter> Table<S> {
                     conn,
                     alone: true,
                     numbers: LAST_NUMBER,
+                    adds: false,
                     alloc,
                 })
             }
@@ -206,6 +213,7 @@ impl<S: Alter> Table<S> {
             conn,
             alone: _,
             numbers: _,
+            adds: _,
             alloc: _,
         } = self;
         conn
@@ -261,7 +269,8 @@ fn key_within<S: Alter>(
     ensures kept { IsKept S.Store conn.old conn.new }
     ensures limit { conn.new.step_limit ≡ conn.old.step_limit }
     ensures store { IsFaultless S.Store → IsStore (state S.Store conn.old) → conn.old.step_limit ≡ None → result ≢ Err StoreFault.Store }
-    ensures found { IsStore (state S.Store conn.old) → doubt_of S.Store conn.new ≡ 0 → IfOk result (λ key. option_map (λ bytes. bytes.items) key ≡ step_key (is_down direction) (stored S.Store conn.old) low.now high.now) }
+    ensures found { IsStore (state S.Store conn.old) → doubt_of S.Store conn.new ≡ 0 → IfOk result (λ key. option_map (λ bytes. bytes.items) key ≡ step_key
+        (is_down direction) (stored S.Store conn.old) low.now high.now) }
 {
     let Some(row) = find_key(conn, direction, low, high)? else {
         return Ok(None);
@@ -309,11 +318,17 @@ impl<S: Alter> NodeStore for Table<S> {
         ensures counts { self.new.numbers ≡ counted_on self.old.numbers }
     {
         self.numbers = one_more(self.numbers);
-        store_value(&mut self.conn, key.as_bytes(), text.as_bytes())
+        store_value(
+            &mut self.conn,
+            &mut self.adds,
+            key.as_bytes(),
+            text.as_bytes(),
+        )
     }
 
     fn kill(&mut self, key: &NodeKey) -> Result<(), StoreFault>
-        ensures killed { table_doubt S.Store self.new ≡ 0 → OnOk result (stored S.Store self.new.conn ≡ without_subtree (stored S.Store self.old.conn) key.now) }
+        ensures killed { table_doubt S.Store self.new ≡ 0 → OnOk result (stored S.Store self.new.conn ≡ without_subtree
+            (stored S.Store self.old.conn) key.now) }
         ensures fault { table_doubt S.Store self.new ≡ 0 → OnErr result (stored S.Store self.new.conn ≡ stored S.Store self.old.conn) }
         ensures doubt { DoubtsTable S.Store self.old self.new (is_ok result) }
         ensures store { IsFaultless S.Store → IsTrue (has_room S.Store self.new) → result ≢ Err StoreFault.Store }
@@ -324,7 +339,8 @@ impl<S: Alter> NodeStore for Table<S> {
     }
 
     fn next(&mut self, low: &[u8], high: &[u8]) -> Result<Option<Vec<u8>>, StoreFault>
-        ensures found { table_doubt S.Store self.new ≡ 0 → IfOk result (λ key. option_map (λ bytes. bytes.items) key ≡ next_key (stored S.Store self.old.conn) low.now high.now) }
+        ensures found { table_doubt S.Store self.new ≡ 0 → IfOk result (λ key. option_map (λ bytes. bytes.items) key ≡ next_key
+            (stored S.Store self.old.conn) low.now high.now) }
         ensures held { table_doubt S.Store self.new ≡ 0 → AreHeld (stored S.Store self.old.conn) }
         ensures same { table_doubt S.Store self.new ≡ 0 → stored S.Store self.new.conn ≡ stored S.Store self.old.conn }
         ensures doubt { DoubtsTable S.Store self.old self.new (is_ok result) }
@@ -335,7 +351,8 @@ impl<S: Alter> NodeStore for Table<S> {
     }
 
     fn prev(&mut self, low: &[u8], high: &[u8]) -> Result<Option<Vec<u8>>, StoreFault>
-        ensures found { table_doubt S.Store self.new ≡ 0 → IfOk result (λ key. option_map (λ bytes. bytes.items) key ≡ previous_key (stored S.Store self.old.conn) low.now high.now) }
+        ensures found { table_doubt S.Store self.new ≡ 0 → IfOk result (λ key. option_map (λ bytes. bytes.items) key ≡ previous_key
+            (stored S.Store self.old.conn) low.now high.now) }
         ensures held { table_doubt S.Store self.new ≡ 0 → AreHeld (stored S.Store self.old.conn) }
         ensures same { table_doubt S.Store self.new ≡ 0 → stored S.Store self.new.conn ≡ stored S.Store self.old.conn }
         ensures doubt { DoubtsTable S.Store self.old self.new (is_ok result) }

@@ -1,5 +1,6 @@
 -- SPDX-License-Identifier: Apache-2.0
-use Rattle.mstore.proofs.Words.{◌≢◌, ◌≡◌, sym, subst, ◌∙◌, bytes_decides, state, key_bytes, significant_digits, content, OnOk, doubt_of, IsWorking, RanInside, MovesKey, Kill, Put, sql}
+use Rattle.mstore.proofs.Words.{◌≢◌, ◌≡◌, sym, subst, ◌∙◌, bytes_decides, state, key_bytes, significant_digits, content, OnOk, doubt_of, IsWorking, RanInside}
+use Rattle.mstore.proofs.Words.{MovesKey, Kill, Put, sql}
 use Rattle.std.proofs.Common.{true≢false}
 use Rattle.mstore.proofs.Doubting.{sure_before, rises_on}
 use Rattle.mstore.proofs.Tied.{on_ok}

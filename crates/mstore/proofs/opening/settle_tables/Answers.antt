@@ -1,5 +1,6 @@
 -- SPDX-License-Identifier: Apache-2.0
-use Rattle.mstore.proofs.Words.{◌≡◌, AreNumbered, subst, inl, inr, pos, IsTrue, Database, state, doubt_of, old_digits, GivesVersion, OnlyGives, HasVersion, ShowsNodes, HasOther, HasOtherBy, number_of, IsCalm, IsLive, IsOldCalm, Stays, old_version, this_version}
+use Rattle.mstore.proofs.Words.{◌≡◌, AreNumbered, subst, inl, inr, pos, IsTrue, Database, state, doubt_of, old_digits, GivesVersion, OnlyGives, HasVersion}
+use Rattle.mstore.proofs.Words.{ShowsNodes, HasOther, HasOtherBy, number_of, IsCalm, IsLive, IsOldCalm, Stays, old_version, this_version}
 use Rattle.mstore.specs.declared.version.Version.{Version}
 use Rattle.mstore.proofs.Doubting.{open_if, sure_before, rises_on}
 use Rattle.mstore.proofs.Migrated.{on_err}

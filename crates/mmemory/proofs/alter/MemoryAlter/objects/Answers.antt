@@ -1,5 +1,6 @@
 -- SPDX-License-Identifier: Apache-2.0
-use Rattle.mmemory.proofs.MemoryLaws.{◌≡◌, ◌≢◌, ◌<◌, length, map, rules, sym, append_assoc, length-map, Absent, no_heading, objects_step, listed_unless_absent, plain, heading, shown_at}
+use Rattle.mmemory.proofs.MemoryLaws.{◌≡◌, ◌≢◌, ◌<◌, length, map, rules, sym, append_assoc, length-map, Absent, no_heading, objects_step, listed_unless_absent}
+use Rattle.mmemory.proofs.MemoryLaws.{plain, heading, shown_at}
 use Rattle.mmemory.proofs.alter.MemoryAlter.objects.Goals.{then-ne+in_ok-listing+in_ok-push, else-ne}
 use Rattle.mmemory.proofs.alter.MemoryAlter.objects.Goals as goal
 

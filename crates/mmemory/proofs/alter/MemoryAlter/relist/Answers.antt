@@ -1,5 +1,6 @@
 -- SPDX-License-Identifier: Apache-2.0
-use Rattle.mmemory.proofs.MemoryLaws.{true, refl, sym, ◌∙◌, arith, MayRelist, no_doubt, Memory, memory_view, kept_both, each_at, still_there, more_relisted, went_back, fails_to_relist, of_ok, of_err}
+use Rattle.mmemory.proofs.MemoryLaws.{true, refl, sym, ◌∙◌, arith, MayRelist, no_doubt, Memory, memory_view, kept_both, each_at, still_there, more_relisted}
+use Rattle.mmemory.proofs.MemoryLaws.{went_back, fails_to_relist, of_ok, of_err}
 use Rattle.sqlite_trees.specs.declared.error.StoreError.TheVariants.{OutOfMemory}
 use Rattle.mmemory.proofs.alter.MemoryAlter.relist.Goals as goal
 

@@ -1,5 +1,6 @@
 -- SPDX-License-Identifier: Apache-2.0
-use Rattle.mmemory.proofs.MemoryLaws.{◌≡◌, refl, ap, ◌∙◌, catalog_tree, objects_from, with_tree, version_twice, Memory, State, headings, rows_of, shown, now, moment, KeepsShown, memory_view, view_of, current, marks_of, after_error, beside, fails}
+use Rattle.mmemory.proofs.MemoryLaws.{◌≡◌, refl, ap, ◌∙◌, catalog_tree, objects_from, with_tree, version_twice, Memory, State, headings, rows_of, shown, now}
+use Rattle.mmemory.proofs.MemoryLaws.{moment, KeepsShown, memory_view, view_of, current, marks_of, after_error, beside, fails}
 use Rattle.mmemory.proofs.alter.MemoryAlter.set_version.Goals as goal
 
 pub returns-in_err-set_version-clause-err : goal.returns-in_err-set_version-clause-err

@@ -1,5 +1,6 @@
 -- SPDX-License-Identifier: Apache-2.0
-use Rattle.mmemory.proofs.MemoryLaws.{refl, arith, subst, Fits, Halves, rows_after, Step, order_same, within_same, order_kept, within_more, wrote, pushed, made_at, after_error, nest_here, both_seen, untouched, order_untouched, keeps_untouched}
+use Rattle.mmemory.proofs.MemoryLaws.{refl, arith, subst, Fits, Halves, rows_after, Step, order_same, within_same, order_kept, within_more, wrote, pushed}
+use Rattle.mmemory.proofs.MemoryLaws.{made_at, after_error, nest_here, both_seen, untouched, order_untouched, keeps_untouched}
 use Rattle.mmemory.proofs.held.Held.change.Goals as goal
 
 pub change-requires : goal.change-requires

@@ -1,5 +1,6 @@
 -- SPDX-License-Identifier: Apache-2.0
-use Rattle.mmemory.proofs.MemoryLaws.{OnOk, not, subst, to_z-of_z, has_rowid, IsShaped-filter, tree_rows, rows_of, now, Writes, shape_at, Int, falls_below_rowid, shaped_now, wrote_none, shaped_rows, row_cut, row_not}
+use Rattle.mmemory.proofs.MemoryLaws.{OnOk, not, subst, to_z-of_z, has_rowid, IsShaped-filter, tree_rows, rows_of, now, Writes, shape_at, Int}
+use Rattle.mmemory.proofs.MemoryLaws.{falls_below_rowid, shaped_now, wrote_none, shaped_rows, row_cut, row_not}
 use Rattle.mmemory.proofs.held.Held.delete.Goals as goal
 
 pub seek-hit-requires : goal.seek-hit-requires

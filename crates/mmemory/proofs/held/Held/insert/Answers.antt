@@ -1,5 +1,6 @@
 -- SPDX-License-Identifier: Apache-2.0
-use Rattle.mmemory.proofs.MemoryLaws.{OnOk, subst, IsIndex-insert_entry, tree_rows, rows_of, now, Writes, falls_below_entry, shaped_now, wrote_none, shaped_rows, entry_new, entry_stays}
+use Rattle.mmemory.proofs.MemoryLaws.{OnOk, subst, IsIndex-insert_entry, tree_rows, rows_of, now, Writes, falls_below_entry, shaped_now, wrote_none}
+use Rattle.mmemory.proofs.MemoryLaws.{shaped_rows, entry_new, entry_stays}
 use Rattle.mmemory.proofs.held.Held.insert.Goals as goal
 
 pub seek-hit-requires : goal.seek-hit-requires

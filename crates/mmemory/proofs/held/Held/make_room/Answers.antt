@@ -1,5 +1,6 @@
 -- SPDX-License-Identifier: Apache-2.0
-use Rattle.mmemory.proofs.MemoryLaws.{◌≡◌, ◌+◌, ◌-◌, ◌++◌, length, refl, sym, ap, subst, ◌∙◌, arith, Shorten, state_of, undone_one, IsInOrder, now, order_same, within_same, within_more, pushed, order_untouched, order_by, shortened, order_padded, pads_more}
+use Rattle.mmemory.proofs.MemoryLaws.{◌≡◌, ◌+◌, ◌-◌, ◌++◌, length, refl, sym, ap, subst, ◌∙◌, arith, Shorten, state_of, undone_one, IsInOrder, now, order_same}
+use Rattle.mmemory.proofs.MemoryLaws.{within_same, within_more, pushed, order_untouched, order_by, shortened, order_padded, pads_more}
 use Rattle.mmemory.proofs.held.Held.make_room.Goals as goal
 
 pub invariant_of-self : goal.invariant_of-self

@@ -1,5 +1,6 @@
 -- SPDX-License-Identifier: Apache-2.0
-use Rattle.mmemory.proofs.MemoryLaws.{OnOk, subst, owned, IsShaped-put_row, tree_rows, rows_of, now, Writes, falls_below_rowid, shaped_now, shaped_rows, put_over, put_new}
+use Rattle.mmemory.proofs.MemoryLaws.{OnOk, subst, owned, IsShaped-put_row, tree_rows, rows_of, now, Writes, falls_below_rowid, shaped_now, shaped_rows}
+use Rattle.mmemory.proofs.MemoryLaws.{put_over, put_new}
 use Rattle.mmemory.proofs.held.Held.put.Goals as goal
 
 pub seek-hit-requires : goal.seek-hit-requires

@@ -1,5 +1,6 @@
 -- SPDX-License-Identifier: Apache-2.0
-use Rattle.mmemory.proofs.MemoryLaws.{set, refl, arith, state_of, Step, order_same, within_same, within_more, pushed, order_by, label_undone, label_order, relabels_in}
+use Rattle.mmemory.proofs.MemoryLaws.{set, refl, arith, state_of, Step, order_same, within_same, within_more, pushed, order_by, label_undone, label_order}
+use Rattle.mmemory.proofs.MemoryLaws.{relabels_in}
 use Rattle.mmemory.proofs.held.Held.relabel.Goals as goal
 
 pub invariant_of-self : goal.invariant_of-self

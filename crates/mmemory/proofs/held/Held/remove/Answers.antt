@@ -1,5 +1,6 @@
 -- SPDX-License-Identifier: Apache-2.0
-use Rattle.mmemory.proofs.MemoryLaws.{OnOk, not, is_eq, subst, entry_cmp, IsShaped-filter, tree_rows, rows_of, now, Writes, shape_at, falls_below_entry, shaped_now, wrote_none, shaped_rows, entry_cut, entry_not}
+use Rattle.mmemory.proofs.MemoryLaws.{OnOk, not, is_eq, subst, entry_cmp, IsShaped-filter, tree_rows, rows_of, now, Writes, shape_at, falls_below_entry}
+use Rattle.mmemory.proofs.MemoryLaws.{shaped_now, wrote_none, shaped_rows, entry_cut, entry_not}
 use Rattle.mmemory.proofs.held.Held.remove.Goals as goal
 
 pub seek-hit-requires : goal.seek-hit-requires

@@ -1,5 +1,6 @@
 -- SPDX-License-Identifier: Apache-2.0
-use Rattle.mmemory.proofs.MemoryLaws.{◌≡◌, ◌<◌, [], length, set, get_or, refl, sym, ap, subst, ◌∙◌, arith, Tree, Put, state_of, order_same, within_same, within_more, pushed, after_error, order_by, put_undone, put_order, empty_fits, puts_in, padded_shown, shown_kept}
+use Rattle.mmemory.proofs.MemoryLaws.{◌≡◌, ◌<◌, [], length, set, get_or, refl, sym, ap, subst, ◌∙◌, arith, Tree, Put, state_of, order_same, within_same}
+use Rattle.mmemory.proofs.MemoryLaws.{within_more, pushed, after_error, order_by, put_undone, put_order, empty_fits, puts_in, padded_shown, shown_kept}
 use Rattle.mmemory.proofs.held.Held.replace.Goals as goal
 
 pub invariant_of-self : goal.invariant_of-self

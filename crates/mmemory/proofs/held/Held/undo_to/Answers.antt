@@ -1,5 +1,6 @@
 -- SPDX-License-Identifier: Apache-2.0
-use Rattle.mmemory.proofs.MemoryLaws.{All, ◌≡◌, ◌≤◌, ◌++◌, ◌∷◌, [], drop, length, sym, subst, ap, ◌∙◌, arith, length-append, state_of, undone, now, moment_less, order_less}
+use Rattle.mmemory.proofs.MemoryLaws.{All, ◌≡◌, ◌≤◌, ◌++◌, ◌∷◌, [], drop, length, sym, subst, ap, ◌∙◌, arith, length-append, state_of, undone, now, moment_less}
+use Rattle.mmemory.proofs.MemoryLaws.{order_less}
 use Rattle.mmemory.proofs.held.Held.undo_to.Goals as goal
 
 pub invariant_of-self : goal.invariant_of-self

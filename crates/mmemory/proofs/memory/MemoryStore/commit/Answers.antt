@@ -1,5 +1,6 @@
 -- SPDX-License-Identifier: Apache-2.0
-use Rattle.mmemory.proofs.MemoryWords.{◌≡◌, true, None, map, drop, get_or, option_map, refl, ap, ◌∙◌, inl, View, Commits, OnlyCommits, no_doubt, undone, shown, now, moment, view_of, current, left_of}
+use Rattle.mmemory.proofs.MemoryWords.{◌≡◌, true, None, map, drop, get_or, option_map, refl, ap, ◌∙◌, inl, View, Commits, OnlyCommits, no_doubt, undone, shown}
+use Rattle.mmemory.proofs.MemoryWords.{now, moment, view_of, current, left_of}
 use Rattle.mmemory.proofs.memory.MemoryStore.commit.Goals as goal
 
 only_commits : (old new : View) → Commits old new → OnlyCommits old new

@@ -1,5 +1,6 @@
 -- SPDX-License-Identifier: Apache-2.0
-use Rattle.mmemory.proofs.MemoryLaws.{◌≡◌, [], ◌∷◌, true, get_or, refl, sym, ap, ◌∙◌, arith, to_z-of_z, no_doubt, after, tree_nest, tree_rows, Int, falls_below_rowid, table_within, rows_up, named_found, named_missing}
+use Rattle.mmemory.proofs.MemoryLaws.{◌≡◌, [], ◌∷◌, true, get_or, refl, sym, ap, ◌∙◌, arith, to_z-of_z, no_doubt, after, tree_nest, tree_rows, Int}
+use Rattle.mmemory.proofs.MemoryLaws.{falls_below_rowid, table_within, rows_up, named_found, named_missing}
 use Rattle.mmemory.proofs.memory.MemoryStore.get.Goals as goal
 
 pub index-tree-requires : goal.index-tree-requires

@@ -1,5 +1,6 @@
 -- SPDX-License-Identifier: Apache-2.0
-use Rattle.mmemory.proofs.MemoryLaws.{true, refl, sym, ap, ◌∙◌, arith, subst, Index, remove_entry, order_of, no_doubt, Memory, Writes, rows_of, current, memory_view, written, sets_frame, fails_kept, shape_is, index_within}
+use Rattle.mmemory.proofs.MemoryLaws.{true, refl, sym, ap, ◌∙◌, arith, subst, Index, remove_entry, order_of, no_doubt, Memory, Writes, rows_of, current}
+use Rattle.mmemory.proofs.MemoryLaws.{memory_view, written, sets_frame, fails_kept, shape_is, index_within}
 use Rattle.mmemory.proofs.memory.MemoryStore.remove.Goals as goal
 
 pub remove-requires-clause-tree : goal.remove-requires-clause-tree

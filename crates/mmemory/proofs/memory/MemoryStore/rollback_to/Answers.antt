@@ -1,5 +1,6 @@
 -- SPDX-License-Identifier: Apache-2.0
-use Rattle.mmemory.proofs.MemoryLaws.{All, ◌≡◌, ℕ, zero, suc, ◌-◌, ◌<◌, ◌≤◌, List, [], ◌∷◌, length, slice_get, get_or, Some, map, refl, sym, ap, ◌∙◌, arith, newest, snapshot, Memory, shown, moment, memory_view, view_of, current, marks_of, slice_index, map_same, newest_mark}
+use Rattle.mmemory.proofs.MemoryLaws.{All, ◌≡◌, ℕ, zero, suc, ◌-◌, ◌<◌, ◌≤◌, List, [], ◌∷◌, length, slice_get, get_or, Some, map, refl, sym, ap, ◌∙◌, arith}
+use Rattle.mmemory.proofs.MemoryLaws.{newest, snapshot, Memory, shown, moment, memory_view, view_of, current, marks_of, slice_index, map_same, newest_mark}
 use Rattle.mmemory.proofs.memory.MemoryStore.rollback_to.Goals as goal
 
 found_at : (xs : List ℕ) (k x : ℕ) → slice_get xs k ≡ Some x → (k < length xs) × (get_or xs k 0 ≡ x)

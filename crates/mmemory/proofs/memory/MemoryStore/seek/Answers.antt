@@ -1,5 +1,6 @@
 -- SPDX-License-Identifier: Apache-2.0
-use Rattle.mmemory.proofs.MemoryLaws.{◌≡◌, None, get_or, refl, arith, order_of, sought, named, unnumbered, Memory, memory_view, current, left_of, after_error, keeps_untouched, cursors_set, seen_same, fails}
+use Rattle.mmemory.proofs.MemoryLaws.{◌≡◌, None, get_or, refl, arith, order_of, sought, named, unnumbered, Memory, memory_view, current, left_of, after_error}
+use Rattle.mmemory.proofs.MemoryLaws.{keeps_untouched, cursors_set, seen_same, fails}
 use Rattle.mmemory.proofs.memory.MemoryStore.seek.Goals as goal
 
 pub returns-clause-ok : goal.returns-clause-ok

@@ -1,5 +1,6 @@
 -- SPDX-License-Identifier: Apache-2.0
-use Rattle.mmemory.proofs.MemoryLaws.{◌≡◌, ◌++◌, ◌∷◌, take, drop, sym, ap, subst, ◌∙◌, DropChunk, joined, plain, nest, tree_nest, with_chunks, Makes, nest_inserted, made_add}
+use Rattle.mmemory.proofs.MemoryLaws.{◌≡◌, ◌++◌, ◌∷◌, take, drop, sym, ap, subst, ◌∙◌, DropChunk, joined, plain, nest, tree_nest, with_chunks, Makes}
+use Rattle.mmemory.proofs.MemoryLaws.{nest_inserted, made_add}
 use Rattle.std.specs.List.{insert as inserted}
 use Rattle.mmemory.proofs.tree.Tree.add_chunk.Goals as goal
 

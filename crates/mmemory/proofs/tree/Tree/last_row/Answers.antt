@@ -1,5 +1,6 @@
 -- SPDX-License-Identifier: Apache-2.0
-use Rattle.mmemory.proofs.MemoryLaws.{◌≡◌, ◌-◌, [], length, take, ap, sym, ◌∙◌, arith, length-map, rows_at, chunk_rows, tree_nest, shown_at, chunk_end, some_weaker}
+use Rattle.mmemory.proofs.MemoryLaws.{◌≡◌, ◌-◌, [], length, take, ap, sym, ◌∙◌, arith, length-map, rows_at, chunk_rows, tree_nest, shown_at, chunk_end}
+use Rattle.mmemory.proofs.MemoryLaws.{some_weaker}
 use Rattle.mmemory.proofs.tree.Tree.last_row.Goals as goal
 
 pub returns-clause-some : goal.returns-clause-some

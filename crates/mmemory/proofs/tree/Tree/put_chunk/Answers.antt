@@ -1,5 +1,6 @@
 -- SPDX-License-Identifier: Apache-2.0
-use Rattle.mmemory.proofs.MemoryLaws.{◌≡◌, ◌≢◌, ℕ, zero, suc, ◌-◌, min, List, length, sym, ap, ◌∙◌, refl, arith, insert, length-map, Row, Plain, plain, chunk_rows, nest, put_back, nest_inserted, insert_min}
+use Rattle.mmemory.proofs.MemoryLaws.{◌≡◌, ◌≢◌, ℕ, zero, suc, ◌-◌, min, List, length, sym, ap, ◌∙◌, refl, arith, insert, length-map, Row, Plain, plain}
+use Rattle.mmemory.proofs.MemoryLaws.{chunk_rows, nest, put_back, nest_inserted, insert_min}
 use Rattle.mmemory.proofs.tree.Tree.put_chunk.Goals as goal
 
 pub returns : goal.returns

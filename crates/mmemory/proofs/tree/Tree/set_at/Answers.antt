@@ -1,5 +1,6 @@
 -- SPDX-License-Identifier: Apache-2.0
-use Rattle.mmemory.proofs.MemoryLaws.{◌+◌, ◌++◌, ◌∷◌, set, sym, subst, ◌∙◌, SetRow, before, after_row, plain, nest, tree_nest, with_chunks, Makes, rows_were, made_over, made_set}
+use Rattle.mmemory.proofs.MemoryLaws.{◌+◌, ◌++◌, ◌∷◌, set, sym, subst, ◌∙◌, SetRow, before, after_row, plain, nest, tree_nest, with_chunks, Makes, rows_were}
+use Rattle.mmemory.proofs.MemoryLaws.{made_over, made_set}
 use Rattle.mmemory.proofs.tree.Tree.set_at.Goals as goal
 
 pub returns : goal.returns

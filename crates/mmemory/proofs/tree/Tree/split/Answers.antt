@@ -1,5 +1,6 @@
 -- SPDX-License-Identifier: Apache-2.0
-use Rattle.mmemory.proofs.MemoryLaws.{◌≡◌, ◌<◌, [], length, set, ap, ◌∙◌, arith, length-map, set-get_or, plain, chunk_rows, nest, with_chunks, after_error, changed, halves_made, halves_fit, made_halves}
+use Rattle.mmemory.proofs.MemoryLaws.{◌≡◌, ◌<◌, [], length, set, ap, ◌∙◌, arith, length-map, set-get_or, plain, chunk_rows, nest, with_chunks, after_error}
+use Rattle.mmemory.proofs.MemoryLaws.{changed, halves_made, halves_fit, made_halves}
 use Rattle.mmemory.proofs.tree.Tree.split.Goals as goal
 
 pub returns-in_err-tail-clause-err : goal.returns-in_err-tail-clause-err

@@ -1,5 +1,7 @@
 -- SPDX-License-Identifier: Apache-2.0
-use Rattle.mmemory.proofs.MemoryLaws.{◌≡◌, ◌<◌, ◌+◌, ◌++◌, [], length, set, sym, ap, subst, ◌∙◌, arith, length-map, PutRow, PutChunk, before, after_row, rows_at, plain, chunk_rows, nest, tree_nest, with_chunks, Makes, shown_at, rows_were, made_over, made_cut, made_none, nest_removed, short_at}
+use Rattle.mmemory.proofs.MemoryLaws.{◌≡◌, ◌<◌, ◌+◌, ◌++◌, [], length, set, sym, ap, subst, ◌∙◌, arith, length-map, PutRow, PutChunk, before, after_row}
+use Rattle.mmemory.proofs.MemoryLaws.{rows_at, plain, chunk_rows, nest, tree_nest, with_chunks, Makes, shown_at, rows_were, made_over, made_cut, made_none}
+use Rattle.mmemory.proofs.MemoryLaws.{nest_removed, short_at}
 use Rattle.std.specs.List.{remove as removed}
 use Rattle.mmemory.proofs.tree.Tree.take_at.Goals as goal
 

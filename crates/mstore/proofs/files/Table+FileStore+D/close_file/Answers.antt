@@ -1,5 +1,5 @@
 -- SPDX-License-Identifier: Apache-2.0
-use Rattle.mstore.proofs.Words.{◌≡◌, IsTrue, sym, subst, stored, doubt_of}
+use Rattle.mstore.proofs.Words.{◌≡◌, subst, stored, doubt_of}
 use Rattle.sqlite.specs.Files.{over_files}
 use Rattle.mstore.specs.InFiles.{LeavesTable}
 use Rattle.mstore.proofs.InFiles.{copied_sure, leaves_table, alone_sure_if}
@@ -15,5 +15,6 @@ returns-in-Ok g c =
           let sure = alone_sure_if c.args.self alone (subst (λ h. doubt_of over_files h ≡ 0) is (copied_sure conn c.in-Ok.files copied)) in
           subst (λ h. LeavesTable g.D.Disk c.in-Ok.files (stored over_files h)) is
           (leaves_table conn c.in-Ok.files (c.into_connection-conn.ensures.store sure) c.schema.ensures.live copied);
-      sure = λ alone clean. alone_sure_if c.args.self alone (subst (λ h. doubt_of over_files h ≡ 0) is (copied_sure conn c.in-Ok.files (c.in-Ok.ensures.copied clean)));
+      sure =
+          λ alone clean. alone_sure_if c.args.self alone (subst (λ h. doubt_of over_files h ≡ 0) is (copied_sure conn c.in-Ok.files (c.in-Ok.ensures.copied clean)));
     }

@@ -14,7 +14,7 @@ use std::alloc::Global;
 pub struct Lines<'a> {
     /// The document of the settings.
     pub document: &'a [u8],
-    /// The name of the account that is told, or in whose session references are resolved.
+    /// The name of the account whose replies are shown, or in whose session references are resolved.
     pub account: &'a [u8],
     /// The cases.
     pub cases: &'a [&'a str],
@@ -65,7 +65,7 @@ pub(crate) fn answer_of<S: NodeStore>(
     Ok(answer)
 }
 
-/// Serves all lines as one stream, by the settings of the document, and prints them, then what the account is told, and whether
+/// Serves all lines as one stream, by the settings of the document, and prints them, then what the account is shown, and whether
 /// no line of an account that reaches it was lost. A case `cache ..` says over which store, as for `play_cached_lines`.
 ///
 /// # Errors
@@ -77,7 +77,7 @@ pub fn play_told(alloc: Global, block: &Lines, out: &mut Vec<u8>) -> anyhow::Res
     told(alloc, block, &mut world, account, out)
 }
 
-// The account that is told.
+// The account whose replies are shown.
 fn account_of(alloc: Global, block: &Lines) -> anyhow::Result<AccountId> {
     let settings = Settings::read(alloc, block.document)?;
     settings

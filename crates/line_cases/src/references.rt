@@ -73,7 +73,7 @@ fn resolved(alloc: Global, there: &mut Resolving<'_>, case: &str) -> anyhow::Res
     }
 }
 
-// The name of a code, as a reply shows it behind `1!`.
+// The name of a code, as a reply shows it after `1!`.
 fn name_of(alloc: Global, code: Code) -> Result<Vec<u8>, AllocError> {
     let reply = Reply {
         out: Vec::new(alloc),

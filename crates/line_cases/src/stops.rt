@@ -174,7 +174,7 @@ fn stopped(alloc: Global, stream: &Stream, log: u64, db: u64) -> anyhow::Result<
     }
 }
 
-// Few pages are kept, since each run takes memory for them anew; and the log is copied into the database while the lines run.
+// Few pages are kept, since each run takes memory for them again; and the log is copied into the database while the lines run.
 fn options() -> Options {
     let mut options = Options::new(7);
     options.cache_pages = 16;

@@ -1,6 +1,8 @@
 -- SPDX-License-Identifier: Apache-2.0
 -- Texts that are kept, after calls of the store.
-use Rattle.mcache.proofs.CacheWords.{◌≡◌, ◌≢◌, ◌≤◌, ℕ, Bool, true, false, cond, not, List, length, All, Some, None, Contains, nat_eq, refl, sym, ap, ◌∙◌, subst, inl, inr, Ordering, false_from_ne_true, All-filter, get, insert, entries, entries-insert, get-insert, starts_with, Text, Node, IsHeld, AreHeld, IsKeptAt, IsIn, IsInOr, AreOf}
+use Rattle.mcache.proofs.CacheWords.{◌≡◌, ◌≢◌, ◌≤◌, ℕ, Bool, true, false, cond, not, List, length, All, Some, None, Contains, nat_eq, refl, sym, ap, ◌∙◌, subst}
+use Rattle.mcache.proofs.CacheWords.{inl, inr, Ordering, false_from_ne_true, All-filter, get, insert, entries, entries-insert, get-insert, starts_with, Text}
+use Rattle.mcache.proofs.CacheWords.{Node, IsHeld, AreHeld, IsKeptAt, IsIn, IsInOr, AreOf}
 use Rattle.mnodes.proofs.Holding.{entries_cut, put_held}
 use Rattle.std.proofs.lemmas.Cmp.{eq_by_cmp_equiv}
 use Rattle.std.specs.Ordering.{eq_by_cmp}

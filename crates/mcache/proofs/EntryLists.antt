@@ -1,6 +1,10 @@
 -- SPDX-License-Identifier: Apache-2.0
 -- What the calls of a map leave of the texts that are kept.
-use Rattle.mcache.proofs.CacheWords.{arith, ◌≡◌, ◌≢◌, ◌⊎◌, ℕ, ◌+◌, ◌<◌, length, slice_index_or, Bool, true, false, List, [], ◌∷◌, ◌++◌, Option, Some, Vec, Contains, Result, IfOk, IfSome, nat_eq, refl, sym, ap, ◌∙◌, subst, inl, inr, Global, false_from_ne_true, Contains-push, Contains-append_left, pointwise, same_text, bytes_decides, IsDistinct, AllByRecursion, starts_with, keys_of, lookup, remove_entry, result_ok, LruCache, promoted, put_entries, Contains-lookup, Contains-promoted, Contains-put_entries, Contains-remove_entry, Text, IsAt, IsKeptAt, IsIn, IsInOr, IsAmong, AreKeysOf}
+use Rattle.mcache.proofs.CacheWords.{arith, ◌≡◌, ◌≢◌, ◌⊎◌, ℕ, ◌+◌, ◌<◌, length, slice_index_or, Bool, true, false, List, [], ◌∷◌, ◌++◌, Option, Some, Vec}
+use Rattle.mcache.proofs.CacheWords.{Contains, Result, IfOk, IfSome, nat_eq, refl, sym, ap, ◌∙◌, subst, inl, inr, Global, false_from_ne_true, Contains-push}
+use Rattle.mcache.proofs.CacheWords.{Contains-append_left, pointwise, same_text, bytes_decides, IsDistinct, AllByRecursion, starts_with, keys_of, lookup}
+use Rattle.mcache.proofs.CacheWords.{remove_entry, result_ok, LruCache, promoted, put_entries, Contains-lookup, Contains-promoted, Contains-put_entries}
+use Rattle.mcache.proofs.CacheWords.{Contains-remove_entry, Text, IsAt, IsKeptAt, IsIn, IsInOr, IsAmong, AreKeysOf}
 use borrow.Author.Count.{below_more}
 use Rattle.lru.proofs.Splits.{Contains-cons, Contains-nil}
 use Rattle.mcache.specs.NodeTexts.{Entry}

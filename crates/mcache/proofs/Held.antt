@@ -1,6 +1,7 @@
 -- SPDX-License-Identifier: Apache-2.0
 -- A tree that is kept beside the others.
-use Rattle.mcache.proofs.CacheWords.{◌≡◌, ◌<◌, ◌≤◌, ◌+◌, ◌∙◌, ℕ, List, length, Some, ap, sym, subst, inl, inr, arith, line_at, routine_line_at, Text, line_tree, routine_line_tree, IsKept, IsWithin, IsWithinOr, AreTrees, Entry}
+use Rattle.mcache.proofs.CacheWords.{◌≡◌, ◌<◌, ◌≤◌, ◌+◌, ◌∙◌, ℕ, List, length, Some, ap, sym, subst, inl, inr, arith, line_at, routine_line_at, Text, line_tree}
+use Rattle.mcache.proofs.CacheWords.{routine_line_tree, IsKept, IsWithin, IsWithinOr, AreTrees, Entry}
 use Rattle.mtree.specs.Tree.{IsCounted, IsBodyCounted}
 use Rattle.mtree.specs.declared.tree.Line.{Line}
 use Rattle.mtree.specs.declared.tree.RoutineLine.{RoutineLine}

@@ -1,6 +1,10 @@
 -- SPDX-License-Identifier: Apache-2.0
 -- What the calls of a map leave of its entries.
-use Rattle.mcache.proofs.CacheWords.{◌≡◌, ◌≤◌, ◌+◌, ◌-◌, ◌⊎◌, ℕ, suc, Bool, true, false, List, [], ◌∷◌, length, take, Option, Some, None, Vec, Contains, Result, Ok, Err, MatchResult, OnOk, OnErr, IfSome, nat_eq, refl, sym, ap, ◌∙◌, subst, inl, inr, arith, length-take, slice_get, slice_get_within, get_or_from_slice_get, Contains-get_or, Global, pointwise, same_text, lookup, lookup_entry, remove_entry, result_ok, LruCache, promoted, put_entries, Contains-lookup, Contains-promoted, Contains-put_entries, Text, IsOf, IsKept, IsWithin, IsWithinOr, Entry}
+use Rattle.mcache.proofs.CacheWords.{◌≡◌, ◌≤◌, ◌+◌, ◌-◌, ◌⊎◌, ℕ, suc, Bool, true, false, List, [], ◌∷◌, length, take, Option, Some, None, Vec, Contains, Result}
+use Rattle.mcache.proofs.CacheWords.{Ok, Err, MatchResult, OnOk, OnErr, IfSome, nat_eq, refl, sym, ap, ◌∙◌, subst, inl, inr, arith, length-take, slice_get}
+use Rattle.mcache.proofs.CacheWords.{slice_get_within, get_or_from_slice_get, Contains-get_or, Global, pointwise, same_text, lookup, lookup_entry, remove_entry}
+use Rattle.mcache.proofs.CacheWords.{result_ok, LruCache, promoted, put_entries, Contains-lookup, Contains-promoted, Contains-put_entries, Text, IsOf, IsKept}
+use Rattle.mcache.proofs.CacheWords.{IsWithin, IsWithinOr, Entry}
 use Rattle.std.specs.Option.{option_map_or}
 use Rattle.std.specs.declared.rc.Rc.{Rc}
 use Rattle.mcache.specs.Kept.{Entry}

@@ -1,6 +1,7 @@
 -- SPDX-License-Identifier: Apache-2.0
 -- A text by what the parser says of its tree.
-use Rattle.mcache.proofs.CacheWords.{arith, ◌≡◌, List, ℕ, Option, Some, None, Result, Err, line_at, RoutineLineTree, spell_routine_line, well_routine_line, routine_line_at}
+use Rattle.mcache.proofs.CacheWords.{arith, ◌≡◌, List, ℕ, Option, Some, None, Result, Err, line_at, RoutineLineTree, spell_routine_line, well_routine_line}
+use Rattle.mcache.proofs.CacheWords.{routine_line_at}
 use Rattle.mgrammar.specs.Grammar.{LineTree, spell}
 use Rattle.mgrammar.specs.WellFormed.{well}
 use Rattle.mgrammar.proofs.ReadingLines as lines

@@ -7,7 +7,7 @@ use std::mem;
 // How many texts are remembered at most.
 const PLACES: usize = 1024;
 
-// Marks of texts that came recently and were not kept, each at the place that its hash gives, so that a text that comes again is told
+// Marks of texts that came recently and were not kept, each at the place that its hash gives, so that a text that comes again is known
 // apart from one that comes once. A later text may take its place, and two texts may have the same mark; that costs time, and shows in
 // no answer.
 #[derive(Drop)]

@@ -171,6 +171,7 @@ impl Trees {
         text: &[u8],
     ) -> Result<Rc<Line>, ParseFault>
         ensures tree { IfOk result (λ line. line_in language text.now ≡ Some (line_tree line.value)) }
+        ensures counted { IfOk result (λ line. IsCounted line.value) }
         ensures syntax { result ≡ Err ParseFault.Syntax → line_in language text.now ≡ None }
         ensures same { self.new ≡ self.old }
     {
@@ -194,6 +195,7 @@ impl Trees {
         text: &[u8],
     ) -> Result<Rc<RoutineLine>, ParseFault>
         ensures tree { IfOk result (λ line. routine_line_in language text.now ≡ Some (routine_line_tree line.value)) }
+        ensures counted { IfOk result (λ line. IsBodyCounted line.value.body) }
         ensures syntax { result ≡ Err ParseFault.Syntax → routine_line_in language text.now ≡ None }
         ensures same { self.new ≡ self.old }
     {

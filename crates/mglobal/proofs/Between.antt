@@ -1,6 +1,10 @@
 -- SPDX-License-Identifier: Apache-2.0
 -- Which keys stand between bounds that begin with a node's key.
-use Rattle.mglobal.proofs.GlobalWords.{ℕ, ◌≡◌, ◌<◌, Bool, true, false, nat_eq, ◌&&◌, Option, List, [], ◌∷◌, ◌++◌, length, drop, refl, sym, ◌∙◌, ap, arith, append-nil, ℤ, slice_get, slice_cmp, starts_with, nat_cmp, is_le, is_lt, ordering_then, Ordering, Less, Equal, Greater, All-head, All-drop, is_between, is_node_within, subscript_by, subscript_bytes, subscripts_bytes, key_bytes, NoneEmpty, Text, Node, canonical_value, text_cmp, significant_digits, is_before, subscript_order, passes, child_under, starts_node, key_behind, within_parts, child_within, child_without, child_is}
+use Rattle.mglobal.proofs.GlobalWords.{ℕ, ◌≡◌, ◌<◌, Bool, true, false, nat_eq, ◌&&◌, Option, List, [], ◌∷◌, ◌++◌, length, drop, refl, sym, ◌∙◌, ap, arith}
+use Rattle.mglobal.proofs.GlobalWords.{append-nil, ℤ, slice_get, slice_cmp, starts_with, nat_cmp, is_le, is_lt, ordering_then, Ordering, Less, Equal, Greater}
+use Rattle.mglobal.proofs.GlobalWords.{All-head, All-drop, is_between, is_node_within, subscript_by, subscript_bytes, subscripts_bytes, key_bytes, NoneEmpty}
+use Rattle.mglobal.proofs.GlobalWords.{Text, Node, canonical_value, text_cmp, significant_digits, is_before, subscript_order, passes, child_under, starts_node}
+use Rattle.mglobal.proofs.GlobalWords.{key_behind, within_parts, child_within, child_without, child_is}
 
 abbrev pub key : Node → List ℕ
 key = key_bytes significant_digits

@@ -1,6 +1,7 @@
 -- SPDX-License-Identifier: Apache-2.0
 -- Copies of routines, after writes to the store.
-use Rattle.mglobal.proofs.GlobalWords.{arith, ◌≡◌, Bool, true, false, ◌||◌, List, All, slice_index_or, Result, OnOk, OnErr, sym, subst, ◌∙◌, insert, Globals, is_node_within, without_subtree, Text, Node, AreCopiesIn, IsApart, routine_at}
+use Rattle.mglobal.proofs.GlobalWords.{arith, ◌≡◌, Bool, true, false, ◌||◌, List, All, slice_index_or, Result, OnOk, OnErr, sym, subst, ◌∙◌, insert, Globals}
+use Rattle.mglobal.proofs.GlobalWords.{is_node_within, without_subtree, Text, Node, AreCopiesIn, IsApart, routine_at}
 use Rattle.mglobal.specs.declared.copies.RoutineCopy.{RoutineCopy}
 use Rattle.mglobal.proofs.LinesKept.{lines_put, lines_killed}
 

@@ -1,7 +1,14 @@
 -- SPDX-License-Identifier: Apache-2.0
 -- From one line of a routine to the next.
 use Rattle.mglobal.proofs.LinesKept.{line_at_place}
-use Rattle.mglobal.proofs.GlobalWords.{◌≡◌, ◌<◌, Bool, true, false, cond, ◌&&◌, List, [], ◌∷◌, ◌++◌, map, length, drop, All, Option, Some, None, is_some, refl, sym, ap, subst, ◌∙◌, arith, option_and_then, if◌then◌else◌, codes, T, slice_get, bytes_decides, nat_list_cmp_total, entries, get-entries, entries_sorted, find, filter, option_to_list, is_lt, is_eq, ordering_then, Ordering, Less, Equal, Greater, All-head, All-tail, All-cons, All-nil, Globals, is_beside, lines_of, order_at, Text, Node, canonical_value, text_cmp, subscripts_cmp, node_cmp, significant_digits, Forward, text_eq, is_within, child_of, is_before, node_cmp_total, node_cmp_exact, text_cmp_total, passes, child_under, none_empty, at_front, both_true, joined_node, child_within, within_parts, child_is, split_within, IsHeld, AreHeld, routine_at, line_at, is_line, is_line_behind, texts_behind, lines_behind, line_in}
+use Rattle.mglobal.proofs.GlobalWords.{◌≡◌, ◌<◌, Bool, true, false, cond, ◌&&◌, List, [], ◌∷◌, ◌++◌, map, length, drop, All, Option, Some, None, is_some, refl}
+use Rattle.mglobal.proofs.GlobalWords.{sym, ap, subst, ◌∙◌, arith, option_and_then, if◌then◌else◌, codes, T, slice_get, bytes_decides, nat_list_cmp_total}
+use Rattle.mglobal.proofs.GlobalWords.{entries, get-entries, entries_sorted, find, filter, option_to_list, is_lt, is_eq, ordering_then, Ordering, Less, Equal}
+use Rattle.mglobal.proofs.GlobalWords.{Greater, All-head, All-tail, All-cons, All-nil, Globals, is_beside, lines_of, order_at, Text, Node, canonical_value}
+use Rattle.mglobal.proofs.GlobalWords.{text_cmp, subscripts_cmp, node_cmp, significant_digits, Forward, text_eq, is_within, child_of, is_before, node_cmp_total}
+use Rattle.mglobal.proofs.GlobalWords.{node_cmp_exact, text_cmp_total, passes, child_under, none_empty, at_front, both_true, joined_node, child_within}
+use Rattle.mglobal.proofs.GlobalWords.{within_parts, child_is, split_within, IsHeld, AreHeld, routine_at, line_at, is_line, is_line_behind, texts_behind}
+use Rattle.mglobal.proofs.GlobalWords.{lines_behind, line_in}
 use Rattle.std.specs.FinMap.Entries as Entries
 use Rattle.std.proofs.lemmas.Cmp.{tied_itself}
 use Rattle.mglobal.proofs.Orders.{order_is}

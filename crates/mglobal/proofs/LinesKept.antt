@@ -1,7 +1,10 @@
 -- SPDX-License-Identifier: Apache-2.0
 -- The lines of a routine stay where neither its node, nor one above it or below it is written.
 use Rattle.mnodes.proofs.Holding.{entries_cut}
-use Rattle.mglobal.proofs.GlobalWords.{arith, ◌≡◌, Bool, true, false, cond, not, ◌||◌, List, [], ◌∷◌, ◌++◌, map, Option, None, refl, sym, ap, ◌∙◌, drop, length, codes, IsTotalOrder, bytes_decides, FinMap, get, insert, retain_keys, entries, same_map, IsAntisymmetric, Ordering, Globals, is_beside, is_line_of, is_node_within, routines_of, lines_of, without_subtree, Text, Node, significant_digits, text_eq, node_cmp_total, node_cmp_exact, both_true, IsSplit, split_node, joined_node, routine_at, is_line}
+use Rattle.mglobal.proofs.GlobalWords.{arith, ◌≡◌, Bool, true, false, cond, not, ◌||◌, List, [], ◌∷◌, ◌++◌, map, Option, None, refl, sym, ap, ◌∙◌, drop, length}
+use Rattle.mglobal.proofs.GlobalWords.{codes, IsTotalOrder, bytes_decides, FinMap, get, insert, retain_keys, entries, same_map, IsAntisymmetric, Ordering}
+use Rattle.mglobal.proofs.GlobalWords.{Globals, is_beside, is_line_of, is_node_within, routines_of, lines_of, without_subtree, Text, Node, significant_digits}
+use Rattle.mglobal.proofs.GlobalWords.{text_eq, node_cmp_total, node_cmp_exact, both_true, IsSplit, split_node, joined_node, routine_at, is_line}
 use Rattle.mspec.proofs.MapCuts.{get_cut, cut_drops}
 
 -- ---- maps

@@ -1,6 +1,10 @@
 -- SPDX-License-Identifier: Apache-2.0
 -- What is found among the keys of globals, as what $DATA and $ORDER answer.
-use Rattle.mglobal.proofs.GlobalWords.{arith, ℕ, ◌≡◌, Bool, true, cond, ◌&&◌, Option, Some, None, option_map, is_some, List, [], ◌∷◌, ◌++◌, map, reverse, All, refl, sym, ◌∙◌, ap, subst, option_and_then, IsSome, entries, keys, list_any, find, filter, All-map, All-head, All-tail, All-nil, All-push, Globals, is_between, is_beside, next_key, status, order_at, key_bytes, IsStored, Text, Node, significant_digits, Direction, Forward, Backward, is_below, children_in, front, last, IsKeyOf, passes, child_under, children_by, find_child, find_last_child, AreHeld, is_onward, BoundsOnward, nearest_key}
+use Rattle.mglobal.proofs.GlobalWords.{arith, ℕ, ◌≡◌, Bool, true, cond, ◌&&◌, Option, Some, None, option_map, is_some, List, [], ◌∷◌, ◌++◌, map, reverse, All}
+use Rattle.mglobal.proofs.GlobalWords.{refl, sym, ◌∙◌, ap, subst, option_and_then, IsSome, entries, keys, list_any, find, filter, All-map, All-head, All-tail}
+use Rattle.mglobal.proofs.GlobalWords.{All-nil, All-push, Globals, is_between, is_beside, next_key, status, order_at, key_bytes, IsStored, Text, Node}
+use Rattle.mglobal.proofs.GlobalWords.{significant_digits, Direction, Forward, Backward, is_below, children_in, front, last, IsKeyOf, passes, child_under}
+use Rattle.mglobal.proofs.GlobalWords.{children_by, find_child, find_last_child, AreHeld, is_onward, BoundsOnward, nearest_key}
 use Rattle.std.proofs.lemmas.List.{reverse-append, map-append}
 
 abbrev key : Node → List ℕ

@@ -1,7 +1,10 @@
 -- SPDX-License-Identifier: Apache-2.0
 -- How many places come after a place among the subscripts, at most: fewer after each that is further on. So a walk to places further on
 -- ends, whatever a store holds.
-use Rattle.mglobal.proofs.GlobalWords.{ℕ, zero, suc, ◌≡◌, ◌+◌, ◌*◌, ◌-◌, ◌^◌, ◌<◌, ◌≤◌, true, Option, Some, None, [], ◌∷◌, length, refl, ◌∙◌, ap, arith, ◌⊎◌, inl, inr, ℤ, unsigned_abs, slice_cmp, nat_cmp_is, Less, Equal, Greater, nat_cmp, ordering_then, cases_order, nat_tests, All-head, All-tail, raised, IsAscii, Text, canonical_value, Place, Empty, Numeric, Other, place_by, place, place_cmp, significant_digits, is_before, value_in_range, raised_below, raised_order, canonical_of_value}
+use Rattle.mglobal.proofs.GlobalWords.{ℕ, zero, suc, ◌≡◌, ◌+◌, ◌*◌, ◌-◌, ◌^◌, ◌<◌, ◌≤◌, true, Option, Some, None, [], ◌∷◌, length, refl, ◌∙◌, ap, arith, ◌⊎◌}
+use Rattle.mglobal.proofs.GlobalWords.{inl, inr, ℤ, unsigned_abs, slice_cmp, nat_cmp_is, Less, Equal, Greater, nat_cmp, ordering_then, cases_order, nat_tests}
+use Rattle.mglobal.proofs.GlobalWords.{All-head, All-tail, raised, IsAscii, Text, canonical_value, Place, Empty, Numeric, Other, place_by, place, place_cmp}
+use Rattle.mglobal.proofs.GlobalWords.{significant_digits, is_before, value_in_range, raised_below, raised_order, canonical_of_value}
 use Rattle.std.proofs.Math.Nat.{mul-le-mul_right}
 
 -- ---- texts of at most `n` characters, by character codes

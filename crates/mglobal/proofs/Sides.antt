@@ -1,6 +1,9 @@
 -- SPDX-License-Identifier: Apache-2.0
 -- The bounds of the keys among which the next node of a walk is found.
-use Rattle.mglobal.proofs.GlobalWords.{arith, ℕ, ◌≡◌, ◌<◌, Bool, true, false, ◌&&◌, ◌||◌, None, List, [], ◌∷◌, ◌++◌, length, refl, sym, ◌∙◌, ap, append_assoc, append-nil, if◌then◌else◌, is_between, is_beside, subscript_bytes, children_start, subtree_end, AreSubscripts, IsStored, NoneEmpty, Text, Node, significant_digits, Direction, Forward, Backward, is_before, is_below, child_of, front, last, none_empty, passes, child_under, below_is, not_empty, split_last, is_onward, BoundsOnward}
+use Rattle.mglobal.proofs.GlobalWords.{arith, ℕ, ◌≡◌, ◌<◌, Bool, true, false, ◌&&◌, ◌||◌, None, List, [], ◌∷◌, ◌++◌, length, refl, sym, ◌∙◌, ap, append_assoc}
+use Rattle.mglobal.proofs.GlobalWords.{append-nil, if◌then◌else◌, is_between, is_beside, subscript_bytes, children_start, subtree_end, AreSubscripts, IsStored}
+use Rattle.mglobal.proofs.GlobalWords.{NoneEmpty, Text, Node, significant_digits, Direction, Forward, Backward, is_before, is_below, child_of, front, last}
+use Rattle.mglobal.proofs.GlobalWords.{none_empty, passes, child_under, below_is, not_empty, split_last, is_onward, BoundsOnward}
 use Rattle.std.proofs.lemmas.List.Concat.{flat_map-append}
 use Rattle.mglobal.proofs.Between.{key, bytes, keys_between, all_between, behind_between, before_between}
 

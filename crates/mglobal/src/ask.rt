@@ -37,7 +37,8 @@ fn nearest<S: NodeStore>(
     high: &[u8],
     direction: Direction,
 ) -> Result<Option<Vec<u8>>, StoreFault>
-    ensures found { S.doubt store.new ≡ 0 → IfOk result (λ key. option_map (λ bytes. bytes.items) key ≡ nearest_key (way direction) (S.content store.old) low.now high.now) }
+    ensures found { S.doubt store.new ≡ 0 → IfOk result (λ key. option_map (λ bytes. bytes.items) key ≡ nearest_key (way direction)
+        (S.content store.old) low.now high.now) }
     ensures held { S.doubt store.new ≡ 0 → AreHeld (S.content store.old) }
     ensures same { S.doubt store.new ≡ 0 → S.content store.new ≡ S.content store.old }
     ensures doubt { DoubtsOver S.NodeStore store.old store.new (is_ok result) }
@@ -67,7 +68,8 @@ pub fn neighbour<S: NodeStore>(
     requires account { IsAccountName account.now }
     requires name { IsName name.now }
     requires subs { AreOrderSubscripts subs.now }
-    ensures next { S.doubt store.new ≡ 0 → IfOk result (λ next. next ≡ order_at (S.content store.old) (way direction) (record { account = account.now; name = name.now; subscripts = subs.now })) }
+    ensures next { S.doubt store.new ≡ 0 → IfOk result (λ next. next ≡ order_at (S.content store.old) (way direction)
+        (record { account = account.now; name = name.now; subscripts = subs.now })) }
     ensures held { S.doubt store.new ≡ 0 → OnOk result (AreHeld (S.content store.old)) }
     ensures sub { IfOk result (λ next. IfSome next IsSub) }
     ensures same { S.doubt store.new ≡ 0 → S.content store.new ≡ S.content store.old }

@@ -115,7 +115,8 @@ pub(crate) fn keep(
 )
     requires account { IsAccountName account.now }
     requires name { IsName name.now }
-    ensures { (globals : Globals) → AreCopiesIn globals copies.old.items → lines.now.value.items ≡ lines_of globals account.now name.now → AreCopiesIn globals copies.new.items }
+    ensures { (globals : Globals) → AreCopiesIn globals copies.old.items → lines.now.value.items ≡ lines_of globals account.now name.now
+        → AreCopiesIn globals copies.new.items }
 {
     let Ok(copy) = copy_of(alloc, account, name, lines) else {
         return;

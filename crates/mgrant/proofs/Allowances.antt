@@ -1,6 +1,10 @@
 -- SPDX-License-Identifier: Apache-2.0
 -- What a map of permits allows, beside the list of grants.
-use Rattle.mgrant.proofs.GrantWords.{◌≡◌, ℕ, ◌==◌, ◌<◌, Bool, true, false, cond, List, ◌∷◌, ◌++◌, length, map, get_or, Some, All, refl, sym, ap, subst, ◌∙◌, arith, inl, inr, length-append, slice_get, unwrap_or, ◌&&◌, ◌||◌, [], list_any, bytes_decides, cases_Bool, and_parts, false≢true, ne_eqb, false_from_ne_true, map-append, All-head, All-tail, All-append, All-cons, All-nil, list_any-append, list_any_at, slice_get_within, slice_get-get_or, unwrap_or-slice_get, Text, text_eq, text_in, IsPlaceOf, mode_of, placed, lets_at, same_permit, Allowed, allows_so, IsAllowance, IsInterned, Permit, eqb-true, eq-eqb}
+use Rattle.mgrant.proofs.GrantWords.{◌≡◌, ℕ, ◌==◌, ◌<◌, Bool, true, false, cond, List, ◌∷◌, ◌++◌, length, map, get_or, Some, All, refl, sym, ap, subst, ◌∙◌}
+use Rattle.mgrant.proofs.GrantWords.{arith, inl, inr, length-append, slice_get, unwrap_or, ◌&&◌, ◌||◌, [], list_any, bytes_decides, cases_Bool, and_parts}
+use Rattle.mgrant.proofs.GrantWords.{false≢true, ne_eqb, false_from_ne_true, map-append, All-head, All-tail, All-append, All-cons, All-nil, list_any-append}
+use Rattle.mgrant.proofs.GrantWords.{list_any_at, slice_get_within, slice_get-get_or, unwrap_or-slice_get, Text, text_eq, text_in, IsPlaceOf, mode_of, placed}
+use Rattle.mgrant.proofs.GrantWords.{lets_at, same_permit, Allowed, allows_so, IsAllowance, IsInterned, Permit, eqb-true, eq-eqb}
 use Rattle.std.proofs.Math.Bool.{or-false}
 use Rattle.std.specs.HashMap as hash
 use Rattle.mspec.specs.Access as access

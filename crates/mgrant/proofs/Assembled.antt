@@ -1,6 +1,12 @@
 -- SPDX-License-Identifier: Apache-2.0
 -- The settings that are put together from the parts of a document.
-use Rattle.mgrant.proofs.GrantWords.{◌≡◌, ◌⊎◌, inl, inr, ℕ, ◌+◌, ◌==◌, ◌<◌, ℤ, pos, negsuc, Bool, true, false, cond, List, [], ◌∷◌, ◌++◌, length, map, Option, Some, None, refl, sym, ap, subst, ◌∙◌, arith, append_assoc, length-append, slice_get, option_and_then, unsigned_abs, int_eq, list_all, flat_map, FinMap, from_entries, get-from_entries, same_map, nat_cmp-IsAntisymmetric, find, nat_cmp_total, cases_Bool, cases_eq, and_parts, false≢true, eq-eqb, ne_eqb, Decides-int_eq, list_all-append, none-some, same_Some, get_or_from_slice_get, Account, Written, WrittenAccount, WrittenGrant, names_of, terminals_of, are_names, are_terminals, are_steps, are_grants, if◌then◌else◌, are_distinct, is_within, account_of, terminals_with, settings_of, Placed, Claim, claims, claimed, HasTerminals, AreGranted, named, names_in, grant_of, terminals_from, settings_view, nat_cmp}
+use Rattle.mgrant.proofs.GrantWords.{◌≡◌, ◌⊎◌, inl, inr, ℕ, ◌+◌, ◌==◌, ◌<◌, ℤ, pos, negsuc, Bool, true, false, cond, List, [], ◌∷◌, ◌++◌, length, map, Option}
+use Rattle.mgrant.proofs.GrantWords.{Some, None, refl, sym, ap, subst, ◌∙◌, arith, append_assoc, length-append, slice_get, option_and_then, unsigned_abs}
+use Rattle.mgrant.proofs.GrantWords.{int_eq, list_all, flat_map, FinMap, from_entries, get-from_entries, same_map, nat_cmp-IsAntisymmetric, find, nat_cmp_total}
+use Rattle.mgrant.proofs.GrantWords.{cases_Bool, cases_eq, and_parts, false≢true, eq-eqb, ne_eqb, Decides-int_eq, list_all-append, none-some, same_Some}
+use Rattle.mgrant.proofs.GrantWords.{get_or_from_slice_get, Account, Written, WrittenAccount, WrittenGrant, names_of, terminals_of, are_names, are_terminals}
+use Rattle.mgrant.proofs.GrantWords.{are_steps, are_grants, if◌then◌else◌, are_distinct, is_within, account_of, terminals_with, settings_of, Placed, Claim}
+use Rattle.mgrant.proofs.GrantWords.{claims, claimed, HasTerminals, AreGranted, named, names_in, grant_of, terminals_from, settings_view, nat_cmp}
 use Rattle.mgrant.specs.Document.{fault_of}
 use Rattle.mgrant.specs.declared.fault.SettingsFault.TheVariants.{Grant}
 use Rattle.mgrant.proofs.Places.{slice_get_at}

@@ -1,6 +1,10 @@
 -- SPDX-License-Identifier: Apache-2.0
 -- Chains of grants, by names and by places.
-use Rattle.mgrant.proofs.GrantWords.{◌≡◌, ◌⊎◌, inl, inr, ℕ, ◌==◌, ◌<◌, true, List, ◌∷◌, length, map, get_or, Some, All, refl, sym, ap, subst, ◌∙◌, ◌&&◌, Bool, ◌||◌, [], Option, subst₂, list_any, bytes_decides, and_parts, and_from, or_cases, eqb-true, eq-eqb, false≢true, or_left, or_right, All-head, All-tail, list_any_at, Any-from_list_any, Text, text_eq, carries, flows, Reaches, itself, through, are_names, is_account_name, leads, Leads, stays, goes, Placed, carries_at, ties_at, named, IsAmong, settings_view, names_in, text_in, Account, Edge}
+use Rattle.mgrant.proofs.GrantWords.{◌≡◌, ◌⊎◌, inl, inr, ℕ, ◌==◌, ◌<◌, true, List, ◌∷◌, length, map, get_or, Some, All, refl, sym, ap, subst, ◌∙◌, ◌&&◌, Bool}
+use Rattle.mgrant.proofs.GrantWords.{◌||◌, [], Option, subst₂, list_any, bytes_decides, and_parts, and_from, or_cases, eqb-true, eq-eqb, false≢true, or_left}
+use Rattle.mgrant.proofs.GrantWords.{or_right, All-head, All-tail, list_any_at, Any-from_list_any, Text, text_eq, carries, flows, Reaches, itself, through}
+use Rattle.mgrant.proofs.GrantWords.{are_names, is_account_name, leads, Leads, stays, goes, Placed, carries_at, ties_at, named, IsAmong, settings_view}
+use Rattle.mgrant.proofs.GrantWords.{names_in, text_in, Account, Edge}
 use Rattle.mspec.specs.Access as access
 use Rattle.mgrant.proofs.Seen.{me_test, place_is, name_good, name_seen}
 

@@ -1,6 +1,8 @@
 -- SPDX-License-Identifier: Apache-2.0
 -- The values of a list, read one after another.
-use Rattle.mgrant.proofs.GrantWords.{◌≡◌, ◌<◌, ◌++◌, ap, refl, sym, ℕ, suc, ◌≤◌, List, [], ◌∷◌, Option, Some, None, length, get_or, drop, option_map, append-nil, ◌∙◌, drop_more, drop_all, lt-leb, le-leb, Data, view, items_view, each_read, entries_of, max_entries, count_items}
+use Rattle.mgrant.proofs.GrantWords.{◌≡◌, ◌<◌, ◌++◌, ap, refl, sym, ℕ, suc, ◌≤◌, List, [], ◌∷◌, Option, Some, None, length, get_or, drop, option_map}
+use Rattle.mgrant.proofs.GrantWords.{append-nil, ◌∙◌, drop_more, drop_all, lt-leb, le-leb, Data, view, items_view, each_read, entries_of, max_entries}
+use Rattle.mgrant.proofs.GrantWords.{count_items}
 use Rattle.toml.specs.declared.value.Value.{Value}
 
 count_view : (vs : List Value) → count_items (items_view vs) ≡ length vs

@@ -1,6 +1,7 @@
 -- SPDX-License-Identifier: Apache-2.0
 -- Lists of which each element passes a test and none is there twice: one more element, and those that do not.
-use Rattle.mgrant.proofs.GrantWords.{◌≡◌, inl, inr, Bool, true, false, List, [], ◌∷◌, ◌++◌, refl, sym, ap, ◌∙◌, append_assoc, not, ◌&&◌, ◌||◌, list_any, list_all, false≢true, cases_Bool, and_left, and_right, list_any-append, list_all-append, are_distinct}
+use Rattle.mgrant.proofs.GrantWords.{◌≡◌, inl, inr, Bool, true, false, List, [], ◌∷◌, ◌++◌, refl, sym, ap, ◌∙◌, append_assoc, not, ◌&&◌, ◌||◌, list_any}
+use Rattle.mgrant.proofs.GrantWords.{list_all, false≢true, cases_Bool, and_left, and_right, list_any-append, list_all-append, are_distinct}
 
 -- each passes, and none is there twice
 abbrev pub are_good : {X : Type 0} → (X → Bool) → (X → X → Bool) → List X → Bool

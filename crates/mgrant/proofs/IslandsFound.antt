@@ -1,6 +1,11 @@
 -- SPDX-License-Identifier: Apache-2.0
 -- The island of an account: the names at the places that chains of ties lead to.
-use Rattle.mgrant.proofs.GrantWords.{◌≡◌, ◌↔◌, ◌⊎◌, inl, inr, ℕ, zero, suc, ◌+◌, ◌==◌, ◌<◌, ◌≤◌, Bool, true, false, List, ◌∷◌, ◌++◌, length, map, get_or, Option, Some, All, refl, sym, ap, subst, subst₂, ◌∙◌, arith, ◌&&◌, ◌||◌, unwrap_or, [], Any-from_list_any, list_any_at, both_ways, list_any, filter, range_with_len, bytes_decides, cases_lt, and_parts, and_from, or_cases, or_left, or_right, false≢true, false_from_ne_true, get_or_past, filter_agree, filter-append, slice_get_past, Text, text_eq, carries, flows, are_names, leads, Leads, stays, IsIslandOf, IsIslandAt, Placed, carries_at, ties_at, settings_view, named, names_in, IsAmong, AreSettings, text_in, Account, Edge, append-nil}
+use Rattle.mgrant.proofs.GrantWords.{◌≡◌, ◌↔◌, ◌⊎◌, inl, inr, ℕ, zero, suc, ◌+◌, ◌==◌, ◌<◌, ◌≤◌, Bool, true, false, List, ◌∷◌, ◌++◌, length, map, get_or}
+use Rattle.mgrant.proofs.GrantWords.{Option, Some, All, refl, sym, ap, subst, subst₂, ◌∙◌, arith, ◌&&◌, ◌||◌, unwrap_or, [], Any-from_list_any, list_any_at}
+use Rattle.mgrant.proofs.GrantWords.{both_ways, list_any, filter, range_with_len, bytes_decides, cases_lt, and_parts, and_from, or_cases, or_left, or_right}
+use Rattle.mgrant.proofs.GrantWords.{false≢true, false_from_ne_true, get_or_past, filter_agree, filter-append, slice_get_past, Text, text_eq, carries, flows}
+use Rattle.mgrant.proofs.GrantWords.{are_names, leads, Leads, stays, IsIslandOf, IsIslandAt, Placed, carries_at, ties_at, settings_view, named, names_in}
+use Rattle.mgrant.proofs.GrantWords.{IsAmong, AreSettings, text_in, Account, Edge, append-nil}
 use Rattle.mspec.specs.Access as access
 use Rattle.mgrant.proofs.Chains.{flows_seen, none_empty, carried_between, any_more, targets_within, tied_on, tied_within}
 use Rattle.mgrant.proofs.Marks.{leads_on, closed_under}

@@ -1,6 +1,7 @@
 -- SPDX-License-Identifier: Apache-2.0
 -- The keys of a table, against those that it may have.
-use Rattle.mgrant.proofs.GrantWords.{◌≡◌, ap, Bool, true, List, [], ◌∷◌, String, Global, Bor, string_bytes, refl, ◌&&◌, ◌||◌, list_any, keys_of, Text, text_eq, members_view, Entry, has_only, keys_view}
+use Rattle.mgrant.proofs.GrantWords.{◌≡◌, ap, Bool, true, List, [], ◌∷◌, String, Global, Bor, string_bytes, refl, ◌&&◌, ◌||◌, list_any, keys_of, Text, text_eq}
+use Rattle.mgrant.proofs.GrantWords.{members_view, Entry, has_only, keys_view}
 
 -- each key is among these
 abbrev pub keys_only : List Text → List (String Global) → Bool

@@ -1,6 +1,12 @@
 -- SPDX-License-Identifier: Apache-2.0
 -- Marked places: one more, those that are led to from a place, and what is reached when there are no more.
-use Rattle.mgrant.proofs.GrantWords.{◌≡◌, ◌↔◌, inl, inr, ℕ, zero, suc, ◌+◌, ◌-◌, ◌==◌, ◌<◌, ◌≤◌, Bool, true, false, cond, List, ◌∷◌, ◌++◌, length, get_or, set, take, drop, All, refl, sym, ap, subst, ◌∙◌, arith, length-append, length-drop, length-take-le, add-zero, Any, sum_by, count_by, nat_lt, nat_le, replicate, [], list_any, IsPartitionPoint, IsPermutation, cases_Bool, cases_eq, cases_lt, false≢true, and_parts, and_from, ltb-true, ltb-false, leb-true, leb-false, eqb-true, eq-eqb, set-get_or, get_or-set_same, get_or-set_other, get_or-take, get_or-drop, length-replicate, get_or_default, All-append, All-cons, All-nil, Contains-append_left, Contains-append_right, Any-from_list_any, list_any_at, list_any-IsPermutation, sum_by-set, leads, Leads, stays, goes, IsRun, IsStage, IsMore, Edge}
+use Rattle.mgrant.proofs.GrantWords.{◌≡◌, ◌↔◌, inl, inr, ℕ, zero, suc, ◌+◌, ◌-◌, ◌==◌, ◌<◌, ◌≤◌, Bool, true, false, cond, List, ◌∷◌, ◌++◌, length, get_or, set}
+use Rattle.mgrant.proofs.GrantWords.{take, drop, All, refl, sym, ap, subst, ◌∙◌, arith, length-append, length-drop, length-take-le, add-zero, Any, sum_by}
+use Rattle.mgrant.proofs.GrantWords.{count_by, nat_lt, nat_le, replicate, [], list_any, IsPartitionPoint, IsPermutation, cases_Bool, cases_eq, cases_lt}
+use Rattle.mgrant.proofs.GrantWords.{false≢true, and_parts, and_from, ltb-true, ltb-false, leb-true, leb-false, eqb-true, eq-eqb, set-get_or, get_or-set_same}
+use Rattle.mgrant.proofs.GrantWords.{get_or-set_other, get_or-take, get_or-drop, length-replicate, get_or_default, All-append, All-cons, All-nil}
+use Rattle.mgrant.proofs.GrantWords.{Contains-append_left, Contains-append_right, Any-from_list_any, list_any_at, list_any-IsPermutation, sum_by-set, leads}
+use Rattle.mgrant.proofs.GrantWords.{Leads, stays, goes, IsRun, IsStage, IsMore, Edge}
 use Rattle.std.proofs.Math.ListN.{get_or-append}
 
 -- ---- chains

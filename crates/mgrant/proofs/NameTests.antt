@@ -1,6 +1,7 @@
 -- SPDX-License-Identifier: Apache-2.0
 -- When a text is a name.
-use Rattle.mgrant.proofs.GrantWords.{◌≡◌, ℕ, Bool, true, [], ◌∷◌, length, refl, nat_le, ◌&&◌, list_all, false≢true, and_parts, and_from, leb-true, le-leb, Text, AllAre, IsName, is_name_start, is_name_rest, is_name}
+use Rattle.mgrant.proofs.GrantWords.{◌≡◌, ℕ, Bool, true, [], ◌∷◌, length, refl, nat_le, ◌&&◌, list_all, false≢true, and_parts, and_from, leb-true, le-leb, Text}
+use Rattle.mgrant.proofs.GrantWords.{AllAre, IsName, is_name_start, is_name_rest, is_name}
 
 all_are : (p : ℕ → Bool) (cs : Text) → list_all p cs ≡ true → AllAre p cs
 all_are p [] e = tt

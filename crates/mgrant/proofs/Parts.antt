@@ -1,6 +1,13 @@
 -- SPDX-License-Identifier: Apache-2.0
 -- The parts of settings, entry by entry.
-use Rattle.mgrant.proofs.GrantWords.{◌≡◌, inl, inr, ℕ, zero, suc, ◌+◌, ◌<◌, ◌≤◌, ℤ, pos, Bool, true, false, List, ◌∷◌, ◌++◌, length, map, take, drop, get_or, get_or_default, set, Option, Some, None, refl, sym, ap, subst, ◌∙◌, arith, append_assoc, append-nil, length-take-le, add-one, add-zero, take-append-drop, is_some, not, ◌&&◌, unwrap_or, if◌then◌else◌, int_eq, [], list_any, list_all, nat_list_eq_equiv, cases_eq, cases_Bool, and_right, false≢true, false_from_ne_true, Decides-int_eq, map-append, take_more, length-map, get_or-set_same, get_or-set_other, list_all-append, none-some, slice_get_within, Text, text_eq, WrittenAccount, WrittenGrant, names_of, terminals_of, are_names, are_terminals, is_account_name, is_name, mode_named, is_grant, is_within, grant_of, Mode, Read, Placed, mode_of, account_view, grant_view, entries_seen, grants_seen, Claim, claims_at, claims, numbers, claimed, HasTerminals, AreGranted, IsNumberWithin, IsPlacing, named, IsAmong, All-append, All-cons, All-nil}
+use Rattle.mgrant.proofs.GrantWords.{◌≡◌, inl, inr, ℕ, zero, suc, ◌+◌, ◌<◌, ◌≤◌, ℤ, pos, Bool, true, false, List, ◌∷◌, ◌++◌, length, map, take, drop, get_or}
+use Rattle.mgrant.proofs.GrantWords.{get_or_default, set, Option, Some, None, refl, sym, ap, subst, ◌∙◌, arith, append_assoc, append-nil, length-take-le}
+use Rattle.mgrant.proofs.GrantWords.{add-one, add-zero, take-append-drop, is_some, not, ◌&&◌, unwrap_or, if◌then◌else◌, int_eq, [], list_any, list_all}
+use Rattle.mgrant.proofs.GrantWords.{nat_list_eq_equiv, cases_eq, cases_Bool, and_right, false≢true, false_from_ne_true, Decides-int_eq, map-append, take_more}
+use Rattle.mgrant.proofs.GrantWords.{length-map, get_or-set_same, get_or-set_other, list_all-append, none-some, slice_get_within, Text, text_eq, WrittenAccount}
+use Rattle.mgrant.proofs.GrantWords.{WrittenGrant, names_of, terminals_of, are_names, are_terminals, is_account_name, is_name, mode_named, is_grant, is_within}
+use Rattle.mgrant.proofs.GrantWords.{grant_of, Mode, Read, Placed, mode_of, account_view, grant_view, entries_seen, grants_seen, Claim, claims_at, claims}
+use Rattle.mgrant.proofs.GrantWords.{numbers, claimed, HasTerminals, AreGranted, IsNumberWithin, IsPlacing, named, IsAmong, All-append, All-cons, All-nil}
 use Rattle.std.proofs.Math.Seq.{split_at}
 use Rattle.std.proofs.lemmas.Cmp.{int_eq_equiv}
 use Rattle.std.specs.Option.{option_or}

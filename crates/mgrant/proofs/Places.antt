@@ -1,6 +1,10 @@
 -- SPDX-License-Identifier: Apache-2.0
 -- Texts with their places.
-use Rattle.mgrant.proofs.GrantWords.{◌≡◌, ◌⊎◌, ℕ, zero, suc, ◌<◌, Bool, true, false, cond, List, ◌∷◌, ◌++◌, length, get_or, Option, Some, None, IfSome, IfNone, refl, sym, ap, subst, ◌∙◌, inl, inr, arith, slice_get, is_some, bytes_eq, [], list_any, lookup, KeepsOthers, IsKeyTest, AreApart, bytes_decides, nat_list_eq_equiv, cases_Bool, cond-true, cond-false, false≢true, false_from_ne_true, list_any_none, list_any_at, none-some, same_Some, slice_get-get_or, slice_get_within, get_or_from_slice_get, Text, text_eq, Bytes, Places, found_at, IsIndex, IsPlaceOf}
+use Rattle.mgrant.proofs.GrantWords.{◌≡◌, ◌⊎◌, ℕ, zero, suc, ◌<◌, Bool, true, false, cond, List, ◌∷◌, ◌++◌, length, get_or, Option, Some, None, IfSome, IfNone}
+use Rattle.mgrant.proofs.GrantWords.{refl, sym, ap, subst, ◌∙◌, inl, inr, arith, slice_get, is_some, bytes_eq, [], list_any, lookup, KeepsOthers, IsKeyTest}
+use Rattle.mgrant.proofs.GrantWords.{AreApart, bytes_decides, nat_list_eq_equiv, cases_Bool, cond-true, cond-false, false≢true, false_from_ne_true}
+use Rattle.mgrant.proofs.GrantWords.{list_any_none, list_any_at, none-some, same_Some, slice_get-get_or, slice_get_within, get_or_from_slice_get, Text, text_eq}
+use Rattle.mgrant.proofs.GrantWords.{Bytes, Places, found_at, IsIndex, IsPlaceOf}
 use Rattle.std.specs.HashMap as hash
 
 pub place_told : (texts : List Text) (places : Places) → IsIndex texts places → (text : Text) (r : Option ℕ) → r ≡ found_at places text → IfSome r (IsPlaceOf texts text)

@@ -1,6 +1,13 @@
 -- SPDX-License-Identifier: Apache-2.0
 -- The settings of the definitions, beside the parts that the code keeps.
-use Rattle.mgrant.proofs.GrantWords.{◌≡◌, inl, inr, ℕ, zero, suc, ◌+◌, ◌==◌, ◌<◌, Bool, true, false, List, ◌∷◌, length, map, get_or, Option, Some, None, All, refl, sym, subst, ap, ◌∙◌, arith, add-zero, zero-add, not, ◌&&◌, ◌||◌, nat_le, slice_get, option_map, option_and_then, unwrap_or, [], list_any, list_all, get, from_entries, get-from_entries, find, nat_cmp_total, bytes_decides, cases_Bool, cases_lt, and_parts, or_cases, leb-true, false≢true, ne_eqb, eq-eqb, not-true, false_from_ne_true, nat_tests, All-head, All-tail, list_any_at, AllPass-from_list_all, none-some, same_Some, slice_get-get_or, slice_get_within, slice_get_past, length-map, get_or_from_slice_get, unwrap_or-slice_get, Text, text_eq, is_letter, is_name_rest, account_name_is, Account, are_names, are_distinct, is_account_name, Placed, lets_at, names_in, terminals_from, with_terminal, named, IsAmong, settings_view, text_in, IsPlaceOf}
+use Rattle.mgrant.proofs.GrantWords.{◌≡◌, inl, inr, ℕ, zero, suc, ◌+◌, ◌==◌, ◌<◌, Bool, true, false, List, ◌∷◌, length, map, get_or, Option, Some, None, All}
+use Rattle.mgrant.proofs.GrantWords.{refl, sym, subst, ap, ◌∙◌, arith, add-zero, zero-add, not, ◌&&◌, ◌||◌, nat_le, slice_get, option_map, option_and_then}
+use Rattle.mgrant.proofs.GrantWords.{unwrap_or, [], list_any, list_all, get, from_entries, get-from_entries, find, nat_cmp_total, bytes_decides, cases_Bool}
+use Rattle.mgrant.proofs.GrantWords.{cases_lt, and_parts, or_cases, leb-true, false≢true, ne_eqb, eq-eqb, not-true, false_from_ne_true, nat_tests, All-head}
+use Rattle.mgrant.proofs.GrantWords.{All-tail, list_any_at, AllPass-from_list_all, none-some, same_Some, slice_get-get_or, slice_get_within, slice_get_past}
+use Rattle.mgrant.proofs.GrantWords.{length-map, get_or_from_slice_get, unwrap_or-slice_get, Text, text_eq, is_letter, is_name_rest, account_name_is, Account}
+use Rattle.mgrant.proofs.GrantWords.{are_names, are_distinct, is_account_name, Placed, lets_at, names_in, terminals_from, with_terminal, named, IsAmong}
+use Rattle.mgrant.proofs.GrantWords.{settings_view, text_in, IsPlaceOf}
 use Rattle.std.specs.List.{find as first_of}
 use Rattle.std.specs.Ordering.{nat_cmp, eq_by_cmp}
 use Rattle.mspec.specs.Literal.{is_digit}

@@ -3,7 +3,8 @@
 --
 -- The document is seen as `toml` sees it, as members: keys with data. It has a list `account` of tables with the keys `name`,
 -- `terminals` and `steps`, and a list `grant` of tables with the keys `from`, `to`, `global` and `mode`.
-use Rattle.std.specs.Prelude.{◌≡◌, ℕ, suc, ℤ, pos, negsuc, Bool, true, false, not, ◌&&◌, nat_le, if◌then◌else◌, List, [], ◌∷◌, length, map, codes, Option, Some, None, is_some, option_map, option_and_then, unwrap_or, unsigned_abs, IsUtf8}
+use Rattle.std.specs.Prelude.{◌≡◌, ℕ, suc, ℤ, pos, negsuc, Bool, true, false, not, ◌&&◌, nat_le, if◌then◌else◌, List, [], ◌∷◌, length, map, codes, Option, Some}
+use Rattle.std.specs.Prelude.{None, is_some, option_map, option_and_then, unwrap_or, unsigned_abs, IsUtf8}
 use Rattle.std.specs.List.{list_any, list_all, flat_map}
 use Rattle.std.specs.FinMap.{from_entries}
 use Rattle.std.specs.Ordering.{int_eq}

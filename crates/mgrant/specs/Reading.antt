@@ -1,12 +1,14 @@
 -- SPDX-License-Identifier: Apache-2.0
 -- The entries of a document, as the code keeps them, seen as what was written; and what a reading of settings returns.
-use Rattle.std.specs.Prelude.{◌≡◌, ◌⊎◌, ℕ, ◌+◌, ◌≤◌, ℤ, pos, List, [], ◌∷◌, ◌++◌, map, length, slice_get, slice_index_or, All, Bool, true, false, if◌then◌else◌, Option, Some, None, Result, MatchResult}
+use Rattle.std.specs.Prelude.{◌≡◌, ◌⊎◌, ℕ, ◌+◌, ◌≤◌, ℤ, pos, List, [], ◌∷◌, ◌++◌, map, length, slice_get, slice_index_or, All, Bool, true, false, if◌then◌else◌}
+use Rattle.std.specs.Prelude.{Option, Some, None, Result, MatchResult}
 use Rattle.std.specs.Ordering.{int_eq}
 use denote.Ref.{Bor}
 use Rattle.toml.specs.Data.{Members}
 use Rattle.mspec.specs.Node.{Text}
 use Rattle.mspec.specs.Access.{Account, Settings}
-use Rattle.mgrant.specs.Document.{account_of, is_within, has_steps, are_terminals, is_grant, mode_named, grant_of, Reads, WrittenAccount, WrittenGrant, Written, written, settings_of, first_fault}
+use Rattle.mgrant.specs.Document.{account_of, is_within, has_steps, are_terminals, is_grant, mode_named, grant_of, Reads, WrittenAccount, WrittenGrant, Written}
+use Rattle.mgrant.specs.Document.{written, settings_of, first_fault}
 use Rattle.mgrant.specs.Placed.{Placed, mode_of}
 use Rattle.mgrant.specs.View.{account_view, named, IsAmong}
 use Rattle.mgrant.specs.declared.checks.Placing.{Placing}

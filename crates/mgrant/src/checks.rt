@@ -3,7 +3,8 @@
 ghost use Rattle.std.specs.Prelude.{◌≡◌, ◌≤◌, ◌<◌, ℕ, List, [], IfOk, OnOk, All, map, false, length, vec_len, MatchBool, MatchOption, option_map};
 ghost use Rattle.mgrant.specs.Document.{account_of, names_of, terminals_of, are_names, are_terminals, are_steps, are_grants, is_grant, is_within, mode_named};
 ghost use Rattle.mgrant.specs.Placed.{mode_of};
-ghost use Rattle.mgrant.specs.Reading.{entries_seen, grants_seen, grant_view, Judges, Claim, claims, claims_at, numbers, HasTerminals, IsPlacing, AreGranted, IsNumberWithin};
+ghost use Rattle.mgrant.specs.Reading.{entries_seen, grants_seen, grant_view, Judges, Claim, claims, claims_at, numbers, HasTerminals, IsPlacing, AreGranted};
+ghost use Rattle.mgrant.specs.Reading.{IsNumberWithin};
 ghost use Rattle.mgrant.specs.View.{names_in};
 ghost use Rattle.mgrant.specs.Words.{IsIndex};
 ghost use Rattle.mgrant.specs.declared.fault.SettingsFault.TheVariants as fault;
@@ -54,7 +55,8 @@ pub(crate) fn number_within(n: i64, most: u32) -> Option<u32>
 // Gives terminals to the account at a place, unless one of them is not a terminal or has an account.
 fn claim(terminals: &mut Vec<Option<usize>>, listed: &[i64], place: usize) -> bool
     requires { vec_len terminals.old ≡ 10000 }
-    ensures claimed { (seen : List Claim) → HasTerminals seen terminals.old.items → MatchBool result (HasTerminals (claims_at place listed.now seen) terminals.new.items) (are_terminals (numbers (claims_at place listed.now seen)) ≡ false) }
+    ensures claimed { (seen : List Claim) → HasTerminals seen terminals.old.items → MatchBool result (HasTerminals
+        (claims_at place listed.now seen) terminals.new.items) (are_terminals (numbers (claims_at place listed.now seen)) ≡ false) }
     ensures len { vec_len terminals.new ≡ vec_len terminals.old }
 {
     for terminal in listed {
@@ -87,7 +89,8 @@ pub(crate) fn terminals_of(
     alloc: Global,
     accounts: &[AccountEntry],
 ) -> Result<Vec<Option<usize>>, SettingsFault>
-    ensures { Judges (are_terminals (terminals_of (entries_seen accounts.now))) fault.Terminal (λ terminals. HasTerminals (claims 0 (entries_seen accounts.now)) terminals.items) result }
+    ensures { Judges (are_terminals (terminals_of (entries_seen accounts.now))) fault.Terminal (λ terminals. HasTerminals (claims 0
+        (entries_seen accounts.now)) terminals.items) result }
 {
     let mut terminals = unclaimed(alloc, TERMINALS)?;
     for (place, entry) in accounts.iter().enumerate() {
@@ -156,7 +159,8 @@ pub(crate) fn grants_of(
     accounts: &Accounts,
     entries: &[GrantEntry],
 ) -> Result<Grants, SettingsFault>
-    ensures { Judges (are_grants (names_in accounts.now) (grants_seen entries.now)) fault.Grant (λ grants. AreGranted (names_in accounts.now) (grants_seen entries.now) grants) result }
+    ensures { Judges (are_grants (names_in accounts.now) (grants_seen entries.now)) fault.Grant (λ grants. AreGranted (names_in accounts.now)
+        (grants_seen entries.now) grants) result }
 {
     let mut grants = Grants::new(alloc);
     for entry in entries {

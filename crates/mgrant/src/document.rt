@@ -5,7 +5,8 @@ ghost use Rattle.std.specs.List.{list_any};
 ghost use Rattle.mspec.specs.Trees.{text_eq};
 ghost use Rattle.toml.specs.Data.{Members, get_member, as_str, as_integer};
 ghost use Rattle.toml.specs.View.{view, table_view, array_view};
-ghost use Rattle.mgrant.specs.Document.{WrittenAccount, WrittenGrant, has_only, text_at, integer_at, integers_at, language_at, each_read, account_in, grant_in, written_by, entries_of, entries_in, written, max_entries};
+ghost use Rattle.mgrant.specs.Document.{WrittenAccount, WrittenGrant, has_only, text_at, integer_at, integers_at, language_at, each_read, account_in, grant_in};
+ghost use Rattle.mgrant.specs.Document.{written_by, entries_of, entries_in, written, max_entries};
 ghost use Rattle.mgrant.specs.Reading.{grant_view, entries_view, keys_view};
 ghost use Rattle.mgrant.specs.View.{account_view};
 

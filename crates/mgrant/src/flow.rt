@@ -1,6 +1,7 @@
 // SPDX-License-Identifier: Apache-2.0
 // Where chains of steps lead.
-ghost use Rattle.std.specs.Prelude.{◌≡◌, ◌<◌, ◌↔◌, ◌++◌, ◌∷◌, [], ℕ, Bool, All, IfOk, OnOk, IsTrue, true, false, length, slice_index_or, slice_set, vec_len, nat_lt, nat_le, List, if◌then◌else◌};
+ghost use Rattle.std.specs.Prelude.{◌≡◌, ◌<◌, ◌↔◌, ◌++◌, ◌∷◌, [], ℕ, Bool, All, IfOk, OnOk, IsTrue, true, false, length, slice_index_or, slice_set, vec_len};
+ghost use Rattle.std.specs.Prelude.{nat_lt, nat_le, List, if◌then◌else◌};
 ghost use Rattle.std.specs.List.Sorted.{IsNonDecreasingBy};
 ghost use Rattle.mgrant.specs.Edges.{Leads, IsRun, IsStage, IsMore};
 ghost use Rattle.mgrant.specs.declared.flow.Edge.{Edge};
@@ -66,7 +67,8 @@ fn mark_targets(
     order: &mut Vec<usize>,
 ) -> Result<(), AllocError>
     requires { All (λ e. e.target < vec_len marks.old) steps.now }
-    ensures stage { OnOk result ((edges : List Edge) (start : ℕ) → IsStage edges start marks.old.items order.old.items → All (λ e. Leads edges start e.target) steps.now → IsStage edges start marks.new.items order.new.items) }
+    ensures stage { OnOk result ((edges : List Edge) (start : ℕ) → IsStage edges start marks.old.items order.old.items → All
+        (λ e. Leads edges start e.target) steps.now → IsStage edges start marks.new.items order.new.items) }
     ensures more { OnOk result (IsMore marks.old.items order.old.items marks.new.items order.new.items) }
     ensures marked { OnOk result (All (λ e. slice_index_or marks.new.items e.target false ≡ true) steps.now) }
     ensures len { vec_len marks.new ≡ vec_len marks.old }
@@ -81,7 +83,8 @@ fn mark_targets(
 fn spread(edges: &[Edge], marks: &mut Vec<bool>, order: &mut Vec<usize>) -> Result<(), AllocError>
     requires sorted { IsNonDecreasingBy (λ e. e.source) edges.now }
     requires in_range { All (λ e. e.target < vec_len marks.old) edges.now }
-    ensures reached { OnOk result ((start : ℕ) → IsStage edges.now start marks.old.items order.old.items → (y : ℕ) → (slice_index_or marks.new.items y false ≡ true) ↔ Leads edges.now start y) }
+    ensures reached { OnOk result ((start : ℕ) → IsStage edges.now start marks.old.items order.old.items → (y : ℕ) → (slice_index_or marks.new.items y false
+        ≡ true) ↔ Leads edges.now start y) }
     ensures len { vec_len marks.new ≡ vec_len marks.old }
 {
     for turn in 0..marks.len() {

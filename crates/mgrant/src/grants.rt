@@ -84,7 +84,8 @@ fn allows(found: Option<Mode>, asked: Mode) -> bool
 
 // The steps of flow that grants make.
 fn edges_of(alloc: Global, list: &[Given]) -> Result<Vec<Edge>, AllocError>
-    ensures { IfOk result (λ edges. (globals : List Text) (x y : ℕ) → list_any (leads x y) edges.items ≡ list_any (carries_at x y) (map (placed globals) list.now)) }
+    ensures { IfOk result (λ edges. (globals : List Text) (x y : ℕ) → list_any (leads x y) edges.items ≡ list_any (carries_at x y) (map
+        (placed globals) list.now)) }
 {
     let mut edges = Vec::new(alloc);
     for given in list {
@@ -105,7 +106,8 @@ fn edges_of(alloc: Global, list: &[Given]) -> Result<Vec<Edge>, AllocError>
 
 // The steps between the two accounts of each grant, in both directions.
 fn ties_of(alloc: Global, list: &[Given]) -> Result<Vec<Edge>, AllocError>
-    ensures { IfOk result (λ edges. (globals : List Text) (x y : ℕ) → list_any (leads x y) edges.items ≡ list_any (ties_at x y) (map (placed globals) list.now)) }
+    ensures { IfOk result (λ edges. (globals : List Text) (x y : ℕ) → list_any (leads x y) edges.items ≡ list_any (ties_at x y) (map
+        (placed globals) list.now)) }
 {
     let mut edges = Vec::new(alloc);
     for given in list {

@@ -1,5 +1,5 @@
 -- SPDX-License-Identifier: Apache-2.0
--- What connections of a port do to a world, one after another.
+-- What connections of a port change in a world, one after another.
 use Rattle.std.specs.Prelude.{ℕ, [], Result}
 use Rattle.mmeaning.specs.Transition.{Settings}
 use Rattle.mnodes.specs.declared.store.NodeStore.{Ghosts}

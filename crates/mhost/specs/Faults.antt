@@ -33,7 +33,7 @@ abbrev pub IsUnreadable : Option Text → Type 0
 IsUnreadable None = Unit {0}
 IsUnreadable (Some text) = 1000000 < length text
 
--- why no document is read, given what its file holds, if that is told
+-- why no document is read, given what its file holds, if that is known
 abbrev pub NoDocument : Type 0 → Option Text → RunFault → Type 0
 NoDocument tells held early.Unread = tells → IsUnreadable held
 NoDocument tells held (early.Settings fault) = fault ≡ settings_fault.Memory

@@ -63,7 +63,7 @@ module _ {M F I O : Type 0} (memory : Ghosts M) (file : Ghosts F) (left : I → 
 
   module _ (files_tell : Type 0) (stored stored' : Text → Option Globals) (disk : OnDisk) where
     -- What it holds as the run begins, and that there is no doubt of it: nothing in memory, where it is known to be sound; else what the file
-    -- holds, if that is told.
+    -- holds, if that is known.
     abbrev pub Begins : Store → Globals → (doubt : ℕ) → Type 0
     Begins store.Memory globals doubt = memory.sound × (doubt ≡ 0) × (globals ≡ empty)
     Begins (store.File path) globals doubt = files_tell → (doubt ≡ 0) × (stored (string_bytes path) ≡ Some globals)

@@ -50,8 +50,24 @@ pub fn carry_out<D: Documents, F: StoreFiles, P: Ports, I: Read, O: Write, E: Wr
     requires output_works { failed_of output.old ≡ false }
     ensures carries { CarriesOut ⟦<RoutineCache<Cached<Table<Memory>>> as NodeStore>⟧ ⟦<RoutineCache<Cached<F::Store>> as NodeStore>⟧ I.remaining O.contents
         (record { documents = D.tells; files = F.tells; ports = P.tells })
-        (record { document = D.held host.old.documents; stored = F.held host.old.stores; ports = record { waiting = P.waiting host.old.ports; answered = P.answered host.old.ports } })
-        (record { document = D.held host.new.documents; stored = F.held host.new.stores; ports = record { waiting = P.waiting host.new.ports; answered = P.answered host.new.ports } })
+        (record {
+          document = D.held host.old.documents;
+          stored = F.held host.old.stores;
+          ports = record {
+            waiting = P.waiting host.old.ports;
+            answered =
+                P.answered host.old.ports;
+          };
+        })
+        (record {
+          document = D.held host.new.documents;
+          stored = F.held host.new.stores;
+          ports = record {
+            waiting = P.waiting host.new.ports;
+            answered =
+                P.answered host.new.ports;
+          };
+        })
         (record { finds = F.finds host.old.stores; clean = F.clean host.new.stores; leaves = F.leaves host.new.stores })
         job.now input.old input.new output.old output.new result }
     ensures quiet { IsQuiet job.now → errors.new ≡ errors.old }
@@ -96,7 +112,8 @@ fn in_store<F: StoreFiles, P: Ports, I: Read, O: Write, E: Write>(
     requires input_works { failed_of input.old ≡ false }
     requires output_works { failed_of output.old ≡ false }
     ensures works { InStore ⟦<RoutineCache<Cached<Table<Memory>>> as NodeStore>⟧ ⟦<RoutineCache<Cached<F::Store>> as NodeStore>⟧ I.remaining O.contents
-        F.tells (F.held files.old) (F.held files.new) (record { finds = F.finds files.old; clean = F.clean files.new; leaves = F.leaves files.new }) P.tells (record { waiting = P.waiting ports.old; answered = P.answered ports.old })
+        F.tells (F.held files.old) (F.held files.new) (record { finds = F.finds files.old; clean = F.clean files.new; leaves = F.leaves files.new }) P.tells
+        (record { waiting = P.waiting ports.old; answered = P.answered ports.old })
         (record { waiting = P.waiting ports.new; answered = P.answered ports.new }) store.now settings task input.old input.new output.old output.new result }
     ensures quiet { IsQuietTask task → errors.new ≡ errors.old }
 {
@@ -131,7 +148,8 @@ fn in_world<S: NodeStore, P: Ports, I: Read, O: Write, E: Write>(
 ) -> Result<(), RunFault>
     requires input_works { failed_of input.old ≡ false }
     requires output_works { failed_of output.old ≡ false }
-    ensures does { Does S.NodeStore world.old world.new I.remaining O.contents P.tells (record { waiting = P.waiting ports.old; answered = P.answered ports.old })
+    ensures does { Does S.NodeStore world.old world.new I.remaining O.contents P.tells
+        (record { waiting = P.waiting ports.old; answered = P.answered ports.old })
         (record { waiting = P.waiting ports.new; answered = P.answered ports.new }) input.old input.new output.old output.new task result }
     ensures settings { settings_of world.new ≡ settings_of world.old }
     ensures quiet { IsQuietTask task → errors.new ≡ errors.old }

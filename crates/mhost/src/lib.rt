@@ -4,7 +4,7 @@
 //! To be read in this order: why a job ends early (`fault`); where documents are read (`documents`), where stores are kept (`store_files`)
 //! and where peers connect (`ports`), together (`host`), as the system has them (`system`, `system_stores`) and in memory (`in_memory`); the settings
 //! (`settings_document`), what is asked for by them (`tasks`), a world over the store that is named (`worlds`); in it a stream answered
-//! (`run`), a stream of which one account alone is told (`only_job`), and connections served (`serve_job`, and `port`); a job carried out
+//! (`run`), a stream whose replies one account alone is shown (`only_job`), and connections served (`serve_job`, and `port`); a job carried out
 //! (`carrying_out`), what is reported of it (`report`), and the program (`program`).
 #![tactic(auto)]
 

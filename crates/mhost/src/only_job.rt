@@ -1,5 +1,5 @@
 // SPDX-License-Identifier: Apache-2.0
-// A stream of which one account alone is told.
+// A stream whose replies one account alone is shown.
 ghost use Rattle.std.specs.Prelude.{◌≡◌, false};
 ghost use Rattle.mworld.specs.View.{settings_of};
 ghost use Rattle.mwire.specs.Watched.{failed_of};

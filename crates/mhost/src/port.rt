@@ -11,7 +11,7 @@ use std::io::Write;
 use std::net::{TcpListener, TcpStream};
 use std::time::Duration;
 
-// For how many seconds a peer that takes none of its replies is waited for.
+// For how many seconds a peer may take none of its replies.
 const PATIENCE: u64 = 60;
 
 // A listener at a port, which is lent. It does not tell who comes: the kit gives its calls no clause.
@@ -27,7 +27,7 @@ fn next_connection(listener: &TcpListener) -> Result<(TcpStream, TcpStream), Acc
     let Ok((writer, _peer)) = listener.accept() else {
         return Err(AcceptFault);
     };
-    // if no bound can be had, the peer is waited for
+    // if no bound can be had, the peer may take as long as it likes
     let _ = writer.set_write_timeout(Some(Duration::from_secs(PATIENCE)));
     // each reply goes out at once: of two lines in one packet the second reply waits else until the first one's bytes are acknowledged
     let _ = writer.set_nodelay(true);

@@ -20,7 +20,7 @@ pub trait Ports {
 
     ghost lent: { Self → ℕ → Type 0 };
 
-    /// A listener at this port, which it owns, and which `close` takes back: there, whoever waits connects.
+    /// A listener at this port, which it owns, and which `close` takes back: there, those who wait connect.
     ///
     /// `None`: the port is taken, or may not be listened at.
     fn listen(&mut self, number: u16) -> Option<Self::Port>

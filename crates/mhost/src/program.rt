@@ -78,8 +78,24 @@ pub fn program_over<D: Documents, F: StoreFiles, P: Ports, I: Read, O: Write, E:
     requires output_works { failed_of output.old ≡ false }
     ensures { Ends ⟦<RoutineCache<Cached<Table<Memory>>> as NodeStore>⟧ ⟦<RoutineCache<Cached<F::Store>> as NodeStore>⟧ I.remaining O.contents
         (record { documents = D.tells; files = F.tells; ports = P.tells })
-        (record { document = D.held host.old.documents; stored = F.held host.old.stores; ports = record { waiting = P.waiting host.old.ports; answered = P.answered host.old.ports } })
-        (record { document = D.held host.new.documents; stored = F.held host.new.stores; ports = record { waiting = P.waiting host.new.ports; answered = P.answered host.new.ports } })
+        (record {
+          document = D.held host.old.documents;
+          stored = F.held host.old.stores;
+          ports = record {
+            waiting = P.waiting host.old.ports;
+            answered =
+                P.answered host.old.ports;
+          };
+        })
+        (record {
+          document = D.held host.new.documents;
+          stored = F.held host.new.stores;
+          ports = record {
+            waiting = P.waiting host.new.ports;
+            answered =
+                P.answered host.new.ports;
+          };
+        })
         (record { finds = F.finds host.old.stores; clean = F.clean host.new.stores; leaves = F.leaves host.new.stores })
         E.contents (map string_bytes words.now) input.old input.new output.old output.new errors.old errors.new result }
 {

@@ -1,6 +1,9 @@
 -- SPDX-License-Identifier: Apache-2.0
 -- An account by its name, and tests of what a list is mapped to.
-use Rattle.mislands.proofs.IslandWords.{◌≡◌, inl, inr, ℕ, ◌+◌, ◌-◌, ◌<◌, Bool, true, false, List, ◌∷◌, length, map, get_or, take, Option, Some, None, refl, sym, ap, ◌∙◌, arith, option_map, unwrap_or, [], list_any, find, flat_map, bytes_decides, cases_Bool, false≢true, map_more, length-map, get_or-map, list_any_at, list_any-append, none-some, same_Some, Text, text_eq, Settings, Account, account_at, account_named, name_at, names_of}
+use Rattle.mislands.proofs.IslandWords.{◌≡◌, inl, inr, ℕ, ◌+◌, ◌-◌, ◌<◌, Bool, true, false, List, ◌∷◌, length, map, get_or, take, Option, Some, None, refl, sym}
+use Rattle.mislands.proofs.IslandWords.{ap, ◌∙◌, arith, option_map, unwrap_or, [], list_any, find, flat_map, bytes_decides, cases_Bool, false≢true, map_more}
+use Rattle.mislands.proofs.IslandWords.{length-map, get_or-map, list_any_at, list_any-append, none-some, same_Some, Text, text_eq, Settings, Account}
+use Rattle.mislands.proofs.IslandWords.{account_at, account_named, name_at, names_of}
 
 abbrev pub behind_spaces : List Text → Text
 behind_spaces names = flat_map (λ b. 32 ∷ b) names

@@ -1,6 +1,10 @@
 -- SPDX-License-Identifier: Apache-2.0
 -- The names that are read from a document are those of the accounts that it gives.
-use Rattle.mislands.proofs.IslandWords.{◌≡◌, ℕ, ℤ, Bool, true, false, cond, List, [], ◌∷◌, map, Option, Some, None, codes, refl, ap, ◌∙◌, option_map, option_and_then, nat_le, none-some, same_Some, Data, Members, Items, no_items, item, get_member, as_array, as_table, Text, has_only, account_keys, document_keys, text_at, integers_at, integer_at, account_with, account_in, written_account, written_grant, each_read, entries_of, entries_in, max_entries, count_items, WrittenAccount, WrittenGrant, Written, written, written_with, settings_of, names_of, written_name, written_names, language_at}
+use Rattle.mislands.proofs.IslandWords.{◌≡◌, ℕ, ℤ, Bool, true, false, cond, List, [], ◌∷◌, map, Option, Some, None, codes, refl, ap, ◌∙◌, option_map}
+use Rattle.mislands.proofs.IslandWords.{option_and_then, nat_le, none-some, same_Some, Data, Members, Items, no_items, item, get_member, as_array, as_table}
+use Rattle.mislands.proofs.IslandWords.{Text, has_only, account_keys, document_keys, text_at, integers_at, integer_at, account_with, account_in}
+use Rattle.mislands.proofs.IslandWords.{written_account, written_grant, each_read, entries_of, entries_in, max_entries, count_items, WrittenAccount}
+use Rattle.mislands.proofs.IslandWords.{WrittenGrant, Written, written, written_with, settings_of, names_of, written_name, written_names, language_at}
 use Rattle.mislands.specs.Written.{names_at}
 
 -- what a choice gives, if that is something

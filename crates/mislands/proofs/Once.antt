@@ -1,6 +1,10 @@
 -- SPDX-License-Identifier: Apache-2.0
 -- Each account is in exactly one of the islands.
-use Rattle.mislands.proofs.IslandWords.{◌≡◌, inl, inr, ℕ, ◌+◌, Bool, true, false, not, cond, List, ◌∷◌, ◌++◌, length, map, get_or, Some, refl, sym, ap, subst, ◌∙◌, append_assoc, length-append, arith, ◌&&◌, ◌||◌, slice_get, option_map, unwrap_or, count_by, ◌⊎◌, [], list_any, filter, range_with_len, bytes_decides, cases_Bool, or_cases, or_left, or_right, and_parts, and_from, false≢true, false_from_ne_true, list_any_at, list_any-append, Text, text_eq, Settings, Account, name_at, IsIslandOf, names_of, IsIslandBy, is_among, AreIslands, none, adds, has, EachInOne}
+use Rattle.mislands.proofs.IslandWords.{◌≡◌, inl, inr, ℕ, ◌+◌, Bool, true, false, not, cond, List, ◌∷◌, ◌++◌, length, map, get_or, Some, refl, sym, ap, subst}
+use Rattle.mislands.proofs.IslandWords.{◌∙◌, append_assoc, length-append, arith, ◌&&◌, ◌||◌, slice_get, option_map, unwrap_or, count_by, ◌⊎◌, [], list_any}
+use Rattle.mislands.proofs.IslandWords.{filter, range_with_len, bytes_decides, cases_Bool, or_cases, or_left, or_right, and_parts, and_from, false≢true}
+use Rattle.mislands.proofs.IslandWords.{false_from_ne_true, list_any_at, list_any-append, Text, text_eq, Settings, Account, name_at, IsIslandOf, names_of}
+use Rattle.mislands.proofs.IslandWords.{IsIslandBy, is_among, AreIslands, none, adds, has, EachInOne}
 use Rattle.std.proofs.Math.Bool.{or-false}
 use Rattle.std.specs.Cmp.{both_ways}
 use Rattle.std.proofs.lemmas.List.Sums.{sum_by_push}

@@ -95,7 +95,8 @@ fn add_island(
     islands: &mut Vec<Vec<AccountId>>,
 ) -> Result<(), AllocError>
     requires { list_any (text_eq name.now) (names_of settings.now) ≡ true }
-    ensures { OnOk result ((before : List Text) → AreIslands settings.now before (named settings.now islands.old.items) → AreIslands settings.now (before ++ name.now ∷ []) (named settings.now islands.new.items)) }
+    ensures { OnOk result ((before : List Text) → AreIslands settings.now before (named settings.now islands.old.items) → AreIslands settings.now
+        (before ++ name.now ∷ []) (named settings.now islands.new.items)) }
 {
     if is_among(settings, islands, name) {
         return Ok(());

@@ -95,7 +95,8 @@ fn job_of_serve(alloc: Global, options: &ArgMatches<'_>) -> Result<Job, JobFault
 
 // The settings and the store, which each job names.
 fn settings_and_store(alloc: Global, options: &ArgMatches<'_>) -> Result<(String, Store), JobFault>
-    ensures ok { IfOk result (λ named. HasText (codes "settings") (rows_of (found_of options.now)) (string_bytes named.0) × IsStore (rows_of (found_of options.now)) named.1) }
+    ensures ok { IfOk result (λ named. HasText (codes "settings") (rows_of (found_of options.now)) (string_bytes named.0)
+        × IsStore (rows_of (found_of options.now)) named.1) }
     ensures err { IfErr result (λ e. e ≡ JobFault.Memory) }
 {
     let settings = text_of(alloc, options, "settings")?;

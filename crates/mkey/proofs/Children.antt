@@ -1,6 +1,10 @@
 -- SPDX-License-Identifier: Apache-2.0
 -- The first and the last subscript that a test takes, of those that come next after a place.
-use Rattle.mkey.proofs.KeyWords.{◌≡◌, ℕ, zero, suc, ◌-◌, ◌<◌, ◌+◌, ◌≤◌, Bool, true, ◌&&◌, cond, List, [], ◌∷◌, ◌++◌, length, drop, reverse, All, Option, Some, None, refl, sym, ap, ◌∙◌, subst, arith, append-nil, length-append, ℤ, slice_get, option_and_then, is_some, bytes_decides, find, flat_map, option_to_list, is_lt, nat_tests, reverse-append, drop_all, flat_map-append, All-push, starts_is, drop-cons, IsSubscript, AreSubscripts, canonical_value, place, place_by, place_cmp, significant_digits, is_within, is_below, child_of, is_before, is_empty, front, last, AreOrderSubscripts, passes, false, nat_lt, take-append-drop, Text}
+use Rattle.mkey.proofs.KeyWords.{◌≡◌, ℕ, zero, suc, ◌-◌, ◌<◌, ◌+◌, ◌≤◌, Bool, true, ◌&&◌, cond, List, [], ◌∷◌, ◌++◌, length, drop, reverse, All, Option, Some}
+use Rattle.mkey.proofs.KeyWords.{None, refl, sym, ap, ◌∙◌, subst, arith, append-nil, length-append, ℤ, slice_get, option_and_then, is_some, bytes_decides, find}
+use Rattle.mkey.proofs.KeyWords.{flat_map, option_to_list, is_lt, nat_tests, reverse-append, drop_all, flat_map-append, All-push, starts_is, drop-cons}
+use Rattle.mkey.proofs.KeyWords.{IsSubscript, AreSubscripts, canonical_value, place, place_by, place_cmp, significant_digits, is_within, is_below, child_of}
+use Rattle.mkey.proofs.KeyWords.{is_before, is_empty, front, last, AreOrderSubscripts, passes, false, nat_lt, take-append-drop, Text}
 
 pub at_front : {X : Type 0} (ys : List X) (n : ℕ) → slice_get ys n ≡ slice_get (drop n ys) 0
 at_front [] zero = refl

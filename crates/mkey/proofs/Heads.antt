@@ -1,6 +1,9 @@
 -- SPDX-License-Identifier: Apache-2.0
 -- The number of the first bytes, and the order of lists by it.
-use Rattle.mkey.proofs.KeyWords.{ℕ, zero, suc, Fits, w8, ◌≡◌, ◌+◌, ◌*◌, ◌/◌, ◌%◌, ◌^◌, ◌<◌, ◌≤◌, true, List, [], ◌∷◌, ◌++◌, get_or, drop, refl, sym, ◌∙◌, ap, arith, add-one, zero-add, inl, inr, ◌⊎◌, slice_cmp, Ordering, Less, Equal, Greater, nat_cmp, ordering_then, ordering_reverse, is_ne, nat_list_cmp_total, mod_below, mul-add-lt, pow-add, div-add-mod', pow-suc, mul-le-mul_right, pow-le-pow_right, big_endian, head_number, byte_pos}
+use Rattle.mkey.proofs.KeyWords.{ℕ, zero, suc, Fits, w8, ◌≡◌, ◌+◌, ◌*◌, ◌/◌, ◌%◌, ◌^◌, ◌<◌, ◌≤◌, true, List, [], ◌∷◌, ◌++◌, get_or, drop, refl, sym, ◌∙◌, ap}
+use Rattle.mkey.proofs.KeyWords.{arith, add-one, zero-add, inl, inr, ◌⊎◌, slice_cmp, Ordering, Less, Equal, Greater, nat_cmp, ordering_then, ordering_reverse}
+use Rattle.mkey.proofs.KeyWords.{is_ne, nat_list_cmp_total, mod_below, mul-add-lt, pow-add, div-add-mod', pow-suc, mul-le-mul_right, pow-le-pow_right}
+use Rattle.mkey.proofs.KeyWords.{big_endian, head_number, byte_pos}
 use Rattle.std.proofs.Math.Facts.{Fits-lt-pow}
 use Rattle.std.specs.Cmp.{nat_cmp_is, ranked}
 use Rattle.std.proofs.lemmas.Bool.{cases_order}

@@ -1,6 +1,10 @@
 -- SPDX-License-Identifier: Apache-2.0
 -- Where the subscripts of a key begin.
-use Rattle.mkey.proofs.KeyWords.{ℕ, ◌≡◌, ◌+◌, ◌-◌, ◌<◌, Bool, true, cond, not, Option, Some, None, MatchOption, List, [], ◌∷◌, ◌++◌, length, take, drop, All, refl, sym, ◌∙◌, ap, subst, arith, append_assoc, append-nil, length-append, take-append_seam, drop-append_seam, nat_tests, flat_map-append, All-head, All-tail, All-nil, All-cons, position, position_or_len, text_bytes, subscript_bytes, subscripts_bytes, local_bytes, key_bytes, IsSubscript, IsAscii, IsAccountName, IsStored, IsName, canonical_value, significant_digits, tag_of, IsParent, IsLastAt, ◌==◌, false, nat_lt, Text, Node}
+use Rattle.mkey.proofs.KeyWords.{ℕ, ◌≡◌, ◌+◌, ◌-◌, ◌<◌, Bool, true, cond, not, Option, Some, None, MatchOption, List, [], ◌∷◌, ◌++◌, length, take, drop, All}
+use Rattle.mkey.proofs.KeyWords.{refl, sym, ◌∙◌, ap, subst, arith, append_assoc, append-nil, length-append, take-append_seam, drop-append_seam, nat_tests}
+use Rattle.mkey.proofs.KeyWords.{flat_map-append, All-head, All-tail, All-nil, All-cons, position, position_or_len, text_bytes, subscript_bytes}
+use Rattle.mkey.proofs.KeyWords.{subscripts_bytes, local_bytes, key_bytes, IsSubscript, IsAscii, IsAccountName, IsStored, IsName, canonical_value}
+use Rattle.mkey.proofs.KeyWords.{significant_digits, tag_of, IsParent, IsLastAt, ◌==◌, false, nat_lt, Text, Node}
 
 -- ---- texts
 

@@ -1,6 +1,9 @@
 -- SPDX-License-Identifier: Apache-2.0
 -- The words that most proofs of this crate have, in one place.
-pub use Rattle.std.proofs.Common.{All, Bool, Err, Fits, IsOk, IsTrue, List, MatchOption, None, Ok, Option, Result, Some, [], add-one, ap, append-nil, append_assoc, ap₂, arith, cond, drop, false, get_or, if◌then◌else◌, inl, inr, is_ok, length, length-append, length-drop, map, nat_eq, nat_lt, not, refl, reverse, rules, subst, suc, sym, take, take-append-drop, true, vec_capacity, vec_len, w8, zero, zero-add, ℕ, ◌%◌, ◌&&◌, ◌*◌, ◌++◌, ◌+◌, ◌-◌, ◌/◌, ◌<◌, ◌==◌, ◌^◌, ◌∙◌, ◌∷◌, ◌≡◌, ◌≢◌, ◌≤◌, ◌⊎◌}
+pub use Rattle.std.proofs.Common.{All, Bool, Err, Fits, IsOk, IsTrue, List, MatchOption, None, Ok, Option, Result, Some, [], add-one, ap, append-nil}
+pub use Rattle.std.proofs.Common.{append_assoc, ap₂, arith, cond, drop, false, get_or, if◌then◌else◌, inl, inr, is_ok, length, length-append, length-drop, map}
+pub use Rattle.std.proofs.Common.{nat_eq, nat_lt, not, refl, reverse, rules, subst, suc, sym, take, take-append-drop, true, vec_capacity, vec_len, w8, zero}
+pub use Rattle.std.proofs.Common.{zero-add, ℕ, ◌%◌, ◌&&◌, ◌*◌, ◌++◌, ◌+◌, ◌-◌, ◌/◌, ◌<◌, ◌==◌, ◌^◌, ◌∙◌, ◌∷◌, ◌≡◌, ◌≢◌, ◌≤◌, ◌⊎◌}
 pub use Rattle.std.proofs.Math.Nat.{div-add-mod', div-one, mod-eq_of_lt, mul-le-mul_right, one-le-pow, pow-le-pow_right, pow-suc}
 pub use Rattle.std.proofs.Math.Seq.{drop-append_seam, drop-cons, take-append_seam}
 pub use Rattle.std.proofs.lemmas.Bool.Decides.{Decides-eqb, nat_tests}
@@ -21,10 +24,12 @@ pub use Rattle.std.specs.declared.cmp.Ordering.TheVariants.{Equal, Greater, Less
 pub use Rattle.mnum.proofs.Ranges.{units_number}
 pub use Rattle.mnum.specs.Num.{units}
 pub use Rattle.mspec.proofs.KeyOrders.{bytes_order, key_order, raised_below, raised_order, subscripts_order, tag_of, value_in_range}
-pub use Rattle.mspec.proofs.KeyRanges.{IsBehind, descendants_are_ranges, keys_of_subtrees_begin_alike, same_bytes, subscript_split, subscripts_split, subtrees_are_ranges, text_split}
+pub use Rattle.mspec.proofs.KeyRanges.{IsBehind, descendants_are_ranges, keys_of_subtrees_begin_alike, same_bytes, subscript_split, subscripts_split}
+pub use Rattle.mspec.proofs.KeyRanges.{subtrees_are_ranges, text_split}
 pub use Rattle.mspec.proofs.NodeOrders.{both_Equal, canonical_of_value, none_of_other, value_of_canonical}
 pub use Rattle.mspec.specs.Globals.{is_beside, is_node_within}
-pub use Rattle.mspec.specs.KeyBytes.{AreSubscripts, IsAccountName, IsAscii, IsStored, IsSubscript, big_endian, children_start, key_bytes, local_bytes, raised, subscript_by, subscript_bytes, subscripts_bytes, text_bytes}
+pub use Rattle.mspec.specs.KeyBytes.{AreSubscripts, IsAccountName, IsAscii, IsStored, IsSubscript, big_endian, children_start, key_bytes, local_bytes, raised}
+pub use Rattle.mspec.specs.KeyBytes.{subscript_by, subscript_bytes, subscripts_bytes, text_bytes}
 unfoldable pub use Rattle.mspec.specs.KeyBytes.{number_bytes}
 pub use Rattle.mspec.specs.KeyLaws.{BeginsWith, IsWithin, NoneEmpty}
 pub use Rattle.mspec.specs.Names.{AllAre, IsName, is_name_rest, is_name_start}

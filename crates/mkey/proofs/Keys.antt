@@ -1,6 +1,8 @@
 -- SPDX-License-Identifier: Apache-2.0
 -- Bounds of the keys of nodes.
-use Rattle.mkey.proofs.KeyWords.{ℕ, ◌≡◌, ◌++◌, ◌∙◌, List, [], ◌∷◌, sym, subst, append_assoc, ap, key_bytes, text_bytes, subscripts_bytes, children_start, IsStored, BeginsWith, IsWithin, IsAncestor, significant_digits, subtrees_are_ranges, descendants_are_ranges, keys_of_subtrees_begin_alike, BoundsKeysOf, none_empty, Text, Node}
+use Rattle.mkey.proofs.KeyWords.{ℕ, ◌≡◌, ◌++◌, ◌∙◌, List, [], ◌∷◌, sym, subst, append_assoc, ap, key_bytes, text_bytes, subscripts_bytes, children_start}
+use Rattle.mkey.proofs.KeyWords.{IsStored, BeginsWith, IsWithin, IsAncestor, significant_digits, subtrees_are_ranges, descendants_are_ranges}
+use Rattle.mkey.proofs.KeyWords.{keys_of_subtrees_begin_alike, BoundsKeysOf, none_empty, Text, Node}
 
 -- a key, put together from its parts
 pub joined : (account name : Text) (subs : List Text) (names all : List ℕ) → names ≡ text_bytes account ++ text_bytes name → all ≡ names ++ subscripts_bytes significant_digits subs

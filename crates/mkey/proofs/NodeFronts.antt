@@ -1,6 +1,9 @@
 -- SPDX-License-Identifier: Apache-2.0
 -- Keys of nodes that begin alike.
-use Rattle.mkey.proofs.KeyWords.{ℕ, ◌≡◌, Bool, true, nat_eq, ◌&&◌, Option, None, List, ◌++◌, length, drop, refl, sym, ◌∙◌, ap, bytes_decides, starts_with, drop-append_seam, Decides-eqb, starts_is, is_node_within, is_beside, subscripts_bytes, key_bytes, NoneEmpty, significant_digits, text_eq, is_within, child_of, keys_of_subtrees_begin_alike, child_under, false, if◌then◌else◌, Text, Node, all_true}
+use Rattle.mkey.proofs.KeyWords.{ℕ, ◌≡◌, Bool, true, nat_eq, ◌&&◌, Option, None, List, ◌++◌, length, drop, refl, sym, ◌∙◌, ap, bytes_decides, starts_with}
+use Rattle.mkey.proofs.KeyWords.{drop-append_seam, Decides-eqb, starts_is, is_node_within, is_beside, subscripts_bytes, key_bytes, NoneEmpty}
+use Rattle.mkey.proofs.KeyWords.{significant_digits, text_eq, is_within, child_of, keys_of_subtrees_begin_alike, child_under, false, if◌then◌else◌, Text, Node}
+use Rattle.mkey.proofs.KeyWords.{all_true}
 use Rattle.mspec.proofs.NodesWithin.{of_within}
 use Rattle.mkey.proofs.KeyWalks.{key_of_more}
 use Rattle.mkey.proofs.SubsKeys.{same_truth, split_within}

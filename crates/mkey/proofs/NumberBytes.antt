@@ -1,6 +1,8 @@
 -- SPDX-License-Identifier: Apache-2.0
 -- The bytes of a machine's number, high byte first.
-use Rattle.mkey.proofs.KeyWords.{ℕ, zero, suc, ◌≡◌, ◌+◌, ◌*◌, ◌/◌, ◌%◌, ◌^◌, ◌<◌, List, ◌∷◌, ◌++◌, take, drop, refl, sym, ◌∙◌, ap, ap₂, arith, append_assoc, ℤ, div-add-mod', pow-suc, div-one, mod-eq_of_lt, mod_below, div-mul-add, mod-mul-add, mul-add-lt, pow-add, take-append_seam, big_endian, raised, number_bytes, byte_pos}
+use Rattle.mkey.proofs.KeyWords.{ℕ, zero, suc, ◌≡◌, ◌+◌, ◌*◌, ◌/◌, ◌%◌, ◌^◌, ◌<◌, List, ◌∷◌, ◌++◌, take, drop, refl, sym, ◌∙◌, ap, ap₂, arith, append_assoc, ℤ}
+use Rattle.mkey.proofs.KeyWords.{div-add-mod', pow-suc, div-one, mod-eq_of_lt, mod_below, div-mul-add, mod-mul-add, mul-add-lt, pow-add, take-append_seam}
+use Rattle.mkey.proofs.KeyWords.{big_endian, raised, number_bytes, byte_pos}
 use Rattle.std.specs.Int.{byte_at, bytes_high_first}
 
 -- the first byte of n in one byte more than w holds, and the rest

@@ -1,6 +1,7 @@
 -- SPDX-License-Identifier: Apache-2.0
 -- Subscripts that are numbers.
-use Rattle.mkey.proofs.KeyWords.{ℕ, ◌≡◌, ◌∷◌, List, Some, refl, ap, arith, units, units_number, number_bytes, subscript_by, subscript_bytes, canonical_value, number_text, text_ascii, IsFront, BeginsWithNumber, IsSub}
+use Rattle.mkey.proofs.KeyWords.{ℕ, ◌≡◌, ◌∷◌, List, Some, refl, ap, arith, units, units_number, number_bytes, subscript_by, subscript_bytes, canonical_value}
+use Rattle.mkey.proofs.KeyWords.{number_text, text_ascii, IsFront, BeginsWithNumber, IsSub}
 use Rattle.mnum.specs.declared.num.Num.{Num}
 use Rattle.mvalue.proofs.NumberLengths.{text_some, text_short}
 use Rattle.mkey.proofs.SubscriptFronts.{text_of_number, number_begins}

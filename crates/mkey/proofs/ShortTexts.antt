@@ -1,6 +1,8 @@
 -- SPDX-License-Identifier: Apache-2.0
 -- The canonical value of a text, as code finds it.
-use Rattle.mkey.proofs.KeyWords.{ℕ, ◌≡◌, ◌⊎◌, inl, inr, ◌*◌, ◌^◌, ◌<◌, ◌≤◌, true, Option, Some, None, List, [], ◌∷◌, length, get_or, All, refl, sym, ◌∙◌, subst, arith, ℤ, pos, unsigned_abs, IfSome, OnSome, numeric_value, IsCanonical, canonical_value, canonical_of_value, value_of_canonical, value_in_range}
+use Rattle.mkey.proofs.KeyWords.{ℕ, ◌≡◌, ◌⊎◌, inl, inr, ◌*◌, ◌^◌, ◌<◌, ◌≤◌, true, Option, Some, None, List, [], ◌∷◌, length, get_or, All, refl, sym, ◌∙◌, subst}
+use Rattle.mkey.proofs.KeyWords.{arith, ℤ, pos, unsigned_abs, IfSome, OnSome, numeric_value, IsCanonical, canonical_value, canonical_of_value}
+use Rattle.mkey.proofs.KeyWords.{value_of_canonical, value_in_range}
 use Rattle.mspec.specs.Literal.{is_digit, digits_after}
 use Rattle.mspec.proofs.WholeTexts.{value_of_digits, zero_is_canonical, whole_is_canonical}
 

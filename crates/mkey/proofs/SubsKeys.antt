@@ -1,6 +1,11 @@
 -- SPDX-License-Identifier: Apache-2.0
 -- Bytes of lists of subscripts that begin alike.
-use Rattle.mkey.proofs.KeyWords.{ℕ, suc, ◌≡◌, ◌<◌, ◌++◌, Bool, true, nat_eq, List, [], ◌∷◌, length, drop, Option, Some, None, MatchOption, refl, sym, ◌∙◌, ap, ap₂, arith, slice_get, bytes_decides, slice_cmp, starts_with, nat_cmp, is_ne, Ordering, drop-append_seam, Decides-eqb, nat_tests, flat_map-append, All-push, starts_is, subscript_bytes, subscripts_bytes, NoneEmpty, canonical_value, subscripts_cmp, significant_digits, round, round_size, nearest, rounding_unit, digits_before, numeric_value, literal_size, size_text, is_within, child_of, tag_of, subscripts_order, subscripts_split, subscript_split, BeginsWithNo, IsSub, AreSubs, head_number, IsSubsKeyOf, beyond, behind_below, ◌==◌, false, if◌then◌else◌, Text, IsFirst}
+use Rattle.mkey.proofs.KeyWords.{ℕ, suc, ◌≡◌, ◌<◌, ◌++◌, Bool, true, nat_eq, List, [], ◌∷◌, length, drop, Option, Some, None, MatchOption, refl, sym, ◌∙◌, ap}
+use Rattle.mkey.proofs.KeyWords.{ap₂, arith, slice_get, bytes_decides, slice_cmp, starts_with, nat_cmp, is_ne, Ordering, drop-append_seam, Decides-eqb}
+use Rattle.mkey.proofs.KeyWords.{nat_tests, flat_map-append, All-push, starts_is, subscript_bytes, subscripts_bytes, NoneEmpty, canonical_value, subscripts_cmp}
+use Rattle.mkey.proofs.KeyWords.{significant_digits, round, round_size, nearest, rounding_unit, digits_before, numeric_value, literal_size, size_text}
+use Rattle.mkey.proofs.KeyWords.{is_within, child_of, tag_of, subscripts_order, subscripts_split, subscript_split, BeginsWithNo, IsSub, AreSubs, head_number}
+use Rattle.mkey.proofs.KeyWords.{IsSubsKeyOf, beyond, behind_below, ◌==◌, false, if◌then◌else◌, Text, IsFirst}
 use Rattle.std.specs.Fmt.{digits}
 use Rattle.mkey.proofs.Children.{at_front}
 use Rattle.mkey.proofs.Heads.{AreBytes, head_decides}

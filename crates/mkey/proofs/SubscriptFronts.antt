@@ -1,6 +1,10 @@
 -- SPDX-License-Identifier: Apache-2.0
 -- The subscript that bytes begin with.
-use Rattle.mkey.proofs.KeyWords.{ℕ, zero, suc, ◌≡◌, ◌+◌, ◌^◌, ◌<◌, ◌≤◌, Option, Some, None, List, [], ◌∷◌, ◌++◌, length, take, drop, refl, sym, ◌∙◌, ap, subst, arith, length-append, add-one, ◌%◌, ℤ, unsigned_abs, nat_cmp, Equal, take-append_seam, tied_itself, nat_cmp_total, big_endian, raised, number_bytes, text_bytes, subscript_by, subscript_bytes, IsNumber, numeric_value, number_text, IsCanonical, canonical_value, bytes_order, raised_below, raised_order, same_bytes, text_split, both_Equal, canonical_of_value, value_of_canonical, IsFront, BeginsWithNo, BeginsWithNumber, IsSub, take-append-drop, Text}
+use Rattle.mkey.proofs.KeyWords.{ℕ, zero, suc, ◌≡◌, ◌+◌, ◌^◌, ◌<◌, ◌≤◌, Option, Some, None, List, [], ◌∷◌, ◌++◌, length, take, drop, refl, sym, ◌∙◌, ap, subst}
+use Rattle.mkey.proofs.KeyWords.{arith, length-append, add-one, ◌%◌, ℤ, unsigned_abs, nat_cmp, Equal, take-append_seam, tied_itself, nat_cmp_total, big_endian}
+use Rattle.mkey.proofs.KeyWords.{raised, number_bytes, text_bytes, subscript_by, subscript_bytes, IsNumber, numeric_value, number_text, IsCanonical}
+use Rattle.mkey.proofs.KeyWords.{canonical_value, bytes_order, raised_below, raised_order, same_bytes, text_split, both_Equal, canonical_of_value}
+use Rattle.mkey.proofs.KeyWords.{value_of_canonical, IsFront, BeginsWithNo, BeginsWithNumber, IsSub, take-append-drop, Text}
 use Rattle.std.specs.FinMap.{nat_cmp-IsAntisymmetric, int_cmp-IsAntisymmetric}
 use Rattle.mspec.proofs.TextLaws.{text_has_value, value_is_number, canonical_by_more_digits}
 use Rattle.mkey.proofs.ShortTexts.{value_fits}

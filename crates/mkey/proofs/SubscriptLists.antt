@@ -1,6 +1,9 @@
 -- SPDX-License-Identifier: Apache-2.0
 -- Lists of subscripts, and nodes, that bytes are.
-use Rattle.mkey.proofs.KeyWords.{ℕ, ◌≡◌, ◌<◌, List, [], ◌∷◌, ◌++◌, length, drop, All, sym, ◌∙◌, ap, subst, arith, append_assoc, append-nil, length-append, flat_map-append, All-head, All-tail, IsName, text_bytes, subscript_bytes, subscripts_bytes, local_bytes, key_bytes, IsSubscript, IsAscii, IsAccountName, IsStored, NoneEmpty, IsBehind, subscripts_split, text_split, IsFront, BeginsWithNo, IsSub, AreSubs, IsKeyBy, Text, Node}
+use Rattle.mkey.proofs.KeyWords.{ℕ, ◌≡◌, ◌<◌, List, [], ◌∷◌, ◌++◌, length, drop, All, sym, ◌∙◌, ap, subst, arith, append_assoc, append-nil, length-append}
+use Rattle.mkey.proofs.KeyWords.{flat_map-append, All-head, All-tail, IsName, text_bytes, subscript_bytes, subscripts_bytes, local_bytes, key_bytes}
+use Rattle.mkey.proofs.KeyWords.{IsSubscript, IsAscii, IsAccountName, IsStored, NoneEmpty, IsBehind, subscripts_split, text_split, IsFront, BeginsWithNo, IsSub}
+use Rattle.mkey.proofs.KeyWords.{AreSubs, IsKeyBy, Text, Node}
 
 -- ---- subscripts
 

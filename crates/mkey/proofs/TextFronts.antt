@@ -1,6 +1,8 @@
 -- SPDX-License-Identifier: Apache-2.0
 -- The text that bytes begin with.
-use Rattle.mkey.proofs.KeyWords.{ℕ, ◌≡◌, ◌≢◌, ◌+◌, ◌-◌, ◌<◌, ◌≤◌, Option, Some, None, MatchOption, List, [], ◌∷◌, ◌++◌, map, length, get_or, drop, All, refl, sym, ◌∙◌, ap, subst, arith, append_assoc, append-nil, add-one, drop-cons, map-append, All-nil, All-cons, AllAre, IsName, is_name_rest, text_bytes, IsAscii, text_split, IsFront, BeginsWithNo, false, IsTrue, Text, rest_is_ascii, start_is_ascii}
+use Rattle.mkey.proofs.KeyWords.{ℕ, ◌≡◌, ◌≢◌, ◌+◌, ◌-◌, ◌<◌, ◌≤◌, Option, Some, None, MatchOption, List, [], ◌∷◌, ◌++◌, map, length, get_or, drop, All, refl}
+use Rattle.mkey.proofs.KeyWords.{sym, ◌∙◌, ap, subst, arith, append_assoc, append-nil, add-one, drop-cons, map-append, All-nil, All-cons, AllAre, IsName}
+use Rattle.mkey.proofs.KeyWords.{is_name_rest, text_bytes, IsAscii, text_split, IsFront, BeginsWithNo, false, IsTrue, Text, rest_is_ascii, start_is_ascii}
 use Rattle.std.proofs.Math.ListN.{drop_of_length-le}
 
 -- each case of an option, told in other words

@@ -32,7 +32,8 @@ fn text_len(bytes: &[u8]) -> usize
 
 // How many bytes there are in the subscript that the bytes begin with once the tag of a number is put in front of them.
 fn number_len(bytes: &[u8]) -> usize
-    ensures subscript { (s rest : List ℕ) → 1 ∷ bytes.now ≡ subscript_bytes significant_digits s ++ rest → result ≡ length (subscript_bytes significant_digits s) }
+    ensures subscript { (s rest : List ℕ) → 1 ∷ bytes.now ≡ subscript_bytes significant_digits s ++ rest → result ≡ length
+        (subscript_bytes significant_digits s) }
     ensures fits { result ≤ 1 + length bytes.now }
     ensures some { 0 < result }
 {

@@ -1,5 +1,5 @@
 // SPDX-License-Identifier: Apache-2.0
-// The first bytes of a key as a number, by which most keys are told apart.
+// The first bytes of a key as a number, by which most keys are distinguished.
 ghost use Rattle.std.specs.Prelude.{◌≡◌, ◌<◌, ◌^◌, drop};
 ghost use Rattle.std.specs.Ordering.{nat_cmp};
 ghost use Rattle.mkey.specs.Head.{head_number};

@@ -177,7 +177,8 @@ impl NodeKey {
     pub fn after_subtree(&self, alloc: Global) -> Result<Vec<u8>, AllocError>
         ensures bytes { IfOk result (λ end. end.items ≡ subtree_end (key_bytes significant_digits self.now)) }
         ensures subtree { IfOk result (λ end. BoundsKeysOf (IsWithin self.now) (key_bytes significant_digits self.now) end.items) }
-        ensures begins { IfOk result (λ end. BoundsKeysOf (λ n. BeginsWith (key_bytes significant_digits n) (key_bytes significant_digits self.now)) (key_bytes significant_digits self.now) end.items) }
+        ensures begins { IfOk result (λ end. BoundsKeysOf (λ n. BeginsWith (key_bytes significant_digits n) (key_bytes significant_digits self.now))
+            (key_bytes significant_digits self.now) end.items) }
     {
         let end = self.followed_by(alloc, BEHIND_TAGS)?;
         Ok(end)

@@ -1,6 +1,10 @@
 -- SPDX-License-Identifier: Apache-2.0
 -- Variables that have no text left.
-use Rattle.mlocal.proofs.LocalWords.{◌≡◌, ℕ, suc, Bool, true, false, not, cond, ◌&&◌, List, [], ◌∷◌, length, map, Option, Some, None, refl, sym, ap, ◌∙◌, arith, is_none, nat_eq, HashMap, Ordering, Less, Equal, Greater, slice_cmp, pointwise, texts_ties, nat_list_cmp_total, insert, empty, entries, from_entries, retain_keys, entries-insert, len-empty, len-entries, get-remove, get-retain_keys, same_map, by_order, put, eq_by_cmp, nat_tests, eq_by_cmp_equiv, length-keys_of, map_of, hash_map_of, Text, subscripts_cmp, significant_digits, is_bare, Tree, text_eq, remove-hash_map_of, subscripts_cmp_total, with_own, BTreeMap, nat_cmp}
+use Rattle.mlocal.proofs.LocalWords.{◌≡◌, ℕ, suc, Bool, true, false, not, cond, ◌&&◌, List, [], ◌∷◌, length, map, Option, Some, None, refl, sym, ap, ◌∙◌, arith}
+use Rattle.mlocal.proofs.LocalWords.{is_none, nat_eq, HashMap, Ordering, Less, Equal, Greater, slice_cmp, pointwise, texts_ties, nat_list_cmp_total, insert}
+use Rattle.mlocal.proofs.LocalWords.{empty, entries, from_entries, retain_keys, entries-insert, len-empty, len-entries, get-remove, get-retain_keys, same_map}
+use Rattle.mlocal.proofs.LocalWords.{by_order, put, eq_by_cmp, nat_tests, eq_by_cmp_equiv, length-keys_of, map_of, hash_map_of, Text, subscripts_cmp}
+use Rattle.mlocal.proofs.LocalWords.{significant_digits, is_bare, Tree, text_eq, remove-hash_map_of, subscripts_cmp_total, with_own, BTreeMap, nat_cmp}
 use Rattle.std.specs.FinMap.{get}
 use Rattle.std.specs.HashMap as hash
 use Rattle.mlocal.proofs.Views.{names_exact}

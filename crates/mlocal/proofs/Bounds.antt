@@ -1,6 +1,11 @@
 -- SPDX-License-Identifier: Apache-2.0
 -- The lists of subscripts between two bounds.
-use Rattle.mlocal.proofs.LocalWords.{◌≡◌, ℕ, ◌<◌, Bool, true, false, not, ◌&&◌, List, [], ◌∷◌, ◌++◌, length, drop, All, Option, Some, None, refl, sym, ap, ◌∙◌, arith, append_assoc, append-nil, ℤ, slice_get, cond, Ordering, Less, Equal, Greater, false_from_ne_true, slice_cmp, bytes_decides, ordering_then, ordering_reverse, and-true, nat_tests, tied_itself, All-head, All-tail, All-drop, Text, canonical_value, Other, place, place_by, place_cmp, text_cmp, subscripts_cmp, significant_digits, round, round_size, nearest, rounding_unit, digits_before, text_eq, is_within, is_before, text_cmp_total, text_cmp_exact, IsSub, AreSubs, beyond, behind_below, is_between, is_from, passes, has_child, nat_cmp, is_lt, is_le}
+use Rattle.mlocal.proofs.LocalWords.{◌≡◌, ℕ, ◌<◌, Bool, true, false, not, ◌&&◌, List, [], ◌∷◌, ◌++◌, length, drop, All, Option, Some, None, refl, sym, ap, ◌∙◌}
+use Rattle.mlocal.proofs.LocalWords.{arith, append_assoc, append-nil, ℤ, slice_get, cond, Ordering, Less, Equal, Greater, false_from_ne_true, slice_cmp}
+use Rattle.mlocal.proofs.LocalWords.{bytes_decides, ordering_then, ordering_reverse, and-true, nat_tests, tied_itself, All-head, All-tail, All-drop, Text}
+use Rattle.mlocal.proofs.LocalWords.{canonical_value, Other, place, place_by, place_cmp, text_cmp, subscripts_cmp, significant_digits, round, round_size}
+use Rattle.mlocal.proofs.LocalWords.{nearest, rounding_unit, digits_before, text_eq, is_within, is_before, text_cmp_total, text_cmp_exact, IsSub, AreSubs}
+use Rattle.mlocal.proofs.LocalWords.{beyond, behind_below, is_between, is_from, passes, has_child, nat_cmp, is_lt, is_le}
 use Rattle.std.specs.Fmt.{digits}
 use Rattle.mspec.specs.NumberText.{numeric_value, literal_size, size_text}
 pub use Rattle.mkey.proofs.Children.{at_front, empty_first}

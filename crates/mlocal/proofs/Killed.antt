@@ -1,6 +1,8 @@
 -- SPDX-License-Identifier: Apache-2.0
 -- KILL of all but some variables, from the bottom up.
-use Rattle.mlocal.proofs.LocalWords.{◌≡◌, ℕ, ◌+◌, ◌<◌, Bool, ◌||◌, List, [], ◌∷◌, ◌++◌, length, reverse, take, drop, get_or, set, refl, sym, ap, ◌∙◌, append_assoc, ◌≤◌, arith, add-one, subst, drop-cons, list_any, list_any-append, keys_of, flat_map, take-append-drop, take_more_set, drop-set-lt, drop_all, take-set, length-set, Text, Scope, emptied, stays, killed_but, killed_up}
+use Rattle.mlocal.proofs.LocalWords.{◌≡◌, ℕ, ◌+◌, ◌<◌, Bool, ◌||◌, List, [], ◌∷◌, ◌++◌, length, reverse, take, drop, get_or, set, refl, sym, ap, ◌∙◌}
+use Rattle.mlocal.proofs.LocalWords.{append_assoc, ◌≤◌, arith, add-one, subst, drop-cons, list_any, list_any-append, keys_of, flat_map, take-append-drop}
+use Rattle.mlocal.proofs.LocalWords.{take_more_set, drop-set-lt, drop_all, take-set, length-set, Text, Scope, emptied, stays, killed_but, killed_up}
 use Rattle.mlocal.proofs.Stacks.{flip-split}
 
 kill-up : (names : List Text) (xs ys : List Scope) → killed_but names [] (reverse xs ++ ys) ≡ reverse (killed_up names xs) ++ killed_but names xs ys

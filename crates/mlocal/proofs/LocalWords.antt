@@ -1,6 +1,10 @@
 -- SPDX-License-Identifier: Apache-2.0
 -- The words that most proofs of this crate have, in one place.
-pub use Rattle.std.proofs.Common.{All, BTreeMap, Bool, Bor, Equal, Err, Greater, HashMap, IfOk, IfSome, Less, List, MatchOption, None, Ok, OnErr, OnOk, Option, Ordering, Result, Some, T, [], add-one, ap, append-nil, append_assoc, arith, cond, drop, drop-cons, false, filter, get_or, is_eq, is_le, is_lt, is_none, is_some, length, map, nat_cmp, nat_eq, not, option_and_then, option_copied, option_map, position, refl, reverse, rules, set, slice_get, subst, suc, sym, take, true, unwrap_or, ℕ, ℤ, ◌&&◌, ◌++◌, ◌+◌, ◌-◌, ◌<◌, ◌||◌, ◌∙◌, ◌∷◌, ◌==◌, ◌≡◌, ◌≤◌}
+pub use Rattle.std.proofs.Common.{All, BTreeMap, Bool, Bor, Equal, Err, Greater, HashMap, IfOk, IfSome, Less, List, MatchOption, None, Ok, OnErr, OnOk, Option}
+pub use Rattle.std.proofs.Common.{Ordering, Result, Some, T, [], add-one, ap, append-nil, append_assoc, arith, cond, drop, drop-cons, false, filter, get_or}
+pub use Rattle.std.proofs.Common.{is_eq, is_le, is_lt, is_none, is_some, length, map, nat_cmp, nat_eq, not, option_and_then, option_copied, option_map}
+pub use Rattle.std.proofs.Common.{position, refl, reverse, rules, set, slice_get, subst, suc, sym, take, true, unwrap_or, ℕ, ℤ, ◌&&◌, ◌++◌, ◌+◌, ◌-◌, ◌<◌, ◌||◌}
+pub use Rattle.std.proofs.Common.{◌∙◌, ◌∷◌, ◌==◌, ◌≡◌, ◌≤◌}
 pub use Rattle.std.proofs.Math.Bool.{and-true, or-false, or-true}
 pub use Rattle.std.proofs.lemmas.Bool.{and_right, false_from_ne_true}
 pub use Rattle.std.proofs.lemmas.Bool.Decides.{nat_tests}
@@ -14,7 +18,9 @@ pub use Rattle.std.proofs.lemmas.Option.{slice_get-get_or, slice_get-map, slice_
 pub use Rattle.std.specs.BTreeMap.{IsOrdered, keys}
 pub use Rattle.std.specs.Cmp.{IsTotalOrder}
 pub use Rattle.std.specs.Cmp.Lexicographic.{bytes_decides, nat_list_cmp_total, nat_list_eq_equiv, pointwise, slice_cmp, texts_ties}
-pub use Rattle.std.specs.FinMap.{IsAntisymmetric, empty, entries, entries-from_sorted, entries-insert, from_entries, from_sorted, get-empty, get-from_entries, get-from_sorted, get-insert, get-remove, get-retain_keys, insert, len-empty, len-entries, nat_cmp-IsAntisymmetric, retain_keys, same_map, slice_cmp-IsAntisymmetric}
+pub use Rattle.std.specs.FinMap.{IsAntisymmetric, empty, entries, entries-from_sorted, entries-insert, from_entries, from_sorted, get-empty, get-from_entries}
+pub use Rattle.std.specs.FinMap.{get-from_sorted, get-insert, get-remove, get-retain_keys, insert, len-empty, len-entries, nat_cmp-IsAntisymmetric, retain_keys}
+pub use Rattle.std.specs.FinMap.{same_map, slice_cmp-IsAntisymmetric}
 pub use Rattle.std.specs.FinMap.Entries.{below_all, by_order, find-where_key, is_sorted, put, where_key}
 pub use Rattle.std.specs.List.{find, flat_map, list_any}
 pub use Rattle.std.specs.Map.{keys_of, lookup, values_of}
@@ -34,7 +40,9 @@ unfoldable pub use Rattle.mspec.specs.NodeOrder.{canonical_value}
 pub use Rattle.mspec.specs.Number.{significant_digits}
 unfoldable pub use Rattle.mspec.specs.Number.{digits_before, nearest, round, round_size, rounding_unit}
 pub use Rattle.mspec.proofs.Sparing.{known_is}
-pub use Rattle.mspec.specs.Scopes.{Scope, Scopes, assigned, at_home, bind, bound, common, emptied, entered, formals, has, hide, hide_others, is_among, is_bare, is_name, is_other, kill_in, killed, killed_but, killed_except, known_below, leads_to, linked, newed, newed_except, on_top, outermost, passed, set_in, stays, tree_in, tree_of, ways, with_tree}
+pub use Rattle.mspec.specs.Scopes.{Scope, Scopes, assigned, at_home, bind, bound, common, emptied, entered, formals, has, hide, hide_others, is_among, is_bare}
+pub use Rattle.mspec.specs.Scopes.{is_name, is_other, kill_in, killed, killed_but, killed_except, known_below, leads_to, linked, newed, newed_except, on_top}
+pub use Rattle.mspec.specs.Scopes.{outermost, passed, set_in, stays, tree_in, tree_of, ways, with_tree}
 pub use Rattle.mspec.specs.Trees.{Tree, child_of, front, has_descendants, has_value, is_before, is_below, is_empty, is_within, last, order_of, text_eq, without}
 pub use Rattle.mlocal.specs.Bindings.{binding_of, bindings_of}
 pub use Rattle.mlocal.specs.Home.{AreBare, IsHome, IsUnlinkedHome, killed_up}

@@ -1,6 +1,10 @@
 -- SPDX-License-Identifier: Apache-2.0
 -- The text of a variable beside those of its nodes with subscripts.
-use Rattle.mlocal.proofs.LocalWords.{◌≡◌, ◌<◌, Bool, true, false, not, ◌||◌, cond, List, [], ◌∷◌, ◌++◌, length, reverse, All, Option, Some, None, refl, sym, ap, ◌∙◌, arith, slice_get, is_eq, Ordering, IsOrdered, insert, empty, get-empty, get-insert, get-retain_keys, same_map, entries-insert, put, list_any, find, lookup, keys_of, option_or, reverse-append, All-head, All-tail, find-append, map_of, Text, subscripts_cmp, significant_digits, Tree, is_within, without, found_is_had, subscripts_cmp_total, subscripts_cmp_exact, AreSubs, with_own, AreSomeSubs, passes, has_child, BTreeMap}
+use Rattle.mlocal.proofs.LocalWords.{◌≡◌, ◌<◌, Bool, true, false, not, ◌||◌, cond, List, [], ◌∷◌, ◌++◌, length, reverse, All, Option, Some, None, refl, sym, ap}
+use Rattle.mlocal.proofs.LocalWords.{◌∙◌, arith, slice_get, is_eq, Ordering, IsOrdered, insert, empty, get-empty, get-insert, get-retain_keys, same_map}
+use Rattle.mlocal.proofs.LocalWords.{entries-insert, put, list_any, find, lookup, keys_of, option_or, reverse-append, All-head, All-tail, find-append, map_of}
+use Rattle.mlocal.proofs.LocalWords.{Text, subscripts_cmp, significant_digits, Tree, is_within, without, found_is_had, subscripts_cmp_total}
+use Rattle.mlocal.proofs.LocalWords.{subscripts_cmp_exact, AreSubs, with_own, AreSomeSubs, passes, has_child, BTreeMap}
 use Rattle.std.specs.BTreeMap as tree
 use Rattle.std.specs.FinMap as map
 use Rattle.std.specs.FinMap.{get}

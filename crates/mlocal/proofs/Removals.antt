@@ -1,6 +1,9 @@
 -- SPDX-License-Identifier: Apache-2.0
 -- A variable without the keys of a node and of the nodes below it.
-use Rattle.mlocal.proofs.LocalWords.{◌≡◌, Bool, true, false, not, cond, ◌||◌, List, [], ◌∷◌, map, All, Option, Some, None, refl, sym, ap, ◌∙◌, is_eq, Ordering, Less, Equal, Greater, or-true, same_map, lookup, keys_of, tied_itself, All-head, All-tail, map_of, Text, subscripts_cmp, significant_digits, is_within, without, found_is_had, subscripts_cmp_total, subscripts_cmp_exact, behind_below, AreSomeSubs, is_from, is_one_of, BTreeMap, filter}
+use Rattle.mlocal.proofs.LocalWords.{◌≡◌, Bool, true, false, not, cond, ◌||◌, List, [], ◌∷◌, map, All, Option, Some, None, refl, sym, ap, ◌∙◌, is_eq, Ordering}
+use Rattle.mlocal.proofs.LocalWords.{Less, Equal, Greater, or-true, same_map, lookup, keys_of, tied_itself, All-head, All-tail, map_of, Text, subscripts_cmp}
+use Rattle.mlocal.proofs.LocalWords.{significant_digits, is_within, without, found_is_had, subscripts_cmp_total, subscripts_cmp_exact, behind_below}
+use Rattle.mlocal.proofs.LocalWords.{AreSomeSubs, is_from, is_one_of, BTreeMap, filter}
 use Rattle.std.specs.BTreeMap as tree
 use Rattle.mlocal.proofs.Bounds.{from_within}
 use Rattle.mlocal.proofs.Own.{retained}

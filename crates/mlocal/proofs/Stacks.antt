@@ -2,7 +2,11 @@
 -- The scope where a name's variable is, by its place.
 use Rattle.std.proofs.lemmas.Bool.{eqb-true}
 use Rattle.std.proofs.lemmas.List.{nil_from_length}
-use Rattle.mlocal.proofs.LocalWords.{◌≡◌, ℕ, ◌+◌, ◌<◌, Bool, true, false, cond, List, [], ◌∷◌, ◌++◌, length, reverse, take, drop, get_or, set, Option, Some, None, refl, sym, ap, subst, ◌∙◌, ◌&&◌, ◌||◌, is_none, append_assoc, add-one, arith, drop-cons, or-true, option_and_then, unwrap_or, reverse-append, take-append-drop, set_split, drop_all, Text, text_eq, Scope, Scopes, entered, has, is_among, is_other, linked, tree_in, tree_of, at_home, on_top, common, passed, known_below, is_name, leads_to, known_is, lookup, ◌==◌, IsHome, IsUnlinkedHome, UnlinkedHome}
+use Rattle.mlocal.proofs.LocalWords.{◌≡◌, ℕ, ◌+◌, ◌<◌, Bool, true, false, cond, List, [], ◌∷◌, ◌++◌, length, reverse, take, drop, get_or, set, Option, Some}
+use Rattle.mlocal.proofs.LocalWords.{None, refl, sym, ap, subst, ◌∙◌, ◌&&◌, ◌||◌, is_none, append_assoc, add-one, arith, drop-cons, or-true, option_and_then}
+use Rattle.mlocal.proofs.LocalWords.{unwrap_or, reverse-append, take-append-drop, set_split, drop_all, Text, text_eq, Scope, Scopes, entered, has, is_among}
+use Rattle.mlocal.proofs.LocalWords.{is_other, linked, tree_in, tree_of, at_home, on_top, common, passed, known_below, is_name, leads_to, known_is, lookup}
+use Rattle.mlocal.proofs.LocalWords.{◌==◌, IsHome, IsUnlinkedHome, UnlinkedHome}
 
 pub flip-split : (xs : List Scope) (x : Scope) (ys bs : List Scope) → reverse (xs ++ x ∷ ys) ++ bs ≡ reverse ys ++ x ∷ (reverse xs ++ bs)
 flip-split xs x ys bs =

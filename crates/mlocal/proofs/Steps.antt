@@ -1,6 +1,8 @@
 -- SPDX-License-Identifier: Apache-2.0
 -- What a search in the map of a variable finds of its tree.
-use Rattle.mlocal.proofs.LocalWords.{◌≡◌, Bool, true, false, ◌||◌, List, [], ◌∷◌, ◌++◌, refl, reverse, reverse-append, list_any-append, All, Option, sym, ap, ◌∙◌, option_and_then, is_some, IsOrdered, list_any, find, map_of, Text, subscripts_cmp, significant_digits, Tree, child_of, order_of, is_before, AreSubs, behind_below, with_own, AreSomeSubs, is_behind, is_between, has_child, BTreeMap}
+use Rattle.mlocal.proofs.LocalWords.{◌≡◌, Bool, true, false, ◌||◌, List, [], ◌∷◌, ◌++◌, refl, reverse, reverse-append, list_any-append, All, Option, sym, ap}
+use Rattle.mlocal.proofs.LocalWords.{◌∙◌, option_and_then, is_some, IsOrdered, list_any, find, map_of, Text, subscripts_cmp, significant_digits, Tree, child_of}
+use Rattle.mlocal.proofs.LocalWords.{order_of, is_before, AreSubs, behind_below, with_own, AreSomeSubs, is_behind, is_between, has_child, BTreeMap}
 use Rattle.std.specs.BTreeMap as tree
 use Rattle.std.specs.FinMap as map
 use Rattle.mspec.specs.Trees as trees

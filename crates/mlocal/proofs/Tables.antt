@@ -1,6 +1,11 @@
 -- SPDX-License-Identifier: Apache-2.0
 -- The variables of a scope by their names: what is read and written at the place of a name.
-use Rattle.mlocal.proofs.LocalWords.{◌≡◌, ◌<◌, ℕ, Bool, true, false, cond, List, Option, Some, None, refl, sym, ap, ◌∙◌, subst, get_or, slice_get, position, unwrap_or, option_map, nat_eq, is_some, MatchOption, Ordering, Less, Equal, Greater, is_eq, IfSome, not, tied_itself, slice_get-get_or, slice_get-map, slice_cmp, pointwise, texts_ties, nat_list_cmp_total, nat_list_eq_equiv, bytes_decides, insert, empty, retain_keys, get-insert, same_map, keys_of, values_of, IndexMap, IsUnique, Updates, with_value_at, hash_map_of, Text, is_bare, Tree, text_eq, without, hash_found_is_had, insert-hash_map_of, NamedTrees, tree_at, tidied_at, kill_at, StandsAt, nat_cmp}
+use Rattle.mlocal.proofs.LocalWords.{◌≡◌, ◌<◌, ℕ, Bool, true, false, cond, List, Option, Some, None, refl, sym, ap, ◌∙◌, subst, get_or, slice_get, position}
+use Rattle.mlocal.proofs.LocalWords.{unwrap_or, option_map, nat_eq, is_some, MatchOption, Ordering, Less, Equal, Greater, is_eq, IfSome, not, tied_itself}
+use Rattle.mlocal.proofs.LocalWords.{slice_get-get_or, slice_get-map, slice_cmp, pointwise, texts_ties, nat_list_cmp_total, nat_list_eq_equiv, bytes_decides}
+use Rattle.mlocal.proofs.LocalWords.{insert, empty, retain_keys, get-insert, same_map, keys_of, values_of, IndexMap, IsUnique, Updates, with_value_at}
+use Rattle.mlocal.proofs.LocalWords.{hash_map_of, Text, is_bare, Tree, text_eq, without, hash_found_is_had, insert-hash_map_of, NamedTrees, tree_at, tidied_at}
+use Rattle.mlocal.proofs.LocalWords.{kill_at, StandsAt, nat_cmp}
 use Rattle.std.proofs.lemmas.List.Quantifiers.{position-Some}
 use Rattle.std.specs.FinMap.{get}
 use Rattle.indexmap.specs.IndexMap as index

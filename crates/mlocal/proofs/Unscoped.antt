@@ -1,7 +1,8 @@
 -- SPDX-License-Identifier: Apache-2.0
 -- Scopes that have no name from a place on.
 use Rattle.std.proofs.Common.{zero}
-use Rattle.mlocal.proofs.LocalWords.{◌≡◌, ℕ, suc, ◌+◌, ◌-◌, ◌<◌, ◌≤◌, ◌==◌, List, length, drop, get_or, Some, ap, arith, drop_all, Text, Scope, entered, has, known_below, AreBare}
+use Rattle.mlocal.proofs.LocalWords.{◌≡◌, ℕ, suc, ◌+◌, ◌-◌, ◌<◌, ◌≤◌, ◌==◌, List, length, drop, get_or, Some, ap, arith, drop_all, Text, Scope, entered, has}
+use Rattle.mlocal.proofs.LocalWords.{known_below, AreBare}
 use Rattle.mlocal.proofs.Stacks.{unlinked-down}
 
 -- each name is its own through them

@@ -1,6 +1,10 @@
 -- SPDX-License-Identifier: Apache-2.0
 -- Scopes of the code as scopes of the definitions.
-use Rattle.mlocal.proofs.LocalWords.{◌≡◌, Bool, true, false, not, cond, ◌||◌, Option, Some, None, List, [], ◌∷◌, Bor, Result, Ok, Err, map, refl, sym, ap, subst, ◌∙◌, option_map, unwrap_or, option_copied, IfOk, OnOk, OnErr, HashMap, Ordering, Equal, slice_cmp, IsAntisymmetric, from_entries, empty, retain_keys, same_map, get-from_entries, get-retain_keys, nat_cmp-IsAntisymmetric, slice_cmp-IsAntisymmetric, insert, where_key, find-where_key, IsTotalOrder, filter_from_retain_pairs, hash_map_of, Text, Scope, with_tree, tree_in, is_bare, kill_in, Tree, text_eq, without, NamedTrees, tree_at, kill_at, filter, nat_cmp}
+use Rattle.mlocal.proofs.LocalWords.{◌≡◌, Bool, true, false, not, cond, ◌||◌, Option, Some, None, List, [], ◌∷◌, Bor, Result, Ok, Err, map, refl, sym, ap}
+use Rattle.mlocal.proofs.LocalWords.{subst, ◌∙◌, option_map, unwrap_or, option_copied, IfOk, OnOk, OnErr, HashMap, Ordering, Equal, slice_cmp, IsAntisymmetric}
+use Rattle.mlocal.proofs.LocalWords.{from_entries, empty, retain_keys, same_map, get-from_entries, get-retain_keys, nat_cmp-IsAntisymmetric}
+use Rattle.mlocal.proofs.LocalWords.{slice_cmp-IsAntisymmetric, insert, where_key, find-where_key, IsTotalOrder, filter_from_retain_pairs, hash_map_of, Text}
+use Rattle.mlocal.proofs.LocalWords.{Scope, with_tree, tree_in, is_bare, kill_in, Tree, text_eq, without, NamedTrees, tree_at, kill_at, filter, nat_cmp}
 use Rattle.std.specs.FinMap.{get}
 use Rattle.std.specs.Map.Calls.{RetainsPairs}
 

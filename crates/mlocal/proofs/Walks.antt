@@ -1,6 +1,13 @@
 -- SPDX-License-Identifier: Apache-2.0
 -- The first and the last of the nodes that a test takes, as what $DATA and $ORDER ask.
-use Rattle.mlocal.proofs.LocalWords.{◌≡◌, Bool, true, false, not, ◌&&◌, ◌||◌, cond, List, [], ◌∷◌, ◌++◌, map, reverse, All, Option, Some, None, refl, sym, ap, ◌∙◌, subst, slice_get, option_and_then, option_map, is_some, T, Ordering, Less, Equal, Greater, and_right, IsOrdered, IsTotalOrder, IsAntisymmetric, from_entries, from_sorted, empty, entries, len-entries, len-empty, get-empty, same_map, get-from_entries, get-from_sorted, entries-from_sorted, is_sorted, below_all, list_any, find, flat_map, keys_of, option_to_list, option_or, reverse-append, map-id, find-append, All-after_first, All-head, All-tail, All-push, All-nil, map_of, Text, subscripts_cmp, significant_digits, Tree, is_below, child_of, order_of, is_before, is_empty, has_value, has_descendants, subscripts_cmp_total, AreSubs, behind_below, is_behind, is_between, passes, has_child, is_lt, is_le, BTreeMap, filter}
+use Rattle.mlocal.proofs.LocalWords.{◌≡◌, Bool, true, false, not, ◌&&◌, ◌||◌, cond, List, [], ◌∷◌, ◌++◌, map, reverse, All, Option, Some, None, refl, sym, ap}
+use Rattle.mlocal.proofs.LocalWords.{◌∙◌, subst, slice_get, option_and_then, option_map, is_some, T, Ordering, Less, Equal, Greater, and_right, IsOrdered}
+use Rattle.mlocal.proofs.LocalWords.{IsTotalOrder, IsAntisymmetric, from_entries, from_sorted, empty, entries, len-entries, len-empty, get-empty, same_map}
+use Rattle.mlocal.proofs.LocalWords.{get-from_entries, get-from_sorted, entries-from_sorted, is_sorted, below_all, list_any, find, flat_map, keys_of}
+use Rattle.mlocal.proofs.LocalWords.{option_to_list, option_or, reverse-append, map-id, find-append, All-after_first, All-head, All-tail, All-push, All-nil}
+use Rattle.mlocal.proofs.LocalWords.{map_of, Text, subscripts_cmp, significant_digits, Tree, is_below, child_of, order_of, is_before, is_empty, has_value}
+use Rattle.mlocal.proofs.LocalWords.{has_descendants, subscripts_cmp_total, AreSubs, behind_below, is_behind, is_between, passes, has_child, is_lt, is_le}
+use Rattle.mlocal.proofs.LocalWords.{BTreeMap, filter}
 use Rattle.std.specs.BTreeMap as tree
 use Rattle.std.specs.FinMap as map
 use Rattle.std.specs.List.Sorted.{IsStrictlySortedBy}

@@ -6,7 +6,8 @@ ghost use Rattle.mkey.specs.Way.{way};
 ghost use Rattle.mkey.specs.Front.{AreSubs};
 ghost use Rattle.mspec.specs.KeyBytes.{AreSubscripts};
 ghost use Rattle.mlocal.specs.Bindings.{bindings_of};
-ghost use Rattle.mspec.specs.Scopes.{bottom, value_at, is_value, is_above, next_subscript, tree_in, tree_of, assigned, killed, killed_except, newed, newed_except, with_level, bound, without_level, outermost};
+ghost use Rattle.mspec.specs.Scopes.{bottom, value_at, is_value, is_above, next_subscript, tree_in, tree_of, assigned, killed, killed_except, newed};
+ghost use Rattle.mspec.specs.Scopes.{newed_except, with_level, bound, without_level, outermost};
 ghost use Rattle.mspec.specs.Trees.{AreOrderSubscripts};
 
 use crate::binding::Binding;

@@ -35,7 +35,8 @@ pub(crate) fn keys_from(
 
 // Takes out what is at these keys. Takes no memory.
 pub(crate) fn remove_all(values: &mut BTreeMap<SubsKey, Value>, found: &[SubsKey])
-    ensures taken { (q : _) → get (subscripts_cmp significant_digits) values.new q ≡ cond (is_one_of found.now q) None (get (subscripts_cmp significant_digits) values.old q) }
+    ensures taken { (q : _) → get (subscripts_cmp significant_digits) values.new q ≡ cond (is_one_of found.now q) None (get
+        (subscripts_cmp significant_digits) values.old q) }
     ensures subs { All AreSomeSubs (keys values.old) → All AreSomeSubs (keys values.new) }
 {
     for key in found {

@@ -16,7 +16,8 @@ ghost use Rattle.mspec.specs.Maps.{map_of};
 ghost use Rattle.mspec.specs.NodeOrder.{subscripts_cmp};
 ghost use Rattle.mspec.specs.Number.{significant_digits};
 ghost use Rattle.mspec.specs.Scopes.{is_bare};
-ghost use Rattle.mspec.specs.Trees.{Tree, without, is_within, child_of, has_value, has_descendants, Forward, order_of, is_before, is_empty, front, last, AreOrderSubscripts};
+ghost use Rattle.mspec.specs.Trees.{Tree, without, is_within, child_of, has_value, has_descendants, Forward, order_of, is_before, is_empty, front, last};
+ghost use Rattle.mspec.specs.Trees.{AreOrderSubscripts};
 
 use crate::subtree::{keys_from, remove_all};
 use mkey::{Data, Direction, SubsKey, front, last};
@@ -172,7 +173,8 @@ impl Variable {
     ) -> Result<Option<&SubsKey>, AllocError>
         requires subs { AreOrderSubscripts subs.now }
         requires above { above.now ≡ front subs.now }
-        ensures next { IfOk result (λ key. option_and_then (child_of (front subs.now)) (option_map (λ k. k.now) key) ≡ order_of self.now Forward (front subs.now) (last subs.now)) }
+        ensures next { IfOk result (λ key. option_and_then (child_of (front subs.now)) (option_map (λ k. k.now) key) ≡ order_of self.now Forward
+            (front subs.now) (last subs.now)) }
         ensures subs { IfOk result (λ key. IfSome key (λ k. AreSubs k.now)) }
     {
         if last(subs).is_empty() {
@@ -191,7 +193,8 @@ impl Variable {
     ) -> Result<Option<&SubsKey>, AllocError>
         requires subs { AreOrderSubscripts subs.now }
         requires above { above.now ≡ front subs.now }
-        ensures key { IfOk result (λ key. option_map (λ k. k.now) key ≡ find (has_child (λ c. is_empty (last subs.now) || is_before c (last subs.now)) (front subs.now)) (reverse (nodes_of self.now))) }
+        ensures key { IfOk result (λ key. option_map (λ k. k.now) key ≡ find (has_child (λ c. is_empty (last subs.now) || is_before c (last subs.now))
+            (front subs.now)) (reverse (nodes_of self.now))) }
         ensures subs { IfOk result (λ key. IfSome key (λ k. AreSubs k.now)) }
     {
         if last(subs).is_empty() {

@@ -1,6 +1,7 @@
 -- SPDX-License-Identifier: Apache-2.0
 -- Names above a name.
-use Rattle.mlock.proofs.LockWords.{◌≡◌, ◌<◌, ◌+◌, ℕ, true, List, [], ◌∷◌, ◌++◌, length, take, drop, ◌⊎◌, inl, inr, refl, sym, ap, ◌∙◌, arith, append-nil, append_assoc, length-append, take-append-drop, take-append_seam, LockName, is_within, Text, IsAbove, name_above}
+use Rattle.mlock.proofs.LockWords.{◌≡◌, ◌<◌, ◌+◌, ℕ, true, List, [], ◌∷◌, ◌++◌, length, take, drop, ◌⊎◌, inl, inr, refl, sym, ap, ◌∙◌, arith, append-nil}
+use Rattle.mlock.proofs.LockWords.{append_assoc, length-append, take-append-drop, take-append_seam, LockName, is_within, Text, IsAbove, name_above}
 use Rattle.mlock.proofs.Under.{Inside, inside, of_inside, same_name}
 
 -- ---- the name that is looked up

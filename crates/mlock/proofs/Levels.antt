@@ -1,6 +1,8 @@
 -- SPDX-License-Identifier: Apache-2.0
 -- Tallies of one name, and of all the names above one.
-use Rattle.mlock.proofs.LockWords.{◌||◌, ◌≡◌, ℕ, Bool, true, false, cond, Option, Some, None, refl, sym, ap, ◌∙◌, subst, arith, unwrap_or, is_some, IsSome, true≢false, inl, inr, false_from_ne_true, cases_Bool, IndexMap, get, Updates, LockName, IsAbove, Tally, name_eq, is_under, no_names, with_one, is_none, tally_at, HasEntry}
+use Rattle.mlock.proofs.LockWords.{◌||◌, ◌≡◌, ℕ, Bool, true, false, cond, Option, Some, None, refl, sym, ap, ◌∙◌, subst, arith, unwrap_or, is_some, IsSome}
+use Rattle.mlock.proofs.LockWords.{true≢false, inl, inr, false_from_ne_true, cases_Bool, IndexMap, get, Updates, LockName, IsAbove, Tally, name_eq, is_under}
+use Rattle.mlock.proofs.LockWords.{no_names, with_one, is_none, tally_at, HasEntry}
 use Rattle.mlock.proofs.Names.{at_test}
 use Rattle.mlock.proofs.Under.{is_same, above_is, not_itself, others_above, from_above}
 

@@ -1,6 +1,11 @@
 -- SPDX-License-Identifier: Apache-2.0
 -- What the moves of the holdings keep, and what they do to the locks.
-use Rattle.mlock.proofs.LockWords.{Entry, ◌≡◌, ◌<◌, ◌+◌, ◌-◌, ◌^◌, ℕ, true, false, cond, nat_eq, List, [], ◌∷◌, ◌++◌, Some, None, length, get_or, ◌⊎◌, refl, sym, ap, ◌∙◌, subst, arith, slice_get, get_or-take, get_or-set_other, insert, remove, eq_by_cmp_equiv, swap_remove, IsDistinct, keys_of, cases_eq, lookup_from_place, slice_get_within, slice_get-get_or, get_or_from_slice_get, IndexMap, IsUnique, Updates, with_value_at, keys-with_value_at, updates-with_value_at, LockName, Locks, held, one_more, released, lock_name_cmp_total, Holding, Tally, locks_of, name_eq, is_under, with_one, tally_at, tally_of, too_large, HasRoom, Kept, IsRecounted, common_steps}
+use Rattle.mlock.proofs.LockWords.{Entry, ◌≡◌, ◌<◌, ◌+◌, ◌-◌, ◌^◌, ℕ, true, false, cond, nat_eq, List, [], ◌∷◌, ◌++◌, Some, None, length, get_or, ◌⊎◌, refl}
+use Rattle.mlock.proofs.LockWords.{sym, ap, ◌∙◌, subst, arith, slice_get, get_or-take, get_or-set_other, insert, remove, eq_by_cmp_equiv, swap_remove}
+use Rattle.mlock.proofs.LockWords.{IsDistinct, keys_of, cases_eq, lookup_from_place, slice_get_within, slice_get-get_or, get_or_from_slice_get, IndexMap}
+use Rattle.mlock.proofs.LockWords.{IsUnique, Updates, with_value_at, keys-with_value_at, updates-with_value_at, LockName, Locks, held, one_more, released}
+use Rattle.mlock.proofs.LockWords.{lock_name_cmp_total, Holding, Tally, locks_of, name_eq, is_under, with_one, tally_at, tally_of, too_large, HasRoom, Kept}
+use Rattle.mlock.proofs.LockWords.{IsRecounted, common_steps}
 use Rattle.indexmap.specs.IndexMap as index
 use Rattle.mlock.proofs.Levels.{rest_is}
 use Rattle.mlock.proofs.Steps.{count_none}

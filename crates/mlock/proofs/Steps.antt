@@ -1,6 +1,9 @@
 -- SPDX-License-Identifier: Apache-2.0
 -- What each way through a call does to the locks.
-use Rattle.mlock.proofs.LockWords.{◌≡◌, ◌+◌, ◌-◌, ◌<◌, ◌≤◌, ℕ, zero, suc, Bool, true, false, cond, List, ◌∷◌, Option, Some, None, All, ◌⊎◌, inl, inr, refl, sym, ap, ◌∙◌, subst, arith, slice_index_or, unwrap_or, nat_lt, insert, remove, get-insert, get-remove, same_map, eq_by_cmp, Equal-is, eq_by_cmp_equiv, cases_eq, nat_tests, IndexMap, IsUnique, LockName, Held, held, Locks, held_cmp, count, max_count, one_more, given_back, held_cmp_total, held_cmp_exact, Holding, locks_of, own_count, IsFree, AreCounts, name_eq}
+use Rattle.mlock.proofs.LockWords.{◌≡◌, ◌+◌, ◌-◌, ◌<◌, ◌≤◌, ℕ, zero, suc, Bool, true, false, cond, List, ◌∷◌, Option, Some, None, All, ◌⊎◌, inl, inr, refl, sym}
+use Rattle.mlock.proofs.LockWords.{ap, ◌∙◌, subst, arith, slice_index_or, unwrap_or, nat_lt, insert, remove, get-insert, get-remove, same_map, eq_by_cmp}
+use Rattle.mlock.proofs.LockWords.{Equal-is, eq_by_cmp_equiv, cases_eq, nat_tests, IndexMap, IsUnique, LockName, Held, held, Locks, held_cmp, count, max_count}
+use Rattle.mlock.proofs.LockWords.{one_more, given_back, held_cmp_total, held_cmp_exact, Holding, locks_of, own_count, IsFree, AreCounts, name_eq}
 use Rattle.std.specs.FinMap.{get}
 use Rattle.std.proofs.lemmas.List.Elements.{All-head, All-tail}
 use Rattle.indexmap.specs.IndexMap as index

@@ -1,6 +1,9 @@
 -- SPDX-License-Identifier: Apache-2.0
 -- What is counted below a name, when the holdings change, and what it tells.
-use Rattle.mlock.proofs.LockWords.{Entry, ◌≡◌, ◌<◌, ◌≤◌, ◌+◌, ◌-◌, ◌*◌, ◌^◌, ℕ, zero, suc, Bool, true, false, cond, not, ◌&&◌, ◌||◌, nat_eq, List, [], ◌∷◌, ◌++◌, length, Some, refl, sym, ap, ◌∙◌, subst, arith, nat_lt, slice_get, and_parts, or_parts, sum_by, list_any, swap_remove, nat_tests, slice_get_within, get_or_from_slice_get, LockName, Holding, Tally, is_under, with_one, is_only, below_sum, tally_of, too_large, HasRoom, common_steps}
+use Rattle.mlock.proofs.LockWords.{Entry, ◌≡◌, ◌<◌, ◌≤◌, ◌+◌, ◌-◌, ◌*◌, ◌^◌, ℕ, zero, suc, Bool, true, false, cond, not, ◌&&◌, ◌||◌, nat_eq, List, [], ◌∷◌}
+use Rattle.mlock.proofs.LockWords.{◌++◌, length, Some, refl, sym, ap, ◌∙◌, subst, arith, nat_lt, slice_get, and_parts, or_parts, sum_by, list_any, swap_remove}
+use Rattle.mlock.proofs.LockWords.{nat_tests, slice_get_within, get_or_from_slice_get, LockName, Holding, Tally, is_under, with_one, is_only, below_sum}
+use Rattle.mlock.proofs.LockWords.{tally_of, too_large, HasRoom, common_steps}
 use Rattle.std.proofs.lemmas.List.Sums.{sum_by-cons, sum_by-swap_remove}
 use Rattle.indexmap.specs.Layout.{set_value_at}
 

@@ -1,6 +1,9 @@
 -- SPDX-License-Identifier: Apache-2.0
 -- Names below other names, and the name next above one.
-use Rattle.mlock.proofs.LockWords.{◌≡◌, ◌<◌, ◌≤◌, ◌+◌, ◌-◌, ℕ, true, false, not, List, [], ◌∷◌, ◌++◌, length, take, inl, inr, sym, ap, ◌∙◌, subst, arith, length-append, true≢false, Equal-is, eq_by_cmp_equiv, both_ways, take-append_seam, take-append-add, cases_lt, and_parts, and_from, false_from_ne_true, beq, is_node_within, LockName, lock_name_cmp, is_within, Text, of_within, within_of, within, lock_name_cmp_total, lock_name_cmp_exact, IsAbove, name_eq, is_under, common_steps}
+use Rattle.mlock.proofs.LockWords.{◌≡◌, ◌<◌, ◌≤◌, ◌+◌, ◌-◌, ℕ, true, false, not, List, [], ◌∷◌, ◌++◌, length, take, inl, inr, sym, ap, ◌∙◌, subst, arith}
+use Rattle.mlock.proofs.LockWords.{length-append, true≢false, Equal-is, eq_by_cmp_equiv, both_ways, take-append_seam, take-append-add, cases_lt, and_parts}
+use Rattle.mlock.proofs.LockWords.{and_from, false_from_ne_true, beq, is_node_within, LockName, lock_name_cmp, is_within, Text, of_within, within_of, within}
+use Rattle.mlock.proofs.LockWords.{lock_name_cmp_total, lock_name_cmp_exact, IsAbove, name_eq, is_under, common_steps}
 use Rattle.mlock.proofs.Names.{parts, beq_same, same_beq}
 
 -- the second name is the first with more subscripts

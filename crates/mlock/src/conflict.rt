@@ -43,7 +43,8 @@ fn is_held_above(
     name: &LockName,
 ) -> Result<bool, AllocError>
     ensures yes { IfOk result (λ b. b ≡ true → (i : ℕ) × (is_other terminal (get name_eq holdings.now (name_above i name.now)) ≡ true)) }
-    ensures no { IfOk result (λ b. b ≡ false → (i : ℕ) → i < length name.now.node.subscripts → is_other terminal (get name_eq holdings.now (name_above i name.now)) ≡ false) }
+    ensures no { IfOk result (λ b. b ≡ false → (i : ℕ) → i < length name.now.node.subscripts → is_other terminal (get name_eq holdings.now
+        (name_above i name.now)) ≡ false) }
 {
     let mut below = name.copy()?;
     while let Some(above) = below.into_parent() {

@@ -52,7 +52,8 @@ pub fn set_count(holdings: &mut IndexMap<LockName, Holding>, index: usize, holdi
     requires within { index < index_map_len holdings.old }
     requires own { IfSome (slice_get holdings.old.entries index) (λ e. e.1.terminal ≡ holding.terminal) }
     ensures kept { IsUnique name_eq holdings.old → IsRecounted holdings.old holdings.new }
-    ensures locks { (n : Name) (h : Held) → slice_get holdings.old.entries index ≡ Some (n, h) → IsUnique name_eq holdings.old → locks_of holdings.new ≡ insert (locks_of holdings.old) (lock holding.terminal n) holding.count }
+    ensures locks { (n : Name) (h : Held) → slice_get holdings.old.entries index ≡ Some (n, h) → IsUnique name_eq holdings.old → locks_of holdings.new ≡ insert
+        (locks_of holdings.old) (lock holding.terminal n) holding.count }
 {
     holdings[index] = holding;
 }
@@ -66,7 +67,8 @@ pub fn let_go(
     requires kept { Kept holdings.old below.old }
     requires within { index < index_map_len holdings.old }
     ensures kept { Kept holdings.new below.new }
-    ensures removed { (n : Name) (h : Held) → slice_get holdings.old.entries index ≡ Some (n, h) → locks_of holdings.new ≡ remove (locks_of holdings.old) (lock h.terminal n) }
+    ensures removed { (n : Name) (h : Held) → slice_get holdings.old.entries index ≡ Some (n, h) → locks_of holdings.new ≡ remove (locks_of holdings.old)
+        (lock h.terminal n) }
     ensures entries { (e : Name × Held) → slice_get holdings.old.entries index ≡ Some e → holdings.new.entries ≡ swap_remove holdings.old.entries index e }
 {
     if let Some((name, holding)) = holdings.swap_remove_index(index) {

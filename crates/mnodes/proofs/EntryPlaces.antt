@@ -1,6 +1,10 @@
 -- SPDX-License-Identifier: Apache-2.0
 -- Where a search ends among entries in order, and what an edit there does.
-use Rattle.mnodes.proofs.Words.{◌≡◌, ℕ, zero, suc, ◌+◌, ◌≤◌, Bool, true, false, cond, List, [], ◌∷◌, length, slice_index_or, slice_set, take, drop, if◌then◌else◌, All, Some, None, Result, Ok, Err, IfOk, IfErr, refl, sym, ap, subst, ◌∙◌, inl, inr, arith, Less, Greater, slice_cmp, nat_list_cmp_total, put, by_order, ordering_reverse, cases_lt, tied_itself, All-append, All-cons, All-drop, All-set, All-take, searchable_from_sorted, IsStored, Node, significant_digits, max_text, node_cmp_exact, Entry, entries_of, held, bytes_of, is_before, AreEntries, IsAt, IsGapFor, IsPlaceOf, Text}
+use Rattle.mnodes.proofs.Words.{◌≡◌, ℕ, zero, suc, ◌+◌, ◌≤◌, Bool, true, false, cond, List, [], ◌∷◌, length, slice_index_or, slice_set, take, drop}
+use Rattle.mnodes.proofs.Words.{if◌then◌else◌, All, Some, None, Result, Ok, Err, IfOk, IfErr, refl, sym, ap, subst, ◌∙◌, inl, inr, arith, Less, Greater}
+use Rattle.mnodes.proofs.Words.{slice_cmp, nat_list_cmp_total, put, by_order, ordering_reverse, cases_lt, tied_itself, All-append, All-cons, All-drop, All-set}
+use Rattle.mnodes.proofs.Words.{All-take, searchable_from_sorted, IsStored, Node, significant_digits, max_text, node_cmp_exact, Entry, entries_of, held}
+use Rattle.mnodes.proofs.Words.{bytes_of, is_before, AreEntries, IsAt, IsGapFor, IsPlaceOf, Text}
 use Rattle.std.proofs.Common.{insert}
 use Rattle.std.specs.FinMap as finite
 use Rattle.std.specs.FinMap.Entries.{find}

@@ -1,6 +1,10 @@
 -- SPDX-License-Identifier: Apache-2.0
 -- The entries within bounds of bytes.
-use Rattle.mnodes.proofs.Words.{◌≡◌, ℕ, zero, suc, ◌-◌, ◌<◌, Bool, true, false, cond, ◌&&◌, List, [], ◌∷◌, ◌++◌, map, reverse, length, slice_index_or, slice_get, take, drop, Option, Some, None, if◌then◌else◌, refl, sym, ap, ◌∙◌, arith, Ordering, Less, Equal, Greater, false_from_ne_true, slice_cmp, nat_list_cmp_total, option_or, ordering_reverse, length-drop, reverse-append, take_all, find-append, is_between, next_key, previous_key, Entry, held, bytes_of, is_before, key_within, AreEntries, IsPlaceOf, find, nat_cmp, is_lt, is_le}
+use Rattle.mnodes.proofs.Words.{◌≡◌, ℕ, zero, suc, ◌-◌, ◌<◌, Bool, true, false, cond, ◌&&◌, List, [], ◌∷◌, ◌++◌, map, reverse, length, slice_index_or}
+use Rattle.mnodes.proofs.Words.{slice_get, take, drop, Option, Some, None, if◌then◌else◌, refl, sym, ap, ◌∙◌, arith, Ordering, Less, Equal, Greater}
+use Rattle.mnodes.proofs.Words.{false_from_ne_true, slice_cmp, nat_list_cmp_total, option_or, ordering_reverse, length-drop, reverse-append, take_all}
+use Rattle.mnodes.proofs.Words.{find-append, is_between, next_key, previous_key, Entry, held, bytes_of, is_before, key_within, AreEntries, IsPlaceOf, find}
+use Rattle.mnodes.proofs.Words.{nat_cmp, is_lt, is_le}
 use Rattle.mnodes.proofs.SortedEntries.{less, first, keys_held, keys_rise}
 
 -- ---- bytes in order

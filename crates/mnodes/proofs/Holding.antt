@@ -1,6 +1,9 @@
 -- SPDX-License-Identifier: Apache-2.0
 -- What entries hold are nodes of a store, with texts that they may have.
-use Rattle.mnodes.proofs.Words.{◌≡◌, List, [], ◌∷◌, All, sym, ◌∙◌, subst, Ordering, Less, Equal, Greater, entries, put, by_order, All-map, All-nil, All-cons, All-head, All-tail, Node, node_cmp, significant_digits, Entry, Bool, cond, None, ap, get-entries, entries_sorted, retain_keys, same_map, IsTotalOrder, where_key, is_sorted-where_key, find-where_key, entries_of, entry_of, held, AreEntries, IsHeld, AreHeld, FinMap, IsAntisymmetric, from_sorted, entries-from_sorted, get-from_sorted, Text}
+use Rattle.mnodes.proofs.Words.{◌≡◌, List, [], ◌∷◌, All, sym, ◌∙◌, subst, Ordering, Less, Equal, Greater, entries, put, by_order, All-map, All-nil, All-cons}
+use Rattle.mnodes.proofs.Words.{All-head, All-tail, Node, node_cmp, significant_digits, Entry, Bool, cond, None, ap, get-entries, entries_sorted, retain_keys}
+use Rattle.mnodes.proofs.Words.{same_map, IsTotalOrder, where_key, is_sorted-where_key, find-where_key, entries_of, entry_of, held, AreEntries, IsHeld, AreHeld}
+use Rattle.mnodes.proofs.Words.{FinMap, IsAntisymmetric, from_sorted, entries-from_sorted, get-from_sorted, Text}
 use Rattle.mspec.proofs.MapCuts.{get_cut}
 use Rattle.mnodes.proofs.SortedEntries.{entries_from}
 

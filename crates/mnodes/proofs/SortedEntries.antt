@@ -1,6 +1,12 @@
 -- SPDX-License-Identifier: Apache-2.0
 -- What entries in order hold, and how their nodes and the bytes of their keys rise.
-use Rattle.mnodes.proofs.Words.{◌≡◌, ℕ, zero, suc, ◌<◌, Bool, true, cond, ◌&&◌, None, List, [], ◌∷◌, map, length, slice_index_or, Option, Some, refl, sym, ap, subst, ◌∙◌, arith, Ordering, Less, Equal, Greater, and_parts, IsTotalOrder, slice_cmp, slice_partial_cmp, empty, entries, get, from_entries, retain_keys, entries-insert, get-from_entries, get-retain_keys, len-entries, len-empty, same_entries_map, same_map, put, where_key, is_sorted, below_all, by_order, is_sorted-put, is_sorted-where_key, find-where_key, is_some_and, ordering_reverse, ordering_then, partial_ordering_then, Globals, keys_of, key_bytes, IsStored, Node, node_cmp, significant_digits, key_order, node_cmp_total, node_cmp_exact, none_empty, Entry, entries_of, held, bytes_of, AreEntries, T, insert, nat_cmp, is_lt, Text}
+use Rattle.mnodes.proofs.Words.{◌≡◌, ℕ, zero, suc, ◌<◌, Bool, true, cond, ◌&&◌, None, List, [], ◌∷◌, map, length, slice_index_or, Option, Some, refl, sym, ap}
+use Rattle.mnodes.proofs.Words.{subst, ◌∙◌, arith, Ordering, Less, Equal, Greater, and_parts, IsTotalOrder, slice_cmp, slice_partial_cmp, empty, entries, get}
+use Rattle.mnodes.proofs.Words.{from_entries, retain_keys, entries-insert, get-from_entries, get-retain_keys, len-entries, len-empty, same_entries_map}
+use Rattle.mnodes.proofs.Words.{same_map, put, where_key, is_sorted, below_all, by_order, is_sorted-put, is_sorted-where_key, find-where_key, is_some_and}
+use Rattle.mnodes.proofs.Words.{ordering_reverse, ordering_then, partial_ordering_then, Globals, keys_of, key_bytes, IsStored, Node, node_cmp}
+use Rattle.mnodes.proofs.Words.{significant_digits, key_order, node_cmp_total, node_cmp_exact, none_empty, Entry, entries_of, held, bytes_of, AreEntries, T}
+use Rattle.mnodes.proofs.Words.{insert, nat_cmp, is_lt, Text}
 use Rattle.std.specs.FinMap.Entries.{find}
 
 abbrev pub order : Node → Node → Ordering

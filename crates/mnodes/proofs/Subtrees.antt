@@ -1,6 +1,9 @@
 -- SPDX-License-Identifier: Apache-2.0
 -- The entries of a node and of what is below it.
-use Rattle.mnodes.proofs.Words.{◌≡◌, ℕ, zero, suc, ◌<◌, ◌≤◌, Bool, true, false, cond, not, List, [], ◌∷◌, ◌++◌, length, slice_index_or, take, drop, refl, sym, ap, ◌∙◌, inl, inr, arith, Less, append-nil, slice_cmp, bytes_decides, where_key, cases_lt, and_from, false_from_ne_true, All-append, All-drop, All-take, is_node_within, without_subtree, key_bytes, IsStored, IsBetween, IsWithin, Node, significant_digits, max_text, same_node, BoundsKeysOf, Entry, entries_of, held, bytes_of, AreEntries, IsPlaceOf, Text}
+use Rattle.mnodes.proofs.Words.{◌≡◌, ℕ, zero, suc, ◌<◌, ◌≤◌, Bool, true, false, cond, not, List, [], ◌∷◌, ◌++◌, length, slice_index_or, take, drop, refl, sym}
+use Rattle.mnodes.proofs.Words.{ap, ◌∙◌, inl, inr, arith, Less, append-nil, slice_cmp, bytes_decides, where_key, cases_lt, and_from, false_from_ne_true}
+use Rattle.mnodes.proofs.Words.{All-append, All-drop, All-take, is_node_within, without_subtree, key_bytes, IsStored, IsBetween, IsWithin, Node}
+use Rattle.mnodes.proofs.Words.{significant_digits, max_text, same_node, BoundsKeysOf, Entry, entries_of, held, bytes_of, AreEntries, IsPlaceOf, Text}
 use Rattle.std.proofs.Common.{nat_cmp, is_lt}
 use Rattle.std.proofs.lemmas.Slice.Eq.{starts_is}
 use Rattle.mspec.specs.Trees.{is_within}

@@ -3,7 +3,7 @@
 use Rattle.std.specs.Prelude.{◌≡◌, ◌≢◌, ◌-◌, ℕ}
 use Rattle.mnodes.specs.declared.failing.StoreCall.{StoreCall}
 
--- of the calls of this kind so many are left, up to the one that fails: it is this call
+-- of the calls of this kind this many are left, up to the one that fails: it is this call
 abbrev pub IsDue : StoreCall → ℕ → StoreCall → Type 0
 IsDue kind left call = (call ≡ kind) × (left ≡ 1)
 

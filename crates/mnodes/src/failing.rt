@@ -146,7 +146,8 @@ impl<S: NodeStore> NodeStore for Failing<S> {
     }
 
     fn next(&mut self, low: &[u8], high: &[u8]) -> Result<Option<Vec<u8>>, StoreFault>
-        ensures found { S.doubt self.new.store ≡ 0 → IfOk result (λ key. option_map (λ bytes. bytes.items) key ≡ next_key (S.content self.old.store) low.now high.now) }
+        ensures found { S.doubt self.new.store ≡ 0 → IfOk result (λ key. option_map (λ bytes. bytes.items) key ≡ next_key
+            (S.content self.old.store) low.now high.now) }
         ensures held { S.doubt self.new.store ≡ 0 → AreHeld (S.content self.old.store) }
         ensures same { S.doubt self.new.store ≡ 0 → S.content self.new.store ≡ S.content self.old.store }
         ensures doubt { DoubtsOver S.NodeStore self.old.store self.new.store (is_ok result) }
@@ -164,7 +165,8 @@ impl<S: NodeStore> NodeStore for Failing<S> {
     }
 
     fn prev(&mut self, low: &[u8], high: &[u8]) -> Result<Option<Vec<u8>>, StoreFault>
-        ensures found { S.doubt self.new.store ≡ 0 → IfOk result (λ key. option_map (λ bytes. bytes.items) key ≡ previous_key (S.content self.old.store) low.now high.now) }
+        ensures found { S.doubt self.new.store ≡ 0 → IfOk result (λ key. option_map (λ bytes. bytes.items) key ≡ previous_key
+            (S.content self.old.store) low.now high.now) }
         ensures held { S.doubt self.new.store ≡ 0 → AreHeld (S.content self.old.store) }
         ensures same { S.doubt self.new.store ≡ 0 → S.content self.new.store ≡ S.content self.old.store }
         ensures doubt { DoubtsOver S.NodeStore self.old.store self.new.store (is_ok result) }

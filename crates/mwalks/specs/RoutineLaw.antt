@@ -22,7 +22,7 @@ abbrev pub onward : Text → Text → (Text → Plan (List Text)) → Option Tex
 onward owner name more None = Done []
 onward owner name more (Some place) = then_plan (line owner name place) (λ texts. then_plan (more place) (λ rest. Done (texts ++ rest)))
 
--- from a place on, at each step the next one by $ORDER; at most so many steps
+-- from a place on, at each step the next one by $ORDER; at most this many steps
 abbrev pub walk : Text → Text → ℕ → Text → Plan (List Text)
 walk owner name zero place = Done []
 walk owner name (suc most) place = Ask (Neighbour Forward (line_at owner name place)) (onward owner name (walk owner name most))

@@ -1,6 +1,8 @@
 -- SPDX-License-Identifier: Apache-2.0
 -- The checks that come before a line's text is parsed.
-use Rattle.mworld.proofs.WorldWords.{◌≡◌, ℕ, true, false, Some, None, refl, sym, ap, subst, ◌∙◌, length, ◌<◌, ◌≤◌, arith, List, [], ◌∷◌, zero, suc, slice_get, unwrap_or, option_map, Err, get, Settings, account_at, account_of, Event, World, Transition, Faulted, normal, refused, checked, at_account, at_tree, is_too_long, is_ascii, Zterm, Zline, Zchar, fault_of, Code, Passes, Admits}
+use Rattle.mworld.proofs.WorldWords.{◌≡◌, ℕ, true, false, Some, None, refl, sym, ap, subst, ◌∙◌, length, ◌<◌, ◌≤◌, arith, List, [], ◌∷◌, zero, suc, slice_get}
+use Rattle.mworld.proofs.WorldWords.{unwrap_or, option_map, Err, get, Settings, account_at, account_of, Event, World, Transition, Faulted, normal, refused}
+use Rattle.mworld.proofs.WorldWords.{checked, at_account, at_tree, is_too_long, is_ascii, Zterm, Zline, Zchar, fault_of, Code, Passes, Admits}
 use Rattle.std.proofs.lemmas.Bool.Decides.{nat_tests}
 use Rattle.mmeaning.specs.Transition.{Account, Reply}
 

@@ -1,6 +1,8 @@
 -- SPDX-License-Identifier: Apache-2.0
 -- The sessions of a world, while a line changes its terminal's where it is.
-use Rattle.mworld.proofs.WorldWords.{◌≡◌, ℕ, Bool, true, false, Option, Some, None, cond, refl, sym, ap, ◌∙◌, IsSome, is_some, nat_eq, option_map, unwrap_or, nat_cmp, is_eq, FinMap, get, insert, remove, get-insert, get-remove, same_map, nat_cmp-IsAntisymmetric, new_session, session_or_new, Session, session_of}
+use Rattle.mworld.proofs.WorldWords.{◌≡◌, ℕ, Bool, true, false, Option, Some, None, cond, refl, sym, ap, ◌∙◌, IsSome, is_some, nat_eq, option_map, unwrap_or}
+use Rattle.mworld.proofs.WorldWords.{nat_cmp, is_eq, FinMap, get, insert, remove, get-insert, get-remove, same_map, nat_cmp-IsAntisymmetric, new_session}
+use Rattle.mworld.proofs.WorldWords.{session_or_new, Session, session_of}
 use Rattle.std.specs.Cmp.{nat_cmp_total, unsigned_ties}
 use Rattle.std.proofs.lemmas.Cmp.{eq_by_cmp_equiv}
 use Rattle.std.specs.HashMap as hash

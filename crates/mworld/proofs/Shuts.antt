@@ -1,6 +1,9 @@
 -- SPDX-License-Identifier: Apache-2.0
 -- A run of events on whose way a fault shuts the store.
-use Rattle.mworld.proofs.WorldWords.{◌≡◌, ℕ, zero, suc, Bool, true, false, not, List, [], ◌∷◌, ◌++◌, map, take, drop, length, get_or, ◌+◌, ◌<◌, arith, refl, sym, ap, ◌∙◌, subst, IsTrue, append-nil, append_assoc, map-append, take-append-drop, Doubts, is_kept_by, ending_of, is_lost, is_failure, fault_of, AreFit, Settings, World, Event, Told, told_to, Tells, told_apart, equally_told, IsToldBetween, IsToldUntilShut, RanUntilShut, TellsOne}
+use Rattle.mworld.proofs.WorldWords.{◌≡◌, ℕ, zero, suc, Bool, true, false, not, List, [], ◌∷◌, ◌++◌, map, take, drop, length, get_or, ◌+◌, ◌<◌, arith, refl}
+use Rattle.mworld.proofs.WorldWords.{sym, ap, ◌∙◌, subst, IsTrue, append-nil, append_assoc, map-append, take-append-drop, Doubts, is_kept_by, ending_of}
+use Rattle.mworld.proofs.WorldWords.{is_lost, is_failure, fault_of, AreFit, Settings, World, Event, Told, told_to, Tells, told_apart, equally_told}
+use Rattle.mworld.proofs.WorldWords.{IsToldBetween, IsToldUntilShut, RanUntilShut, TellsOne}
 use Rattle.mspec.specs.Node.{Text}
 use Rattle.mmeaning.specs.Transition.{Reply}
 use Rattle.misolation.specs.Cut.{IsFit}

@@ -1,6 +1,9 @@
 -- SPDX-License-Identifier: Apache-2.0
 -- A run of events goes on by one transition of the program.
-use Rattle.mworld.proofs.WorldWords.{◌≡◌, ℕ, ◌+◌, ◌<◌, Bool, true, false, cond, List, [], ◌∷◌, ◌++◌, Option, Some, None, map, take, length, get_or, refl, sym, ap, ◌∙◌, subst, IsTrue, ◌↔◌, unwrap_or, option_map, Result, Ok, Err, IfErr, IsErr, OnOk, append-nil, map-append, take_more, take-map, get, Settings, account_at, account_of, name_at, World, Event, Transition, is_failure, is_member, is_inside, part, Told, told_by, told_to, Tells, tells_on, history_on, IsToldEach, IsUnseen, RanFirst, TellsOne}
+use Rattle.mworld.proofs.WorldWords.{◌≡◌, ℕ, ◌+◌, ◌<◌, Bool, true, false, cond, List, [], ◌∷◌, ◌++◌, Option, Some, None, map, take, length, get_or, refl, sym}
+use Rattle.mworld.proofs.WorldWords.{ap, ◌∙◌, subst, IsTrue, ◌↔◌, unwrap_or, option_map, Result, Ok, Err, IfErr, IsErr, OnOk, append-nil, map-append, take_more}
+use Rattle.mworld.proofs.WorldWords.{take-map, get, Settings, account_at, account_of, name_at, World, Event, Transition, is_failure, is_member, is_inside, part}
+use Rattle.mworld.proofs.WorldWords.{Told, told_by, told_to, Tells, tells_on, history_on, IsToldEach, IsUnseen, RanFirst, TellsOne}
 use Rattle.std.proofs.lemmas.List.Elements.{filter-append}
 use Rattle.std.proofs.lemmas.Bool.{false_from_ne_true}
 use Rattle.mspec.specs.Node.{Text}

@@ -1,6 +1,7 @@
 -- SPDX-License-Identifier: Apache-2.0
 -- The words that most proofs of this crate have, in one place.
-pub use Rattle.std.proofs.Common.{Bool, Global, List, None, Option, Some, Vec, [], ap, append_assoc, arith, cond, drop, false, get_or, length, map, not, refl, rules, subst, suc, sym, take, true, zero, ℕ, ◌++◌, ◌+◌, ◌<◌, ◌∙◌, ◌∷◌, ◌≡◌, ◌≤◌}
+pub use Rattle.std.proofs.Common.{Bool, Global, List, None, Option, Some, Vec, [], ap, append_assoc, arith, cond, drop, false, get_or, length, map, not, refl}
+pub use Rattle.std.proofs.Common.{rules, subst, suc, sym, take, true, zero, ℕ, ◌++◌, ◌+◌, ◌<◌, ◌∙◌, ◌∷◌, ◌≡◌, ◌≤◌}
 pub use Rattle.std.proofs.lemmas.List.{append-nil, map-append, take-append-drop, take-map, take_all, take_more}
 pub use Rattle.std.specs.FinMap.{FinMap, from_entries, get, get-insert, get-remove, insert, nat_cmp-IsAntisymmetric, remove, same_map}
 pub use Rattle.std.specs.Ordering.{is_eq, nat_cmp}
@@ -15,7 +16,9 @@ pub use Rattle.mexec.specs.Runs.{is_kept_by, EndsBy, RunsText, ending_of, is_hal
 pub use Rattle.misolation.proofs.RunsTold.{equally_told, history_on, tells_on, told_apart}
 pub use Rattle.misolation.specs.Cut.{AreFit, is_inside, is_member, part}
 pub use Rattle.misolation.specs.Telling.{Tells, Told, told_by, told_to}
-pub use Rattle.mmeaning.specs.Transition.{Ending, Event, FailedTransition, Faulted, Finished, Halted, Shared, Transition, TransitionBy, World, act, at_account, at_tree, begun, checked, ended, is_ascii, is_failure, is_lost, is_too_long, kept, lost, new_session, normal, refused, session_or_new, settled, text_run}
+pub use Rattle.mmeaning.specs.Transition.{Ending, Event, FailedTransition, Faulted, Finished, Halted, Shared, Transition, TransitionBy, World, act, at_account}
+pub use Rattle.mmeaning.specs.Transition.{at_tree, begun, checked, ended, is_ascii, is_failure, is_lost, is_too_long, kept, lost, new_session, normal, refused}
+pub use Rattle.mmeaning.specs.Transition.{session_or_new, settled, text_run}
 pub use Rattle.moperator.specs.Codes.{fault_of}
 pub use Rattle.moperator.specs.declared.code.Code.{Code}
 pub use Rattle.mspec.specs.Access.{Settings, account_at, account_of, name_at, steps_at}

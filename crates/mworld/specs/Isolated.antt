@@ -63,7 +63,7 @@ pub record TellsOne (a : Text) (settings : Settings) (e : transition.Event) (rep
   pub failures : IsTrue whole' ↔ (IsTrue whole × NoneFailed (part (reachers settings a) settings ((e, reply) ∷ [])))
 
 -- At one of the events a fault shut the store, and its reply is a failure. What was told of the events before it is what such a run
--- tells. Behind that came the reply to this event, if it is at a terminal of the account, and replies to later ones, of which no more is
+-- tells. After that came the reply to this event, if it is at a terminal of the account, and replies to later ones, of which no more is
 -- said here. If the run is whole at its end, it was so before that event, which came from no account that reaches this one.
 pub record IsToldUntilShut (a : Text) (settings : Settings) (world : transition.World) (events : List transition.Event) (told : List telling.Told) (whole : Bool) : Type 0 where
   pub done : List transition.Event

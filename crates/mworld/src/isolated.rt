@@ -67,28 +67,33 @@ impl Drop for Isolated {
 /// whose line shut it, and that line failed. Over any store they are replies to the account's events, one each and in their order; over a
 /// steady store that has room at the end none of them says `Zstore`.
 ///
-/// An id that names no account of the world's settings is told nothing.
+/// An id that names no account of the world's settings is shown nothing.
 ///
 /// # Errors
 ///
-/// Out of memory for what is told. The world is then the one after some first events, one transition each.
+/// Out of memory for what is shown. The world is then the one after some first events, one transition each.
 pub fn isolated_replies<S: NodeStore>(
     alloc: Global,
     world: &mut World<S>,
     events: &[Event],
     account: AccountId,
 ) -> Result<Isolated, AllocError>
-    ensures told { IsUndoubted S.NodeStore world.new → IfOk result (λ isolated. IsTold S.NodeStore world.old account (map event_of events.now) (replies_of isolated) isolated.whole world.new) }
-    ensures alone { IsUndoubted S.NodeStore world.new → IfOk result (λ isolated. IsEquallyTold S.NodeStore world.old account (map event_of events.now) (replies_of isolated) isolated.whole) }
-    ensures each { IfOk result (λ isolated. IsToldEach (name_at (settings_of world.old) account) (settings_of world.old) (map event_of events.now) (replies_of isolated)) }
-    ensures first { IsUndoubted S.NodeStore world.new → IfErr result (λ _. RanFirst (settings_of world.old) (world_of S.NodeStore world.old) (map event_of events.now) (world_of S.NodeStore world.new)) }
+    ensures told { IsUndoubted S.NodeStore world.new → IfOk result (λ isolated. IsTold S.NodeStore world.old account (map event_of events.now)
+        (replies_of isolated) isolated.whole world.new) }
+    ensures alone { IsUndoubted S.NodeStore world.new → IfOk result (λ isolated. IsEquallyTold S.NodeStore world.old account (map event_of events.now)
+        (replies_of isolated) isolated.whole) }
+    ensures each { IfOk result (λ isolated. IsToldEach (name_at (settings_of world.old) account) (settings_of world.old) (map event_of events.now)
+        (replies_of isolated)) }
+    ensures first { IsUndoubted S.NodeStore world.new → IfErr result (λ _. RanFirst (settings_of world.old) (world_of S.NodeStore world.old)
+        (map event_of events.now) (world_of S.NodeStore world.new)) }
     ensures settings { settings_of world.new ≡ settings_of world.old }
     ensures doubt { DoubtsOver S.NodeStore world.old.store world.new.store false }
     ensures sufficed { S.steady → IsTrue (S.has_room world.new.store) → IfOk result (λ isolated. StoreSufficedForTold (replies_of isolated)) }
 
     // A fault shut the store on the way.
     ensures told_until_shut { IsUndoubted S.NodeStore world.old → doubt_of S.NodeStore world.new ≡ shut → IfOk result (λ isolated.
-        IsToldUntilShut (name_at (settings_of world.old) account) (settings_of world.old) (world_of S.NodeStore world.old) (map event_of events.now) (replies_of isolated) isolated.whole) }
+        IsToldUntilShut (name_at (settings_of world.old) account) (settings_of world.old) (world_of S.NodeStore world.old) (map event_of events.now)
+        (replies_of isolated) isolated.whole) }
     ensures first_until_shut { IsUndoubted S.NodeStore world.old → doubt_of S.NodeStore world.new ≡ shut → IfErr result (λ _.
         RanUntilShut (settings_of world.old) (world_of S.NodeStore world.old) (map event_of events.now)) }
 {
@@ -111,17 +116,22 @@ fn tell<S: NodeStore>(
     isolated: &mut Isolated,
 ) -> Result<(), AllocError>
     ensures told { IsUndoubted S.NodeStore world.new → OnOk result ((first : transition.World) (events : List transition.Event) →
-        Tells (name_at (settings_of world.old) account) (settings_of world.old) first events (replies_of isolated.old) isolated.old.whole (world_of S.NodeStore world.old) →
-        Tells (name_at (settings_of world.old) account) (settings_of world.old) first (events ++ event_of event.now ∷ []) (replies_of isolated.new) isolated.new.whole (world_of S.NodeStore world.new)) }
+        Tells (name_at (settings_of world.old) account) (settings_of world.old) first events (replies_of isolated.old) isolated.old.whole
+        (world_of S.NodeStore world.old) →
+        Tells (name_at (settings_of world.old) account) (settings_of world.old) first (events ++ event_of event.now ∷ [])
+        (replies_of isolated.new) isolated.new.whole (world_of S.NodeStore world.new)) }
     ensures each { OnOk result ((events : List transition.Event) →
         IsToldEach (name_at (settings_of world.old) account) (settings_of world.old) events (replies_of isolated.old) →
         IsToldEach (name_at (settings_of world.old) account) (settings_of world.old) (events ++ event_of event.now ∷ []) (replies_of isolated.new)) }
     ensures ran { (reply : transition.Reply) × (IsUndoubted S.NodeStore world.old → doubt_of S.NodeStore world.new ≡ shut → IsTrue (is_failure reply.ending))
-        × OnOk result (TellsOne (name_at (settings_of world.old) account) (settings_of world.old) (event_of event.now) reply (replies_of isolated.old) isolated.old.whole (replies_of isolated.new) isolated.new.whole) }
-    ensures transition { IsUndoubted S.NodeStore world.new → (reply : transition.Reply) × Transition (settings_of world.old) (event_of event.now) reply (world_of S.NodeStore world.old) (world_of S.NodeStore world.new) }
+        × OnOk result (TellsOne (name_at (settings_of world.old) account) (settings_of world.old) (event_of event.now) reply
+        (replies_of isolated.old) isolated.old.whole (replies_of isolated.new) isolated.new.whole) }
+    ensures transition { IsUndoubted S.NodeStore world.new → (reply : transition.Reply) × Transition (settings_of world.old) (event_of event.now) reply
+        (world_of S.NodeStore world.old) (world_of S.NodeStore world.new) }
     ensures settings { settings_of world.new ≡ settings_of world.old }
     ensures doubt { DoubtsOver S.NodeStore world.old.store world.new.store false }
-    ensures sufficed { S.steady → IsTrue (S.has_room world.new.store) → OnOk result (StoreSufficedForTold (replies_of isolated.old) → StoreSufficedForTold (replies_of isolated.new)) }
+    ensures sufficed { S.steady → IsTrue (S.has_room world.new.store) → OnOk result (StoreSufficedForTold (replies_of isolated.old) → StoreSufficedForTold
+        (replies_of isolated.new)) }
 {
     let reply = world.line(event.terminal, &event.text);
     let Some(sender) = world.settings().account_of(event.terminal) else {
@@ -156,7 +166,8 @@ fn is_whole_behind(
     reply: &Reply,
     whole: bool,
 ) -> Result<bool, AllocError>
-    ensures { IfOk result (λ more. IsTrue more ↔ (IsTrue whole × IsUnseen settings.now (name_at settings.now sender) (name_at settings.now account) (reply_of reply.now))) }
+    ensures { IfOk result (λ more. IsTrue more ↔ (IsTrue whole × IsUnseen settings.now (name_at settings.now sender) (name_at settings.now account)
+        (reply_of reply.now))) }
 {
     if !reply.is_failed() {
         return Ok(whole);

@@ -27,7 +27,7 @@ pub(crate) fn begin_session(
     put_session(alloc, sessions, terminal)
 }
 
-// Adds a new session where there is none. Kept out of line, so that a line of a terminal that has one does not pay for its stack frame.
+// Adds a new session if there is none. Kept out of line, so that a line of a terminal that has one does not pay for its stack frame.
 #[cold]
 #[inline(never)]
 fn put_session(

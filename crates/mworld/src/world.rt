@@ -149,11 +149,16 @@ impl<S: NodeStore> World<S> {
     /// is nothing but the set, with the same reply and the same writes; at any other terminal it leaves that as it was. The globals that
     /// it leaves are the old ones after the line's writes up to some point: after all of them, if it did not fail.
     pub fn line(&mut self, terminal: u32, text: &[u8]) -> Reply
-        ensures transition { IsUndoubted S.NodeStore self.new → Transition (settings_of self.old) (record { terminal = terminal; text = text.now }) (reply_of result) (world_of S.NodeStore self.old) (world_of S.NodeStore self.new) }
-        ensures writes { IsUndoubted S.NodeStore self.new → TransitionWrites (settings_of self.old) (record { terminal = terminal; text = text.now }) (reply_of result) (world_of S.NodeStore self.old) (world_of S.NodeStore self.new) }
-        ensures inside { IsUndoubted S.NodeStore self.new → (s : Accounts) → IsClosed (settings_of self.old) s → IsTrue (is_inside s (settings_of self.old) terminal) →
-            TransitionWithin s (settings_of self.old) (record { terminal = terminal; text = text.now }) (reply_of result) (world_of S.NodeStore self.old) (world_of S.NodeStore self.new) }
-        ensures outside { IsUndoubted S.NodeStore self.new → (s : Accounts) → IsClosed (settings_of self.old) s → is_inside s (settings_of self.old) terminal ≡ false →
+        ensures transition { IsUndoubted S.NodeStore self.new → Transition (settings_of self.old) (record { terminal = terminal; text = text.now })
+            (reply_of result) (world_of S.NodeStore self.old) (world_of S.NodeStore self.new) }
+        ensures writes { IsUndoubted S.NodeStore self.new → TransitionWrites (settings_of self.old) (record { terminal = terminal; text = text.now })
+            (reply_of result) (world_of S.NodeStore self.old) (world_of S.NodeStore self.new) }
+        ensures inside { IsUndoubted S.NodeStore self.new → (s : Accounts) → IsClosed (settings_of self.old) s → IsTrue (is_inside s
+            (settings_of self.old) terminal) →
+            TransitionWithin s (settings_of self.old) (record { terminal = terminal; text = text.now }) (reply_of result) (world_of S.NodeStore self.old)
+            (world_of S.NodeStore self.new) }
+        ensures outside { IsUndoubted S.NodeStore self.new → (s : Accounts) → IsClosed (settings_of self.old) s → is_inside s (settings_of self.old) terminal
+            ≡ false →
             cut_world s (settings_of self.old) (world_of S.NodeStore self.new) ≡ cut_world s (settings_of self.old) (world_of S.NodeStore self.old) }
         ensures settings { settings_of self.new ≡ settings_of self.old }
         ensures doubt { DoubtsOver S.NodeStore self.old.store self.new.store (is_kept_by result.ending) }
@@ -185,7 +190,8 @@ impl<S: NodeStore> World<S> {
     // Runs a line that passed the checks before its text is parsed. The session stays where it is, and the line changes it there.
     fn run(&mut self, terminal: u32, account: AccountId, text: &[u8]) -> Reply
         requires { Passes (settings_of self.now) (record { terminal = terminal; text = text.now }) account }
-        ensures transition { IsUndoubted S.NodeStore self.new → Transition (settings_of self.old) (record { terminal = terminal; text = text.now }) (reply_of result) (world_of S.NodeStore self.old) (world_of S.NodeStore self.new) }
+        ensures transition { IsUndoubted S.NodeStore self.new → Transition (settings_of self.old) (record { terminal = terminal; text = text.now })
+            (reply_of result) (world_of S.NodeStore self.old) (world_of S.NodeStore self.new) }
         ensures settings { settings_of self.new ≡ settings_of self.old }
         ensures doubt { DoubtsOver S.NodeStore self.old.store self.new.store (is_kept_by result.ending) }
         ensures steady { S.steady → IsTrue (S.has_room self.new.store) → result.ending ≢ Ended.Fault Zstore }

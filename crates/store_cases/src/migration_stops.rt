@@ -52,7 +52,7 @@ struct Stops {
 }
 
 /// Makes a database in two files in memory by the statements of the cases. Prints the version, the keys and the texts that it
-/// has once it was opened as a table. Then opens it anew for each file, which stops after a number of calls: from none on, until
+/// has once it was opened as a table. Then opens it again for each file, which stops after a number of calls: from none on, until
 /// the table is opened. Prints of the stores that were found then whether they held what was there at first, or what the table
 /// holds: once with all bytes lost that were not synced, and once with none lost.
 ///
@@ -159,7 +159,7 @@ fn connected<D: Disk + Drop>(
     }
 }
 
-// Few pages are kept, since each open takes memory for them anew.
+// Few pages are kept, since each open takes memory for them again.
 fn options(seed: u64) -> Options {
     let mut options = Options::new(seed);
     options.cache_pages = 16;

@@ -52,7 +52,7 @@ pub(crate) fn print_answer(out: &mut Vec<u8>, answer: &[u8]) -> anyhow::Result<(
     print_result(out, answer)
 }
 
-// What the calls give over a table, which is made anew from its connection before each.
+// What the calls give over a table, which is made again from its connection before each.
 fn over_table<S: Alter + Drop>(
     alloc: Global,
     mut table: Table<S>,

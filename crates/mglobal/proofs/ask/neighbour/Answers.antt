@@ -1,5 +1,6 @@
 -- SPDX-License-Identifier: Apache-2.0
-use Rattle.mglobal.proofs.GlobalWords.{◌≡◌, true, Option, Some, None, option_map, is_some, List, ℕ, IsSome, ap, sym, subst, ◌∙◌, Direction, Globals, Node, Text, AreHeld, front, last, order_at, IsKeyOf, child_under, way, BoundsOnward, nearest_key}
+use Rattle.mglobal.proofs.GlobalWords.{◌≡◌, true, Option, Some, None, option_map, is_some, List, ℕ, IsSome, ap, sym, subst, ◌∙◌, Direction, Globals, Node, Text}
+use Rattle.mglobal.proofs.GlobalWords.{AreHeld, front, last, order_at, IsKeyOf, child_under, way, BoundsOnward, nearest_key}
 use Rattle.mglobal.proofs.Orders.{none_next, one_next}
 use Rattle.mglobal.proofs.ask.neighbour.Goals as goal
 

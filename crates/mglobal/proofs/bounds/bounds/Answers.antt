@@ -1,5 +1,6 @@
 -- SPDX-License-Identifier: Apache-2.0
-use Rattle.mglobal.proofs.GlobalWords.{◌≡◌, ◌<◌, false, [], length, ap, sym, subst, ◌∙◌, arith, nat_tests, key_bytes, subtree_end, NoneEmpty, significant_digits, front, last, way, no_list, whole, BoundsOnward}
+use Rattle.mglobal.proofs.GlobalWords.{◌≡◌, ◌<◌, false, [], length, ap, sym, subst, ◌∙◌, arith, nat_tests, key_bytes, subtree_end, NoneEmpty}
+use Rattle.mglobal.proofs.GlobalWords.{significant_digits, front, last, way, no_list, whole, BoundsOnward}
 use Rattle.mglobal.proofs.Sides.{child_at, some_each, bounds_all, bounds_behind, bounds_before, whole_is}
 use Rattle.mglobal.proofs.bounds.bounds.Goals as goal
 use Rattle.mglobal.proofs.bounds.bounds.Goals.{After-is_empty, After-last, In_ok-present}

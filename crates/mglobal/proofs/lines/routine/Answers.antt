@@ -1,5 +1,6 @@
 -- SPDX-License-Identifier: Apache-2.0
-use Rattle.mglobal.proofs.GlobalWords.{◌≡◌, Doubts, Doubts-same, Doubts-then, undoubted, ◌<◌, ◌≤◌, ◌++◌, Option, Some, None, length, ap, sym, subst, ◌∙◌, refl, arith, append-nil, append_assoc, All-nil, order_at, IsAscii, Forward, AreHeld, line_at, line_in, lines_behind}
+use Rattle.mglobal.proofs.GlobalWords.{◌≡◌, Doubts, Doubts-same, Doubts-then, undoubted, ◌<◌, ◌≤◌, ◌++◌, Option, Some, None, length, ap, sym, subst, ◌∙◌, refl}
+use Rattle.mglobal.proofs.GlobalWords.{arith, append-nil, append_assoc, All-nil, order_at, IsAscii, Forward, AreHeld, line_at, line_in, lines_behind}
 use Rattle.mglobal.proofs.LineWalks.{all_lines, no_more, next_line}
 use Rattle.mglobal.proofs.PlacesLeft.{fewer_left}
 use Rattle.mglobal.proofs.lines.routine.Goals as goal

@@ -1,5 +1,6 @@
 -- SPDX-License-Identifier: Apache-2.0
-use Rattle.mgrant.proofs.GrantWords.{◌≡◌, ◌++◌, [], ◌∷◌, ◌<◌, false, Some, pos, get_or, set, take, length, sym, ap, subst, ◌∙◌, arith, rules, and_left, is_within, HasTerminals, IsNumberWithin, claims_at}
+use Rattle.mgrant.proofs.GrantWords.{◌≡◌, ◌++◌, [], ◌∷◌, ◌<◌, false, Some, pos, get_or, set, take, length, sym, ap, subst, ◌∙◌, arith, rules, and_left}
+use Rattle.mgrant.proofs.GrantWords.{is_within, HasTerminals, IsNumberWithin, claims_at}
 use Rattle.mgrant.proofs.Parts.{claim_more, claim_step, claim_fails, claimed_twice, free_there}
 use Rattle.mgrant.proofs.checks.claim.Goals as goal
 

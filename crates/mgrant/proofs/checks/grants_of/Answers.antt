@@ -1,5 +1,6 @@
 -- SPDX-License-Identifier: Apache-2.0
-use Rattle.mgrant.proofs.GrantWords.{◌≡◌, ◌+◌, ◌++◌, [], ◌∷◌, get_or, take, sym, ap, subst, ◌∙◌, arith, rules, common_steps, is_grant, mode_of, grants_seen, grant_view, AreGranted, IsPlacing, names_in}
+use Rattle.mgrant.proofs.GrantWords.{◌≡◌, ◌+◌, ◌++◌, [], ◌∷◌, get_or, take, sym, ap, subst, ◌∙◌, arith, rules, common_steps, is_grant, mode_of, grants_seen}
+use Rattle.mgrant.proofs.GrantWords.{grant_view, AreGranted, IsPlacing, names_in}
 use Rattle.mgrant.proofs.Parts.{all_more, grants_more}
 use Rattle.mgrant.proofs.checks.grants_of.Goals as goal
 

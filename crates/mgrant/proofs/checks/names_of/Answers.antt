@@ -1,5 +1,6 @@
 -- SPDX-License-Identifier: Apache-2.0
-use Rattle.mgrant.proofs.GrantWords.{◌≡◌, ◌++◌, [], ◌∷◌, ◌+◌, inr, true, false, Some, get_or, take, refl, sym, ap, subst, ◌∙◌, arith, rules, not, list_any, and_right, common_steps, text_eq, are_names, is_account_name, names_of, entries_seen, Bytes, IsIndex}
+use Rattle.mgrant.proofs.GrantWords.{◌≡◌, ◌++◌, [], ◌∷◌, ◌+◌, inr, true, false, Some, get_or, take, refl, sym, ap, subst, ◌∙◌, arith, rules, not, list_any}
+use Rattle.mgrant.proofs.GrantWords.{and_right, common_steps, text_eq, are_names, is_account_name, names_of, entries_seen, Bytes, IsIndex}
 use Rattle.std.specs.HashMap as hash
 use Rattle.mgrant.proofs.Places.{found_any, found_none, place_told, absence_told, index_more, same_bytes}
 use Rattle.mgrant.proofs.Parts.{names_more, names_good, names_fail, names_count}

@@ -1,5 +1,6 @@
 -- SPDX-License-Identifier: Apache-2.0
-use Rattle.mgrant.proofs.GrantWords.{◌≡◌, inr, false, take, refl, sym, ap, subst, ◌∙◌, arith, take_all, MatchBool-at_true, MatchBool-at_false, are_terminals, HasTerminals, claims, claims_at, entries_seen, numbers}
+use Rattle.mgrant.proofs.GrantWords.{◌≡◌, inr, false, take, refl, sym, ap, subst, ◌∙◌, arith, take_all, MatchBool-at_true, MatchBool-at_false, are_terminals}
+use Rattle.mgrant.proofs.GrantWords.{HasTerminals, claims, claims_at, entries_seen, numbers}
 use Rattle.mgrant.proofs.Parts.{claims_more, terminals_fail, terminals_all}
 use Rattle.mgrant.proofs.checks.terminals_of.Goals as goal
 

@@ -1,5 +1,6 @@
 -- SPDX-License-Identifier: Apache-2.0
-use Rattle.mgrant.proofs.GrantWords.{◌≡◌, ◌∷◌, ◌∙◌, true, false, String, Global, string_bytes, sym, ap, arith, ◌&&◌, list_any, and_left, common_steps, text_eq, keys_view}
+use Rattle.mgrant.proofs.GrantWords.{◌≡◌, ◌∷◌, ◌∙◌, true, false, String, Global, string_bytes, sym, ap, arith, ◌&&◌, list_any, and_left, common_steps, text_eq}
+use Rattle.mgrant.proofs.GrantWords.{keys_view}
 use Rattle.mgrant.proofs.Keys.{keys_only, has_only-keys, among_view}
 use Rattle.mgrant.proofs.document.has_only.Goals as goal
 

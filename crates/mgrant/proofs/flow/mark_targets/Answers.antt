@@ -1,5 +1,6 @@
 -- SPDX-License-Identifier: Apache-2.0
-use Rattle.mgrant.proofs.GrantWords.{◌≡◌, ◌<◌, ◌++◌, [], ◌∷◌, true, false, cond, All, length, get_or, take, set, sym, ap, subst, ◌∙◌, arith, vec_len, take_more, get_or-set_same, All-append, All-cons, All-nil, IsStage, IsMore, Edge, take_all}
+use Rattle.mgrant.proofs.GrantWords.{◌≡◌, ◌<◌, ◌++◌, [], ◌∷◌, true, false, cond, All, length, get_or, take, set, sym, ap, subst, ◌∙◌, arith, vec_len, take_more}
+use Rattle.mgrant.proofs.GrantWords.{get_or-set_same, All-append, All-cons, All-nil, IsStage, IsMore, Edge, take_all}
 use Rattle.mgrant.proofs.Marks.{stage_mark, more_mark, more_on}
 use Rattle.mgrant.proofs.flow.mark_targets.Goals as goal
 

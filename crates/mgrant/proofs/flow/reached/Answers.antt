@@ -1,5 +1,6 @@
 -- SPDX-License-Identifier: Apache-2.0
-use Rattle.mgrant.proofs.GrantWords.{◌≡◌, ◌<◌, ◌++◌, [], ◌∷◌, true, false, cond, All, get_or, set, sym, ap, subst, ◌∙◌, arith, rules, vec_len, replicate, IsNonDecreasingBy, IsNonDecreasingBy-from_sort_by_key, IsPermutation-sym, All-permutation, Leads, IsStage, Edge}
+use Rattle.mgrant.proofs.GrantWords.{◌≡◌, ◌<◌, ◌++◌, [], ◌∷◌, true, false, cond, All, get_or, set, sym, ap, subst, ◌∙◌, arith, rules, vec_len, replicate}
+use Rattle.mgrant.proofs.GrantWords.{IsNonDecreasingBy, IsNonDecreasingBy-from_sort_by_key, IsPermutation-sym, All-permutation, Leads, IsStage, Edge}
 use Rattle.mgrant.proofs.Marks.{stage_begun, leads_among}
 use Rattle.mgrant.proofs.flow.reached.Goals as goal
 

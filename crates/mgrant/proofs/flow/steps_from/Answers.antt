@@ -1,5 +1,7 @@
 -- SPDX-License-Identifier: Apache-2.0
-use Rattle.mgrant.proofs.GrantWords.{◌≡◌, ◌-◌, ◌≤◌, true, false, length, take, drop, sym, subst, arith, length-drop, rules, nat_lt, nat_le, take_all, IsPartitionPoint, IsPartitionPoint-from_clause, IsPartitionedBy-ltb, IsPartitionedBy-leb, IsNonDecreasingBy-take, IsNonDecreasingBy-drop, IsRun, Edge}
+use Rattle.mgrant.proofs.GrantWords.{◌≡◌, ◌-◌, ◌≤◌, true, false, length, take, drop, sym, subst, arith, length-drop, rules, nat_lt, nat_le, take_all}
+use Rattle.mgrant.proofs.GrantWords.{IsPartitionPoint, IsPartitionPoint-from_clause, IsPartitionedBy-ltb, IsPartitionedBy-leb, IsNonDecreasingBy-take}
+use Rattle.mgrant.proofs.GrantWords.{IsNonDecreasingBy-drop, IsRun, Edge}
 use Rattle.mgrant.proofs.Marks.{run_is}
 
 pub returns : Rattle.mgrant.proofs.flow.steps_from.Goals.returns

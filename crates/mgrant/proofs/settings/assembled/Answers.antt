@@ -1,5 +1,6 @@
 -- SPDX-License-Identifier: Apache-2.0
-use Rattle.mgrant.proofs.GrantWords.{◌≡◌, ◌<◌, true, false, Some, rules, All, length, map, sym, ap, subst, ◌∙◌, account_of, names_of, are_names, are_grants, names_in, entries_view, entries_seen, grants_seen, claims, HasTerminals, AreGranted, IsAmong, IsIndex, settings_view}
+use Rattle.mgrant.proofs.GrantWords.{◌≡◌, ◌<◌, true, false, Some, rules, All, length, map, sym, ap, subst, ◌∙◌, account_of, names_of, are_names, are_grants}
+use Rattle.mgrant.proofs.GrantWords.{names_in, entries_view, entries_seen, grants_seen, claims, HasTerminals, AreGranted, IsAmong, IsIndex, settings_view}
 use Rattle.mgrant.specs.Document.{fault_of}
 use Rattle.mgrant.specs.declared.fault.SettingsFault.TheVariants.{Grant}
 use Rattle.mgrant.proofs.Assembled.{assembled_is, grants_judged, names_are, placed_within}

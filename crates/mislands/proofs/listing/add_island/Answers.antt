@@ -1,5 +1,6 @@
 -- SPDX-License-Identifier: Apache-2.0
-use Rattle.mislands.proofs.IslandWords.{◌≡◌, ℕ, List, ◌++◌, [], ◌∷◌, false, refl, sym, ap, subst, ◌∙◌, map_push, IsIslandAt, named, is_among, AreIslands, adds, has, Island}
+use Rattle.mislands.proofs.IslandWords.{◌≡◌, ℕ, List, ◌++◌, [], ◌∷◌, false, refl, sym, ap, subst, ◌∙◌, map_push, IsIslandAt, named, is_among, AreIslands, adds}
+use Rattle.mislands.proofs.IslandWords.{has, Island}
 use Rattle.mislands.specs.Listing.{names_at}
 use Rattle.mislands.proofs.Lines.{name_is}
 use Rattle.mislands.proofs.listing.add_island.Goals as goal

@@ -1,5 +1,6 @@
 -- SPDX-License-Identifier: Apache-2.0
-use Rattle.mislands.proofs.IslandWords.{◌≡◌, Some, option_map, sym, ap, ◌∙◌, none-some, same_Some, Members, table_view, Text, Settings, written_names, texts_in, names_of}
+use Rattle.mislands.proofs.IslandWords.{◌≡◌, Some, option_map, sym, ap, ◌∙◌, none-some, same_Some, Members, table_view, Text, Settings, written_names, texts_in}
+use Rattle.mislands.proofs.IslandWords.{names_of}
 use Rattle.toml.specs.Parse.{parse_document}
 use Rattle.mgrant.specs.Reading.{IsRead}
 use Rattle.mislands.proofs.NamesRead.{names_written}

@@ -1,5 +1,6 @@
 -- SPDX-License-Identifier: Apache-2.0
-use Rattle.mkey.proofs.KeyWords.{◌≡◌, [], ◌∷◌, ◌++◌, ◌+◌, ◌≤◌, ◌∙◌, ap, append_assoc, arith, rules, length, vec_len, vec_capacity, to_z-of_z, raised, number_bytes, w128, SFits}
+use Rattle.mkey.proofs.KeyWords.{◌≡◌, [], ◌∷◌, ◌++◌, ◌+◌, ◌≤◌, ◌∙◌, ap, append_assoc, arith, rules, length, vec_len, vec_capacity, to_z-of_z, raised}
+use Rattle.mkey.proofs.KeyWords.{number_bytes, w128, SFits}
 use Rattle.mkey.proofs.NumberBytes.{bytes_of_number}
 use Rattle.mkey.proofs.Pushes.{put_where_room}
 use Rattle.mkey.proofs.encoding.push_number.Goals as goal

@@ -1,5 +1,6 @@
 -- SPDX-License-Identifier: Apache-2.0
-use Rattle.mkey.proofs.KeyWords.{◌≡◌, ◌∷◌, ◌++◌, ap, sym, ◌∙◌, rules, to_z-of_z, units, number_bytes, subscript_bytes, significant_digits, number_text, kind_text, w128, SFits, to_z, of_z}
+use Rattle.mkey.proofs.KeyWords.{◌≡◌, ◌∷◌, ◌++◌, ap, sym, ◌∙◌, rules, to_z-of_z, units, number_bytes, subscript_bytes, significant_digits, number_text}
+use Rattle.mkey.proofs.KeyWords.{kind_text, w128, SFits, to_z, of_z}
 use Rattle.mkey.proofs.NumericValues.{bytes_of_a_number}
 use Rattle.mkey.proofs.encoding.push_value.Goals as goal
 

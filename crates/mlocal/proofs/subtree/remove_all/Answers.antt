@@ -1,5 +1,6 @@
 -- SPDX-License-Identifier: Apache-2.0
-use Rattle.mlocal.proofs.LocalLaws.{cond, None, ◌||◌, All, take, ap, sym, subst, ◌∙◌, is_eq, keys_of, list_any_more, All-map-remove_entry, subscripts_cmp, significant_digits, AreSomeSubs, is_one_of, one_more}
+use Rattle.mlocal.proofs.LocalLaws.{cond, None, ◌||◌, All, take, ap, sym, subst, ◌∙◌, is_eq, keys_of, list_any_more, All-map-remove_entry, subscripts_cmp}
+use Rattle.mlocal.proofs.LocalLaws.{significant_digits, AreSomeSubs, is_one_of, one_more}
 use Rattle.std.specs.BTreeMap.{get}
 use Rattle.mlocal.proofs.subtree.remove_all.Goals as goal
 

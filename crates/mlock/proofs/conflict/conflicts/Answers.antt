@@ -1,5 +1,6 @@
 -- SPDX-License-Identifier: Apache-2.0
-use Rattle.mlock.proofs.LockWords.{◌≡◌, ◌<◌, ℕ, Bool, true, false, Result, Ok, Err, not, length, refl, sym, ap, ◌∙◌, IfOk, list_any, IndexMap, IsUnique, get, LockName, held, has_conflict, Holding, name_above, is_other, locks_of, name_eq, is_only}
+use Rattle.mlock.proofs.LockWords.{◌≡◌, ◌<◌, ℕ, Bool, true, false, Result, Ok, Err, not, length, refl, sym, ap, ◌∙◌, IfOk, list_any, IndexMap, IsUnique, get}
+use Rattle.mlock.proofs.LockWords.{LockName, held, has_conflict, Holding, name_above, is_other, locks_of, name_eq, is_only}
 use Rattle.mlock.proofs.Conflicts.{by_below, by_above, by_itself, by_none, by_no_name}
 use Rattle.mlock.proofs.Sums.{under_other, only_is}
 use Rattle.mlock.proofs.conflict.conflicts.Goals as goal

@@ -1,5 +1,6 @@
 -- SPDX-License-Identifier: Apache-2.0
-use Rattle.mlock.proofs.LockWords.{◌≡◌, ◌+◌, ◌<◌, ◌≤◌, ◌⊎◌, inl, inr, ℕ, false, length, ap, sym, ◌∙◌, subst, arith, get, cases_eq, name_eq, name_above, is_other}
+use Rattle.mlock.proofs.LockWords.{◌≡◌, ◌+◌, ◌<◌, ◌≤◌, ◌⊎◌, inl, inr, ℕ, false, length, ap, sym, ◌∙◌, subst, arith, get, cases_eq, name_eq, name_above}
+use Rattle.mlock.proofs.LockWords.{is_other}
 use Rattle.mlock.proofs.Above.{above_next}
 use Rattle.mlock.proofs.conflict.is_held_above.Goals as goal
 

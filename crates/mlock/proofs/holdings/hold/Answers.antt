@@ -1,5 +1,6 @@
 -- SPDX-License-Identifier: Apache-2.0
-use Rattle.mlock.proofs.LockWords.{◌<◌, ◌^◌, cond, ap, sym, subst, refl, ◌∙◌, arith, get, insert_entry-new, held, one_more, Holding, locks_of, name_eq, is_under, with_one, tally_at}
+use Rattle.mlock.proofs.LockWords.{◌<◌, ◌^◌, cond, ap, sym, subst, refl, ◌∙◌, arith, get, insert_entry-new, held, one_more, Holding, locks_of, name_eq}
+use Rattle.mlock.proofs.LockWords.{is_under, with_one, tally_at}
 use Rattle.mlock.proofs.Moves.{room_of, kept_held, held_locks}
 use Rattle.mlock.proofs.holdings.hold.Goals as goal
 

@@ -1,5 +1,6 @@
 -- SPDX-License-Identifier: Apache-2.0
-use Rattle.mlock.proofs.LockWords.{Entry, ◌≡◌, ◌<◌, ℕ, List, [], ◌∷◌, Option, Some, None, length, get_or, refl, sym, subst, ◌∙◌, arith, IfSome, slice_get, slice_get-get_or, IndexMap, IsUnique, with_value_at, LockName, Holding, name_eq, IsRecounted}
+use Rattle.mlock.proofs.LockWords.{Entry, ◌≡◌, ◌<◌, ℕ, List, [], ◌∷◌, Option, Some, None, length, get_or, refl, sym, subst, ◌∙◌, arith, IfSome, slice_get}
+use Rattle.mlock.proofs.LockWords.{slice_get-get_or, IndexMap, IsUnique, with_value_at, LockName, Holding, name_eq, IsRecounted}
 use Rattle.mlock.proofs.Moves.{recounted, recounted_locks}
 use Rattle.mlock.proofs.holdings.set_count.Goals as goal
 

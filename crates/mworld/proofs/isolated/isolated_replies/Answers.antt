@@ -1,5 +1,6 @@
 -- SPDX-License-Identifier: Apache-2.0
-use Rattle.mworld.proofs.WorldWords.{Doubts-on, undoubted, ◌≡◌, sym, ap, ◌∙◌, subst, map, take, drop, ◌+◌, take_all, name_at, settings_of, world_of, doubt_of, event_of}
+use Rattle.mworld.proofs.WorldWords.{Doubts-on, undoubted, ◌≡◌, sym, ap, ◌∙◌, subst, map, take, drop, ◌+◌, take_all, name_at, settings_of, world_of, doubt_of}
+use Rattle.mworld.proofs.WorldWords.{event_of}
 use Rattle.mworld.proofs.Tellings.{take_on, ran_first, whichever}
 use Rattle.mworld.proofs.Shuts.{told_between, told_alone, shut_on, shut_early, split_at}
 use Rattle.mworld.proofs.isolated.isolated_replies.Goals as goal

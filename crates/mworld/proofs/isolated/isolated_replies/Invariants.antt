@@ -1,5 +1,6 @@
 -- SPDX-License-Identifier: Apache-2.0
-use Rattle.mworld.proofs.WorldWords.{DoubtsOver, doubt_of, false, ◌≡◌, map, take, name_at, Tells, settings_of, world_of, event_of, replies_of, IsToldEach, IsToldUntilShut}
+use Rattle.mworld.proofs.WorldWords.{DoubtsOver, doubt_of, false, ◌≡◌, map, take, name_at, Tells, settings_of, world_of, event_of, replies_of, IsToldEach}
+use Rattle.mworld.proofs.WorldWords.{IsToldUntilShut}
 use Rattle.std.specs.Prelude.{IsTrue}
 use Rattle.mworld.specs.Sufficed.{StoreSufficedForTold}
 use Rattle.mworld.proofs.isolated.isolated_replies.Given as goal

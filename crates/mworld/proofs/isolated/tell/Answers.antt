@@ -1,5 +1,6 @@
 -- SPDX-License-Identifier: Apache-2.0
-use Rattle.mworld.proofs.WorldWords.{◌≡◌, ℕ, List, ◌++◌, ◌∷◌, [], refl, sym, ap, ◌∙◌, subst, map, map-append, name_at, Event, Transition, Tells, settings_of, world_of, reply_of, event_of, told_of}
+use Rattle.mworld.proofs.WorldWords.{◌≡◌, ℕ, List, ◌++◌, ◌∷◌, [], refl, sym, ap, ◌∙◌, subst, map, map-append, name_at, Event, Transition, Tells, settings_of}
+use Rattle.mworld.proofs.WorldWords.{world_of, reply_of, event_of, told_of}
 use Rattle.mworld.proofs.Tellings.{nobody_told, other_told, own_told, tells_more, each_more, no_ok}
 use Rattle.mworld.proofs.Shuts.{shut_by}
 use Rattle.mworld.proofs.StoreFaults.{store_sufficed, told_more}

@@ -1,5 +1,6 @@
 -- SPDX-License-Identifier: Apache-2.0
-use Rattle.mgrant.proofs.GrantWords.{◌≡◌, ◌<◌, ◌++◌, [], ◌∷◌, length, All, map, refl, ap, sym, subst, ◌∙◌, rules, ◌||◌, IsAllowance, IsInterned, placed, mode_of, same_permit, allows_so, Permit}
+use Rattle.mgrant.proofs.GrantWords.{◌≡◌, ◌<◌, ◌++◌, [], ◌∷◌, length, All, map, refl, ap, sym, subst, ◌∙◌, rules, ◌||◌, IsAllowance, IsInterned, placed}
+use Rattle.mgrant.proofs.GrantWords.{mode_of, same_permit, allows_so, Permit}
 use Rattle.std.specs.HashMap as hash
 use Rattle.mspec.specs.Access as access
 use Rattle.mgrant.proofs.Allowances.{allowance_more, within_more, placed_more}

@@ -1,5 +1,6 @@
 -- SPDX-License-Identifier: Apache-2.0
-use Rattle.mgrant.proofs.GrantWords.{◌≡◌, ◌↔◌, ◌<◌, false, true, All, length, get_or, sym, ap, subst, ◌∙◌, ◌≤◌, arith, filter, range_with_len, Leads, IsIslandAt, settings_view, names_in}
+use Rattle.mgrant.proofs.GrantWords.{◌≡◌, ◌↔◌, ◌<◌, false, true, All, length, get_or, sym, ap, subst, ◌∙◌, ◌≤◌, arith, filter, range_with_len, Leads}
+use Rattle.mgrant.proofs.GrantWords.{IsIslandAt, settings_view, names_in}
 use Rattle.mspec.specs.Access as access
 use Rattle.mgrant.proofs.IslandsFound.{ties_within, found_at, none_at}
 use Rattle.mgrant.proofs.Seen.{length_seen, among_seen}

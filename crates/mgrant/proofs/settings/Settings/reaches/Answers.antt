@@ -1,5 +1,6 @@
 -- SPDX-License-Identifier: Apache-2.0
-use Rattle.mgrant.proofs.GrantWords.{◌≡◌, ◌⊎◌, inl, inr, ℕ, ◌<◌, ◌≤◌, [], All, length, refl, sym, ap, subst, ◌∙◌, arith, unwrap_or, bytes_decides, false≢true, slice_get_past, Reaches, itself, Leads, settings_view, names_in, text_in}
+use Rattle.mgrant.proofs.GrantWords.{◌≡◌, ◌⊎◌, inl, inr, ℕ, ◌<◌, ◌≤◌, [], All, length, refl, sym, ap, subst, ◌∙◌, arith, unwrap_or, bytes_decides, false≢true}
+use Rattle.mgrant.proofs.GrantWords.{slice_get_past, Reaches, itself, Leads, settings_view, names_in, text_in}
 use Rattle.mgrant.proofs.Chains.{edges_within, reached_by, led_by, empty_side, chain_at, chain_of}
 use Rattle.mgrant.proofs.Seen.{length_seen, among_seen}
 use Rattle.mgrant.proofs.settings.Settings.reaches.Goals as goal

@@ -1,5 +1,6 @@
 -- SPDX-License-Identifier: Apache-2.0
-use Rattle.mgrant.proofs.GrantWords.{◌≡◌, ◌++◌, [], ◌∷◌, Some, ap, sym, subst, ◌∙◌, length, false, rules, arith, vec_len, list_any, map-append, length-map, text_eq, IsIndex, Bytes, texts_of}
+use Rattle.mgrant.proofs.GrantWords.{◌≡◌, ◌++◌, [], ◌∷◌, Some, ap, sym, subst, ◌∙◌, length, false, rules, arith, vec_len, list_any, map-append, length-map}
+use Rattle.mgrant.proofs.GrantWords.{text_eq, IsIndex, Bytes, texts_of}
 use Rattle.std.specs.HashMap as hash
 use Rattle.mgrant.proofs.Places.{index_more, same_bytes}
 

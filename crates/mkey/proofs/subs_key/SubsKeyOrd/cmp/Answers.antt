@@ -1,5 +1,6 @@
 -- SPDX-License-Identifier: Apache-2.0
-use Rattle.mkey.proofs.KeyWords.{rules, ◌≡◌, ℕ, Fits, w8, get_or, ◌∙◌, ap, ap₂, sym, slice_cmp, nat_cmp, subscripts_bytes, significant_digits, subscripts_order, head_number}
+use Rattle.mkey.proofs.KeyWords.{rules, ◌≡◌, ℕ, Fits, w8, get_or, ◌∙◌, ap, ap₂, sym, slice_cmp, nat_cmp, subscripts_bytes, significant_digits, subscripts_order}
+use Rattle.mkey.proofs.KeyWords.{head_number}
 use Rattle.mkey.proofs.Heads.{fitting_bytes}
 use Rattle.mkey.proofs.SubsKeys.{head_seen, keys_by_head}
 use Rattle.mkey.proofs.subs_key.SubsKeyOrd.cmp.Goals as goal

@@ -1,5 +1,6 @@
 -- SPDX-License-Identifier: Apache-2.0
-use Rattle.mlocal.proofs.LocalLaws.{[], ◌∷◌, ap, ◌∙◌, At, Below, Text, Scope, insert, set_in, with_tree, tree_in, assigned, OnOk-map, home-at, home-bottom, unlinked-found}
+use Rattle.mlocal.proofs.LocalLaws.{[], ◌∷◌, ap, ◌∙◌, At, Below, Text, Scope, insert, set_in, with_tree, tree_in, assigned, OnOk-map, home-at, home-bottom}
+use Rattle.mlocal.proofs.LocalLaws.{unlinked-found}
 use Rattle.mlocal.proofs.scopes.Locals.set.Goals as goal
 
 pub returns-in-Below-clause-ok : goal.returns-in-Below-clause-ok

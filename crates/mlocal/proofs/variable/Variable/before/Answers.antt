@@ -1,5 +1,7 @@
 -- SPDX-License-Identifier: Apache-2.0
-use Rattle.mlocal.proofs.LocalLaws.{◌≡◌, ◌<◌, ◌||◌, [], length, ap, sym, subst, ◌∙◌, arith, option_map, nat_tests, subscripts_cmp, significant_digits, front, last, is_before, is_empty, behind_below, beyond, is_between, has_child, below_all, below_before, more_behind, last_walk, not_child, split_last, whole, no_list, not_empty}
+use Rattle.mlocal.proofs.LocalLaws.{◌≡◌, ◌<◌, ◌||◌, [], length, ap, sym, subst, ◌∙◌, arith, option_map, nat_tests, subscripts_cmp, significant_digits, front}
+use Rattle.mlocal.proofs.LocalLaws.{last, is_before, is_empty, behind_below, beyond, is_between, has_child, below_all, below_before, more_behind, last_walk}
+use Rattle.mlocal.proofs.LocalLaws.{not_child, split_last, whole, no_list, not_empty}
 use Rattle.mlocal.proofs.variable.Variable.before.Goals as goal
 
 pub last_between-requires-clause-forward : goal.last_between-requires-clause-forward

@@ -1,5 +1,6 @@
 -- SPDX-License-Identifier: Apache-2.0
-use Rattle.mlocal.proofs.LocalLaws.{◌≡◌, ◌<◌, ◌++◌, ◌∷◌, [], List, length, ap, sym, subst, ◌∙◌, arith, option_map, nat_tests, Text, front, last, is_before, behind_below, is_between, below_all, below_behind, empty_first, onward_walk, split_last, whole, no_list}
+use Rattle.mlocal.proofs.LocalLaws.{◌≡◌, ◌<◌, ◌++◌, ◌∷◌, [], List, length, ap, sym, subst, ◌∙◌, arith, option_map, nat_tests, Text, front, last, is_before}
+use Rattle.mlocal.proofs.LocalLaws.{behind_below, is_between, below_all, below_behind, empty_first, onward_walk, split_last, whole, no_list}
 use Rattle.mlocal.proofs.variable.Variable.behind.Goals as goal
 
 pub returns-then-is_empty-clause-next : goal.returns-then-is_empty-clause-next

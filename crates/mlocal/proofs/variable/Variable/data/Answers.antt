@@ -1,5 +1,6 @@
 -- SPDX-License-Identifier: Apache-2.0
-use Rattle.mlocal.proofs.LocalLaws.{true, refl, [], ap, sym, ◌∙◌, is_some, subscripts_cmp, significant_digits, is_below, has_value, beyond, is_between, below_all, more_behind, any_walk, not_child, some_map, below_is}
+use Rattle.mlocal.proofs.LocalLaws.{true, refl, [], ap, sym, ◌∙◌, is_some, subscripts_cmp, significant_digits, is_below, has_value, beyond, is_between}
+use Rattle.mlocal.proofs.LocalLaws.{below_all, more_behind, any_walk, not_child, some_map, below_is}
 use Rattle.mlocal.proofs.variable.Variable.data.Goals as goal
 
 pub last_between-requires-clause-forward : goal.last_between-requires-clause-forward

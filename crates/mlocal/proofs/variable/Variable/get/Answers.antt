@@ -1,5 +1,6 @@
 -- SPDX-License-Identifier: Apache-2.0
-use Rattle.mlocal.proofs.LocalLaws.{◌≡◌, ◌<◌, [], length, ap, sym, ◌∙◌, arith, nat_tests, map_of, significant_digits, found_is_had, subscripts_cmp_total, others_there, shown, no_list}
+use Rattle.mlocal.proofs.LocalLaws.{◌≡◌, ◌<◌, [], length, ap, sym, ◌∙◌, arith, nat_tests, map_of, significant_digits, found_is_had, subscripts_cmp_total}
+use Rattle.mlocal.proofs.LocalLaws.{others_there, shown, no_list}
 use Rattle.std.specs.FinMap.{get}
 use Rattle.mlocal.proofs.variable.Variable.get.Goals as goal
 

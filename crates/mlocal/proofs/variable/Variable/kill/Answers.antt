@@ -1,5 +1,6 @@
 -- SPDX-License-Identifier: Apache-2.0
-use Rattle.mlocal.proofs.LocalLaws.{◌≡◌, ◌<◌, [], length, map, ap, sym, ◌∙◌, arith, from_entries, nat_tests, map_of, subscripts_cmp, significant_digits, without, beyond, with_own, more_behind, own_killed, other_killed, without_taken, no_list}
+use Rattle.mlocal.proofs.LocalLaws.{◌≡◌, ◌<◌, [], length, map, ap, sym, ◌∙◌, arith, from_entries, nat_tests, map_of, subscripts_cmp, significant_digits}
+use Rattle.mlocal.proofs.LocalLaws.{without, beyond, with_own, more_behind, own_killed, other_killed, without_taken, no_list}
 use Rattle.mlocal.proofs.variable.Variable.kill.Goals as goal
 
 pub keys_from-requires : goal.keys_from-requires

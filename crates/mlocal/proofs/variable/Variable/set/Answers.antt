@@ -1,5 +1,7 @@
 -- SPDX-License-Identifier: Apache-2.0
-use Rattle.mlocal.proofs.LocalLaws.{◌≡◌, ◌<◌, [], length, ap, sym, subst, ◌∙◌, arith, All, insert, keys_of, nat_tests, All-keys-insert_entry, map_of, subscripts_cmp, significant_digits, insert-map_of, subscripts_cmp_total, subscripts_cmp_exact, with_own, AreSomeSubs, other_set, no_list}
+use Rattle.mlocal.proofs.LocalLaws.{◌≡◌, ◌<◌, [], length, ap, sym, subst, ◌∙◌, arith, All, insert, keys_of, nat_tests, All-keys-insert_entry, map_of}
+use Rattle.mlocal.proofs.LocalLaws.{subscripts_cmp, significant_digits, insert-map_of, subscripts_cmp_total, subscripts_cmp_exact, with_own, AreSomeSubs}
+use Rattle.mlocal.proofs.LocalLaws.{other_set, no_list}
 use Rattle.mlocal.proofs.variable.Variable.set.Goals as goal
 
 pub returns-then-is_empty-clause-ok : goal.returns-then-is_empty-clause-ok

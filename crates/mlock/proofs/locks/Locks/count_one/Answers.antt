@@ -1,5 +1,7 @@
 -- SPDX-License-Identifier: Apache-2.0
-use Rattle.mlock.proofs.LockWords.{◌≡◌, ◌+◌, ◌<◌, ◌≤◌, ℕ, true, false, Some, None, ap, sym, ◌∙◌, subst, arith, IfSome, nat_lt, slice_get, insert, nat_tests, slice_get_within, IndexMap, IsUnique, LockName, Locks, held, count, one_more, max_count, Holding, locks_of, AreCounts, IsFree, name_eq}
+use Rattle.mlock.proofs.LockWords.{◌≡◌, ◌+◌, ◌<◌, ◌≤◌, ℕ, true, false, Some, None, ap, sym, ◌∙◌, subst, arith, IfSome, nat_lt, slice_get, insert, nat_tests}
+use Rattle.mlock.proofs.LockWords.{slice_get_within, IndexMap, IsUnique, LockName, Locks, held, count, one_more, max_count, Holding, locks_of, AreCounts}
+use Rattle.mlock.proofs.LockWords.{IsFree, name_eq}
 use Rattle.indexmap.specs.IndexMap as index
 use Rattle.mlock.proofs.Moves.{there, kept_recounted}
 use Rattle.mlock.proofs.Steps.{own_of_free, count_own, count_none, counts_one_more}

@@ -1,5 +1,6 @@
 -- SPDX-License-Identifier: Apache-2.0
-use Rattle.mlock.proofs.LockWords.{◌≡◌, ◌-◌, ◌<◌, ◌≤◌, ℕ, Some, ap, sym, ◌∙◌, subst, slice_get, insert, remove, slice_get_within, IndexMap, IsUnique, LockName, held, given_back, Holding, locks_of, AreCounts, name_eq}
+use Rattle.mlock.proofs.LockWords.{◌≡◌, ◌-◌, ◌<◌, ◌≤◌, ℕ, Some, ap, sym, ◌∙◌, subst, slice_get, insert, remove, slice_get_within, IndexMap, IsUnique, LockName}
+use Rattle.mlock.proofs.LockWords.{held, given_back, Holding, locks_of, AreCounts, name_eq}
 use Rattle.mlock.proofs.Moves.{there, kept_recounted}
 use Rattle.mlock.proofs.Steps.{get_other, get_none, give_none, less_own, last_own, counts_given_back}
 use Rattle.mlock.proofs.locks.Locks.give_back.Goals as goal

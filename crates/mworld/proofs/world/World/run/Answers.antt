@@ -1,5 +1,6 @@
 -- SPDX-License-Identifier: Apache-2.0
-use Rattle.mworld.proofs.WorldWords.{undoubted, ◌≡◌, false, refl, sym, ap, subst, ◌∙◌, IsSome, get, insert, Memory, Faulted, lost, is_failure, session_or_new, fault_of, ending_of, world_of, sessions_of, shared, AreFit, cursor_of}
+use Rattle.mworld.proofs.WorldWords.{undoubted, ◌≡◌, false, refl, sym, ap, subst, ◌∙◌, IsSome, get, insert, Memory, Faulted, lost, is_failure, session_or_new}
+use Rattle.mworld.proofs.WorldWords.{fault_of, ending_of, world_of, sessions_of, shared, AreFit, cursor_of}
 use Rattle.std.specs.Option.{option_copied_mut}
 use Rattle.misolation.proofs.FittingLocks.{released_fits}
 use Rattle.mworld.proofs.Runs.{ran_transition, lost_transition, unrun_transition, ran_fits, is_loss, not_lost, settles, halts}

@@ -3,7 +3,8 @@ REGD	; dates: 20261129 is the 29th of November
 	;
 LEAP(Y)	Q Y#4=0&(Y#100)!(Y#400=0)
 LENGTH(Y,M)	; the days of a month
-	Q $S(M=2:28+$$LEAP(Y),1:30+$E("101010110101",M))
+	I M=2 Q 28+$$LEAP(Y)
+	Q 30+$E("101010110101",M)
 	;
 SPLIT(DATE,Y,M,D)	; a date's parts
 	S Y=$E(DATE,1,4),M=+$E(DATE,5,6),D=+$E(DATE,7,8)

@@ -34,10 +34,10 @@ NEXT()	; a new id: the next number, with a check digit after it
 	Q N_$$DIGIT^REGU(N)
 	;
 INDEX(ID,ON)	; puts a patient into the cross index, or takes it out
-	N LAST,FIRST,KEY
-	S LAST=$$LAST(ID),FIRST=$$FIRST(ID),KEY=$$SOUND^REGU(LAST)
-	I ON S ^REG("B",LAST,FIRST,ID)="",^REG("S",KEY,ID)="",^REG("T",$$TOWN(ID),ID)="" Q
-	K ^REG("B",LAST,FIRST,ID),^REG("S",KEY,ID),^REG("T",$$TOWN(ID),ID)
+	N LAST,FIRST,KEY,TOWN
+	S LAST=$$LAST(ID),FIRST=$$FIRST(ID),KEY=$$SOUND^REGU(LAST),TOWN=$$TOWN(ID)
+	I ON S ^REG("B",LAST,FIRST,ID)="",^REG("S",KEY,ID)="",^REG("T",TOWN,ID)="" Q
+	K ^REG("B",LAST,FIRST,ID),^REG("S",KEY,ID),^REG("T",TOWN,ID)
 	Q
 	;
 MARRY(ID,LAST)	; gives a patient another last name

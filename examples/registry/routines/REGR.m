@@ -5,19 +5,19 @@ LIST(HIT,ON,TITLE)	; the patients of HIT, by name, with their ages and what was 
 	N SORT,ID,L,F,V,N
 	D SORT(.HIT,.SORT)
 	W TITLE,!,$$RULE^REGU(65),!
-	W $$LEFT^REGU("Id",6),$$LEFT^REGU("Name",26),$$LEFT^REGU("Born",14),"Age   kg   BMI   mm",!
+	W "Id",?6,"Name",?32,"Born",?46,"Age   kg   BMI   mm",!
 	S N=0,L="" F  S L=$O(SORT(L)) Q:L=""  S ID="" F  S ID=$O(SORT(L,ID)) Q:ID=""  D LINE(ID,ON) S N=N+1
 	W $$RULE^REGU(65),!,$S(N=0:"nobody",N=1:"one patient",1:N_" patients"),!
 	Q
 SORT(HIT,SORT)	; SORT(name,id) of HIT(id)
-	N ID
+	N ID,NAME
 	K SORT
-	S ID="" F  S ID=$O(HIT(ID)) Q:ID=""  S SORT($$FULL^REGP(ID),ID)=""
+	S ID="" F  S ID=$O(HIT(ID)) Q:ID=""  S NAME=$$FULL^REGP(ID),SORT(NAME,ID)=""
 	Q
 LINE(ID,ON)	; a line of the list
 	N V
 	D LATEST^REGP(ID,.V)
-	W $$LEFT^REGU(ID,6),$$LEFT^REGU($$FULL^REGP(ID),26),$$LEFT^REGU($$SHOWN^REGD($$BORN^REGP(ID)),14)
+	W ID,?6,$E($$FULL^REGP(ID),1,25),?32,$$SHOWN^REGD($$BORN^REGP(ID)),?46
 	W $J($$AGE^REGD($$BORN^REGP(ID),ON),3)
 	I '$D(V) W $J("-",5),$J("-",6),$J("-",5),! Q
 	W $J(V("WEIGHT"),5,0),$$BMI(.V),$J($S(V("SYS")="":"-",1:V("SYS")),5),!
@@ -31,7 +31,7 @@ TOWNS(ON)	; each town with its patients, their mean age, and the oldest
 	S T="" F  S T=$O(^REG("T",T)) Q:T=""  D
 	. S (N,SUM)=0,OLD="",ID=""
 	. F  S ID=$O(^REG("T",T,ID)) Q:ID=""  S AGE=$$AGE^REGD($$BORN^REGP(ID),ON),N=N+1,SUM=SUM+AGE D OLDER(ID,AGE,.OLD)
-	. W $$LEFT^REGU(T,14),$J(N,3),$J(SUM/N,7,1),"  ",$$FULL^REGP(+OLD)," (",$P(OLD,"^",2),")",!
+	. W T,?14,$J(N,3),$J(SUM/N,7,1),"  ",$$FULL^REGP(+OLD)," (",$P(OLD,"^",2),")",!
 	. Q
 	Q
 OLDER(ID,AGE,OLD)	; OLD: the id and the age of the older one

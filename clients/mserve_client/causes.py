@@ -108,8 +108,7 @@ _ARGUMENTS = [
     Cause("an account that is no string between two |", 'Before a routine stands ^|"LIB"|; if a variable has the name: S E="A^|"""_X_"""|R" D @E.',
           "D A^|X|R", "name", r'\|(?!"\.*"\|)|"', r"\^", _ENTRY),
     _later(1, Cause("a routine of another account", "load it into this account: D A^R is one's own.", 'D ^|"B"|R', "name", r"\|", "", _ENTRY)),
-    Cause("no label or routine", "DO and GOTO want a label, a label with its routine, or a routine: D ADD, D ADD^R, D ^R.", "D (A)", "entry", r"[^$]", "",
-          _ENTRY),
+    Cause("no label or routine", "DO, GOTO and $$ want a label, a label with its routine, or a routine: D ADD, D ADD^R, D ^R.", "D (A)", "entry"),
     Cause("NEW of a special variable", "Leave it out: there are no $ETRAP, $ESTACK and the like; a line ends at its first code.", "N $ETRAP", "name", r"\$", "",
           _NEW),
     Cause("NEW of a node or a global", "NEW hides local variables by their names: N A,B.", "N A(1)", "", r"[(^]", "", _NEW),
@@ -132,11 +131,15 @@ _ARGUMENTS = [
           r"(?:K|KILL|N|NEW)(?::\S+)? (?:\S*,)?\("),
 ]
 _VALUES = [
-    Cause("an extrinsic function", "DO the label, which leaves its result in a variable: S A=1 D ADD^R W SUM.", "S X=$$ADD^R(1)", "", r"\$\$"),
+    Cause("a call of a function where none is carried out", "At language 1 it stands beside operators, in brackets, in functions of values and in actuals: "
+          "set a variable first: S B=$$ADD^R(1) W A(B).", "W A($$ADD^R(1))", "no call", r"\$\$"),
+    _later(1, Cause("an extrinsic function", "DO the label, which leaves its result in a variable: S A=1 D ADD^R W SUM.", "S X=$$ADD^R(1)", "operand",
+                    r"\$\$")),
     Cause("a structured system variable", "There is none: mglobal knows what a store file has.", 'W $D(^$GLOBAL("X"))', "", r"\$", r"\^"),
     _dollar(r"(?:H|HOROLOG)(?![A-Z(])", "$HOROLOG", 'The server has no clock: the client sends the time: S NOW="67530,43200".', "S X=$H"),
     _dollar(r"(?:T|TEXT)\(", "$TEXT", 'A routine\'s lines are a global: ^ROUTINE("R",1).', "W $T(A+1)"),
-    _dollar(r"(?:Q|QUERY|QL|QLENGTH|QS|QSUBSCRIPT|NA|NAME)\(", "$QUERY and the like",
+    _later(1, _dollar(r"(?:QL|QLENGTH|QS|QSUBSCRIPT)\(", "$QLENGTH or $QSUBSCRIPT", "keep subscripts in locals of their own.", "W $QL(X)")),
+    _dollar(r"(?:Q|QUERY|NA|NAME)\(", "$QUERY and the like",
             "Walk level by level by $ORDER; build names by `_` and use them by @.", "S X=$Q(^A)"),
     _dollar(r"(?:N|NEXT)\(", "$NEXT", 'Use $ORDER, which begins and ends with "".', "S X=$N(^A(-1))"),
     _later(1, _dollar(r"(?:FN|FNUMBER)\(", "$FNUMBER", "put the text together by $PIECE, $EXTRACT and $JUSTIFY.", 'W $FN(X,",")')),

@@ -188,7 +188,7 @@ def _locks(line: SourceLine, number: int) -> Iterator[Finding]:
 
 
 def entries(lines: list[SourceLine], number: int) -> Iterator[Entry]:
-    """What the DOs and GOTOs of a routine name. What is in strings, or after an @, is not looked at."""
+    """What the DOs, the GOTOs and the calls of functions of a routine name. What is in strings, or after an @, is not looked at."""
     for place, line in enumerate(lines, 1):
         for name, start, end in language.reader(number).read(line.rest).marks if _may_call(line) else ():
             if name == "entry":
@@ -197,8 +197,8 @@ def entries(lines: list[SourceLine], number: int) -> Iterator[Entry]:
 
 
 def _may_call(line: SourceLine) -> bool:
-    """Whether a line may have a DO or a GOTO."""
-    return line.rest.isascii() and re.search(r"(?:^|[ ])(?:D|DO|G|GOTO)[ :]", line.rest, re.IGNORECASE) is not None
+    """Whether a line may have a DO, a GOTO or a call of a function."""
+    return line.rest.isascii() and re.search(r"(?:^|[ ])(?:D|DO|G|GOTO)[ :]|\$\$", line.rest, re.IGNORECASE) is not None
 
 
 class Labels:
@@ -216,7 +216,7 @@ class Labels:
         return self._known[routine]
 
     def missing(self, source: Source, number: int) -> Iterator[Finding]:
-        """The labels and routines that a routine's DOs and GOTOs name and that are not there. Those of an account that is named are not looked for."""
+        """The labels and routines that a routine names and that are not there. Those of an account that is named are not looked for."""
         for entry in entries(source.lines, number):
             if entry.routine.startswith("|"):
                 continue

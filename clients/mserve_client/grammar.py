@@ -12,6 +12,9 @@ the same few kinds of steps:
     ["inner", NAME]            the same, one bracket deeper
     ["mark", NAME, STEP]       the step, with its place kept under a name
 
+The rules of values are there twice: as they are, and with `whole` before their names for what is evaluated as a whole, as subscripts and the
+parameters of FOR. From language 1 on the former have calls of functions, and the latter have none.
+
 A text is in the grammar if the rule `line` reaches its end. The place that was reached at most is that of the fault: what comes before
 it begins some line of the grammar, and what follows does not go on with it."""
 from __future__ import annotations
@@ -29,14 +32,17 @@ NAME = "[A-Za-z%][A-Za-z0-9]{0,30}(?![A-Za-z0-9])"
 OF_VALUES = {"A ASCII": (1, 2), "C CHAR": (1, 255), "E EXTRACT": (1, 3), "F FIND": (2, 3), "J JUSTIFY": (2, 2), "L LENGTH": (1, 2), "P PIECE": (2, 4),
              "TR TRANSLATE": (2, 3)}
 # Those that a later language has, or has with other counts.
-OF_VALUES_SINCE = {1: {"FN FNUMBER": (2, 3), "J JUSTIFY": (2, 3), "RE REVERSE": (1, 1)}}
+OF_VALUES_SINCE = {1: {"FN FNUMBER": (2, 3), "J JUSTIFY": (2, 3), "QL QLENGTH": (1, 1), "QS QSUBSCRIPT": (2, 2), "RE REVERSE": (1, 1)}}
 # The special variables, and those that a later language has.
 SPECIALS, SPECIALS_SINCE = ["T TEST"], {1: ["I IO", "J JOB", "P PRINCIPAL", "Q QUIT", "S STORAGE", "X", "Y"]}
-# The language that has HANG, whose letter is that of HALT too; the one that has formal lists, actuals of DO, and values of QUIT; and the one that
-# has routines of other accounts.
+# The language that has HANG, whose letter is that of HALT too; the one that has formal lists, actuals of DO, and values of QUIT; the one that has
+# routines of other accounts; and the one that has functions of one's own.
 HANG_SINCE = 1
 PARAMETERS_SINCE = 1
 LIBRARIES_SINCE = 1
+FUNCTIONS_SINCE = 1
+# What stands before the name of a rule of values that are evaluated as a whole.
+WHOLE = "whole "
 # The functions that SET may assign to: how many values at least and at most after the variable.
 TARGETS = {"P PIECE": (1, 2)}
 TARGETS_SINCE = {1: {"P PIECE": (1, 3), "E EXTRACT": (0, 2)}}
@@ -117,14 +123,15 @@ def function(words: str, *inside: Step) -> Step:
     return all_of(text(rf"\${either(words)}\(", "operand"), *inside, text(r"\)", f"close ${whole}"))
 
 
-def values(least: int, most: int) -> list[Step]:
-    """This many expressions."""
-    needed = [inner("expression"), *[all_of(text(",", "comma"), inner("expression"))] * (least - 1)]
+def values(least: int, most: int, kind: str) -> list[Step]:
+    """This many expressions of a kind."""
+    value = inner(f"{kind}expression")
+    needed = [value, *[all_of(text(",", "comma"), value)] * (least - 1)]
     further: Step | None = None
     if most > 10:
-        return [*needed, ["many", all_of(text(",", "more"), inner("expression"))]]
+        return [*needed, ["many", all_of(text(",", "more"), value)]]
     for _ in range(most - least):
-        further = perhaps(all_of(text(",", "more"), inner("expression"), *([further] if further else [])))
+        further = perhaps(all_of(text(",", "more"), value, *([further] if further else [])))
     return [*needed, *([further] if further else [])]
 
 
@@ -134,7 +141,7 @@ def bracketed(step: Step) -> Step:
 
 
 CONDITION = all_of(text(":"), rule("expression"))
-OPERAND = all_of(text("@"), inner("primary"))
+OPERAND = all_of(text("@"), inner(f"{WHOLE}primary"))
 OPERATOR = r"[+\-*/\\#_=<>&!\[]|\]\]?|'(?:[=<>&!\[]|\]\]?)"
 COUNT = r"(?:[0-9]{1,4}(?![0-9.])|[0-9]{0,4}\.[0-9]{0,4}(?![0-9]))"
 # What comes before the name of another account's routine.
@@ -148,10 +155,10 @@ def entry(language: int) -> Step:
     return mark("entry", any_of(all_of(text(r"\^"), routine), all_of(text(NAME, "entry"), perhaps(all_of(text(r"\^", "more"), routine)))))
 
 
-def expression(operator: str) -> Step:
-    """Operands, and operators that this pattern finds, or patterns, after them."""
-    return all_of(rule("operand"), ["many", any_of(all_of(text(operator, "operator"), rule("operand")),
-                                                   all_of(text(r"'?\?"), rule("pattern")))])
+def expression(operator: str, kind: str) -> Step:
+    """Operands of a kind, and operators that this pattern finds, or patterns, after them."""
+    operand = rule(f"{kind}operand")
+    return all_of(operand, ["many", any_of(all_of(text(operator, "operator"), operand), all_of(text(r"'?\?"), rule("pattern")))])
 
 
 def of_values(language: int) -> dict[str, tuple[int, int]]:
@@ -178,7 +185,7 @@ def halts(language: int) -> list[Step]:
 def entering(language: int) -> list[Step]:
     """DO, whose entry may have actuals from language 1 on, GOTO, and QUIT, which then may have a value."""
     has_parameters = language >= PARAMETERS_SINCE
-    handed = [perhaps(bracketed(inner("actual")))] if has_parameters else []
+    handed = [HANDED] if has_parameters else []
     return [command("D DO", listed(any_of(all_of(entry(language), *handed, rule("condition")), OPERAND)), True),
             command("G GOTO", listed(any_of(all_of(entry(language), rule("condition")), OPERAND)), False),
             command("Q QUIT", rule("expression") if has_parameters else None, True)]
@@ -186,7 +193,7 @@ def entering(language: int) -> list[Step]:
 
 def actual() -> dict[str, Step]:
     """What is handed over: the name of a local variable, or an operand whose value is one; a value; nothing."""
-    name = any_of(text(NAME, "name"), OPERAND)
+    name = any_of(text(NAME, "name"), all_of(text("@"), inner("primary")))
     return {"actual": any_of(all_of(text(r"\.(?![0-9])"), name), rule("expression"), text("(?=[,)])"))}
 
 
@@ -194,8 +201,8 @@ def target(words: str, least: int, most: int) -> Step:
     """A function of a variable that SET assigns to, with this many values after the variable."""
     further: list[Step] = []
     for _ in range(most - least):
-        further = [perhaps(all_of(text(","), inner("expression"), *further))]
-    return all_of(text(rf"\${either(words)}\(", "target"), inner("variable"), *[text(",", "comma"), inner("expression")] * least, *further,
+        further = [perhaps(all_of(text(","), inner(f"{WHOLE}expression"), *further))]
+    return all_of(text(rf"\${either(words)}\(", "target"), inner("variable"), *[text(",", "comma"), inner(f"{WHOLE}expression")] * least, *further,
                   text(r"\)", f"close ${words.split()[-1]} of SET"))
 
 
@@ -213,23 +220,44 @@ def atom(language: int) -> Step:
     return all_of(text(COUNT, "pattern"), any_of(plain, bracketed(inner("atoms"))) if language >= 1 else plain)
 
 
+def called(language: int, kind: str) -> list[Step]:
+    """A call of a function, or a fault that has a name of its own where none is carried out."""
+    if kind == WHOLE:
+        return [all_of(text(r"(?=\$\$)"), text("(?!)", "no call"))]
+    return [all_of(text(r"\$\$", "operand"), entry(language), HANDED)] if language >= FUNCTIONS_SINCE else []
+
+
+def of_kind(language: int, kind: str) -> dict[str, Step]:
+    """The rules of values of a kind."""
+    whole = inner(f"{WHOLE}expression")
+    return {f"{kind}expression": expression(OPERATOR if language < 1 else rf"\*\*|{OPERATOR}", kind),
+            f"{kind}operand": all_of(text(r"[+\-']*"), rule(f"{kind}primary")),
+            f"{kind}primary": any_of(
+                text(r"(?:[0-9]+(?:\.[0-9]+)?|\.[0-9]+)(?:E[+-]?[0-9]+)?", "operand"),
+                text('"(?:[^"]|"")*"(?!")', "operand"),
+                rule("variable"),
+                all_of(text(r"\("), inner(f"{kind}expression"), text(r"\)", "close")),
+                all_of(text(r"(?=\$)"), rule(f"{kind}dollar"))),
+            f"{kind}dollar": any_of(
+                *[text(rf"\${either(words)}(?![A-Za-z(])", "operand") for words in specials(language)],
+                *[function(words, *values(*counts, kind)) for words, counts in of_values(language).items()],
+                *[function(words, inner("variable"), *([perhaps(all_of(text(",", "more"), whole))] if most else []))
+                  for words, most in OF_VARIABLE.items()],
+                function("S SELECT", listed(all_of(whole, text(":", "colon"), whole))), *called(language, kind))}
+
+
 def rules(language: int) -> dict[str, Step]:
     """The rules of a language."""
     column = all_of(text(r"\?"), rule("expression"))
     formats = [all_of(text("[!#]+"), perhaps(column)), column, all_of(text(r"\*"), rule("expression"))] if language >= 1 else [text("!+")]
     return {**SHARED, **(actual() if language >= PARAMETERS_SINCE else {}),
-            "command": any_of(*COMMANDS, *entering(language), *halts(language)),
-            "expression": expression(OPERATOR if language < 1 else rf"\*\*|{OPERATOR}"), "target": targets(language),
+            "command": any_of(*COMMANDS, *entering(language), *halts(language)), "target": targets(language),
             "written": any_of(*formats, rule("expression")), "atom": atom(language),
-            "pattern": any_of(OPERAND, rule("atoms")) if language else rule("atoms"),
-            "dollar": any_of(
-                *[text(rf"\${either(words)}(?![A-Za-z(])", "operand") for words in specials(language)],
-                *[function(words, *values(*counts)) for words, counts in of_values(language).items()],
-                *[function(words, inner("variable"), *([perhaps(all_of(text(",", "more"), inner("expression")))] if most else []))
-                  for words, most in OF_VARIABLE.items()],
-                function("S SELECT", listed(all_of(inner("expression"), text(":", "colon"), inner("expression")))))}
+            "pattern": any_of(OPERAND, rule("atoms")) if language else rule("atoms"), **of_kind(language, ""), **of_kind(language, WHOLE)}
 
 
+# Actuals, or no list of them.
+HANDED = perhaps(bracketed(inner("actual")))
 # The commands that all languages have alike.
 COMMANDS = [
     command("S SET", listed(rule("assignment")), False),
@@ -248,25 +276,19 @@ SHARED: dict[str, Step] = {
     "assignment": any_of(all_of(any_of(all_of(text(r"\("), listed(inner("target")), text(r"\)", "close")), rule("target")), text("=", "equals"),
                                 rule("expression")),
                          all_of(OPERAND, text(f"(?=[ ,;]|{END})"))),
-    "parameter": all_of(rule("expression"), perhaps(all_of(text(":", "more"), rule("expression"), perhaps(all_of(text(":", "more"), rule("expression")))))),
-    "locked": all_of(text("[+-]?"), any_of(all_of(text(r"\("), listed(inner("lockable")), text(r"\)", "close")), rule("lockable")), rule("condition")),
+    "parameter": all_of(rule(f"{WHOLE}expression"), perhaps(all_of(
+        text(":", "more"), rule(f"{WHOLE}expression"), perhaps(all_of(text(":", "more"), rule(f"{WHOLE}expression")))))),
+    "locked": all_of(text("[+-]?"), any_of(all_of(text(r"\("), listed(inner("lockable")), text(r"\)", "close")), rule("lockable")),
+                     perhaps(all_of(text(":"), rule(f"{WHOLE}expression")))),
     "lockable": all_of(text(r"(?!\^\()", "lockable"), rule("variable")),
-    "expression": expression(OPERATOR),
-    "operand": all_of(text(r"[+\-']*"), rule("primary")),
-    "atom": atom(0),
     "atoms": all_of(rule("atom"), ["many", rule("atom")]),
-    "primary": any_of(
-        text(r"(?:[0-9]+(?:\.[0-9]+)?|\.[0-9]+)(?:E[+-]?[0-9]+)?", "operand"),
-        text('"(?:[^"]|"")*"(?!")', "operand"),
-        rule("variable"),
-        all_of(text(r"\("), inner("expression"), text(r"\)", "close")),
-        all_of(text(r"(?=\$)"), rule("dollar"))),
     "variable": any_of(
         all_of(text(NAME, "variable"), rule("subscripts")),
-        all_of(text(r"\^(?!\()", "variable"), perhaps(all_of(text(r"\|"), inner("expression"), text(r"\|", "bar"))), text(NAME, "name"), rule("subscripts")),
+        all_of(text(r"\^(?!\()", "variable"), perhaps(all_of(text(r"\|"), inner(f"{WHOLE}expression"), text(r"\|", "bar"))), text(NAME, "name"),
+               rule("subscripts")),
         all_of(text(r"\^(?=\()"), rule("subscripts")),
         all_of(OPERAND, perhaps(all_of(text(r"@(?=\()"), rule("subscripts"))))),
-    "subscripts": perhaps(all_of(text(r"\("), listed(inner("expression")), text(r"\)", "close"))),
+    "subscripts": perhaps(all_of(text(r"\("), listed(inner(f"{WHOLE}expression")), text(r"\)", "close"))),
 }
 # The tables of all languages that an account can have.
 LANGUAGES: dict[int, dict[str, Step]] = {language: rules(language) for language in (0, *OF_VALUES_SINCE)}

@@ -19,8 +19,8 @@ from mserve_client.grammar import LANGUAGES, NEW_LINES
 from mserve_client.routine_files import Source, source_line
 
 GTM = sorted(glob.glob("/usr/lib/*/fis-gtm/V*"))
-# The lines of the examples, and of the clinic's routines. Those of the registry have functions, which are coming.
-OWN = [path.read_text() for path in sorted((CLIENTS.parent / "examples").rglob("*")) if path.suffix in (".m", ".txt") and "registry" not in path.parts]
+# The lines of the examples, and of the clinic's routines.
+OWN = [path.read_text() for path in sorted((CLIENTS.parent / "examples").rglob("*")) if path.suffix in (".m", ".txt")]
 # This many characters of a text fit into a line of the wire with what is put before it.
 ROOM = 255 - len(GUARD)
 # This many lines go to one run of the program.
@@ -30,6 +30,7 @@ TERMINALS = {0: ALICE, 1: CAROL}
 FORMALS = "brackets after a label that are no formal list"
 NEEDS = ", which needs language 1 of the account's settings"
 NO_ACCOUNT = "an account that is no string between two |"
+NO_CALL = "a call of a function where none is carried out"
 each_language = pytest.mark.parametrize("number", LANGUAGES)
 
 
@@ -111,7 +112,9 @@ def test_new_line_of_a_language(number: int) -> None:
 
 @pytest.mark.parametrize(("line", "marked", "name"), [
     ("W 1 2", "W 1^ 2", "two expressions need a comma, or two commands one space"), ("D F(1)", "D F^(1)", f"parameters{NEEDS}"),
-    ("W $$F(1)", "W ^$$F(1)", "an extrinsic function"), ('write "hello', 'write ^"hello', "a string without its closing quote"),
+    ("W $$F(1)", "W ^$$F(1)", f"an extrinsic function{NEEDS}"), ("S A=B($$F)", "S A=B(^$$F)", NO_CALL), ("W 1_$S($$F:1)", "W 1_$S(^$$F:1)", NO_CALL),
+    ("F I=$$F:1:2 W I", "F I=^$$F:1:2 W I", NO_CALL), ("K $$F", "K ^$$F", "a variable is wanted"), ("D $$F", "D ^$$F", "no label or routine"),
+    ('write "hello', 'write ^"hello', "a string without its closing quote"),
     ("foo", "^foo", "no command has this name"), ("W $HOROLOG", "W ^$HOROLOG", "$HOROLOG"), ("MERGE A=B", "^MERGE A=B", "MERGE"),
     ("ZWRITE", "^ZWRITE", "a Z command"), ("S X=1 R X", "S X=1 ^R X", "READ"), ("D LAB^", "D LAB^^", "a name is missing"),
     ("K ^A(1", "K ^A(1^", "a ) is missing"), ('Q:X="" W X', 'Q:X=""^ W X', "two spaces follow a command without arguments"),
@@ -120,7 +123,7 @@ def test_new_line_of_a_language(number: int) -> None:
     ('set x=$translate($zconvert(x,"U"),"L")', 'set x=$translate(^$zconvert(x,"U"),"L")', "a $Z function or variable"),
     ("S A=$H,$X=0", "S A=^$H,$X=0", "$HOROLOG"), ("S A=1,$X=0", "S A=1,^$X=0", "SET of a special variable"),
     ("I A(1, 2)=3", "I A(1,^ 2)=3", "a space within an argument"), ("W 1 W", "W 1 W^", "an argument is missing"),
-    ('W "a b $$" W $$X', 'W "a b $$" W ^$$X', "an extrinsic function"), ("S X=1\tW X", "S X=1^\tW X", "a tab"),
+    ('W "a b $$" W $$X', 'W "a b $$" W ^$$X', f"an extrinsic function{NEEDS}"), ("S X=1\tW X", "S X=1^\tW X", "a tab"),
     ("W Müller", "W M^üller", "a character over 127"), ("B=2", "^B=2", "a SET without its word"), ("W 1  Q 5", "W 1  Q ^5", f"QUIT with a value{NEEDS}"),
     ("F I=1:1 Q:I>3  H 5", "F I=1:1 Q:I>3  H ^5", f"HANG{NEEDS}"), ("G F(1)", "G F^(1)", "parameters of GOTO"),
     ("Q A,B", "Q ^A,B", "several values of QUIT"), ("W $Q", "W ^$Q", f"$QUIT{NEEDS}"),
@@ -169,8 +172,10 @@ def test_language_of_an_account(server: Server) -> None:
     ("D F(.X(1))", [f"parameters{NEEDS}", "a bracket where none is taken"]), ("D F(1", [f"parameters{NEEDS}", "a ) is missing"]),
     ("G F(1)", ["parameters of GOTO", "parameters of GOTO"]), ("Q X+1", [f"QUIT with a value{NEEDS}", None]),
     ("Q A,B", ["several values of QUIT", "several values of QUIT"]), ("Q $QUIT", [f"QUIT with a value{NEEDS}", None]),
-    ("W $Q", [f"$QUIT{NEEDS}", None]), ("W $$F(.X)", ["an extrinsic function", "an extrinsic function"]),
-    ("D F($$G(1))", [f"parameters{NEEDS}", "an extrinsic function"]), ("Q W 1", ["two spaces follow a command without arguments"] * 2),
+    ("W $Q", [f"$QUIT{NEEDS}", None]), ("W $$F(.X)", [f"an extrinsic function{NEEDS}", None]),
+    ("D F($$G(1))", [f"parameters{NEEDS}", None]), ("W A($$F)", [NO_CALL, NO_CALL]), ("S A=$$F(A($$G))", [f"an extrinsic function{NEEDS}", NO_CALL]),
+    ("Q:$G(A,$$F)", [NO_CALL, NO_CALL]), ("W $$", [f"an extrinsic function{NEEDS}", "no label or routine"]),
+    ("W $$F(1", [f"an extrinsic function{NEEDS}", "a ) is missing"]), ("Q W 1", ["two spaces follow a command without arguments"] * 2),
     ("R X", ["READ", "READ"]), ("W $re(", [f"$REVERSE{NEEDS}", "an operand is missing"]),
     ('D A^|"LIB"|R(1,.X):C', [f"a routine of another account{NEEDS}", None]), ('G:X ^|"A""B"|R:X,A', [f"a routine of another account{NEEDS}", None]),
     ("D ^|A|R", [NO_ACCOUNT, NO_ACCOUNT]), ('D A^|"LIB"R', [NO_ACCOUNT, NO_ACCOUNT]),
@@ -178,7 +183,7 @@ def test_language_of_an_account(server: Server) -> None:
     ('D A^|"LIB"|@R', [f"a routine of another account{NEEDS}", "indirection of a label or a routine alone"]),
     ('G A^|"LIB"|R(1)', [f"a routine of another account{NEEDS}", "parameters of GOTO"]),
     ('D A^|"LIB"|R+1', [f"a routine of another account{NEEDS}", "an offset from a label"]),
-    ('W $$A^|"LIB"|R(1)', ["an extrinsic function", "an extrinsic function"]),
+    ('W $$A^|"LIB"|R(1)', [f"an extrinsic function{NEEDS}", None]),
 ])
 def test_cause_by_the_language_of_the_account(server: Server, line: str, names: list[str | None]) -> None:
     """What is said of a line that the server has refused, and of a routine's line."""
@@ -206,7 +211,8 @@ def test_language_of_a_check(server: Server, command: Command, tmp_path: Path) -
     ("A(B,C) S X=B Q", None, None), ("A()", None, None), ("A(B);x", None, None), ("A(%)\t. Q", None, None), ("A(B,B) Q", 2, FORMALS), ("A(B,) Q", 2, FORMALS),
     ("A(1) Q", 2, FORMALS), ("A(" + "B" * 32 + ") Q", 2, FORMALS), ("A(B", 2, FORMALS), ("A(.B) Q", 2, FORMALS),
     ("A(B)Q", 5, "what begins the line is no label"),
-    ("A(B) W $$A(1)", 8, "an extrinsic function"), ("A (B) Q", 3, "a value without a command"), ("(B) Q", 1, "what begins the line is no label"),
+    ("A(B) W $$A(1)", None, None), ("A(B) K A($$A)", 10, NO_CALL),
+    ("A (B) Q", 3, "a value without a command"), ("(B) Q", 1, "what begins the line is no label"),
 ])
 def test_formal_lists(server: Server, line: str, column: int | None, cause: str | None) -> None:
     """At language 1 those that are none are found, with their place. At language 0 all are, but what has no label before it."""

@@ -208,7 +208,7 @@ def test_check_of_files(server: Server, command: Command, tmp_path: Path) -> Non
     ran = command("mroutine", server.port, 1, "check", "BAD.m", "GOOD.m")
     assert ran.output.splitlines() == [
         "BAD.m:1:4: the label BAD has parameters, which need language 1 of the account's settings", f"    {language.LABEL_PARAMETERS}",
-        "BAD.m:2:10: not in the language: S X=$$ADD^R(A): an extrinsic function", f"    {advice('an extrinsic function')}",
+        f"BAD.m:2:10: not in the language: S X=$$ADD^R(A): {FUNCTION}", f"    {advice(FUNCTION)}",
         f"BAD.m:3:6: not in the language: Q X+1: {VALUE}", f"    {advice(VALUE)}",
         "BAD.m:5:1: the line begins with '1 Q'", f"    {language.NO_LABEL}",
         "BAD.m:6:16: not in the language: R X: READ", f"    {advice('READ')}",
@@ -221,6 +221,7 @@ def test_check_of_files(server: Server, command: Command, tmp_path: Path) -> Non
 
 
 VALUE = "QUIT with a value, which needs language 1 of the account's settings"
+FUNCTION = "an extrinsic function, which needs language 1 of the account's settings"
 
 
 def advice(name: str) -> str:

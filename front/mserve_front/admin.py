@@ -14,8 +14,10 @@ from typing import Any
 
 from aiohttp import web
 
+from .certificates import FIGURE as CERTIFICATE
 from .control import bound
 from .http_head import names_loopback
+from .libraries import FIGURE as LIBRARIES
 from .metrics import Metrics
 from .server import Server
 from .sessions import Sessions
@@ -52,6 +54,9 @@ ALARMS = (
     Alarm("mfront_audit_waiting", True, 0, "The audit log cannot be written: nobody signs on, and no line runs.", "Free the disk of the audit log."),
     Alarm("mfront_journal_up", False, 1, "The journal cannot be written: no line runs.", "Free the disk, or bring the database back."),
     Alarm("mfront_journal_room_bytes", False, 1e9, "Less than 1 GB is left for the journal.", "Run mbackup verify and mjournal expire."),
+    Alarm("mfront_store_room_bytes", False, 1e9, "Less than 1 GB is left for the store.", "Give its disk more room: lines are answered ZSTORE "
+          "once it is full."),
+    Alarm("mfront_audit_room_bytes", False, 1e9, "Less than 1 GB is left for the audit log.", "Move old ones away, or give its disk more room."),
     Alarm("mfront_journal_open_lines", True, 64, "Lines stay without a reply.", "The server does not answer: look at its process."),
     Alarm("mfront_standby_fault", True, 0, "The standby cannot go on.", "mfront status says why, and docs/OPERATING.md what to do then."),
     Alarm("mfront_standby_behind_lines", True, 1000, "The standby is behind.", "Its disk or processor is slower: users would wait at a promotion."),
@@ -60,6 +65,10 @@ ALARMS = (
     Alarm("mfront_standbys_silent_seconds", True, 60, "A standby has said nothing for a minute.", "See whether it runs, and reaches the journal. If it is gone "
           "for good, docs/OPERATING.md says how its alarm ends."),
     Alarm("backup_verified_age_seconds", True, 172_800, "No snapshot was verified for two days.", "Run mbackup verify, and read what it says."),
+    Alarm("certificate_seconds_left", False, 1_209_600, "A certificate expires in less than 14 days.", "Put a new one in its place, and have it read: "
+          "systemctl reload."),
+    Alarm(LIBRARIES, True, 0, "Libraries were updated, and those of before still run.", "Start it again when that suits: a standby first, and then its "
+          "leader."),
 )
 
 
@@ -74,11 +83,13 @@ def alarms_of(figures: Mapping[str, float]) -> list[Told]:
 
 
 def figures_of(text: str) -> dict[str, float]:
-    """The figures without labels of a text for Prometheus, and how old the last verified backup is."""
+    """The figures without labels of a text for Prometheus, how old the last verified backup is, and for how long the certificate is good."""
     found = dict(line.split(" ", 1) for line in text.splitlines() if line[0] != "#" and "{" not in line)
     figures = {name: float(value) for name, value in found.items()}
     if (verified := figures.get("mfront_backup_verified_timestamp_seconds")) is not None:
         figures["backup_verified_age_seconds"] = round(time.time() - verified)
+    if (end := figures.get(CERTIFICATE)) is not None:
+        figures["certificate_seconds_left"] = round(end - time.time())
     return figures
 
 

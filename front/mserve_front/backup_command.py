@@ -3,6 +3,7 @@
 from __future__ import annotations
 
 import argparse
+import contextlib
 import hashlib
 import json
 import shutil
@@ -18,7 +19,7 @@ from .ending import DEFAULT, FAILED, FOUND, USAGE
 from .figures import VERIFIED
 from .folders import sync_folder, write_whole
 from .settings import BadSettings, Table, journal_settings, read_toml
-from .snapshots import BadSnapshot, Manifest, accounts_of, check, differ, finish, put_back, read_manifest, snapshots_of
+from .snapshots import SCRATCH, BadSnapshot, Manifest, accounts_of, check, differ, finish, put_back, read_manifest, snapshots_of, tidied
 
 NAME = "mbackup"
 STATUSES = "Status: 0 all went well; 1 a snapshot or a store is not what it is to be; 2 the words or the settings are wrong; 3 it cannot be done; " \
@@ -69,6 +70,7 @@ def take(options: argparse.Namespace) -> int:
     control = journal_settings(Table(options.config, "journal", tables.get("journal", {})), users.parent).control
     if options.all and not options.end_sessions:
         raise BadSettings("--all is for a snapshot at which all sessions end: add --end-sessions")
+    tidies(options.folder)
     request = {"ask": "snapshot", "folder": str(options.folder.absolute()), "anew": options.end_sessions, "all": options.all}
     found = asked(control, request, None)
     part = Path(str(found["part"]))
@@ -83,6 +85,13 @@ def take(options: argparse.Namespace) -> int:
     print(target)
     say(f"{told(made)}; no line was sent for {found['seconds']} s")
     return 0
+
+
+def tidies(folder: Path) -> None:
+    """Removes copies that were never finished, and says so."""
+    with contextlib.suppress(OSError):
+        for path in tidied(folder):
+            say(f"{path}: a copy that a killed command left was removed")
 
 
 def _replaced(part: Path, target: Path) -> None:
@@ -111,6 +120,7 @@ def checked(options: argparse.Namespace) -> int:
 
 def verified(options: argparse.Namespace) -> int:
     """Verifies the latest snapshot by a replay."""
+    tidies(options.scratch or options.folder)
     found = snapshots_of(options.folder)
     if not found:
         raise BadSnapshot(f"{options.folder}: there is no snapshot")
@@ -124,7 +134,7 @@ def verified(options: argparse.Namespace) -> int:
         print(f"{latest}: good: nobody has worked since it was verified, and it holds the same: {told(manifest)}")
         return 0
     began = time.monotonic()
-    with tempfile.TemporaryDirectory(prefix=".verify-", dir=options.scratch or options.folder) as scratch:
+    with tempfile.TemporaryDirectory(prefix=SCRATCH, dir=options.scratch or options.folder) as scratch:
         store = Path(scratch) / "store"
         words = ["--config", str(options.config), "replay", "--store", str(store), "--to", str(latest.absolute())]
         status = journal_command.does([*words, *(["--from", str(before)] if before else [])])

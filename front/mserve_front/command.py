@@ -8,7 +8,7 @@ import getpass
 import os
 import sys
 import time
-from collections.abc import Callable
+from collections.abc import Callable, Mapping
 from pathlib import Path
 from typing import TypeAlias
 
@@ -36,7 +36,8 @@ STATUSES = "Status: 0 all went well; 2 the words, the settings or the users' fil
 def words() -> argparse.ArgumentParser:
     """The reader of the command's words."""
     shared = argparse.ArgumentParser(add_help=False)
-    shared.add_argument("--config", type=Path, default=argparse.SUPPRESS, metavar="FILE", help=f"the settings of the front (default {DEFAULT})")
+    shared.add_argument("--config", type=Path, default=argparse.SUPPRESS, metavar="FILE", help=f"the settings of the front (default {DEFAULT}); of users and "
+                        "tokens, or those of a machine with islands")
     parser = argparse.ArgumentParser(prog="mfront", epilog=STATUSES, parents=[shared],
                                      description="Signs people on, and carries their lines to mserve. Without a command it serves.")
     parser.add_argument("--volatile", action="store_true", help="the store is meant to be in memory, and every user is told")
@@ -114,17 +115,29 @@ def _journal_words(commands: Commands, shared: argparse.ArgumentParser) -> None:
     one.set_defaults(act=promote)
 
 
-def users_file(options: argparse.Namespace) -> tuple[Path, Path]:
-    """The users' file and the server's settings, by the settings of the front."""
+def users_file(options: argparse.Namespace) -> Path:
+    """The users' file that is to be changed, by the settings of a front, or of a machine with islands: a gate makes those of its islands of its machine's."""
     tables = read_toml(options.config)
-    found = []
-    for table, key in (("users", "file"), ("server", "settings")):
-        keys = tables.get(table)
-        text = keys.get(key) if isinstance(keys, dict) else None
-        if not isinstance(text, str) or not text:
-            raise BadSettings(f"{options.config}: {table}.{key}: is missing: the path of a file")
-        found.append(options.config.parent.resolve() / text)
-    return found[0], found[1]
+    if "machine" in tables:
+        return named(options.config, "machine", "users")
+    if "machine" in _table(tables, "users"):
+        return named(options.config, "users", "machine")
+    if "gate" in _table(tables, "listen"):
+        raise BadSettings(f"{options.config}: users.file: a gate makes it of its machine's: give --config the settings of the machine")
+    return named(options.config, "users", "file")
+
+
+def named(config: Path, table: str, key: str) -> Path:
+    """A file that settings name. Raises `BadSettings`."""
+    text = _table(read_toml(config), table).get(key)
+    if not isinstance(text, str) or not text:
+        raise BadSettings(f"{config}: {table}.{key}: is missing: the path of a file")
+    return config.parent.resolve() / text
+
+
+def _table(tables: Mapping[str, object], name: str) -> dict[str, object]:
+    found = tables.get(name)
+    return found if isinstance(found, dict) else {}
 
 
 def settings_of(options: argparse.Namespace) -> Settings:
@@ -194,9 +207,8 @@ def _promoted(control: Path, force: bool, until: float) -> Answered:
 
 def control_of(options: argparse.Namespace) -> Path:
     """The socket of the front that the settings are of."""
-    path, _ = users_file(options)
     table = Table(options.config, "journal", read_toml(options.config).get("journal", {}))
-    return journal_settings(table, path.parent).control
+    return journal_settings(table, named(options.config, "users", "file").parent).control
 
 
 def checked(options: argparse.Namespace) -> None:
@@ -227,11 +239,10 @@ def read_password() -> str:
 
 def add_user(options: argparse.Namespace) -> None:
     """Adds a user."""
-    path, settings = users_file(options)
+    path = users_file(options)
     if not NAME.fullmatch(options.name):
         raise BadUsers(f"{options.name!r} is no name: 1 to 64 letters, digits and . _ @ -, the first a letter or a digit")
-    if not read_terminals(settings).get(options.account):
-        raise BadUsers(f"{options.account} is no account with terminals in {settings}")
+    refuse_account(options.config, options.account)
     hashed = password_hash(read_password(), options.name)
     with changed(path) as users:
         if options.name in users:
@@ -239,9 +250,22 @@ def add_user(options: argparse.Namespace) -> None:
         users[options.name] = User(options.name, options.account, hashed)
 
 
+def refuse_account(config: Path, account: str) -> None:
+    """Raises `BadUsers` if an account has no terminals, so that nobody could sign on to it: by the settings of a front, or by the islands of a machine."""
+    if "machine" in read_toml(config):
+        # Not above: it takes long to load, and a front does without.
+        from .gate_command import accounts_placed
+        if account not in accounts_placed(config):
+            raise BadUsers(f"{account} is no account with terminals of any island (mgate list)")
+        return
+    settings = named(config, "server", "settings")
+    if not read_terminals(settings).get(account):
+        raise BadUsers(f"{account} is no account with terminals in {settings}")
+
+
 def change_password(options: argparse.Namespace) -> None:
     """Gives a user another password. Who knew the old one may have made tokens by it, so these are removed."""
-    path, _ = users_file(options)
+    path = users_file(options)
     known(load(path), path, options.name)
     hashed = password_hash(read_password(), options.name)
     with changed(path) as users:
@@ -250,21 +274,21 @@ def change_password(options: argparse.Namespace) -> None:
 
 def remove_user(options: argparse.Namespace) -> None:
     """Removes a user."""
-    path, _ = users_file(options)
+    path = users_file(options)
     with changed(path) as users:
         del users[known(users, path, options.name).name]
 
 
 def list_users(options: argparse.Namespace) -> None:
     """Lists users."""
-    path, _ = users_file(options)
+    path = users_file(options)
     for user in sorted(load(path).values(), key=lambda user: user.name):
         print(user.name, user.account, len(user.tokens))
 
 
 def add_token(options: argparse.Namespace) -> None:
     """Prints a new token."""
-    path, _ = users_file(options)
+    path = users_file(options)
     if not options.note.isprintable():
         raise BadUsers("a note is one line of text")
     with changed(path) as users:
@@ -274,7 +298,7 @@ def add_token(options: argparse.Namespace) -> None:
 
 def remove_token(options: argparse.Namespace) -> None:
     """Removes a token."""
-    path, _ = users_file(options)
+    path = users_file(options)
     with changed(path) as users:
         holder = next((user for user in users.values() if options.label in user.tokens), None)
         if holder is None:
@@ -284,7 +308,7 @@ def remove_token(options: argparse.Namespace) -> None:
 
 def list_tokens(options: argparse.Namespace) -> None:
     """Lists tokens."""
-    path, _ = users_file(options)
+    path = users_file(options)
     users = load(path)
     chosen = [known(users, path, options.name)] if options.name else sorted(users.values(), key=lambda user: user.name)
     for user in chosen:

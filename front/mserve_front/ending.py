@@ -22,9 +22,21 @@ def say(command: str, text: str) -> None:
 
 
 def hear(number: signal.Signals, act: Callable[..., object], *given: object) -> None:
-    """Has the running loop do an act each time a signal comes, until `run` ends."""
-    loop = asyncio.get_running_loop()
-    signal.signal(number, lambda *_: loop.call_soon_threadsafe(act, *given))
+    """Has the running loop do an act when a signal comes, until `run` ends. Signals that come before it is done are answered by that one time: many of them
+    do not hold the loop up."""
+    loop, due = asyncio.get_running_loop(), False
+
+    def acts() -> None:
+        nonlocal due
+        due = False
+        act(*given)
+
+    def heard(*_: object) -> None:
+        nonlocal due
+        if not due:
+            due = True
+            loop.call_soon_threadsafe(acts)
+    signal.signal(number, heard)
 
 
 def run(work: Coroutine[object, object, Result]) -> Result:

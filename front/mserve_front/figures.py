@@ -1,8 +1,9 @@
 # SPDX-License-Identifier: Apache-2.0
-"""Figures of the journal and its part of the service, in the text format of Prometheus: by account, of the disk, of the last backup that was verified,
+"""Figures of the journal and its part of the service, in the text format of Prometheus: by account, of disks, of the last backup that was verified,
 and of a standby."""
 from __future__ import annotations
 
+import contextlib
 import json
 import os
 import time
@@ -10,6 +11,7 @@ from collections import Counter, defaultdict
 from collections.abc import Mapping, Sequence
 from pathlib import Path
 
+from .libraries import REPLACED, of_libraries
 from .metrics import SPAN, family
 
 # The note that `mbackup verify` leaves beside the snapshots.
@@ -64,9 +66,26 @@ def of_journal(open_lines: int, waiting: int, faulty: float, folder: Path | None
     lines += family("mfront_journal_waiting", "gauge", "Lines and replies that wait for the journal.", {"": waiting})
     lines += family("mfront_journal_fault_seconds", "gauge", "For how long the journal cannot be written; 0 if it can.", {"": faulty})
     if folder is not None:
-        room = os.statvfs(folder)
-        lines += family("mfront_journal_room_bytes", "gauge", "Bytes that are free on the journal's disk.", {"": room.f_bavail * room.f_frsize})
+        lines += family("mfront_journal_room_bytes", "gauge", "Bytes that are free on the journal's disk.", _room(folder))
     return lines
+
+
+def of_disks(store: Path | None, audit: Path | None) -> list[str]:
+    """Figures of the disks that the store and the audit log are on: lines fail once the first is full, and nobody signs on once the second is."""
+    lines: list[str] = []
+    if store is not None:
+        lines += family("mfront_store_room_bytes", "gauge", "Bytes that are free on the store's disk.", _room(store.parent))
+    if audit is not None:
+        lines += family("mfront_audit_room_bytes", "gauge", "Bytes that are free on the audit log's disk.", _room(audit.parent))
+    return lines
+
+
+def _room(folder: Path) -> dict[str, float]:
+    """The room of a folder's disk; nothing if it is not there: the other figures are wanted then all the more."""
+    with contextlib.suppress(OSError):
+        room = os.statvfs(folder)
+        return {"": room.f_bavail * room.f_frsize}
+    return {}
 
 
 def of_backup(folder: Path) -> list[str]:
@@ -89,4 +108,5 @@ def of_standby(status: Mapping[str, object]) -> str:
     if stands_by:
         lines += family("mfront_standby_behind_lines", "gauge", "Lines with a reply that it has not run yet.", {"": int(str(status["behind"]))})
         lines += family("mfront_standby_behind_seconds", "gauge", "How long ago the line that it is at was sent.", {"": float(str(status["seconds"]))})
+    lines += of_libraries(int(str(status.get(REPLACED) or 0)))
     return "\n".join(lines) + "\n"

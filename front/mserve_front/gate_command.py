@@ -8,14 +8,17 @@ import contextlib
 import resource
 import signal
 import ssl
+import tomllib
 from collections.abc import Callable
-from dataclasses import dataclass
+from dataclasses import dataclass, field
 from pathlib import Path
 from typing import TYPE_CHECKING
 
 from mserve_client import ClientError
 
 from . import ending
+from .certificates import expires
+from .control import ControlError
 from .doors import Doors, spare_memory, strict
 from .ending import FAILED, USAGE
 from .gate import Gate
@@ -129,13 +132,15 @@ def _port(table: Table, key: str) -> int:
     return found
 
 
-@dataclass(frozen=True, slots=True)
+@dataclass(slots=True)
 class Contexts:
-    """What users see, what other machines see, and what this one shows them: each of the two has to have a certificate of the authority."""
+    """What users see, what other machines see, and what this one shows them: each of the two has to have a certificate of the authority. `expires` is when
+    the first of the certificates does."""
 
     users: ssl.SSLContext
     inward: ssl.SSLContext | None = None
     outward: ssl.SSLContext | None = None
+    expires: float | None = field(default=None, kw_only=True)
 
     def load(self, doorway: Doorway) -> None:
         """Reads the certificates, for the connections that come from now on. Raises `BadSettings`."""
@@ -143,6 +148,8 @@ class Contexts:
         for context in (self.inward, self.outward):
             if context is not None and doorway.peers is not None:
                 load(context, doorway.peers.certificate, doorway.peers.key, doorway.peers.authority)
+        shown = [doorway.certificate] if doorway.peers is None else [doorway.certificate, doorway.peers.certificate]
+        self.expires = min((end for end in map(expires, shown) if end is not None), default=None)
 
 
 def contexts(doorway: Doorway) -> Contexts:
@@ -184,7 +191,7 @@ async def _serve(read: Callable[[], tuple[Home, Doorway]]) -> None:
         ending.hear(number, stopping.set)
     shown = contexts(doorway)
     islands = Islands(home, placed_of(home))
-    gate, page = Gate(home.machine.name, islands, shown.outward), page_of(home, doorway, islands)
+    gate, page = Gate(home.machine.name, islands, shown.outward), page_of(home, doorway, islands, shown)
     if not await begun(islands, home, stopping):
         return
     # Other machines' connections have doors of their own, so that users' take none of theirs.
@@ -192,9 +199,11 @@ async def _serve(read: Callable[[], tuple[Home, Doorway]]) -> None:
     keeping = [asyncio.create_task(islands.run()), asyncio.create_task(swept(outside, between))]
 
     def again() -> None:
-        reload(doorway, shown)
-        relimit(home, read)
-        keeping.append(asyncio.create_task(islands.reopen()))
+        # A gate that stops takes nothing, so that signals do not hold it up.
+        if not stopping.is_set():
+            reload(doorway, shown)
+            relimit(home, read)
+            islands.reopen()
     ending.hear(signal.SIGHUP, again)
     try:
         outside.listen(doorway.host, doorway.port, gate.door(gate.serve_http, False))
@@ -210,11 +219,15 @@ async def _serve(read: Callable[[], tuple[Home, Doorway]]) -> None:
         between.close()
         if page is not None:
             await page.end()
-        for task in keeping:
-            task.cancel()
-            with contextlib.suppress(asyncio.CancelledError):
-                await task
+        await given_up(keeping)
         await islands.end()
+
+
+async def given_up(tasks: list[asyncio.Task[None]]) -> None:
+    """Ends tasks, whatever they had come to: what comes then is done in any case."""
+    for task in tasks:
+        task.cancel()
+    await asyncio.gather(*tasks, return_exceptions=True)
 
 
 def take_files() -> None:
@@ -261,13 +274,13 @@ def relimit(home: Home, read: Callable[[], tuple[Home, Doorway]]) -> None:
         tell(f"not reloaded: limits of the islands: {error}")
 
 
-def page_of(home: Home, doorway: Doorway, islands: Islands) -> GatePage | None:
+def page_of(home: Home, doorway: Doorway, islands: Islands, shown: Contexts) -> GatePage | None:
     """The operator's page, if a socket is named for it."""
     if doorway.admin is None:
         return None
     # Not above: aiohttp takes memory, and a gate does without.
     from .gate_page import GatePage
-    return GatePage(doorway.admin, home.machine.name, islands)
+    return GatePage(doorway.admin, home.machine.name, islands, lambda: shown.expires)
 
 
 async def swept(*doors: Doors) -> None:
@@ -290,6 +303,20 @@ def placement_of(options: argparse.Namespace) -> Placed:
     placement = placed_of(settings_of(options)[0])
     placement.make()
     return placement
+
+
+def accounts_placed(config: Path) -> set[str]:
+    """The accounts of all islands that have terminals, by the settings of a machine. Raises `BadSettings`, or `ControlError` if the placement cannot be
+    read now."""
+    home, _ = settings_of(argparse.Namespace(config=config))
+    placement = placed_of(home)
+    try:
+        found = [tomllib.loads(island.settings) for island in placement.islands().values()]
+    except LogFault as error:
+        raise ControlError(str(error)) from error
+    finally:
+        placement.close()
+    return {account["name"] for settings in found for account in settings["account"] if account["terminals"]}
 
 
 def init(options: argparse.Namespace) -> None:

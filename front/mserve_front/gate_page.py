@@ -4,14 +4,16 @@ from __future__ import annotations
 
 import asyncio
 import time
-from collections.abc import Sequence
+from collections.abc import Callable, Sequence
 from pathlib import Path
 
 import aiohttp
 
-from .admin import POINTS, STEP, Page, Told
+from .admin import POINTS, STEP, Page, Told, alarms_of, figures_of
+from .certificates import of_certificate
 from .control import reached
 from .islands import Islands
+from .libraries import of_libraries
 from .placement import HERE, Island
 
 # Seconds for a front to answer, and how many are asked at once.
@@ -23,10 +25,12 @@ SILENT = "See the lines of its front: journalctl -u mgate. It is started again b
 class GatePage(Page):
     """The page. What it shows of a front that does not answer is that."""
 
-    def __init__(self, path: Path | None, machine: str, islands: Islands) -> None:
+    def __init__(self, path: Path | None, machine: str, islands: Islands, expires: Callable[[], float | None]) -> None:
+        """`expires` gives when the first of the gate's certificates does."""
         super().__init__(path, self.told)
         self._machine = machine
         self._islands = islands
+        self._expires = expires
         self._asking = asyncio.Semaphore(AT_ONCE)
 
     async def told(self) -> Told:
@@ -37,6 +41,8 @@ class GatePage(Page):
         alarms: list[Told] = [{**alarm, "what": f"{name}: {alarm['what']}"} for name, one in found.items() if one is not None for alarm in one["alarms"]]
         alarms += [{"what": f"{island.name}: {UNANSWERED}.", "do": SILENT, "value": 0} for island in here
                    if found[island.name] is None and island.state == HERE]
+        own = figures_of("\n".join([*of_libraries(), *of_certificate(self._expires())]))
+        alarms += [{**alarm, "what": f"The gate: {alarm['what']}"} for alarm in alarms_of(own)]
         fronts = [one for one in found.values() if one is not None]
         return {"time": round(time.time()), "state": f"Machine {self._machine}: {len(here)} of {len(placed)} islands are here",
                 "islands": [row(island, found[island.name]) for island in placed], "alarms": alarms,

@@ -26,7 +26,7 @@ from .preamble import new_secret
 from .server import Condition, tell, tied
 from .settings import JournalSettings, Limits
 from .standing import place_of, read_standing
-from .users import Users, load, save
+from .users import BadUsers, Users, load, save
 
 # Seconds between two looks at the placement, and before a front that ended is started again.
 LOOK, PAUSE = 0.3, 1.0
@@ -68,6 +68,13 @@ class IslandFront:
     process: asyncio.subprocess.Process | None = None
     began: float = field(default_factory=time.monotonic)
     told: str = ""
+    # Whether it is to open its audit log again, and waits for that.
+    reopens: bool = False
+
+    @property
+    def runs(self) -> bool:
+        """Whether its process is there."""
+        return self.process is not None and self.process.returncode is None
 
     def port(self, kind: str) -> int:
         """The port of a kind."""
@@ -90,6 +97,8 @@ class Islands:
         self._users: Users = {}
         self._seen = 0
         self._fault = Condition("the islands stay as they are: {}", "the placement can be read again")
+        self._of_users = Condition("the users stay as they were: {}", "the users can be read again")
+        self._reopening: set[asyncio.Task[None]] = set()
         # What this machine's gate and its fronts have in common, and nobody else.
         self.secret = new_secret()
         self.placed: dict[str, Island] = {}
@@ -129,21 +138,32 @@ class Islands:
                 self._fault.comes(error)
             await asyncio.sleep(LOOK)
 
-    async def reopen(self) -> None:
+    def reopen(self) -> None:
         """Has all fronts open their audit logs again, and take the limits. One that has just begun is left alone for a while: it does not hear of it yet, and
         would end."""
-        await asyncio.gather(*map(self._reopens, list(self._fronts.values())))
+        for front in self._fronts.values():
+            # One that waits yet takes what has changed meanwhile, too.
+            if not front.reopens:
+                front.reopens = True
+                task = asyncio.create_task(self._reopens(front))
+                self._reopening.add(task)
+                task.add_done_callback(self._reopening.discard)
 
     async def _reopens(self, front: IslandFront) -> None:
         await asyncio.sleep(max(0.0, front.began + SETTLED - time.monotonic()))
-        if front.process is not None and front.process.returncode is None:
+        front.reopens = False
+        if front.runs:
             with contextlib.suppress(OSError):
                 # On a disk that is full the log is to be opened again all the same.
                 await asyncio.to_thread(self._write_front, front)
+        # Looked at again: it may have ended meanwhile.
+        if front.process is not None and front.runs:
             front.process.send_signal(signal.SIGHUP)
 
     async def end(self) -> None:
         """Ends all fronts in order."""
+        for task in self._reopening:
+            task.cancel()
         await asyncio.gather(*(self._ended(name) for name in list(self._fronts)))
         self._placement.close()
 
@@ -153,12 +173,17 @@ class Islands:
         return [island for island in self.placed.values() if me in (island.machine, island.target) or island.name in self._fronts]
 
     async def _look(self) -> None:
+        # Neither holds the other up: users come and go while the placement cannot be read, and islands start, move and end whatever the users' file is.
+        try:
+            await self._read_users()
+            self._of_users.goes()
+        except (BadUsers, OSError) as error:
+            self._of_users.comes(error)
         placed = await asyncio.to_thread(self._placement.islands)
         self.machines = await asyncio.to_thread(self._placement.machines)
         if placed is not self.placed:
             self.placed = placed
             self.of_account = {account: island.name for island in placed.values() for account in island.accounts}
-        await self._read_users()
         for name in [name for name in self._fronts if name not in self.placed]:
             await self._ended(name)
 
@@ -183,7 +208,7 @@ class Islands:
     async def _served(self, island: Island, follows: bool) -> None:
         """Starts the front of an island, if it does not run."""
         front = self._fronts.get(island.name)
-        if front is not None and front.process is not None and front.process.returncode is None:
+        if front is not None and front.runs:
             if front.follows == follows and front.settings == island.settings:
                 return
             if front.settings != island.settings:
@@ -242,7 +267,7 @@ class Islands:
     async def _promoted(self, island: Island) -> None:
         """Promotes the front that stands by, and notes that the island is here."""
         front = self._fronts.get(island.name)
-        if front is None or front.process is None or front.process.returncode is not None:
+        if front is None or not front.runs:
             await self._served(island, follows=True)
             return
         try:

@@ -300,14 +300,15 @@ async def _replayed_into(options: argparse.Namespace, store: Path) -> int:
 
 
 async def _begin(replay: Replay, options: argparse.Namespace, part: Path) -> None:
-    """Begins with a snapshot."""
-    manifest = put_back(options.snapshot, part)
+    """Begins with a snapshot. What refuses it comes first: a copy would be in the way of the next replay."""
+    manifest = read_manifest(options.snapshot)
     if manifest.number > last_line(journal_of(options)):
         raise BadJournal(f"the snapshot stands after line {manifest.number}, and the journal ends before it: it has lost a part, or is another")
     if replay.goal.number is not None and replay.goal.number < manifest.number:
         raise BadSnapshot(f"{options.snapshot}: it stands after line {manifest.number}, and line {replay.goal.number} comes before: take an earlier one")
     if not manifest.exact:
         say(f"{len(manifest.open)} sessions were open at the snapshot, and their variables and locks are not in it: a line that needs them differs")
+    put_back(options.snapshot, part)
     replay.stage.at, replay.journal = manifest.number, manifest.journal
     await replay.stage.begin((options.snapshot / SETTINGS).read_bytes())
     forget_standing(part)

@@ -19,13 +19,14 @@ from .control import Answered, Control, ControlError, Handler
 from .faults import NoJournal
 from .figures import ByAccount, of_backup, of_journal
 from .journal import RETRY, Journal, LogFault, LogTaken, Tail
+from .libraries import REPLACED, replaced
 from .metrics import Metrics
 from .places import said_beside, writer_of
 from .records import BadJournal, StoreAtStart
 from .rows import packed
 from .server import Child, Condition, Server, tell
 from .settings import Settings
-from .snapshots import SETTINGS, STORE, Manifest, copied
+from .snapshots import PART, SETTINGS, STORE, Manifest, copied
 from .standbys import LOOK, SELDOM, Behind, Standbys, figures_of
 from .standing import Standing, place_of, read_standing, write_standing
 from .starts import Known, held
@@ -226,7 +227,8 @@ class Keeper:
 
     async def _status(self, _: dict[str, object]) -> Answered:
         journal = self.journal
-        return {"state": "leader", "line": journal.next - 1, "answered": journal.answered, "fault": journal.fault or "", "open": len(journal.open)}
+        return {"state": "leader", "line": journal.next - 1, "answered": journal.answered, "fault": journal.fault or "", "open": len(journal.open),
+                REPLACED: replaced() or ""}
 
     async def _snapshot(self, request: dict[str, object]) -> Answered:
         """Copies the store between two lines into a new folder, and says its name."""
@@ -237,7 +239,7 @@ class Keeper:
             raise ControlError(f"{folder}: there is no such folder")
         part = folder
         try:
-            part = Path(tempfile.mkdtemp(prefix=".part-", dir=folder))
+            part = Path(tempfile.mkdtemp(prefix=PART, dir=folder))
             made, seconds = await self._copied(self._store, part, ended, rows)
             shutil.copyfile(self._settings.server_settings, part / SETTINGS)
         except (OSError, Unsent, Lost, NoJournal, BadLog) as error:

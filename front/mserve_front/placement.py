@@ -208,15 +208,17 @@ class LocalPlacement:
         return {self._machine.name: self._machine}
 
     def islands(self) -> dict[str, Island]:
-        """All islands; the same dictionary as long as none has changed. Raises `LogFault` if the file cannot be read."""
+        """All islands; the same dictionary as long as none has changed. Raises `LogFault` if the file cannot be read, or was there and is gone: the islands
+        have not left with it."""
         try:
             changed = self._path.stat().st_mtime_ns
             if changed != self._seen:
                 found = json.loads(self._path.read_bytes())
                 self._islands = {name: Island(name, self._machine.name, None, HERE, tuple(one["accounts"]), one["settings"]) for name, one in found.items()}
                 self._seen = changed
-        except FileNotFoundError:
-            self._islands = self._islands and {}
+        except FileNotFoundError as error:
+            if self._seen:
+                raise LogFault(f"{self._path}: it is gone: put it back") from error
         except (OSError, ValueError, KeyError, TypeError, AttributeError) as error:
             raise LogFault(f"{self._path}: cannot be read: {error}") from error
         return self._islands

@@ -11,6 +11,7 @@ import ssl
 import time
 from collections.abc import Awaitable
 from dataclasses import fields
+from pathlib import Path
 from typing import TYPE_CHECKING
 
 from aiohttp import web
@@ -18,9 +19,12 @@ from aiohttp import web
 from . import ending
 from .admin import Admin
 from .audit import Audit
+from .certificates import expires, of_certificate
 from .changes import Changes
 from .connection import NoStart
 from .doors import Doors, Made, spare_memory, strict
+from .figures import of_disks
+from .libraries import of_libraries
 from .line_port import LinePort
 from .metrics import Metrics
 from .server import Server, tell
@@ -51,6 +55,9 @@ class Service:
         self._tables = read_toml(settings.path)
         self.metrics = Metrics()
         self._context = tls_context(settings)
+        self._expires = self._end()
+        store = None if settings.volatile or settings.store is None else Path(settings.store)
+        self.metrics.more += [of_libraries, lambda: of_certificate(self._expires), lambda: of_disks(store, settings.audit)]
         self._audit = audit_log(settings, self.metrics)
         self._keeper = keeper_of(settings, self.metrics, self._audit, promoted)
         self._register = Register(settings.users, settings.users_of_machine)
@@ -184,6 +191,12 @@ class Service:
         """Takes the certificate as it stands. Raises `BadSettings`; then that of before stays."""
         if self._context is not None:
             load_certificate(self._context, self.settings)
+            self._expires = self._end()
+
+    def _end(self) -> float | None:
+        """When the certificate that was just read expires."""
+        path = self.settings.listen.certificate
+        return None if path is None else expires(path)
 
     def _new_limits(self) -> None:
         """Takes the limits as they stand in the settings, and tells what else has changed there. Raises `BadSettings`; then those of before stay."""

@@ -12,6 +12,7 @@ import json
 import os
 import shutil
 import sqlite3
+import time
 from collections.abc import Awaitable, Callable
 from contextlib import AbstractAsyncContextManager
 from dataclasses import asdict, dataclass, field, replace
@@ -25,6 +26,9 @@ from .folders import sync_folder, write_whole
 from .standing import Standing, write_standing
 
 STORE, SETTINGS, MANIFEST = "store", "settings.toml", "manifest.json"
+# What copies are called that are not finished yet, of a snapshot and of a verification; and seconds after which one is surely left by a command that was
+# killed.
+PART, SCRATCH, LEFT = ".part-", ".verify-", 86_400.0
 # How often a file is copied beside the users' work, if it was written meanwhile; then it is copied between two lines.
 TRIES = 2
 # A time of a file that lies back so far, in nanoseconds, changes with the next write.
@@ -167,6 +171,14 @@ def read_manifest(folder: Path) -> Manifest:
 def snapshots_of(folder: Path) -> list[Path]:
     """The snapshots of a folder, by their lines."""
     return sorted(path for path in folder.iterdir() if path.name.isdigit())
+
+
+def tidied(folder: Path) -> list[Path]:
+    """Removes what commands that were killed have left in a folder of snapshots, and gives it: each may be as large as the store."""
+    found = [path for path in folder.iterdir() if path.name.startswith((PART, SCRATCH)) and time.time() - path.stat().st_mtime > LEFT]
+    for path in found:
+        shutil.rmtree(path, ignore_errors=True)
+    return [path for path in found if not path.exists()]
 
 
 def latest(folder: Path, journal: int, least: int, most: int) -> Path | None:

@@ -25,6 +25,7 @@ from .history import Answered as Ran
 from .history import Began, Event, History
 from .journal import Journal, LogFault, LogTaken
 from .keeper import Promoted
+from .libraries import REPLACED, replaced
 from .metrics import Metrics
 from .places import end_of, first_of, last_line, last_of, reader_of, writer_of
 from .player import NotYet, Stage, Stopped
@@ -396,7 +397,7 @@ class Standby:
         return {"state": "standby", "line": self._stage.at, "behind": behind, "seconds": round(self._stage.behind(), 3), "reported": self._stage.reported,
                 # It was idle at its last look, and the journal may have grown since.
                 "caught up": self._idle and not behind and not self._fault.text and not self._waits.text, "fault": self._fault.text or self._waits.text,
-                "differs": self._differs and self._gone is None or ""}
+                "differs": self._differs and self._gone is None or "", REPLACED: replaced() or ""}
 
     async def _told(self) -> Told:
         """What the operator's page shows."""

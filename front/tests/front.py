@@ -256,6 +256,11 @@ class Person:
             return False
         return status == 200
 
+    async def comes_in(self, what: str) -> None:
+        """Signs on as soon as what it waits for is given back, and opens the WebSocket."""
+        await until(self.signs_on, what)
+        await self.connect()
+
     async def sign_off(self) -> int:
         """The status of a sign-off."""
         async with self.http.post("/signoff") as response:

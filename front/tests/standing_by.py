@@ -24,15 +24,33 @@ AT_ONCE = 5000
 SLOW = " F I=1:1:20000 S K=I"
 
 
-def leading(start, journal: Path, **more: object) -> Front:
+# Where a journal is: in a folder, in a table of a database, or as the keys of a front's settings have it.
+Where = Path | JournalSettings | dict[str, object]
+
+
+def keys_of(journal: Where) -> dict[str, object]:
+    """Where a journal is, as the keys of a front's settings."""
+    if isinstance(journal, Path):
+        return {"folder": str(journal)}
+    if isinstance(journal, dict):
+        return journal
+    return {"database": journal.database, "name": journal.name}
+
+
+def leading(start, journal: Where, **more: object) -> Front:
     """A front over a store of its own that keeps a journal there."""
-    return start(store="store.db", journal={"folder": str(journal)} | more)
+    return start(store="store.db", journal=keys_of(journal) | more)
 
 
-def standby(start, journal: Path, **more: object) -> Front:
+def standby(start, journal: Where, **more: object) -> Front:
     """A standby over a store of its own."""
-    kept = {"folder": str(journal)} | ({"backup": more.pop("backup")} if "backup" in more else {})
+    kept = keys_of(journal) | ({"backup": more.pop("backup")} if "backup" in more else {})
     return start(words=["--follow"], awaited="standing by", journal=kept, **{"store": "store.db"} | more)
+
+
+def two_fronts(start, journal: Where, **more: object) -> tuple[Front, Front]:
+    """A front that keeps a journal there, and its standby."""
+    return leading(start, journal, **more), standby(start, journal)
 
 
 def promoted(front: Front) -> Ran:

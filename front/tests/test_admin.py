@@ -7,8 +7,11 @@ import contextlib
 import json
 import os
 import re
+import shutil
 import signal
+import ssl
 import stat
+import subprocess
 import time
 from collections.abc import Callable
 from pathlib import Path
@@ -16,10 +19,12 @@ from typing import Any
 
 import aiohttp
 import pytest
-from front import FRONT, Front, at_rest, in_loop, until
-from mserve_front import figures, standbys
+from front import FRONT, Front, at_rest, in_loop, small_disk, until
+from mserve_front import certificates, figures, standbys
 from mserve_front.admin import ALARMS, alarms_of
+from mserve_front.control import asked
 from mserve_front.gate_page import UNANSWERED, together
+from mserve_front.libraries import FIGURE
 from mserve_front.places import last_line
 from mserve_front.settings import JournalSettings
 from mserve_front.standbys import SAYS, Behind, Said
@@ -129,6 +134,65 @@ async def test_snapshots_that_nobody_has_verified_are_an_alarm(start, tmp_path: 
     (tmp_path / "backup").mkdir()
     (tmp_path / "backup" / figures.VERIFIED).write_text(json.dumps({"line": 1, "at": int(time.time())}))
     assert "No snapshot was verified for two days." not in await alarms()
+
+
+@in_loop()
+async def test_a_disk_that_is_nearly_full_is_an_alarm(start, tmp_path: Path) -> None:
+    """That of the store, and that of the audit log: nobody works once they are full."""
+    disk = tmp_path / "disk"
+    disk.mkdir()
+    front: Front = start(admin={"socket": "admin.socket"}, store=str(disk / "store"), audit={"file": str(disk / "audit.log")}, before=small_disk(disk, "900m"))
+    found = [alarm["what"] for alarm in (await (await told(front.folder)).json())["alarms"]]
+    assert {"Less than 1 GB is left for the store.", "Less than 1 GB is left for the audit log."} <= set(found)
+
+
+def test_a_disk_that_is_gone_leaves_the_other_figures(tmp_path: Path) -> None:
+    assert "mfront_journal_open_lines 3" in figures.of_journal(3, 0, 0.0, tmp_path / "none")
+    assert [line for line in figures.of_disks(tmp_path / "none" / "store", tmp_path / "audit.log") if line[0] != "#"][0].startswith("mfront_audit_room_bytes ")
+
+
+def self_signed(folder: Path, days: int) -> dict[str, object]:
+    """Makes a certificate that is good for so long, and names it as settings do."""
+    made = folder / "certificate.pem", folder / "key.pem"
+    subprocess.run(["openssl", "req", "-x509", "-newkey", "ec", "-pkeyopt", "ec_paramgen_curve:prime256v1", "-nodes", "-days", str(days), "-subj",
+                    "/CN=localhost", "-keyout", made[1], "-out", made[0]], check=True, capture_output=True)
+    return {"certificate": str(made[0]), "key": str(made[1])}
+
+
+@in_loop()
+async def test_a_certificate_that_expires_soon_is_an_alarm(start, tmp_path: Path) -> None:
+    """That is the one that users are shown: a new one counts once it was read."""
+    front: Front = start(admin={"socket": "admin.socket"}, listen=self_signed(tmp_path, 15))
+
+    def rings(found: dict[str, Any]) -> bool:
+        return "A certificate expires in less than 14 days." in [alarm["what"] for alarm in found["alarms"]]
+    assert not rings(await (await told(front.folder)).json())
+    self_signed(tmp_path, 13)
+    found = await (await told(front.folder)).json()
+    assert not rings(found) and found["figures"]["certificate_seconds_left"] > 14 * 86_400
+    front.process.send_signal(signal.SIGHUP)
+    found = await shows(front.folder, rings, "an alarm")
+    end = subprocess.run(["openssl", "x509", "-enddate", "-noout", "-in", tmp_path / "certificate.pem"], check=True, capture_output=True, text=True).stdout
+    assert found["figures"][certificates.FIGURE] == ssl.cert_time_to_seconds(end.strip().partition("=")[2])
+
+
+@in_loop()
+async def test_libraries_that_were_updated_are_an_alarm(start, tmp_path: Path) -> None:
+    """As an update does it: another file has the name, and the front runs the one of before until it is started again. What the status says is what a
+    collector of a standby is given."""
+    used, library = max(re.findall(r"/\S*/libz\.so\S*", Path("/proc/self/maps").read_text())), tmp_path / "libz.so.1"
+    shutil.copy(used, library)
+    front: Front = start(admin={"socket": "admin.socket"}, journal={"folder": "journal"}, store="store", before=["env", f"LD_PRELOAD={library}"])
+
+    def rings(found: dict[str, Any]) -> list[str]:
+        return [alarm["do"] for alarm in found["alarms"] if alarm["what"] == "Libraries were updated, and those of before still run."]
+    assert not rings(await (await told(front.folder)).json())
+    shutil.copy(used, tmp_path / "new")
+    (tmp_path / "new").replace(library)
+    found = await shows(front.folder, rings, "an alarm")
+    assert found["figures"][FIGURE] == 1
+    status = await asyncio.to_thread(asked, front.folder / "mfront.control", {"ask": "status"}, 60)
+    assert f"\n{FIGURE} 1\n" in figures.of_standby(status)
 
 
 @in_loop()

@@ -19,6 +19,7 @@ import pytest
 from front import FRONT, PASSWORD, Front, Patience, Person, Ran, at_rest, in_loop, mjournal, toml, tool, until
 from machines import Gate, Program
 from measured import slices, started_by
+from mserve_client.settings_file import Account, Grant, Settings
 from mserve_front.settings import read_settings, read_toml
 from mserve_front.slices import SHORT
 from mserve_front.users import load
@@ -27,32 +28,9 @@ from test_admin import PAGE, shows
 from test_password import NEW, changed
 from test_replay import held
 
-SETTINGS = """[[account]]
-name = "HEAVY"
-terminals = [1, 2]
-steps = 1000000
-
-[[account]]
-name = "LIGHT"
-terminals = [3, 4]
-steps = 10000
-
-[[account]]
-name = "LAB"
-terminals = [5]
-steps = 10000
-
-[[account]]
-name = "CLINIC"
-terminals = [6]
-steps = 10000
-
-[[grant]]
-from = "LAB"
-to = "CLINIC"
-global = "RESULT"
-mode = "read"
-"""
+SETTINGS = Settings(
+    (Account("HEAVY", (1, 2), 1_000_000), Account("LIGHT", (3, 4), 10_000), Account("LAB", (5,), 10_000), Account("CLINIC", (6,), 10_000)),
+    (Grant("LAB", "CLINIC", "RESULT", "read"),))
 USERS = {"hugo": "HEAVY", "lisa": "LIGHT", "lab": "LAB", "cleo": "CLINIC"}
 # A line that uses up a million steps, lines of the other a second, and for how long.
 LONG, RATE, SECONDS = "F  S N=1", 20, 6
@@ -76,7 +54,7 @@ class Alone(Gate):
 def alone(certificate: tuple[Path, Path], tmp_path: Path, monkeypatch: pytest.MonkeyPatch) -> Iterator[Path]:
     """The settings of a front that has ended, with a store in which each account has something."""
     monkeypatch.setenv("MISLANDS", ISLANDS)
-    (tmp_path / "settings.toml").write_text(SETTINGS)
+    (tmp_path / "settings.toml").write_text(str(SETTINGS))
     front = Front(tmp_path, certificate, users=USERS, settings=tmp_path / "settings.toml", store="store.db")
 
     async def filled() -> None:
@@ -186,7 +164,7 @@ async def test_an_operator_sees_all_islands_and_has_logs_opened_anew(alone: Path
 
 async def snapshots(folder: Path) -> None:
     """Makes a snapshot of each island by the page's commands, and verifies it: then that is no alarm any more, but for an island where it cannot be done."""
-    lines = re.search(r"For all of this machine, each night.*?\n\n(.*?)\n\n", PAGE, re.DOTALL)[1].replace("/var/lib/mserve/islands", str(folder / "islands"))
+    lines = re.search(r"islands of this machine, each night.*?\n\n(.*?)\n\n", PAGE, re.DOTALL)[1].replace("/var/lib/mserve/islands", str(folder / "islands"))
     (folder / "islands" / "HEAVY" / "backup").write_text("no folder")
     script = f'mbackup() {{ {sys.executable} {FRONT / "mbackup"} "$@"; }}\n{lines}'
     done = await asyncio.to_thread(subprocess.run, ["bash", "-c", script], capture_output=True, text=True, timeout=8 * Patience.seconds)

@@ -16,6 +16,13 @@ from test_restarts import Counting
 NEW = '[[account]]\nname = "NEW"\nterminals = [77]\nsteps = 1000\n'
 
 
+def with_own_settings(start, folder: Path) -> tuple[Front, Path]:
+    """A front with a journal, and the settings of its server, which a test may change."""
+    settings = folder / "settings.toml"
+    settings.write_text(SETTINGS.read_text())
+    return start(tls=False, settings=settings, store="store.db", journal={"folder": "journal"}), settings
+
+
 def takes(front: Front) -> Ran:
     """Has a front take the settings as they stand."""
     return tool("mfront")("change", "--config", front.folder / "front.toml")
@@ -23,9 +30,7 @@ def takes(front: Front) -> Ran:
 
 @in_loop()
 async def test_a_new_customer_ends_no_session(start, tmp_path: Path) -> None:
-    settings = tmp_path / "settings.toml"
-    settings.write_text(SETTINGS.read_text())
-    front = start(tls=False, settings=settings, store="store.db", journal={"folder": "journal"})
+    front, settings = with_own_settings(start, tmp_path)
     async with front.person("ada") as ada:
         terminal = ada.record["terminal"]
         assert await ada.told("S ^X=7,A=5 W A") == "5"
@@ -66,9 +71,7 @@ async def refused(front: Front, settings: Path) -> None:
 @in_loop()
 async def test_an_account_gets_another_language(start, tmp_path: Path) -> None:
     """From the change on its lines and its routines are read in it; nobody signs on again, and a replay has the store."""
-    settings = tmp_path / "settings.toml"
-    settings.write_text(SETTINGS.read_text())
-    front = start(tls=False, settings=settings, store="store.db", journal={"folder": "journal"})
+    front, settings = with_own_settings(start, tmp_path)
     async with front.person("ada") as ada, front.person("cleo") as cleo:
         for person in (ada, cleo):
             assert await person.told('S ^ROUTINE("R",1)="T S ^X=$RE(12) W ^X"') == ""
@@ -92,9 +95,7 @@ async def test_an_account_gets_another_language(start, tmp_path: Path) -> None:
 @in_loop()
 async def test_settings_change_while_users_work(start, tmp_path: Path, count: int) -> None:
     """Each time more steps: nothing that was answered is lost, nothing runs twice, and a replay has the store."""
-    settings, counting = tmp_path / "settings.toml", Counting()
-    settings.write_text(SETTINGS.read_text())
-    front = start(tls=False, settings=settings, store="store.db", journal={"folder": "journal"})
+    (front, settings), counting = with_own_settings(start, tmp_path), Counting()
     counting.begin(front)
     for number in range(4 * count):
         answered = counting.answered

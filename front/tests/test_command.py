@@ -117,6 +117,26 @@ def test_refusals_leave_the_file_as_it_was(command: Run, tmp_path: Path, words: 
     assert (tmp_path / "users.json").read_bytes() == before
 
 
+def test_users_of_a_machine_with_islands(command: Run, tmp_path: Path) -> None:
+    """By the machine's settings: the accounts are those of its islands, which may have been placed just now. A gate makes the users' file of an island of
+    its machine's, so that one is changed."""
+    (tmp_path / "machine.toml").write_text(toml({"machine": {"name": "one", "folder": "islands", "users": "all.json"},
+                                                 "listen": {"port": 1, "lines_port": 2, "certificate": "c", "key": "k"}}))
+    machine = ["--config", "machine.toml"]
+    (tmp_path / "new.toml").write_text('[[account]]\nname = "NEW"\nterminals = [1]\nsteps = 10\n')
+    assert tool("mgate")("place", "NEW", tmp_path / "new.toml", "one", "--config", tmp_path / "machine.toml")[0] == 0
+    done = command("user", "add", "ada", "CLINIC", *machine, stdin=PASSWORD)
+    assert done.returncode == 2 and "CLINIC is no account with terminals of any island (mgate list)" in done.stderr
+    assert command("user", "add", "tim", "NEW", *machine, stdin=PASSWORD).returncode == 0
+    (tmp_path / "front.toml").write_text(toml(good() | {"users": {"file": "users.json", "machine": "all.json"}}))
+    assert command("token", "add", "tim", *CONFIG).returncode == 0 and not (tmp_path / "users.json").exists()
+    assert command("user", "list", *machine).stdout == "tim NEW 1\n"
+    # Of several machines the file is for who keeps it.
+    (tmp_path / "front.toml").write_text(toml(good() | {"listen": {"gate": "gate.secret"}}))
+    done = command("user", "remove", "tim", *CONFIG)
+    assert done.returncode == 2 and "give --config the settings of the machine" in done.stderr
+
+
 @pytest.mark.parametrize(("data", "mode", "told"), [
     ("{", 0o600, "is no users' file"), ("[]", 0o600, "is no users' file"), ('{"users": {"ada": {}}}', 0o600, "is no users' file"),
     ('{"users": {"ada": {"account": "CLINIC", "hash": "x"}}}', 0o600, "is no users' file"), ('{"users": {}}', 0o640, "chmod 600"),

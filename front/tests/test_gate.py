@@ -7,15 +7,18 @@ import json
 import os
 import ssl
 import threading
+import time
 from pathlib import Path
 from types import SimpleNamespace
 
 import pytest
 from front import PASSWORD, Front, Patience, in_loop, until, write_users
 from mserve_front import islands as islands_module
+from mserve_front.certificates import expires
 from mserve_front.doors import Doors
 from mserve_front.gate import Gate
 from mserve_front.gate_command import Doorway, Peers, contexts
+from mserve_front.gate_page import GatePage
 from mserve_front.islands import Home, IslandFront, Islands
 from mserve_front.placement import HERE, Island, LocalPlacement, Machine
 from mserve_front.preamble import new_secret, preamble, told_by
@@ -204,3 +207,20 @@ def test_what_a_gate_shows_has_suites_that_are_good_today(certificate: tuple[Pat
         assert all(name.startswith(("TLS_", "ECDHE-")) and ("GCM" in name or "CHACHA20" in name) for name in names), names
         assert context.options & ssl.OP_NO_RENEGOTIATION and context.minimum_version is ssl.TLSVersion.TLSv1_2
     assert shown.inward.verify_mode is shown.outward.verify_mode is ssl.CERT_REQUIRED
+
+
+@in_loop()
+async def test_a_certificate_of_a_gate_that_expires_soon_is_an_alarm(certificate: tuple[Path, Path], tmp_path: Path) -> None:
+    """Of those that users and other machines are shown the first one counts."""
+    shown = contexts(Doorway("127.0.0.1", 1, 2, *certificate, Peers(*certificate, certificate[0])))
+    assert 86_400 < shown.expires - time.time() < 2 * 86_400
+
+    async def alarms() -> list[str]:
+        page = GatePage(None, "one", SimpleNamespace(placed={}, machines={}), lambda: shown.expires)
+        return [alarm["what"] for alarm in (await page.told())["alarms"]]
+    assert await alarms() == ["The gate: A certificate expires in less than 14 days."]
+    shown.expires += 14 * 86_400
+    assert await alarms() == []
+    chain = tmp_path / "chain.pem"
+    chain.write_text("-----BEGIN CERTIFICATE-----\nAAAA\n-----END CERTIFICATE-----\n")
+    assert expires(chain) is None and expires(tmp_path / "none.pem") is None

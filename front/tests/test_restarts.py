@@ -15,7 +15,7 @@ import aiohttp
 import pytest
 from front import Front, Patience, Person, Record, in_loop, mjournal, stopped, until
 from running import PROGRAM
-from standing_by import leading, standby, takes_over
+from standing_by import takes_over, two_fronts
 from test_replay import held
 
 # Seconds for which users work between two troubles.
@@ -94,8 +94,7 @@ class Counting:
         """Holds what a front says of the counters against what they can be."""
         for name in self._names:
             person = front.person(name)
-            await until(person.signs_on, f"{name} signed on")
-            await person.connect()
+            await person.comes_in(f"{name} signed on")
             found = await person.told(f'W $G(^N("{name}"),0)')
             self.holds(name, int(str(found)), self.least[name])
             await leaves(person)
@@ -135,8 +134,7 @@ async def front_killed(leader: Front) -> None:
 async def test_a_standby_goes_on_after_trouble_at_its_leader(start, tmp_path: Path, trouble: Trouble, beside: str, count: int) -> None:
     """Again and again under load; then the leader's machine dies, and the standby takes over."""
     journal, counting, rng = tmp_path / "journal", Counting(beside=beside), random.Random(3)
-    leader = leading(start, journal, roll=65_536)
-    second = standby(start, journal)
+    leader, second = two_fronts(start, journal, roll=65_536)
     counting.begin(leader)
     for _ in range(2 * count):
         await asyncio.sleep(WORK * rng.uniform(0.5, 2))

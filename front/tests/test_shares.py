@@ -12,7 +12,7 @@ from dataclasses import dataclass
 from types import SimpleNamespace
 
 import pytest
-from front import PASSWORD, busy, in_loop, until
+from front import PASSWORD, busy, in_loop
 from mserve_front import shares as shares_module
 from mserve_front.shares import ACCOUNT_WINDOW, LONG_WINDOW, WINDOW, Shares, may_take_long
 from mserve_front.users import HASHER
@@ -202,6 +202,5 @@ async def test_a_sign_on_whose_client_has_gone_holds_no_terminal(start, monkeypa
     os.kill(front.process.pid, signal.SIGCONT)
     dan = front.person("dan")
     async with dan.http:
-        await until(dan.signs_on, "the terminal of who has gone")
-        await dan.connect()
+        await dan.comes_in("the terminal of who has gone")
         assert await dan.told("W 1") == "1"

@@ -159,8 +159,7 @@ async def test_nobody_meets_what_somebody_before_left(start) -> None:
         assert (await program.next())["rest"] == "0"
     dan = front.person("dan")
     async with dan.http:
-        await until(dan.signs_on, "the terminal of dora's program")
-        await dan.connect()
+        await dan.comes_in("the terminal of dora's program")
         assert await dan.told("W $D(A)") == "0"
         await dan.sign_off()
     events = [(record["event"], record.get("why")) for record in front.audit() if record["event"] != "line"]

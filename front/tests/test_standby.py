@@ -25,7 +25,7 @@ from mserve_front.settings import JournalSettings, read_settings
 from mserve_front.standby import Standby
 from mserve_front.standing import read_standing
 from running import PROGRAM
-from standing_by import SLOW, Load, asks_promotion, caught_up, fenced_off, leading, promoted, standby, stands_by, takes_over
+from standing_by import SLOW, Load, asks_promotion, caught_up, fenced_off, leading, promoted, standby, stands_by, takes_over, two_fronts
 from test_replay import backup, held, works
 
 # Leaders that are killed, unless more are asked for (--count).
@@ -35,8 +35,7 @@ KILLED = 10
 @in_loop()
 async def test_a_standby_has_caught_up_once_it_has_run_all(start, tmp_path: Path) -> None:
     """What the journal holds when the question comes is run by then, or the answer says that it is not."""
-    leader = leading(start, tmp_path / "journal")
-    second = standby(start, tmp_path / "journal")
+    leader, second = two_fronts(start, tmp_path / "journal")
     async with leader.person("ada") as ada:
         await ada.line("S ^X=1")
         await caught_up(second, tmp_path / "journal")
@@ -50,8 +49,7 @@ async def test_a_standby_has_caught_up_once_it_has_run_all(start, tmp_path: Path
 
 @in_loop()
 async def test_a_standby_follows_and_is_promoted(start, tmp_path: Path) -> None:
-    leader = leading(start, tmp_path / "journal")
-    second = standby(start, tmp_path / "journal")
+    leader, second = two_fronts(start, tmp_path / "journal")
     with socket.socket() as peer:
         assert peer.connect_ex(("127.0.0.1", second.port)) != 0
     async with leader.person("ada") as ada, leader.person("ben") as ben, leader.person("cleo") as cleo:
@@ -90,8 +88,7 @@ async def test_a_standby_follows_and_is_promoted(start, tmp_path: Path) -> None:
 @in_loop()
 async def test_a_standby_has_its_ports(start, tmp_path: Path) -> None:
     """Nobody can take them meanwhile. One that is taken when it starts is reported, and taken at the promotion if that can be."""
-    leader = leading(start, tmp_path / "journal")
-    second = standby(start, tmp_path / "journal")
+    leader, second = two_fronts(start, tmp_path / "journal")
     for port in (second.port, second.lines_port):
         with socket.socket() as other, pytest.raises(OSError, match="in use"):
             other.bind(("127.0.0.1", port))
@@ -110,8 +107,7 @@ async def test_a_standby_has_its_ports(start, tmp_path: Path) -> None:
 async def test_a_standby_whose_store_differs_stands_still(start, tmp_path: Path) -> None:
     """A node was changed in its store: it is reported at the next line that reads it, and nothing that was answered is lost without a word. It goes on once the
     leader has written all that its store holds."""
-    leader = leading(start, tmp_path / "journal")
-    second = standby(start, tmp_path / "journal")
+    leader, second = two_fronts(start, tmp_path / "journal")
     async with leader.person("ada") as ada:
         for number in range(5):
             await ada.line(f"S ^X({number})=1")
@@ -183,8 +179,8 @@ async def test_a_promotion_that_would_lose_lines(start, tmp_path: Path) -> None:
 @in_loop()
 async def test_a_standby_takes_over_once_the_leader_is_stopped(start, tmp_path: Path) -> None:
     """The promotion waits for that, so that nobody serves for a moment alone, as at an upgrade of the program: the standby is the new one."""
-    leader, journal = leading(start, tmp_path / "journal"), tmp_path / "journal"
-    second = standby(start, journal)
+    journal = tmp_path / "journal"
+    leader, second = two_fronts(start, journal)
     async with leader.person("ada") as ada:
         await works(ada, 5, 60)
         assert await ada.told("S ^X=1 W ^X") == "1"
@@ -218,8 +214,7 @@ async def answers(front: Front) -> bool:
 @in_loop()
 async def test_a_leader_that_lives_is_fenced_off(start, tmp_path: Path) -> None:
     """It hangs, and the standby takes over by force. Once it goes on it acknowledges nothing, and ends; what the other one serves is not touched."""
-    leader = leading(start, tmp_path / "journal")
-    second = standby(start, tmp_path / "journal")
+    leader, second = two_fronts(start, tmp_path / "journal")
     await fenced_off(leader, second, JournalSettings(tmp_path / "journal"), "another front has taken this journal")
     await stopped(second)
     assert mjournal(tmp_path / "journal")("replay", "--program", PROGRAM, "--store", tmp_path / "all")[::2] == (0, "")
@@ -330,8 +325,7 @@ async def test_a_standby_that_cannot_go_on(start, tmp_path: Path) -> None:
 @in_loop()
 async def test_a_journal_that_has_lost_its_end_is_refused(start, tmp_path: Path) -> None:
     """What is noted beside the store stays as it was, so that it is refused the next time too."""
-    leader = leading(start, tmp_path / "journal")
-    second = standby(start, tmp_path / "journal")
+    leader, second = two_fronts(start, tmp_path / "journal")
     async with leader.person("ada") as ada:
         await ada.line("S ^X=1")
         shutil.copytree(tmp_path / "journal", tmp_path / "shorter")
@@ -362,8 +356,7 @@ async def test_a_journal_that_has_lost_its_end_is_refused(start, tmp_path: Path)
 @in_loop()
 async def test_a_leader_that_was_stopped_stands_by(start, tmp_path: Path) -> None:
     """Without a snapshot: its store stands where the journal was then. It runs what the other one serves meanwhile and later, and takes over again."""
-    leader = leading(start, tmp_path / "journal")
-    second = standby(start, tmp_path / "journal")
+    leader, second = two_fronts(start, tmp_path / "journal")
     async with leader.person("ada") as ada, leader.person("ben") as ben:
         await asyncio.gather(works(ada, 3, 40), works(ben, 4, 40))
         await ada.line("K ^X S ^X=1,A=5")
@@ -391,8 +384,7 @@ async def goes_on(leader: Front, second: Front, left: int, journal: Path) -> Non
 @in_loop()
 async def test_a_leader_that_was_killed_stands_by(start, tmp_path: Path, alone: bool) -> None:
     """If all its lines were answered, its store comes after the last of them: whether nobody has served since (`alone`) or another one has."""
-    leader = leading(start, tmp_path / "journal", roll=4096)
-    second = standby(start, tmp_path / "journal")
+    leader, second = two_fronts(start, tmp_path / "journal", roll=4096)
     async with leader.person("ada") as ada:
         await works(ada, 5, 60)
         await ada.line("K ^X S ^X=1,A=5")
@@ -412,8 +404,7 @@ async def test_a_leader_that_was_killed_stands_by(start, tmp_path: Path, alone: 
 async def test_a_leader_that_was_killed_at_work_does_not_stand_by(start, tmp_path: Path) -> None:
     """Lines were on their way, and may have been run: the message says which, and what can be done. The note beside the store stays."""
     load, journal = Load(SLOW), tmp_path / "journal"
-    leader = leading(start, journal)
-    second = standby(start, journal)
+    leader, second = two_fronts(start, journal)
     await load.until_killed(leader, 1, journal)
     end = end_of(JournalSettings(journal))
     note = (leader.folder / "store.db.at").read_bytes()
@@ -467,8 +458,7 @@ async def test_a_stop_during_a_promotion(start, tmp_path: Path) -> None:
     """The promotion is given up, and the standby ends as at any stop: another one takes over, and then this one in its turn."""
     load, journal = Load(SLOW), tmp_path / "journal"
     # A standby looks for a stop and a promotion between two files: there are many small ones.
-    leader = leading(start, journal, roll=4096)
-    second = standby(start, journal)
+    leader, second = two_fronts(start, journal, roll=4096)
     # It is held up while users work, so that there is much to run at its promotion.
     second.process.send_signal(signal.SIGSTOP)
     try:
@@ -499,8 +489,7 @@ async def test_a_stop_during_a_promotion(start, tmp_path: Path) -> None:
 async def test_a_stop_between_a_promotion_and_the_service(start, tmp_path: Path) -> None:
     """One that the standby hears of when it is promoted already ends the service before it serves."""
     load, journal = Load(), tmp_path / "journal"
-    leader = leading(start, journal)
-    second = standby(start, journal)
+    leader, second = two_fronts(start, journal)
     second.stop()
     await load.until_killed(leader, 0.2)
     settings = read_settings(second.folder / "front.toml", False)

@@ -29,7 +29,7 @@ from mserve_front.records import BadJournal, Flush, LineRecord
 from mserve_front.settings import JournalSettings
 from mserve_front.standbys import said_in
 from running import PROGRAM
-from standing_by import Load, caught_up, fenced_off, stands_by, takes_over
+from standing_by import Load, caught_up, fenced_off, leading, standby, stands_by, takes_over, two_fronts
 from test_replay import backup, held, works
 
 
@@ -53,21 +53,6 @@ def cluster() -> Iterator[Cluster]:
 def journal(cluster: Cluster, request: pytest.FixtureRequest) -> JournalSettings:
     """A journal of this test's own."""
     return JournalSettings(database=cluster.place, name=request.node.name)
-
-
-def table(journal: JournalSettings) -> dict[str, object]:
-    """Its keys in the settings of a front."""
-    return {"database": journal.database, "name": journal.name}
-
-
-def standby(start, journal: dict[str, object]) -> Front:
-    """A standby over a store of its own."""
-    return start(store="store.db", words=["--follow"], awaited="standing by", journal=journal)
-
-
-def two_fronts(start, journal: dict[str, object]) -> tuple[Front, Front]:
-    """A front that writes a journal, and its standby."""
-    return start(store="store.db", journal=journal), standby(start, journal)
 
 
 @asynccontextmanager
@@ -203,7 +188,7 @@ async def served_again(person: Person, line: str) -> None:
 async def test_a_database_that_is_away(start, tmp_path: Path) -> None:
     """Lines are refused meanwhile and users told; then all goes on, and what was answered is in the journal."""
     async with own_cluster() as cluster:
-        front, second = two_fronts(start, {"database": cluster.place})
+        front, second = two_fronts(start, JournalSettings(database=cluster.place))
         async with front.person("ada") as ada, front.person("ben") as ben:
             work = asyncio.gather(works(ben, 3, 60))
             assert await ada.told("S ^X=1 W ^X") == "1"
@@ -280,7 +265,7 @@ async def goes_away_meanwhile(cluster: Cluster, front: Front, person: Person, li
 async def test_a_database_that_is_away_for_a_minute(start, tmp_path: Path) -> None:
     """A reply that cannot be noted is held back after half a minute, and noted once the database is there; nothing that was answered is lost."""
     async with own_cluster() as cluster:
-        front, second = two_fronts(start, {"database": cluster.place})
+        front, second = two_fronts(start, JournalSettings(database=cluster.place))
         async with front.person("ada") as ada, front.person("ben") as ben:
             assert await ada.told("S ^X=1 W ^X") == "1"
             await goes_away_meanwhile(cluster, front, ben, "S ^Y=$G(^Y)+1 W 7")
@@ -460,7 +445,7 @@ async def replayed_alike(front: Front, wire: Wire, cluster: Cluster, store: Path
 async def test_a_leader_that_lives_is_fenced_off(start, journal: JournalSettings, tmp_path: Path) -> None:
     """It hangs, and the standby has the database end its connection, by force. Once it goes on it acknowledges nothing, and ends; what the other one serves
     is not touched."""
-    leader, second = two_fronts(start, table(journal))
+    leader, second = two_fronts(start, journal)
     await fenced_off(leader, second, journal, "another front writes this journal")
     await stopped(second)
     assert mjournal(journal)("replay", "--program", PROGRAM, "--store", tmp_path / "all")[::2] == (0, "")
@@ -472,9 +457,9 @@ async def test_a_leader_that_lives_is_fenced_off(start, journal: JournalSettings
 async def test_leaders_that_are_killed(start, journal: JournalSettings, tmp_path: Path, count: int) -> None:
     """The lock goes with the leader's connection; what was answered is there, and nothing runs twice."""
     rng, load = random.Random(5), Load()
-    leader = start(store="store.db", journal=table(journal))
+    leader = leading(start, journal)
     for number in range(2 * count):
-        second = standby(start, table(journal))
+        second = standby(start, journal)
         assert "another front writes this journal" in await asyncio.to_thread(takes_over, second)
         await load.until_killed(leader, rng.uniform(0.05, 0.3))
         while why := await asyncio.to_thread(takes_over, second):
@@ -490,7 +475,7 @@ async def test_leaders_that_are_killed(start, journal: JournalSettings, tmp_path
 @in_loop()
 async def test_a_table_that_has_lost_its_last_rows(cluster: Cluster, start, journal: JournalSettings) -> None:
     """No row tells that others came after it; what is noted beside the store does."""
-    front = start(store="store.db", journal=table(journal))
+    front = leading(start, journal)
     async with front.person("ada") as ada:
         await ada.line("S ^X=1")
         await ada.line("S ^X=2")
@@ -509,7 +494,7 @@ async def test_a_table_that_has_lost_its_last_rows(cluster: Cluster, start, jour
 @in_loop()
 async def test_a_leader_hears_of_its_standby(start, journal: JournalSettings) -> None:
     """By the name of the standby's connection, which tells the journal and the line."""
-    front, second = two_fronts(start, table(journal))
+    front, second = two_fronts(start, journal)
     async with front.person("ada") as ada:
         await ada.line("S ^X=1")
         last = await caught_up(second, journal)
@@ -536,7 +521,7 @@ def freed(journal: JournalSettings) -> None:
 @in_loop()
 async def test_a_leader_that_was_killed_stands_by(start, journal: JournalSettings) -> None:
     """Its store comes after its last line, by the table, in which another one has written since."""
-    leader, second = two_fronts(start, table(journal))
+    leader, second = two_fronts(start, journal)
     async with leader.person("ada") as ada:
         await works(ada, 5, 30)
         await ada.line("K ^X S ^X=1")

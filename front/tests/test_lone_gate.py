@@ -1,0 +1,117 @@
+# SPDX-License-Identifier: Apache-2.0
+"""The gate of a machine that is alone, with one island: what signals, an operator's slips and a front that ends do to it."""
+from __future__ import annotations
+
+import asyncio
+import os
+import signal
+import subprocess
+import time
+from collections.abc import Iterator
+from pathlib import Path
+from types import SimpleNamespace
+
+import pytest
+from front import COMMAND, PASSWORD, SETTINGS, Patience, in_loop, toml, until, write_users
+from machines import Gate, Program
+from measured import started_by
+from mserve_front.islands import Home, IslandFront, Islands
+from mserve_front.placement import LocalPlacement, Machine
+from mserve_front.standing import read_standing
+from mserve_front.users import load
+from running import PROGRAM, free_port
+from test_alone import Alone
+
+ISLAND = "A"
+
+
+@pytest.fixture
+def gate(certificate: tuple[Path, Path], tmp_path: Path) -> Iterator[Gate]:
+    """A gate whose island's front serves."""
+    write_users(tmp_path / "users.json", {"ada": "CLINIC"})
+    (tmp_path / "machine.toml").write_text(toml({
+        "machine": {"name": "one", "folder": "islands", "users": "users.json", "program": PROGRAM},
+        "listen": {"port": free_port(), "lines_port": free_port(), "certificate": str(certificate[0]), "key": str(certificate[1])}}))
+    made = Alone(tmp_path, tmp_path / "machine.toml", certificate[0])
+    try:
+        assert made.does("place", ISLAND, SETTINGS, "one")[0] == 0
+        asyncio.run(until(lambda: serving(made) == 1, "a front that serves"))
+        yield made
+    finally:
+        made.process.kill()
+        made.process.wait()
+
+
+def serving(gate: Gate) -> int:
+    """How often a front of an island has begun to serve."""
+    return gate.told().count("serving at http:")
+
+
+@pytest.mark.parametrize("number", [signal.SIGTERM, signal.SIGINT, signal.SIGHUP])
+@in_loop()
+async def test_signals_up_to_the_end_leave_the_status(gate: Gate, number: signal.Signals) -> None:
+    """They hold the end up for no longer than they come, and the island's front has ended in order by then: it is known where its store stands."""
+    gate.process.terminate()
+    began = time.monotonic()
+    while gate.process.poll() is None and time.monotonic() - began < Patience.seconds:
+        gate.process.send_signal(number)
+        await asyncio.sleep(0.002)
+    assert gate.process.poll() == 0
+    standing = read_standing(gate.folder / "islands" / ISLAND / "store")
+    assert standing is not None and standing.number is not None, gate.told()
+
+
+@in_loop()
+async def test_what_an_operator_breaks_holds_no_island_up(gate: Gate) -> None:
+    """A placement that is gone ends nobody, and users come and go meanwhile. While the users' file cannot be read a front that ends is started again, with
+    the users of before."""
+    [front] = started_by([gate.process.pid])
+    users, placement = gate.folder / "users.json", gate.folder / "islands" / "placement.json"
+    placement.rename(placement.with_suffix(".away"))
+    await until(lambda: "placement.json: it is gone" in gate.told(), "a placement that is missed")
+    write_users(users, {"ben": "CLINIC"})
+    await until(lambda: list(load(gate.folder / "islands" / ISLAND / "users.json")) == ["ben"], "the users of now")
+    users.write_text("broken")
+    await until(lambda: "the users stay as they were: " in gate.told(), "users who are missed")
+    assert started_by([gate.process.pid]) == [front]
+    placement.with_suffix(".away").rename(placement)
+    await until(lambda: "the placement can be read again" in gate.told(), "a placement that is back")
+    os.kill(front, signal.SIGKILL)
+    await until(lambda: serving(gate) == 2, "a front that is started again")
+    write_users(users, {"ben": "CLINIC"})
+    await until(lambda: "the users can be read again" in gate.told(), "users who are back")
+
+
+@in_loop()
+async def test_a_new_customer_comes_with_a_user(gate: Gate) -> None:
+    """The island is placed, and its user added, by the settings of the machine; then they sign on."""
+    (gate.folder / "new.toml").write_text('[[account]]\nname = "NEW"\nterminals = [1]\nsteps = 1000\n')
+    assert gate.does("place", "NEW", gate.folder / "new.toml", "one")[0] == 0
+    words = [*COMMAND, "user", "add", "tim", "NEW", "--config", gate.config]
+    done = await asyncio.to_thread(subprocess.run, words, input=PASSWORD, capture_output=True, text=True, timeout=2 * Patience.seconds)
+    assert done.returncode == 0, done.stderr
+    tim = Program(gate, "tim")
+    await tim.signed_on()
+    assert await tim.told("W 6*7") == "42"
+    tim.close()
+
+
+@in_loop()
+async def test_a_front_that_ends_during_a_reload_is_no_fault(tmp_path: Path, monkeypatch: pytest.MonkeyPatch) -> None:
+    """A reload writes the settings of each front before it has it read them. A fault there would have kept the gate from ending the other fronts at its
+    stop: they were killed, in place of being ended in order. Several reloads of a front that has just begun are one."""
+    def gone(number: int) -> None:
+        raise ProcessLookupError
+    machine = Machine("one", "localhost", 1)
+    islands = Islands(Home(machine, tmp_path, tmp_path / "users.json", None, "mserve", ()), LocalPlacement(tmp_path, machine))
+    process, written = SimpleNamespace(returncode=None, send_signal=gone), []
+
+    def ends(front: IslandFront) -> None:
+        written.append(front)
+        process.returncode = 1
+    monkeypatch.setattr(islands, "_write_front", ends)
+    islands._fronts[ISLAND] = IslandFront(ISLAND, {}, False, "", process=process, began=time.monotonic() - 9.8)
+    for _ in range(3):
+        islands.reopen()
+    await until(lambda: not islands._reopening, "a reload that has ended")
+    assert len(written) == 1

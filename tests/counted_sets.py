@@ -4,7 +4,6 @@ from __future__ import annotations
 
 from running import run
 
-SETTINGS = '[[account]]\nname = "ALICE"\nterminals = [1]\nsteps = 1000000\n'
 # Counts the nodes, and those that have not their own text.
 COUNT = b'1 S N=0,B=0,X="" F  S X=$O(^K(X)) Q:X=""  S N=N+1 S:^K(X)\'=(X_":"_$J(X,200)) B=B+1\n1 W N,",",B,",",$O(^K(""),-1)\n'
 

@@ -53,16 +53,21 @@ TEXTS = [
     'S ^{g}({i})=$RE({v})**{i} W ^{g}({i})**-1', 'X "W 2**$RE({v})"', 'S ^{g}({i})=$J($RE({v})/7,9,3) W ^{g}({i})',
     'W !?{i},$X,",",$Y,$RE({v})', 'S ^{g}({i})=$X_","_$Y_$RE({v}) W ^{g}({i})', 'W #,?{v},*{v}+40,$RE("{g}"),!#', 'X "W ?{i},$RE({v})" W $X',
     'W ^|"{o}"|{g}($X),$RE({v})',
+    'W $QL("^|""{o}""|{g}({i})"),$RE({v})', 'S ^{g}($QL("A({i},1)"))=$QS("A({v},1)",1) W $RE({v})', 'W $QS("^|""{o}""|{g}({i})",-1),$RE({v})',
     'W $FN($RE({v}_1234),",T",2)', 'S ^{g}({i})=$FN($RE({v})*7777,"P,") W ^{g}({i})',
     'S ^ROUTINE("P",1)="A(X,Y) S X=$G(X)_{v},^{g}({i})=X W X,$QUIT Q"', 'S ^ROUTINE("P",2)="B(X) K X S X=$G(^{g}({i})) D A(.X) Q"',
     'D A^P(.A,$RE({v})) W A', 'D B^P(.A),A^P($RE({v}),.A) W $G(A)', 'D A^P(^|"{o}"|{g}({i}),$RE({v}))', 'W {v} Q $RE({v})',
     'S A="A" D A^P(.@A,$RE({v})),B^P(.A):A>1 W A',
+    'S ^ROUTINE("P",3)="V(X) S ^{g}({i})=$G(X)_{v} Q ^{g}({i})_$QUIT"', 'S ^ROUTINE("P",4)="W(X) Q:$G(X)<1 {v} Q $$W(X-1)_$$V(.X)"',
+    'W $$V^P({v}),$RE({v})', 'S ^{g}({i})=$$W^P($RE({v}),1) W ^{g}({i})', 'W:$$V^P(.A)[$RE({v}) $$W^P(2),A', 'D A^P(.A,$$V^P($RE({v}))) W A',
+    'W $RE({v}) X "W $$V^P($G(^{g}({i})))"', 'S A=$$V^P(^|"{o}"|{g}({i}))_$RE({v}) W A',
     'S $E(^{g}({i}),2,3)=$RE({v}) W ^{g}({i})', 'S $P(^|"{o}"|{g}({i}),",",2,3)=$RE({v})', 'S $E(^|"{o}"|{g}({i}),0)=$RE({v}) W $D(^({i}))',
 ]
 # Lines that have routines of others run, and that store routines whose lines do so. These have DO as a whole word: in D and G a line is known that
 # does it itself.
 LIBRARY_TEXTS = [
     *['D A^|"{o}"|R', 'D ^|"{o}"|R', 'D C^|"{o}"|L({v},.A) W A', 'D E^|"{o}"|L', 'D D^|"{o}"|L'] * 2, 'D B^|"{o}"|R W $X', 'G A^|"{o}"|R', 'G E^|"{o}"|L',
+    'W $$V^|"{o}"|L({v})', 'S A=$$K^|"{o}"|L(.A) W A', 'S ^ROUTINE("L",9)="K(X) S X={v},^{g}({i})=X Q $$V(X)"', *['D C^|"{o}"|L($$V^|"{o}"|L,.A)'] * 2,
     'D A^|"{o}"|R:1,E^|"{o}"|L:0', 'X "D E^|""{o}""|L"', 'D A^|"{o}"|P(.A,{v}) W A', 'D B^|"{o}"|P(.A),E^|"{o}"|L', 'D NO^|"{o}"|R', 'D A^|"{o}"|NONE',
     'D E^|"no name"|L', 'D E^|""|L', 'S E="E^|""{o}""|L" D @E', 'D F^|"{o}"|L', 'D G^|"{o}"|L', 'D H^|"{o}"|L', 'D I^|"{o}"|L', 'D E^|"{o}"|L W $D(^{g}),$T',
     'S ^ROUTINE("L",1)="C(X,Y) S Y=X,^{g}({i})=X D E W ^{g}({i}) Q"', 'S ^ROUTINE("L",2)="D DO A^R Q"', 'S ^ROUTINE("L",2)="D DO E^|""{o}""|L Q"',
@@ -71,7 +76,8 @@ LIBRARY_TEXTS = [
     'S ^ROUTINE("L",6)="H S ^|""{o}""|ROUTINE(""L"",3)=""E W {v} Q"" D E Q"', 'S ^ROUTINE("L",7)="I DO E,A^R,^|""{o}""|R Q"',
 ]
 # What each account has stored before them.
-LIBRARY = r'S ^ROUTINE("L",1)="C(X,Y) S Y=X D E Q",^ROUTINE("L",3)="E W ""{v}"" Q",^ROUTINE("L",4)="F W $D(^X),$D(^Y) Q",^ROUTINE("R",1)="A W {v},$D(^X) Q"'
+LIBRARY = (r'S ^ROUTINE("L",8)="V(X) Q $G(X)_$D(^X)",'
+           r'^ROUTINE("L",1)="C(X,Y) S Y=X D E Q",^ROUTINE("L",3)="E W ""{v}"" Q",^ROUTINE("L",4)="F W $D(^X),$D(^Y) Q",^ROUTINE("R",1)="A W {v},$D(^X) Q"')
 # What a line has that is in language 1 alone: where it is reached, language 0 ends by ZSYNTAX.
 LATER = re.compile(rb'\$RE\(|\b[DG] \w*\^\|"')
 # What a line begins with that has a routine of an account run.

@@ -17,8 +17,8 @@ from pathlib import Path
 
 from old_stores import NEW, TABLES, key
 from running import run, run_words
+from support import MOST_STEPS
 
-SETTINGS = '[[account]]\nname = "ALICE"\nterminals = [1]\nsteps = 1000000\n'
 # What is read in place of the truth, in the order in which the library counts.
 KINDS = ("other bytes", "one bit", "older bytes", "zeros")
 # The program takes the log back to its start at a change after this many frames, of which a change makes two or more.
@@ -136,7 +136,7 @@ def small_scene(folder: Path, has_sums: bool) -> Scene:
     """Sixty nodes on nine pages. Of the lower ones some were changed in an earlier run, and are in the file; of the upper ones some are in the
     log alone, which had been taken back to its start."""
     settings, numbers = str(folder / "settings.toml"), range(1, 61)
-    Path(settings).write_text(SETTINGS, encoding="ascii")
+    Path(settings).write_text(MOST_STEPS, encoding="ascii")
     if has_sums:
         blank_with_sums(str(folder / "store"))
     scene = Scene(folder, settings, {}, [])
@@ -173,7 +173,7 @@ def large_scene(folder: Path, changes: int, session: list[Step]) -> Scene:
     """A store of more pages than the program keeps. A node on each page was changed in an earlier run, and this many changes are in the log, but for
     those before it was taken back to its start."""
     settings = str(folder / "settings.toml")
-    Path(settings).write_text(SETTINGS, encoding="ascii")
+    Path(settings).write_text(MOST_STEPS, encoding="ascii")
     numbers = range(1, MANY + 1)
     database_of(str(folder / "store"), numbers, "first", 512)
     shutil.copyfile(folder / "store", folder / "older")

@@ -17,6 +17,7 @@ from collections.abc import Callable, Iterator, Sequence
 from dataclasses import dataclass
 from typing import IO
 
+from mserve_client.settings_file import MAX_STEPS, Account
 from running import ONE_ACCOUNT, PROGRAM, connected, free_port, run_words, serve_words
 
 LINE = b"1 WRITE 1+2*3\n"
@@ -26,6 +27,8 @@ Ended = tuple[int, bytes, bytes]
 Grant = tuple[str, str, str, str]
 # Settings of an account with one terminal.
 ACCOUNT = '[[account]]\nname = "A{0}"\nterminals = [{0}]\nsteps = {1}\n'
+# Settings of one account, whose lines may use as many steps as settings can give.
+MOST_STEPS = str(Account("ALICE", (1,), MAX_STEPS))
 # Lines of which each leaves its number, in a local variable and in a global.
 COUNTED = [(b"1 S A=%d,^A=A W A\n" % number, b"1-%d\n1.\n" % number) for number in (1, 2, 3)]
 

@@ -33,11 +33,11 @@ def test_drawn_lines(count: int, language: int) -> None:
 @needs_gtm
 @pytest.mark.long
 def test_drawn_lines_that_hand_something_over(count: int) -> None:
-    """2,500 lines with actuals, and `--count` times as many; between them what GT.M wants (drawn_calls.READY, AGAIN)."""
+    """2,500 lines with actuals and functions, and `--count` times as many; between them what GT.M wants (drawn_calls.AGAIN)."""
     drawn, known = Random(71), differences()
     lines, faults = compared([session_of(drawn, PARAMETERS) for _ in range(HANDED * count)], known)
     assert [fault.told() for fault in faults] == []
-    assert lines >= 7000 * count
+    assert lines >= 4500 * count
 
 
 @needs_gtm

@@ -11,21 +11,13 @@ from random import Random
 import pytest
 from against_gtm import replies
 from drawn_forms import quoted
+from mserve_client.settings_file import Account, Grant, Settings
 from running import TOP
 from second_interpreter.languages import COMING
 from second_interpreter.world import World, deep
 
-TWO = '''
-[[account]]
-name = "A"
-terminals = [1]
-steps = 900
-[[account]]
-name = "B"
-terminals = [2]
-steps = 60
-''' + "".join(f'[[grant]]\nfrom = "B"\nto = "A"\nglobal = "{name}"\nmode = "{mode}"\n'
-              for name, mode in (("X", "read"), ("X", "write"), ("NONE", "write"), ("Z", "read"), ("ROUTINE", "read")))
+GRANTED = (("X", "read"), ("X", "write"), ("NONE", "write"), ("Z", "read"), ("ROUTINE", "read"))
+TWO = str(Settings((Account("A", (1,), 900), Account("B", (2,), 60)), tuple(Grant("B", "A", name, mode) for name, mode in GRANTED)))
 STORED = ["1 S ^A=1,^B(1,2)=3,^ROUTINE(\"R\",1)=\"R Q\",^ROUTINE(\"a b\",1)=1,^ROUTINE(7,1)=1,^ROUTINE(\"T\",2)=\" Q\"",
           "2 S ^A=1,^X(1)=2,^Z=3,^ROUTINE(\"L\",1)=\"L Q\",^(\"x-\")=1"]
 LISTED = [

@@ -12,12 +12,11 @@ from pathlib import Path
 
 import pytest
 from running import connected, run
-from support import server
+from support import MOST_STEPS, server
 
 NODES = 100
 SETS = b"".join(b'1 S ^B(%d)="%d:"_$J(%d,100)\n' % (number, number, number) for number in range(1, NODES + 1))
 COUNT = b'1 S N=0,X="" F  S X=$O(^B(X)) Q:X=""  S:^B(X)=(X_":"_$J(X,100)) N=N+1\n1 W N,",",$D(^LATER)\n'
-STEPS = '[[account]]\nname = "ALICE"\nterminals = [1]\nsteps = 1000000\n'
 
 
 def copied(store: str, folder: Path) -> str:
@@ -57,7 +56,7 @@ def is_locked(store: str) -> bool:
 def test_copy_beside_a_server(written: Callable[[str], str], store: str, tmp_path: Path) -> None:
     """It is taken while no line is under way; then the server goes on, and is killed. Its store, once a run over it has ended by itself, is the
     file alone."""
-    settings = written(STEPS)
+    settings = written(MOST_STEPS)
     with server(1, store, settings) as running, connected(running.port) as client:
         answered(client, SETS, NODES)
         copy = copied(store, tmp_path / "running")

@@ -37,7 +37,8 @@ def test_tables(tmp_path: Path) -> None:
         "| lines of 4 | 0.0 % | 0.0 % |",
         "| lines with code of 3 | 0.0 % | 0.0 % |", "", "| first cause | lines | routines |", "|---|---|---|", "| $HOROLOG | 1 | 1 |",
         "| QUIT with a value, which needs language 1 of the account's settings | 1 | 1 |",
-        "| a label with parameters, which needs language 1 of the account's settings | 1 | 1 |", "| an extrinsic function | 1 | 1 |"]
+        "| a label with parameters, which needs language 1 of the account's settings | 1 | 1 |",
+        "| an extrinsic function, which needs language 1 of the account's settings | 1 | 1 |"]
 
 
 def test_folder_without_routines_and_other_languages(tmp_path: Path) -> None:

@@ -29,6 +29,7 @@ from pathlib import Path
 
 import pytest
 from blocks import blocks, given_bytes, line_bytes
+from mserve_client.settings_file import Account
 from running import ONE_ACCOUNT, PROGRAM, free_port, run, run_words, serve_words
 from support import COUNTED, answered_in_turn, asked
 
@@ -50,15 +51,7 @@ FATES = [
 UNFINISHED = [
     (b"\n", b""), (b"x W 1\n", b"?!ZWIRE\n"), (b"9 W 1\r\n", b"9!ZTERM\n"), (b"1 \n", b"1.\n"), (b"01 W 1\n", b"?!ZWIRE\n"), (b"3  W 2", b"3!ZTERM\n"),
 ]
-TERMINAL_TWICE = """[[account]]
-name = "ALICE"
-terminals = [1]
-steps = 2000
-[[account]]
-name = "BOB"
-terminals = [1]
-steps = 2000
-"""
+TERMINAL_TWICE = "".join(str(Account(name, (1,), 2000)) for name in ("ALICE", "BOB"))
 STREAMS = {
     "lines of each fate": FATES, "an unfinished last line": UNFINISHED, "numbers": COUNTED,
     **{block.name: [(line_bytes(case), given_bytes(given)) for case, given in block.cases]

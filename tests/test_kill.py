@@ -12,8 +12,9 @@ from collections.abc import Callable
 from typing import IO
 
 import pytest
-from counted_sets import SETTINGS, held, set_line
+from counted_sets import held, set_line
 from running import run_words
+from support import MOST_STEPS
 
 # Each of this many stores is used for this many kills: a log that was left is read again by the next run.
 STORES, KILLS = 8, 5
@@ -60,4 +61,4 @@ def kill_often(settings: str, store: str, chance: random.Random) -> None:
 @pytest.mark.parametrize("number", range(STORES))
 def test_killed_over_a_file(number: int, written: Callable[[str], str], store: str, count: int) -> None:
     for turn in range(count):
-        kill_often(written(SETTINGS), f"{store}{turn}", random.Random(f"1756 {number} {turn}"))
+        kill_often(written(MOST_STEPS), f"{store}{turn}", random.Random(f"1756 {number} {turn}"))

@@ -15,7 +15,7 @@ from random import Random
 import pytest
 from old_stores import NEW, OLD, Node, Row, after, before, drawn_nodes, held, key, make, moving
 from running import ONE_ACCOUNT, run, run_words
-from support import LINE, REPLY, content, full_after, refused
+from support import LINE, MOST_STEPS, REPLY, content, full_after, refused
 
 # Each of this many stores has this many nodes.
 STORES, NODES = 6, 1000
@@ -34,7 +34,6 @@ BAD_ROWS: dict[str, Row] = {
     "a value with a byte over 127": (key(LONGER, OLD), b"\x80"),
     "a value of 4,096 bytes": (key(LONGER, OLD), b"a" * 4096),
 }
-MANY_STEPS = '[[account]]\nname = "ALICE"\nterminals = [1]\nsteps = 1000000\n'
 
 
 def literal(text: str) -> str:
@@ -56,7 +55,7 @@ def questions(nodes: dict[Node, str]) -> bytes:
 
 def settings_with_steps(written: Callable[[str], str]) -> str:
     """Settings by which a line may walk over all nodes."""
-    return written(MANY_STEPS)
+    return written(MOST_STEPS)
 
 
 def answers_as_anew(nodes: dict[Node, str], store: str, settings: str) -> None:

@@ -14,8 +14,9 @@ from collections.abc import Callable
 from pathlib import Path
 
 import pytest
-from counted_sets import SETTINGS, found, set_line
+from counted_sets import found, set_line
 from running import run_words
+from support import MOST_STEPS
 
 # This many SETs of each stream, and at this many moments of the long one the power goes.
 SHORT, LONG, SOME = 20, 400, 160
@@ -62,7 +63,7 @@ def lost(library: str, settings: str, store: str, moment: tuple[int, int], **var
 
 @pytest.mark.parametrize("part", range(PARTS))
 def test_power_goes(part: int, power_library: str, written: Callable[[str], str], folder_in_memory: Path, count: int) -> None:
-    settings = written(SETTINGS)
+    settings = written(MOST_STEPS)
     every = moments(power_library, settings, folder_in_memory, count)
     assert len(every) >= 200
     for number, moment in enumerate(every[part::PARTS]):
@@ -74,7 +75,7 @@ def test_power_goes(part: int, power_library: str, written: Callable[[str], str]
 
 def test_a_lost_write_is_seen(power_library: str, written: Callable[[str], str], folder_in_memory: Path) -> None:
     """Where the disk loses a write that it had synced, a SET that was answered is lost."""
-    settings = written(SETTINGS)
+    settings = written(MOST_STEPS)
     ends = ran(power_library, settings, str(folder_in_memory / "whole"), SHORT)[2]
     every = [lost(power_library, settings, str(folder_in_memory / str(call)), (SHORT, call), LOSE_SYNCED=1) for call in range(1, ends + 1)]
     losses = [(answered, now) for answered, now in every if now not in (answered, answered + 1)]

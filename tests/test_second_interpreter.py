@@ -11,10 +11,10 @@ from against_gtm import replies
 from blocks import SERVED, Block, blocks
 from drawn_calls import actuals_of_do
 from drawn_forms import PARAMETERS as FORMS, ROUTINES, quoted, session, session_of
-from drawn_libraries import CLINIC, LIB, SHARED, Sent, beginning, session as session_of_libraries, stored as stored_by
+from drawn_libraries import CLINIC, LIB, SHARED, Sent, beginning, functions_of, session as session_of_libraries, stored as stored_by
 from second_interpreter.world import LONGEST_LINE, World, deep
 from support import ACCOUNT, content, replies as program_replies
-from test_coming import CALLED, PARAMETERS
+from test_coming import CALLED, FUNCTIONS, PARAMETERS
 
 # A session of this many lines each; some 2,000 lines.
 SESSIONS = 120
@@ -111,7 +111,8 @@ def test_library_does_what_the_same_lines_do_as_ones_own(count: int) -> None:
     drawn, settings = Random(81), SERVED["libraries"]
     begun = [line for terminal in (LIB, CLINIC) for line in stored_by(terminal, SHARED)]
     for _ in range(count):
-        drawn_lines = [line for _ in range(10 * CALLING) for line in actuals_of_do(drawn, lambda: drawn.choice(['|"LIB"|', '|"LIB"|', ""]))]
+        drawn_lines = [line for _ in range(5 * CALLING) for form in (actuals_of_do, functions_of)
+                       for line in form(drawn, lambda: drawn.choice(['|"LIB"|', '|"LIB"|', ""]))]
         shared = [*begun, *((CLINIC, line) for line in drawn_lines if len(line) <= LONGEST_LINE and "@D" not in line)]
         own = [(terminal, as_own(line)) for terminal, line in shared]
         answers = interpreted(sent(shared), settings), *(program_replies(sent(lines), settings=settings) for lines in (own, shared))
@@ -121,9 +122,10 @@ def test_library_does_what_the_same_lines_do_as_ones_own(count: int) -> None:
 
 @pytest.mark.parametrize("language", [0, 1])
 def test_lines_with_actuals_beside_the_program(language: int, written: Callable[[str], str]) -> None:
-    """Each line that hands something over, after the same beginning. With the profile most are no lines."""
+    """Each line that hands something over or calls a function, after the same beginning. With the profile most are no lines, and with language 1 those
+    with functions where none is called."""
     settings = written(f"{ACCOUNT.format(1, 100_000)}language = {language}\n")
-    lines = [*stored(CALLED), *(line for one in PARAMETERS for line in ("K  K ^A W !", one))]
+    lines = [*stored(CALLED), *(line for one in [*PARAMETERS, *FUNCTIONS] for line in ("K  K ^A W !", one))]
     ours, programs = interpreted(stream(lines), settings), program_replies(stream(lines), settings=settings)
     for line, one, other in zip(lines, replies(ours.decode("ascii")), replies(programs.decode("ascii")), strict=True):
         assert (line, one) == (line, other)

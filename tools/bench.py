@@ -15,6 +15,8 @@ do the same work beside it if they are installed.
                                     and what ten times as much takes
                                     (a pass goes over all of them, so that a slow minute of the machine meets all)
 
+Workloads that call functions are left out, and named, as long as the program refuses functions.
+
 The loop is the reference since it is there wherever the script runs, asks for no memory, and is bound
 as the program is: by the clock of the processor and the branches of an interpreter. Python's version
 is printed, since the loop's speed depends on it.
@@ -40,7 +42,7 @@ from collections.abc import Iterable, Iterator
 from dataclasses import dataclass, field
 from typing import IO
 
-from running import TOP, require_program, run_words
+from running import OF_LANGUAGE, TOP, require_program, run, run_words
 
 WORKLOADS = os.path.join(TOP, "tools", "benchmarks", "workloads.txt")
 TWINS = os.path.join(TOP, "tools", "benchmarks", "twins.txt")
@@ -74,13 +76,18 @@ ROUTINE_LINE = re.compile(r'^1: 1 S \^ROUTINE\("(\w+)",\d+\)="(.*)"$')
 
 @dataclass
 class Workload:
-    """A workload: its name, the unit of its operations and their count, the checksum of its replies,
-    and its lines with their counts: those of the set-up and the timed ones, for M and for SQLite."""
+    """A workload: its name, the unit of its operations and their count, the checksum of its replies, the language of
+    its accounts, and its lines with their counts: those of the set-up and the timed ones, for M and for SQLite."""
     name: str
     unit: str
     operations: int
     checksum: int
+    language: int = 0
     lines: dict[str, list[str]] = field(default_factory=lambda: {part: [] for part in PARTS})
+
+    def calls_functions(self) -> bool:
+        """Whether a line of it has a function's call."""
+        return any("$$" in form for form in [*self.lines["m"], *self.lines["m timed"]])
 
     def text(self, part: str, scale: int) -> bytes:
         """The lines of a part, those that stand more than once that many times more often."""
@@ -119,8 +126,8 @@ def workloads(path: str = WORKLOADS) -> Iterator[Workload]:
     with open(path, encoding="ascii") as file:
         blocks = file.read().split("\n\n")
     for header, *lines in (block.strip("\n").split("\n") for block in blocks if block.startswith("== ")):
-        name, unit, operations, checksum = header.removeprefix("== ").split(" | ")
-        made = Workload(name, unit, int(operations), int(checksum, 16))
+        name, unit, operations, checksum, *language = header.removeprefix("== ").split(" | ")
+        made = Workload(name, unit, int(operations), int(checksum, 16), int(*language))
         part = {"m": "m", "sql": "sql"}
         for line in lines:
             kind = "sql" if line.startswith("sql ") else "m"
@@ -191,10 +198,7 @@ class Subjects:
 
     def __init__(self, folder: str) -> None:
         self.folder = folder
-        self.settings = os.path.join(folder, "settings.toml")
-        with open(self.settings, "w", encoding="ascii") as file:
-            for terminal in range(1, ACCOUNTS + 1):
-                file.write(f'[[account]]\nname = "A{terminal}"\nterminals = [{terminal}]\nsteps = 1000000\n')
+        self.settings = [self.settings_made(language) for language in OF_LANGUAGE]
         self.dist = gtm_folder()
         self.sqlite = shutil.which("sqlite3")
         missing = [name for name, found in ((GTM, self.dist), (SQLITE, self.sqlite)) if not found]
@@ -202,6 +206,21 @@ class Subjects:
             print(f"bench: {name} is not installed, and left out", file=sys.stderr)
         self.names = [*STORES, *(name for name in (GTM, SQLITE) if name not in missing)]
         self.beside_reference = True
+
+    def settings_made(self, language: int) -> str:
+        """A file of settings of many accounts that have a language."""
+        path = os.path.join(self.folder, f"language-{language}.toml")
+        with open(path, "w", encoding="ascii") as file:
+            for terminal in range(1, ACCOUNTS + 1):
+                file.write(f'[[account]]\nname = "A{terminal}"\nterminals = [{terminal}]\nsteps = 1000000\nlanguage = {language}\n')
+        return path
+
+    def take(self, work: Workload) -> bool:
+        """Whether the program has all that a workload needs; it is named if not. A function that is not there is M13 where there are functions."""
+        if not work.calls_functions() or run(b"1 W $$F^NONE\n", self.settings[work.language])[1] == b"1!M13\n":
+            return True
+        print(f"bench: the program calls no functions, and {work.name} is left out", file=sys.stderr)
+        return False
 
     def run(self, subject: str, work: Workload, scale: int) -> Measured:
         """What a subject takes for a workload once."""
@@ -216,7 +235,7 @@ class Subjects:
             words = [os.path.join(self.dist, "mumps"), "-run", "bench"]
             return timed(words, setup, timed_lines, cwd=self.folder, env=self.gtm_made(work))
         store = subject if subject == "memory" else os.path.join(self.folder, "bench.db")
-        once = timed(run_words(self.settings, store), setup, timed_lines)
+        once = timed(run_words(self.settings[work.language], store), setup, timed_lines)
         once.replies = plain(once.replies)
         return once
 
@@ -333,7 +352,7 @@ def twin_rows(subjects: Subjects, asked: argparse.Namespace) -> Iterator[tuple[s
     lines of many accounts."""
     subjects.beside_reference = False
     twins = {twin.name: twin for twin in workloads(TWINS)}
-    wanted = [work for work in workloads(asked.workloads) if not asked.names or any(name in work.name for name in asked.names)]
+    wanted = asked_workloads(subjects, asked)
     jobs: dict[str, Job] = {}
     for work in wanted:
         if twin := twins.get(work.name):
@@ -381,11 +400,15 @@ def asked_for() -> argparse.Namespace:
     return read.parse_args()
 
 
+def asked_workloads(subjects: Subjects, asked: argparse.Namespace) -> list[Workload]:
+    """The workloads that are asked for, and that the program can run."""
+    wanted = [work for work in workloads(asked.workloads) if not asked.names or any(name in work.name for name in asked.names)]
+    return [work for work in wanted if subjects.take(work)]
+
+
 def rows(subjects: Subjects, asked: argparse.Namespace) -> Iterator[tuple[str, list[str]]]:
     """A row of the table for each workload, and what is wrong with the replies."""
-    for work in workloads(asked.workloads):
-        if asked.names and not any(name in work.name for name in asked.names):
-            continue
+    for work in asked_workloads(subjects, asked):
         found = measured(subjects, work, asked.passes, 1)
         wrong = [*faults(work, found, 1)]
         larger: dict[str, Measured] = {}

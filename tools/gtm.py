@@ -10,14 +10,16 @@ from pathlib import Path
 
 # A line's output ends by this character, its code comes before the next one.
 MARK = "\x1e"
-# Reads lines and runs each as a level of its own. An error unwinds to the level of the loop, so that nothing of the line goes on.
+# Reads lines and runs each as a level of its own. An error unwinds to the level of the loop, so that nothing of the line goes on. It begins with a
+# call that hands something over: before the first one of a process GT.M hides no formal parameters of a DO without a list.
 LOOP = """against ;
- u $p:(width=1048576:nowrap)
+ u $p:(width=1048576:nowrap) d once(1)
  f  r %line q:$zeof  d run
  q
 run n $et s $et="zg "_$zl_":fault^against"
  x %line
  s %line=$x w $c(30),$c(30) s $x=%line q
+once(%x) q
 fault s %line=$ec,%line(1)=$x,$ec="" w $c(30),%line,$c(30) s $x=%line(1)
  q
 """

@@ -27,6 +27,8 @@ OLDER_FUNCTIONS = {
     "handles_of": ("root",),
     "stop": ("why",),
 }
+# What a script does if there is no module.
+BY_COMMAND = "`rt` itself is run, with fewer jobs"
 
 
 def command() -> str:
@@ -49,17 +51,17 @@ def lacking(module: ModuleType, wanted: dict[str, tuple[str, ...]]) -> list[str]
     return [name for name, call in found.items() if not callable(call) or tuple(inspect.signature(call).parameters) != wanted[name]]
 
 
-def load() -> ModuleType | None:
-    """The kit's command as a module; None, and a line that says why, if this kit has another form."""
-    return loaded(FUNCTIONS)
+def load(otherwise: str = BY_COMMAND) -> ModuleType | None:
+    """The kit's command as a module; None if this kit has another form, and a line that says why, and what the script does then."""
+    return loaded(FUNCTIONS, otherwise)
 
 
 def load_older() -> ModuleType | None:
     """The same for a kit whose `rt ci` keeps nothing."""
-    return loaded(OLDER_FUNCTIONS)
+    return loaded(OLDER_FUNCTIONS, BY_COMMAND)
 
 
-def loaded(wanted: dict[str, tuple[str, ...]]) -> ModuleType | None:
+def loaded(wanted: dict[str, tuple[str, ...]], otherwise: str) -> ModuleType | None:
     """The kit's command as a module, if it has these functions."""
     path = text_of_command()
     loader = importlib.machinery.SourceFileLoader("rt", path)
@@ -73,6 +75,6 @@ def loaded(wanted: dict[str, tuple[str, ...]]) -> ModuleType | None:
         others = [str(error)]
     if others:
         why = f"{path} has another form than tools/kit.py knows ({', '.join(others)})"
-        print(f"kit: {why}, so `rt` itself is run, with fewer jobs", file=sys.stderr, flush=True)
+        print(f"kit: {why}, so {otherwise}", file=sys.stderr, flush=True)
         return None
     return module

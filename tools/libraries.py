@@ -40,9 +40,8 @@ def main(words: list[str]) -> int:
     names = crates_named(words, "libraries", __doc__)
     if names is None:
         return 2
-    module = kit.load()
+    module = kit.load("no library is placed")
     if module is None:
-        print("libraries: this kit keeps nothing of what `rt ci` proves", file=sys.stderr)
         return 1
     os.chdir(TOP)
     module.Crate.allowed = module.handles_of(TOP)

@@ -83,12 +83,17 @@ def cause_words(cause: causes.Cause) -> dict[str, object]:
     return {name: value for name, value in found.items() if value not in ("", 0, None) and name != "example" or name == "advice"}
 
 
+def key_of(name: str) -> str:
+    """A key as JavaScript has it, in quotes if it is no name."""
+    return name if re.fullmatch("[A-Za-z_$][A-Za-z0-9_$]*", name) else json.dumps(name)
+
+
 def written(value: object) -> str:
     """A value as JavaScript has it: a key that is a name or a number stands without quotes, and a rule or a cause in one line."""
     if isinstance(value, list):
         return "[\n" + "".join(f"  {json.dumps(one)},\n" for one in value) + "]"
     if isinstance(value, dict) and value and all(isinstance(step, list) for step in value.values()):
-        return "{\n" + "".join(f"  {name}: {json.dumps(step)},\n" for name, step in value.items()) + "}"
+        return "{\n" + "".join(f"  {key_of(name)}: {json.dumps(step)},\n" for name, step in value.items()) + "}"
     if isinstance(value, dict) and value and all(isinstance(name, int) and isinstance(one, dict) for name, one in value.items()):
         return "{\n" + "".join(f"{textwrap.indent(f'{number}: {written(one)}', '  ')},\n" for number, one in value.items()) + "}"
     return re.sub(r'^( *)"([A-Za-z_$][A-Za-z0-9_$]*|[0-9]+)":', r"\1\2:", json.dumps(value, indent=2), flags=re.MULTILINE)

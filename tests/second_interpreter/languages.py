@@ -8,11 +8,12 @@ SINCE = {
     "$FNUMBER": 1, "$JUSTIFY of three": 1, "$REVERSE": 1, "pattern alternation": 1,
     "pattern indirection": 1, "pages of WRITE": 1, "$X and $Y": 1, "formats of WRITE": 1,
     "codes of WRITE": 1, "SET $EXTRACT": 1, "SET $PIECE of several": 1, "HANG": 1, "special variables of terminals": 1, "**": 1,
-    "$INCREMENT": COMING, "$NAME": COMING, "$QLENGTH": COMING, "$QSUBSCRIPT": COMING, "$QUERY": COMING, "MERGE": COMING,
+    "$INCREMENT": COMING, "$NAME": COMING, "$QLENGTH": 1, "$QSUBSCRIPT": 1, "$QUERY": COMING, "MERGE": COMING,
     "$TEXT": COMING, "indirection of entries": COMING, "labels of digits": COMING, "offsets of entries": COMING,
     "names of globals": COMING,
     "libraries": 1, "parameters": 1, "special variables": 1, "values of QUIT": 1,
-    "functions": COMING,
+    # "functions" is of calls that can be carried out a step at a time, and the other of those in subscripts, targets, choices and the like.
+    "functions": 1, "functions anywhere": COMING,
 }
 
 

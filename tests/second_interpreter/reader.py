@@ -98,6 +98,8 @@ def fault_at(text: str, language: int) -> int:
 def reference(text: str, language: int) -> Tree:
     """A variable, whole and alone."""
     reader = Reader(text, language)
+    # a function in the text of a name is refused once it is reached
+    reader.may_call = True
     return reader.whole(reader.reference())
 
 
@@ -121,6 +123,8 @@ class Reader:
     def __init__(self, text: str, language: int) -> None:
         self.text, self.language = text, language
         self.at, self.depth, self.begun = 0, 0, 0
+        # Whether a function may be called wherever a value stands. If not, it is called in steps alone.
+        self.may_call, self.in_steps = self.has("functions anywhere"), True
 
     def has(self, form: str) -> bool:
         """Whether the language has a form."""
@@ -161,6 +165,13 @@ class Reader:
             self.refuse()
         tree = read()
         self.depth -= 1
+        return tree
+
+    def at_once(self, read: Callable[[], Tree]) -> Tree:
+        """What is evaluated as a whole, not in steps."""
+        kept, self.in_steps = self.in_steps, False
+        tree = read()
+        self.in_steps = kept
         return tree
 
     def listed(self, read: Callable[[], Tree]) -> list[Tree]:
@@ -245,14 +256,14 @@ class Reader:
         if command in INDIRECT and self.next() == "@":
             begun = self.at
             self.at += 1
-            operand = self.inside(self.primary)
+            operand = self.at_once(lambda: self.inside(self.primary))
             if self.next() in ("", ",", " ", ";") and not self.text.startswith("@(", self.at):
                 return "indirect arguments", operand
             self.at = begun
         return getattr(self, "argument_of_" + command.lower())()
 
     def argument_of_set(self) -> Tree:
-        targets = self.bracketed(self.target) if self.takes("(") else [self.target()]
+        targets = self.at_once(lambda: self.bracketed(self.target) if self.takes("(") else [self.target()])
         self.wants("=")
         return "set", targets, self.expression()
 
@@ -352,7 +363,7 @@ class Reader:
     def argument_of_for(self) -> Tree:
         name = self.name()
         self.wants("=")
-        return "for", name, self.listed(self.parameter)
+        return "for", name, self.at_once(lambda: self.listed(self.parameter))
 
     def parameter(self) -> Tree:
         parts = [self.expression()]
@@ -373,6 +384,9 @@ class Reader:
         return "value", self.expression()
 
     def argument_of_lock(self) -> Tree:
+        return self.at_once(self.locked)
+
+    def locked(self) -> Tree:
         sign = "+" if self.takes("+") else "-" if self.takes("-") else ""
         names = self.bracketed(self.lockable) if self.takes("(") else [self.lockable()]
         return "lock", sign, names, self.expression() if self.takes(":") else None
@@ -422,7 +436,7 @@ class Reader:
 
     def dollar(self) -> Tree:
         self.at += 1
-        if self.has("functions") and self.takes("$"):
+        if self.has("functions") and (self.in_steps or self.may_call) and self.takes("$"):
             *meant, actuals = self.entry_with_actuals(may_count=False)
             return "function", (*meant, actuals or [])
         word = self.found(re.compile("[A-Za-z]+")).upper()
@@ -440,13 +454,13 @@ class Reader:
         if word in ("T", "TEXT") and self.has("$TEXT"):
             return self.line_argument()
         if word in ("S", "SELECT"):
-            return "select", self.listed(self.choice)
+            return "select", self.at_once(lambda: self.listed(self.choice))
         for short, (long, most) in OF_VARIABLE.items():
             if word in (short, long) and (long in ("DATA", "GET", "ORDER") or self.has("$" + long)):
                 if long in ("ORDER", "DATA") and self.has("names of globals") and self.takes("^$"):
                     return f"{long.lower()} names", *self.listing(), *([self.expression() if self.takes(",") else None] if most else [])
                 variable = self.reference()
-                return long.lower(), variable, self.expression() if most and self.takes(",") else None
+                return long.lower(), variable, self.at_once(self.expression) if most and self.takes(",") else None
         found = self.listed(self.expression)
         for short, long, least, most, since, function in FUNCTIONS:
             if word in (short, long) and least <= len(found) <= most and since <= self.language:
@@ -472,7 +486,7 @@ class Reader:
 
     def pattern(self) -> Tree:
         if self.has("pattern indirection") and self.takes("@"):
-            return "pattern by", self.inside(self.primary)
+            return "pattern by", self.at_once(lambda: self.inside(self.primary))
         return "pattern", self.atoms()
 
     def atoms(self) -> tuple[Atom, ...]:
@@ -497,6 +511,9 @@ class Reader:
 
     def reference(self) -> Tree:
         """A variable: its kind, and its name, its environment or its operand, with its subscripts or None."""
+        return self.at_once(self.variable)
+
+    def variable(self) -> Tree:
         if self.takes("@"):
             operand = self.inside(self.primary)
             return "indirect", operand, self.subscripts() if self.text.startswith("@(", self.at) and self.takes("@") else None

@@ -24,3 +24,11 @@ def sync_folder(folder: Path) -> None:
         os.fsync(descriptor)
     finally:
         os.close(descriptor)
+
+
+def give_to_owner(path: Path) -> None:
+    """Gives what root has made, with all that is in it, to the owner of the folder that it is in: a service of that user is to have it."""
+    if os.geteuid() == 0:
+        owner = path.parent.stat()
+        for made in (path, *path.rglob("*")):
+            os.chown(made, owner.st_uid, owner.st_gid, follow_symlinks=False)

@@ -86,6 +86,9 @@ def words() -> argparse.ArgumentParser:
               "its users' sessions end; those of other islands go on.")
     one.add_argument("island", metavar="ISLAND")
     one.add_argument("settings", type=Path, metavar="SETTINGS")
+    one = add("remove", remove, "have an island served no more", "Its front ends in order, and so do its users' sessions; those of other islands go on. Its "
+              "folder and its journal stay.")
+    one.add_argument("island", metavar="ISLAND")
     one = add("init", init, "make the islands of a machine that is alone", "Splits a settings file and its store by islands: each account is with those that a "
               "grant ties it to. Each island gets a process, a store and a journal of its own. No server may have the store; it stays as it is.")
     one.add_argument("settings", type=Path, metavar="SETTINGS")
@@ -355,6 +358,11 @@ def place(options: argparse.Namespace) -> None:
 def change(options: argparse.Namespace) -> None:
     """Gives an island other settings."""
     placement_of(options).change(options.island, text_of(options.settings))
+
+
+def remove(options: argparse.Namespace) -> None:
+    """Takes an island away."""
+    placement_of(options).remove(options.island)
 
 
 def move(options: argparse.Namespace) -> None:

@@ -10,7 +10,7 @@ from pathlib import Path
 
 from mserve_client import islands
 
-from .folders import sync_folder, write_whole
+from .folders import give_to_owner, sync_folder, write_whole
 from .islands import Home
 from .placement import BadPlacement, LocalPlacement
 from .rows import take_log
@@ -42,8 +42,10 @@ def make_islands(home: Home, settings: Path, store: Path) -> Iterator[str]:
     for part in parts:
         (made / part.name).chmod(0o700)
         (made / part.name).rename(home.folder / part.name)
+        give_to_owner(home.folder / part.name)
     if strangers:
         (made / islands.STRANGERS).rename(home.folder / islands.STRANGERS)
+        give_to_owner(home.folder / islands.STRANGERS)
     sync_folder(home.folder)
     placement.put_all(texts, home.machine.name)
     shutil.rmtree(made)
@@ -55,7 +57,7 @@ def make_islands(home: Home, settings: Path, store: Path) -> Iterator[str]:
 
 
 def write_machine(config: Path, front: Path, folder: Path) -> None:
-    """Writes the settings of a machine that is alone, by those of a front. Raises `BadSettings`."""
+    """Writes the settings of a machine that is alone, by those of a front, which the same may read. Raises `BadSettings`."""
     found = read_settings(front, False)
     place = found.listen
     if not found.tls or place.lines_port is None:
@@ -71,3 +73,4 @@ def write_machine(config: Path, front: Path, folder: Path) -> None:
         tables["admin"] = {"socket": str(found.admin)}
     text = "\n".join(f"[{name}]\n" + "".join(f"{key} = {json.dumps(value)}\n" for key, value in keys.items()) for name, keys in tables.items())
     write_whole(config, text.encode())
+    config.chmod(front.stat().st_mode & 0o777)

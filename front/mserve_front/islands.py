@@ -20,7 +20,7 @@ from .connection import HOST
 from .control import ControlError, asked
 from .doors import held
 from .folders import write_whole
-from .placement import HERE, LEFT, MOVING, READY, TAKING, Island, Machine, Placed
+from .placement import FRONT, HERE, LEFT, MOVING, READY, TAKING, Island, Machine, Placed
 from .places import first_of
 from .preamble import new_secret
 from .server import Condition, tell, tied
@@ -315,8 +315,8 @@ class Islands:
                   "metrics": {"token": "metrics.token"}, "admin": {"socket": "admin.socket"},
                   "limits": {name: int(value) for name, value in asdict(home.limits).items()}}
         text = "".join(f"[{name}]\n" + "".join(f"{key} = {json.dumps(value)}\n" for key, value in keys.items()) for name, keys in tables.items())
-        write_whole(folder / "front.toml", text.encode())
-        return folder / "front.toml"
+        write_whole(folder / FRONT, text.encode())
+        return folder / FRONT
 
     async def _read_users(self) -> None:
         """Reads the users of all islands, if their file has changed, and gives each island its own."""

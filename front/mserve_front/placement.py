@@ -17,7 +17,7 @@ from typing import TYPE_CHECKING, Any, Protocol
 
 from mserve_client import settings_file
 
-from .folders import write_whole
+from .folders import give_to_owner, write_whole
 from .journal import LogFault
 
 if TYPE_CHECKING:
@@ -31,6 +31,8 @@ TABLES = ("""CREATE TABLE IF NOT EXISTS mfront_machine (name text PRIMARY KEY, h
 CHANGES = "SELECT count(*), md5(string_agg(name || ' ' || xmin::text, ',' ORDER BY name)) FROM mfront_island"
 NAME = re.compile(r"[A-Za-z0-9][A-Za-z0-9_-]{0,31}", re.ASCII)
 HERE, MOVING, READY, LEFT, TAKING = "here", "moving", "ready", "left", "taking"
+# What the folder of an island that was served has: the settings of its front.
+FRONT = "front.toml"
 
 
 class BadPlacement(Exception):
@@ -78,6 +80,9 @@ class Placed(Protocol):
 
     def change(self, name: str, settings: str) -> None:
         """Gives an island other settings. Raises `BadPlacement`."""
+
+    def remove(self, name: str) -> None:
+        """Takes an island away, which nobody serves then; its data stay. Raises `BadPlacement`."""
 
     def move(self, name: str, target: str, gone: bool) -> None:
         """Has an island move to a machine; `gone` says that its own has ended. Raises `BadPlacement`."""
@@ -135,7 +140,12 @@ class Placement:
     def change(self, name: str, settings: str) -> None:
         """Gives an island that is not on its way other settings. Raises `BadPlacement`."""
         accounts = refuse_change(name, settings, self.islands())
-        self._ask("UPDATE mfront_island SET settings = %s, accounts = %s WHERE name = %s AND state = %s", settings, list(accounts), name, HERE)
+        self._here("UPDATE mfront_island SET settings = %s, accounts = %s", name, settings, list(accounts))
+
+    def remove(self, name: str) -> None:
+        """Takes an island away that is not on its way. Raises `BadPlacement`."""
+        rests(name, self.islands(), "remove")
+        self._here("DELETE FROM mfront_island", name)
 
     def move(self, name: str, target: str, gone: bool) -> None:
         """Has an island move to a machine; `gone` says that its own has ended. Raises `BadPlacement`."""
@@ -171,6 +181,11 @@ class Placement:
             self._base.close()
             self._base = None
 
+    def _here(self, statement: str, name: str, *given: object) -> None:
+        """Does something to an island, unless it has begun to move meanwhile. Raises `BadPlacement`."""
+        if not self._ask(f"{statement} WHERE name = %s AND state = %s RETURNING name", *given, name, HERE):
+            raise BadPlacement(f"{name}: it has just begun to move, or was removed: look at it again (mgate list)")
+
     def _known(self, machine: str) -> None:
         if machine not in self.machines():
             raise BadPlacement(f"{machine}: there is no such machine: start its mgate first")
@@ -201,15 +216,17 @@ class LocalPlacement:
 
     def make(self) -> None:
         """Makes the folder, if it is not there."""
-        self._path.parent.mkdir(mode=0o700, parents=True, exist_ok=True)
+        if not self._path.parent.exists():
+            self._path.parent.mkdir(mode=0o700, parents=True, exist_ok=True)
+            give_to_owner(self._path.parent)
 
     def machines(self) -> dict[str, Machine]:
         """The machine."""
         return {self._machine.name: self._machine}
 
     def islands(self) -> dict[str, Island]:
-        """All islands; the same dictionary as long as none has changed. Raises `LogFault` if the file cannot be read, or was there and is gone: the islands
-        have not left with it."""
+        """All islands; the same dictionary as long as none has changed. Raises `LogFault` if the file cannot be read, or was there and is gone, by what is
+        known or by what fronts have left in the folder: the islands have not left with it."""
         try:
             changed = self._path.stat().st_mtime_ns
             if changed != self._seen:
@@ -217,7 +234,7 @@ class LocalPlacement:
                 self._islands = {name: Island(name, self._machine.name, None, HERE, tuple(one["accounts"]), one["settings"]) for name, one in found.items()}
                 self._seen = changed
         except FileNotFoundError as error:
-            if self._seen:
+            if self._seen or any(self._path.parent.glob(f"*/{FRONT}")):
                 raise LogFault(f"{self._path}: it is gone: put it back") from error
         except (OSError, ValueError, KeyError, TypeError, AttributeError) as error:
             raise LogFault(f"{self._path}: cannot be read: {error}") from error
@@ -246,16 +263,26 @@ class LocalPlacement:
             accounts = refuse_change(name, settings, found)
             found[name] = replace(found[name], settings=settings, accounts=accounts)
 
+    def remove(self, name: str) -> None:
+        """Takes an island away. Raises `BadPlacement`."""
+        with self._changed() as found:
+            rests(name, found, "remove")
+            del found[name]
+
     @contextlib.contextmanager
     def _changed(self) -> Iterator[dict[str, Island]]:
         """The islands, to be changed; they are written after the block."""
         self.make()
-        with self._path.with_name("placement.lock").open("w") as lock:
+        held = self._path.with_name("placement.lock")
+        with held.open("w") as lock:
             fcntl.flock(lock, fcntl.LOCK_EX)
             found = dict(self.islands())
             yield found
             made = {island.name: {"accounts": island.accounts, "settings": island.settings} for island in found.values()}
             write_whole(self._path, json.dumps(made, indent=1).encode() + b"\n")
+            # Its gate reads it, and the next command may be that user's.
+            for path in (held, self._path):
+                give_to_owner(path)
 
     def move(self, name: str, target: str, gone: bool) -> None:
         """Raises `BadPlacement`: there is no other machine."""
@@ -283,15 +310,21 @@ def refuse_common(name: str, accounts: tuple[str, ...], islands: dict[str, Islan
 def refuse_change(name: str, settings: str, islands: dict[str, Island]) -> tuple[str, ...]:
     """The accounts of an island by other settings. Raises `BadPlacement` if there is no such island, it is on its way, an account of it is missing, or
     another island has one of them."""
-    accounts, island = accounts_of(name, settings), islands.get(name)
-    if island is None:
-        raise BadPlacement(f"{name}: there is no such island")
-    if island.state != HERE:
-        raise BadPlacement(f"{name}: it is on its way to {island.target}: change it once it is there")
+    accounts, island = accounts_of(name, settings), rests(name, islands, "change")
     if missing := sorted(set(island.accounts) - set(accounts)):
         raise BadPlacement(f"{name}: {', '.join(missing)}: these settings do not have it, and its globals would be nobody's")
     refuse_common("", accounts, {other: one for other, one in islands.items() if other != name})
     return accounts
+
+
+def rests(name: str, islands: dict[str, Island], act: str) -> Island:
+    """An island. Raises `BadPlacement` if there is none of that name, or if it is on its way."""
+    island = islands.get(name)
+    if island is None:
+        raise BadPlacement(f"{name}: there is no such island")
+    if island.state != HERE:
+        raise BadPlacement(f"{name}: it is on its way to {island.target}: {act} it once it is there")
+    return island
 
 
 def accounts_of(name: str, settings: str) -> tuple[str, ...]:

@@ -23,7 +23,7 @@ from mserve_client.settings_file import Account, Grant, Settings
 from mserve_front.settings import read_settings, read_toml
 from mserve_front.slices import SHORT
 from mserve_front.users import load
-from running import ISLANDS, PROGRAM
+from running import ISLANDS, PROGRAM, free_port
 from test_admin import PAGE, shows
 from test_password import NEW, changed
 from test_replay import held
@@ -32,6 +32,8 @@ SETTINGS = Settings(
     (Account("HEAVY", (1, 2), 1_000_000), Account("LIGHT", (3, 4), 10_000), Account("LAB", (5,), 10_000), Account("CLINIC", (6,), 10_000)),
     (Grant("LAB", "CLINIC", "RESULT", "read"),))
 USERS = {"hugo": "HEAVY", "lisa": "LIGHT", "lab": "LAB", "cleo": "CLINIC"}
+# The user of a service that is not root.
+SERVICE = 65_534
 # A line that uses up a million steps, lines of the other a second, and for how long.
 LONG, RATE, SECONDS = "F  S N=1", 20, 6
 # The bound in seconds of the 99th percentile of their waits, where the variable STRICT is set; on a machine that has other work, of the middle one: after
@@ -80,6 +82,31 @@ def test_an_init_that_is_refused(alone: Path, tmp_path: Path) -> None:
                                              "listen": {"port": 1, "lines_port": 2, "certificate": "c", "key": "k"}}))
     status, _, told = tool("mgate")("init", alone.parent / "settings.toml", alone.parent / "none.db", "--config", tmp_path / "one.toml")
     assert status == 2 and "none.db: unable to open database file: no server may have it" in told
+
+
+@pytest.mark.skipif(os.geteuid() != 0, reason="who is not root gives nothing away")
+def test_islands_that_root_makes_are_the_services(certificate: tuple[Path, Path], tmp_path: Path, monkeypatch: pytest.MonkeyPatch) -> None:
+    """All that root makes is the user's who has the folder above, whatever root's umask is; the machine's settings are read by that user."""
+    monkeypatch.setenv("MISLANDS", ISLANDS)
+    (tmp_path / "settings.toml").write_text(str(SETTINGS))
+    words = [PROGRAM, "run", "--settings", tmp_path / "settings.toml", "--store", tmp_path / "store.db"]
+    subprocess.run(words, input=b"3 S ^X=1\n", capture_output=True, check=True)
+    (tmp_path / "front.toml").write_text(toml({
+        "server": {"settings": "settings.toml", "store": "store.db", "program": PROGRAM}, "users": {"file": "users.json"},
+        "listen": {"port": free_port(), "lines_port": free_port(), "certificate": str(certificate[0]), "key": str(certificate[1])}}))
+    home = tmp_path / "home"
+    home.mkdir()
+    os.chown(home, SERVICE, SERVICE)
+    before = os.umask(0o077)
+    try:
+        assert init(tmp_path / "front.toml", home)[0] == 0
+        (home / "new.toml").write_text('[[account]]\nname = "NEW"\nterminals = [1]\nsteps = 1000\n')
+        assert tool("mgate")("place", "NEW", home / "new.toml", "one", "--config", home / "machine.toml")[0] == 0
+    finally:
+        os.umask(before)
+    made = [home / "islands", *(home / "islands").rglob("*")]
+    assert {path.stat().st_uid for path in made} == {SERVICE} and len(made) == 12
+    assert (home / "machine.toml").stat().st_mode & 0o777 == 0o644
 
 
 @pytest.mark.long

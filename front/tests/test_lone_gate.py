@@ -16,13 +16,16 @@ from front import COMMAND, PASSWORD, SETTINGS, Patience, in_loop, toml, until, w
 from machines import Gate, Program
 from measured import started_by
 from mserve_front.islands import Home, IslandFront, Islands
-from mserve_front.placement import LocalPlacement, Machine
+from mserve_front.journal import LogFault
+from mserve_front.placement import BadPlacement, LocalPlacement, Machine
 from mserve_front.standing import read_standing
 from mserve_front.users import load
 from running import PROGRAM, free_port
 from test_alone import Alone
 
 ISLAND = "A"
+MACHINE = Machine("one", "localhost", 1)
+NEW = '[[account]]\nname = "NEW"\nterminals = [1]\nsteps = 1000\n'
 
 
 @pytest.fixture
@@ -85,7 +88,7 @@ async def test_what_an_operator_breaks_holds_no_island_up(gate: Gate) -> None:
 @in_loop()
 async def test_a_new_customer_comes_with_a_user(gate: Gate) -> None:
     """The island is placed, and its user added, by the settings of the machine; then they sign on."""
-    (gate.folder / "new.toml").write_text('[[account]]\nname = "NEW"\nterminals = [1]\nsteps = 1000\n')
+    (gate.folder / "new.toml").write_text(NEW)
     assert gate.does("place", "NEW", gate.folder / "new.toml", "one")[0] == 0
     words = [*COMMAND, "user", "add", "tim", "NEW", "--config", gate.config]
     done = await asyncio.to_thread(subprocess.run, words, input=PASSWORD, capture_output=True, text=True, timeout=2 * Patience.seconds)
@@ -97,13 +100,70 @@ async def test_a_new_customer_comes_with_a_user(gate: Gate) -> None:
 
 
 @in_loop()
+async def test_a_customer_who_leaves_and_comes_back(gate: Gate) -> None:
+    """The island's front ends in order, and its user is served no more. Placed again, it has what it had."""
+    ada = Program(gate, "ada")
+    await ada.signed_on()
+    assert await ada.told("S ^X=42") == ""
+    assert gate.does("remove", ISLAND)[0] == 0
+    await until(lambda: not started_by([gate.process.pid]), "the end of the island's front")
+    standing = read_standing(gate.folder / "islands" / ISLAND / "store")
+    assert standing is not None and standing.number is not None, gate.told()
+    assert "error" in await ada.sign_on() and ISLAND not in gate.does("list")[1]
+    assert gate.does("place", ISLAND, SETTINGS, "one")[0] == 0
+    await ada.signed_on()
+    assert await ada.told("W ^X") == "42"
+    ada.close()
+
+
+@in_loop()
+async def test_an_island_that_is_removed_ends_alone(tmp_path: Path) -> None:
+    """Its front is ended, and no other one; a second time there is none to be removed."""
+    write_users(tmp_path / "users.json", {})
+    islands, sent = islands_of(tmp_path), []
+
+    async def ended() -> int:
+        return 0
+    for name, settings in ((ISLAND, SETTINGS.read_text()), ("NEW", NEW)):
+        islands._placement.put(name, settings, "one")
+        process = SimpleNamespace(returncode=None, send_signal=lambda number, name=name: sent.append((name, number)), wait=ended)
+        islands._fronts[name] = IslandFront(name, {}, False, settings, process=process)
+    await islands._look()
+    assert sent == []
+    islands._placement.remove(ISLAND)
+    await islands._look()
+    assert sent == [(ISLAND, signal.SIGTERM)] and list(islands._fronts) == list(islands.placed) == ["NEW"]
+    with pytest.raises(BadPlacement, match="A: there is no such island"):
+        islands._placement.remove(ISLAND)
+
+
+def test_a_placement_that_is_gone_is_missed_at_a_start_too(tmp_path: Path) -> None:
+    """The islands whose fronts were here have not left with it: a gate does not start without them, and a new customer does not take their places. One that
+    is made empty counts."""
+    placement = LocalPlacement(tmp_path, MACHINE)
+    (tmp_path / ISLAND).mkdir()
+    assert placement.islands() == {}
+    (tmp_path / ISLAND / "front.toml").touch()
+    for act in (placement.islands, lambda: placement.put("NEW", NEW, "one")):
+        with pytest.raises(LogFault, match="placement.json: it is gone: put it back"):
+            act()
+    (tmp_path / "placement.json").write_text("{}")
+    placement.put(ISLAND, SETTINGS.read_text(), "one")
+    assert list(placement.islands()) == [ISLAND]
+
+
+def islands_of(folder: Path) -> Islands:
+    """The islands of a machine that is alone, in a folder."""
+    return Islands(Home(MACHINE, folder, folder / "users.json", None, "mserve", ()), LocalPlacement(folder, MACHINE))
+
+
+@in_loop()
 async def test_a_front_that_ends_during_a_reload_is_no_fault(tmp_path: Path, monkeypatch: pytest.MonkeyPatch) -> None:
     """A reload writes the settings of each front before it has it read them. A fault there would have kept the gate from ending the other fronts at its
     stop: they were killed, in place of being ended in order. Several reloads of a front that has just begun are one."""
     def gone(number: int) -> None:
         raise ProcessLookupError
-    machine = Machine("one", "localhost", 1)
-    islands = Islands(Home(machine, tmp_path, tmp_path / "users.json", None, "mserve", ()), LocalPlacement(tmp_path, machine))
+    islands = islands_of(tmp_path)
     process, written = SimpleNamespace(returncode=None, send_signal=gone), []
 
     def ends(front: IslandFront) -> None:

@@ -424,7 +424,7 @@ def commands_of(heading: str) -> list[str]:
 GRANT = '[[grant]]\nfrom = "C1A0"\nto = "NOBODY"\nglobal = "X"\nmode = "read"\n'
 
 
-def test_words_of_mgate(host: Callable[..., Gate], cluster: Pair, tmp_path: Path) -> None:
+def test_words_of_mgate(host: Callable[..., Gate], cluster: Pair, tmp_path: Path, monkeypatch: pytest.MonkeyPatch) -> None:
     made, _ = islands(tmp_path / "islands", 2)
     gate, placement = host("one"), Placement(cluster.both)
     assert placement.islands() == {}
@@ -454,7 +454,18 @@ def test_words_of_mgate(host: Callable[..., Gate], cluster: Pair, tmp_path: Path
     cluster.does("UPDATE mfront_island SET state = 'ready', target = 'one'")
     with pytest.raises(BadPlacement, match="it is at one, and leaves it for one"):
         placement.move("island0", "one", False)
+    with pytest.raises(BadPlacement, match="island0: it is on its way to one: remove it once it is there"):
+        placement.remove("island0")
     cluster.does("UPDATE mfront_island SET state = 'here', target = NULL")
+    # One that has begun to move since it was looked at stays as it is, and that is said.
+    cluster.does("UPDATE mfront_island SET state = 'moving', target = 'one'")
+    with monkeypatch.context() as patched:
+        patched.setattr(placement, "islands", lambda: before)
+        for act in (lambda: placement.change("island0", made["island0"].read_text()), lambda: placement.remove("island0")):
+            with pytest.raises(BadPlacement, match="island0: it has just begun to move"):
+                act()
+    cluster.does("UPDATE mfront_island SET state = 'here', target = NULL")
+    assert gate.does("remove", "island0")[0] == 0 and placement.islands() == {}
     placement.close()
     for table, keys, told in (("machine", {"name": "a b"}, "machine.name: is to be"), ("machine", {"database": None}, "machine.database: is missing"),
                               ("listen", {"port": 0}, "listen.port: is to be a whole number"), ("peers", {"key": None}, "peers.key: is missing")):

@@ -5,6 +5,7 @@ from __future__ import annotations
 import asyncio
 import re
 import shlex
+import shutil
 import signal
 import subprocess
 from datetime import UTC, datetime
@@ -55,7 +56,7 @@ class Operator:
                 self.front.process.wait()
             self._tool(name, words)
         else:
-            assert name in ("mkdir", "mv"), command
+            assert name in ("mkdir", "mv", "rm"), command
             done = subprocess.run([name, *words], capture_output=True, text=True)
             assert done.returncode == 0, done.stderr
 
@@ -114,3 +115,23 @@ async def test_commands_of_the_page(start) -> None:
         for one in (operator.standby, back.standby):
             if one is not None:
                 one.stop()
+
+
+@in_loop()
+async def test_a_machine_that_is_lost_with_its_journal(start) -> None:
+    """A copy of a snapshot is enough to serve again, by the page's commands, and the new journal has snapshots of its own."""
+    front = start(store="store", journal={"folder": "journal"})
+    operator = Operator(front)
+    async with front.person("ada") as ada:
+        await ada.line("S ^X=1")
+        assert await asyncio.to_thread(operator.does, "Backup while users work") <= MOST
+        await ada.line("S ^X=2")
+    front.stop()
+    (front.folder / "backup").rename(front.folder / "copy")
+    shutil.rmtree(front.folder / "journal")
+    for path in front.folder.glob("store*"):
+        path.unlink()
+    assert await asyncio.to_thread(operator.does, "If the journal is lost too") <= MOST
+    async with front.person("ada") as ada:
+        assert await ada.told("W ^X") == "1"
+    assert tool("mbackup")("verify", front.folder / "backup", "--config", front.folder / front._config)[0] == 0

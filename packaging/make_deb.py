@@ -34,8 +34,8 @@ COMMANDS = {"mshell": "clients", "mroutine": "clients", "mglobal": "clients", "m
             "mjournal": "front", "mbackup": "front", "mgate": "front"}
 # Commands that have another name here: one without the program's would say too little.
 NAMES = {"msettings": "mserve-settings"}
-# Documents for users and operators; the others are for those who change it.
-DOCUMENTS = ("FORMATS", "GLOSSARY", "GUIDE", "ISOLATION", "LANGUAGE", "OPERATING", "PERFORMANCE")
+# Documents for users and operators, and those that these lead to; the others are for those who change it.
+DOCUMENTS = ("ASVS", "FINDINGS", "FORMATS", "GLOSSARY", "GUIDE", "INSTALL", "ISOLATION", "LANGUAGE", "OPERATING", "PERFORMANCE", "PROOFS", "TEXT")
 CONTROL = """Package: mserve
 Version: {version}
 Architecture: amd64
@@ -49,8 +49,8 @@ Priority: optional
 Description: shared M (MUMPS) server with isolated accounts
  One server for the M routines and globals of several customers. That no
  account learns from its replies what one without a tie to it does is proved
- over a store in memory, for every interleaving of lines; over a file tests
- show it.
+ for every interleaving of lines, over a store in memory, and over one in a
+ file as long as its disk returns what was written.
  .
  With it come a front that signs users on and has a page for browsers, a shell,
  and commands for routines as files, for globals in and out, for the front's

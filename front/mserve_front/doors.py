@@ -34,6 +34,8 @@ UNSIGNED, SIGNED, REQUEST_COST, CONNECTION_COST = 600.0, 3000.0, 1.0, 2.0
 # Requests of a connection after which it is ended, while its peer is not signed on.
 MOST_REQUESTS = 100
 BACKLOG = 512
+# Seconds between two times that a refusal is told.
+TELLING = 60.0
 REASONS = {400: "Bad Request", 413: "Content Too Large", 431: "Request Header Fields Too Large"}
 # No delay for small frames; a peer that is gone without a word is noticed within three minutes.
 OPTIONS = ((socket.IPPROTO_TCP, socket.TCP_NODELAY, 1), (socket.SOL_SOCKET, socket.SO_KEEPALIVE, 1), (socket.IPPROTO_TCP, socket.TCP_KEEPIDLE, 60),
@@ -314,6 +316,7 @@ class Doors:
         self._unknown_of: Counter[str] = Counter()
         self._tasks: set[asyncio.Task[None]] = set()
         self._listeners: list[socket.socket] = []
+        self._refused = -TELLING
 
     def listen(self, host: str, port: int, made: Made) -> None:
         """Accepts connections, each with a door of its own. Raises OSError if the port is taken."""
@@ -392,15 +395,24 @@ class Doors:
         """Makes room for a connection, if there is none: the oldest ends whose peer is not signed on, first of the same address."""
         limits = self.limits
         if self._unknown_of[place] >= limits.unsigned_of_address or self._of_address[place] >= limits.connections_of_address:
-            oldest = next((door for door in self._unknown if door.place == place), None)
+            oldest, bound = next((door for door in self._unknown if door.place == place), None), "connections_of_address"
         elif self._of_address.total() >= limits.connections:
-            oldest = next(iter(self._unknown), None)
+            oldest, bound = next(iter(self._unknown), None), "connections"
         else:
             return True
-        if oldest is not None:
-            self._forget(oldest)
-            oldest.cut()
-        return oldest is not None
+        if oldest is None:
+            self._refuses(bound)
+            return False
+        self._forget(oldest)
+        oldest.cut()
+        return True
+
+    def _refuses(self, bound: str) -> None:
+        """Tells of a connection that is refused; of those that follow soon it tells nothing."""
+        now = time.monotonic()
+        if now >= self._refused + TELLING:
+            self._refused = now
+            tell(f"a connection is refused: all that limits.{bound} allows are of users who are signed on")
 
     def _begin(self, door: Door, peer: socket.socket) -> None:
         if door.inner in self._doors:

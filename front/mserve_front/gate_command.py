@@ -38,7 +38,7 @@ DEFAULT = "/etc/mserve/machine.toml"
 STATUSES = "Status: 0 all went well; 2 the words or the settings are wrong, or the placement refuses it; 3 a port is taken, or the database is away; " \
            "130 an interrupt."
 TABLES = ("machine", "listen", "peers", "admin", "audit", "limits")
-# Connections of users, and those of other machines: a gate computes no passwords, and so has room for more than a front.
+# Connections of users, unless its limits allow more, and those of other machines: a gate computes no passwords, and so has room for more than a front.
 MOST = 3500
 
 
@@ -198,7 +198,7 @@ async def _serve(read: Callable[[], tuple[Home, Doorway]]) -> None:
     if not await begun(islands, home, stopping):
         return
     # Other machines' connections have doors of their own, so that users' take none of theirs.
-    outside, between = Doors(Limits(connections=MOST), shown.users, {}), Doors(Limits(connections=MOST, connections_of_address=MOST), shown.inward, {})
+    outside, between = Doors(of_users(home.limits), shown.users, {}), Doors(Limits(connections=MOST, connections_of_address=MOST), shown.inward, {})
     keeping = [asyncio.create_task(islands.run()), asyncio.create_task(swept(outside, between))]
 
     def again() -> None:
@@ -206,6 +206,7 @@ async def _serve(read: Callable[[], tuple[Home, Doorway]]) -> None:
         if not stopping.is_set():
             reload(doorway, shown)
             relimit(home, read)
+            outside.limits = of_users(home.limits)
             islands.reopen()
     ending.hear(signal.SIGHUP, again)
     try:
@@ -268,8 +269,15 @@ def reload(doorway: Doorway, shown: Contexts) -> None:
         tell(f"not reloaded: certificates: {error}")
 
 
+def of_users(limits: Limits) -> Limits:
+    """What a gate has of the limits of its islands: how many connections users have, all of them and those of an address, and for how long before they have
+    signed on."""
+    return Limits(connections=max(MOST, limits.connections), connections_of_address=limits.connections_of_address,
+                  unsigned_of_address=limits.unsigned_of_address, sign_on=limits.sign_on)
+
+
 def relimit(home: Home, read: Callable[[], tuple[Home, Doorway]]) -> None:
-    """Takes the limits as they stand in the settings, which the islands' fronts are given then."""
+    """Takes the limits as they are in the settings, which the islands' fronts are given then."""
     try:
         home.limits.take(read()[0].limits)
         tell("reloaded: limits of the islands")

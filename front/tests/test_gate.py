@@ -3,6 +3,7 @@
 from __future__ import annotations
 
 import asyncio
+import contextlib
 import json
 import os
 import ssl
@@ -84,6 +85,20 @@ class Running:
 
 
 OK = b"HTTP/1.1 200 OK\r\nContent-Length: 2\r\nConnection: close\r\n\r\nok"
+
+
+@in_loop()
+async def test_connections_that_are_refused_are_told_once(capfd: pytest.CaptureFixture[str]) -> None:
+    """None is ended for another one once all are of users who are signed on. An operator hears which limit that is."""
+    async with Running(OK, Limits(connections=1)) as gate:
+        _, writer = await asyncio.open_connection("127.0.0.1", gate.port)
+        await until(lambda: gate._doors._unknown, "a connection")
+        gate._doors.is_known(next(iter(gate._doors._unknown)))
+        for _ in range(3):
+            with contextlib.suppress(ConnectionError):
+                assert await gate.asks() == b""
+        writer.close()
+    assert capfd.readouterr().err.count("a connection is refused: all that limits.connections allows are of users who are signed on") == 1
 
 
 @in_loop()

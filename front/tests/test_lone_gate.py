@@ -2,6 +2,7 @@
 """The gate of a machine that is alone, with one island: what signals, an operator's slips and a front that ends do to it."""
 from __future__ import annotations
 
+import argparse
 import asyncio
 import os
 import signal
@@ -15,6 +16,7 @@ import pytest
 from front import COMMAND, PASSWORD, SETTINGS, Patience, in_loop, toml, until, write_users
 from machines import Gate, Program
 from measured import started_by
+from mserve_front.gate_command import _serve, settings_of
 from mserve_front.islands import Home, IslandFront, Islands
 from mserve_front.journal import LogFault
 from mserve_front.placement import BadPlacement, LocalPlacement, Machine
@@ -32,9 +34,7 @@ NEW = '[[account]]\nname = "NEW"\nterminals = [1]\nsteps = 1000\n'
 def gate(certificate: tuple[Path, Path], tmp_path: Path) -> Iterator[Gate]:
     """A gate whose island's front serves."""
     write_users(tmp_path / "users.json", {"ada": "CLINIC"})
-    (tmp_path / "machine.toml").write_text(toml({
-        "machine": {"name": "one", "folder": "islands", "users": "users.json", "program": PROGRAM},
-        "listen": {"port": free_port(), "lines_port": free_port(), "certificate": str(certificate[0]), "key": str(certificate[1])}}))
+    (tmp_path / "machine.toml").write_text(toml(tables_of(certificate)))
     made = Alone(tmp_path, tmp_path / "machine.toml", certificate[0])
     try:
         assert made.does("place", ISLAND, SETTINGS, "one")[0] == 0
@@ -43,6 +43,12 @@ def gate(certificate: tuple[Path, Path], tmp_path: Path) -> Iterator[Gate]:
     finally:
         made.process.kill()
         made.process.wait()
+
+
+def tables_of(certificate: tuple[Path, Path]) -> dict[str, dict[str, object]]:
+    """The settings of a machine."""
+    return {"machine": {"name": "one", "folder": "islands", "users": "users.json", "program": PROGRAM},
+            "listen": {"port": free_port(), "lines_port": free_port(), "certificate": str(certificate[0]), "key": str(certificate[1])}}
 
 
 def serving(gate: Gate) -> int:
@@ -150,6 +156,39 @@ def test_a_placement_that_is_gone_is_missed_at_a_start_too(tmp_path: Path) -> No
     (tmp_path / "placement.json").write_text("{}")
     placement.put(ISLAND, SETTINGS.read_text(), "one")
     assert list(placement.islands()) == [ISLAND]
+
+
+@in_loop()
+async def test_a_gate_has_the_limits_of_its_settings(certificate: tuple[Path, Path], tmp_path: Path, capfd: pytest.CaptureFixture[str]) -> None:
+    """Customers who come by one proxy have more connections of an address, at the gate too; a reload is enough. The oldest that is not signed on ends."""
+    write_users(tmp_path / "users.json", {})
+    config, tables, told = tmp_path / "machine.toml", tables_of(certificate), []
+    config.write_text(toml(tables | {"limits": {"unsigned_of_address": 2, "sign_on": 600}}))
+    before = {number: signal.getsignal(number) for number in (signal.SIGTERM, signal.SIGINT, signal.SIGHUP)}
+    served = asyncio.create_task(_serve(lambda: settings_of(argparse.Namespace(config=config))))
+
+    async def tells(text: str) -> None:
+        def heard() -> bool:
+            told.append(capfd.readouterr().err)
+            return text in "".join(told)
+        await until(heard, text)
+
+    async def comes() -> asyncio.StreamReader:
+        return (await asyncio.open_connection("localhost", tables["listen"]["port"]))[0]
+    try:
+        await tells("one: serving at https")
+        first, *others = [await comes() for _ in range(3)]
+        assert await first.read() == b"" and not any(one.at_eof() for one in others)
+        config.write_text(toml(tables | {"limits": {"unsigned_of_address": 4, "sign_on": 600}}))
+        os.kill(os.getpid(), signal.SIGHUP)
+        await tells("reloaded: limits of the islands")
+        others += [await comes() for _ in range(3)]
+        assert await others[0].read() == b"" and not any(one.at_eof() for one in others[1:])
+    finally:
+        os.kill(os.getpid(), signal.SIGTERM)
+        await served
+        for number, handler in before.items():
+            signal.signal(number, handler)
 
 
 def islands_of(folder: Path) -> Islands:

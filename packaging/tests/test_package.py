@@ -173,7 +173,8 @@ def test_package_has_each_command_its_page_and_the_units(package: Path) -> None:
 def test_package_has_each_document_that_its_readers_are_led_to(package: Path) -> None:
     """Those that man pages and the pages for users and operators name, wherever in them."""
     listed = subprocess.run(["dpkg-deb", "--contents", package], capture_output=True, text=True, check=True).stdout
-    readers = [*TOP.glob("*/man/*.1"), *TOP.glob("docs/*.1"), TOP / "SECURITY.md", *(TOP / "docs" / f"{name}.md" for name in ("GUIDE", "LANGUAGE", "OPERATING"))]
+    pages = [TOP / "docs" / f"{name}.md" for name in ("GUIDE", "LANGUAGE", "OPERATING")]
+    readers = [*TOP.glob("*/man/*.1"), *TOP.glob("docs/*.1"), TOP / "SECURITY.md", *pages]
     named = {name for page in readers for name in re.findall(r"(?:docs/|\]\()([A-Z]+)\.md", page.read_text(encoding="utf-8"))}
     assert {"OPERATING", "TEXT"} <= named
     assert [name for name in sorted(named) if f" ./usr/share/doc/mserve/docs/{name}.md\n" not in listed] == []

@@ -51,6 +51,26 @@ def test_starts_there_and_back_and_records_of_a_later_version() -> None:
             read_flush(Flush(7, 1, 1, 0, 0, (Later(data),)).packed(), 0)
 
 
+@pytest.mark.parametrize("head_first", [True, False])
+def test_a_copy_of_a_journal_that_is_written_meanwhile(tmp_path: Path, head_first: bool) -> None:
+    """With its head first, as docs/OPERATING.md has it, a copy is a journal; by the order of names its head says that an end is missing."""
+    parts, log, copy = flushes(), FileLog(tmp_path / "journal", 1 << 20), tmp_path / "copy"
+    log.take()
+    log.append(parts[0])
+    copy.mkdir()
+    head, [(_, path)] = tmp_path / "journal" / "head", files_of(tmp_path / "journal")
+    first, second = (head, path) if head_first else (path, head)
+    shutil.copy(first, copy)
+    log.append(parts[1])
+    shutil.copy(second, copy)
+    log.close()
+    if head_first:
+        assert tail_of(copy).sequence == 2
+        return
+    with pytest.raises(BadJournal, match="its end is missing"):
+        tail_of(copy)
+
+
 def test_a_file_that_its_writer_takes_away_while_it_is_looked_for(tmp_path: Path, monkeypatch: pytest.MonkeyPatch) -> None:
     """A writer whose disk is full takes away a file that it has just begun, and who reads meanwhile goes on with what is there. A standby ended by that."""
     parts, log = flushes(9), FileLog(tmp_path, 1)

@@ -29,8 +29,8 @@ from troubled_gates import Gates  # noqa: E402
 from troubled_pair import Pair  # noqa: E402
 from troubles import COMBINATIONS, drawn, tried  # noqa: E402
 
-# Seconds that a part takes at most, and after which something is missed in it: the machine may have other work.
-LONGEST, PATIENT = 3600, 240
+# Seconds after which something is missed in a part, unless the words say otherwise: the machine may have other work. A part takes so many times that at most.
+PATIENT, LONGEST = 240, 15
 # Seconds for which users rest before each line: a standby that begins with the journal runs all that they sent.
 REST = 0.05
 
@@ -57,7 +57,7 @@ async def ran(part: Part) -> dict[str, object]:
     cluster = None if part.kind == "files" else await asyncio.to_thread(Cluster)
     try:
         with tempfile.TemporaryDirectory(dir=IN_MEMORY, prefix="matrix-") as folder:
-            async with asyncio.timeout(LONGEST):
+            async with asyncio.timeout(LONGEST * Patience.seconds):
                 troubled = await asyncio.to_thread(Gates if part.kind == "gates" else Pair, Path(folder), cluster)
                 counting = await tried(troubled, part.chosen, random.Random(part.name), REST)
         return {"tried": len(part.chosen), "fired": sum(troubled.fired.values()), "answered": counting.answered}
@@ -99,11 +99,12 @@ def main() -> int:
     words.add_argument("--wanted", type=int, default=1000, metavar="N", help="combinations in all (default 1000)")
     words.add_argument("--part", type=int, default=20, metavar="N", help="combinations of a part (default 20)")
     words.add_argument("--seconds", type=float, default=float("inf"), metavar="S", help="begin no part after so long")
+    words.add_argument("--patience", type=float, default=PATIENT, metavar="S", help=f"seconds after which something is missed (default {PATIENT})")
     words.add_argument("--only", choices=COMBINATIONS, metavar="KIND", help=f"one kind: {', '.join(COMBINATIONS)}")
     words.add_argument("--named", action="append", metavar="PART", help="this part alone, as the record names it; may be given again")
     options = words.parse_args()
     require_program()
-    Patience.seconds = PATIENT
+    Patience.seconds = options.patience
     # A run in the background ends in order too: what it has started ends with it.
     for number in (signal.SIGTERM, signal.SIGINT):
         signal.signal(number, signal.default_int_handler)

@@ -38,6 +38,8 @@ DEFAULT = "/etc/mserve/machine.toml"
 STATUSES = "Status: 0 all went well; 2 the words or the settings are wrong, or the placement refuses it; 3 a port is taken, or the database is away; " \
            "130 an interrupt."
 TABLES = ("machine", "listen", "peers", "admin", "audit", "limits")
+# Addresses that are all of a machine's, and none at which another one finds it.
+EVERYWHERE = ("0.0.0.0", "::")
 # Connections of users, unless its limits allow more, and those of other machines: a gate computes no passwords, and so has room for more than a front.
 MOST = 3500
 
@@ -110,18 +112,20 @@ def settings_of(options: argparse.Namespace) -> tuple[Home, Doorway]:
     for other in tables.keys() - set(TABLES):
         raise BadSettings(f"{options.config}: {other}: there is no such table")
     machine, listen, peers, admin, audit, limits = taken = [Table(options.config, name, tables.get(name, {})) for name in TABLES]
-    name, host = machine.text("name"), listen.text("host", "127.0.0.1")
+    name, host = machine.text("name"), str(listen.text("host", "127.0.0.1"))
     if name is None or not NAME.fullmatch(name):
         raise machine.fault("name", "is to be 1 to 32 letters, digits, _ and -, as in the certificate for other machines")
     database = machine.text("database")
     if database is None and "peers" in tables:
         raise machine.fault("database", "is missing: the database of the placement and of the journals. A machine that is alone has no [peers]")
+    if database is not None and (host in EVERYWHERE or "host" not in tables.get("listen", {})):
+        raise listen.fault("host", "is to be the address at which the other machines reach this one")
     port = _port(peers, "port") if database is not None else 0
-    home = Home(Machine(name, str(host), port), machine.needed_file("folder"), machine.needed_file("users"), database,
+    home = Home(Machine(name, host, port), machine.needed_file("folder"), machine.needed_file("users"), database,
                 str(machine.file("program", PROGRAM)), tuple(listen.texts("origins", [])), characters_of(machine), audit.truth("texts", False),
                 limits_of(limits))
     others = None if database is None else Peers(peers.needed_file("certificate"), peers.needed_file("key"), peers.needed_file("authority"))
-    doorway = Doorway(str(host), _port(listen, "port"), _port(listen, "lines_port"), listen.needed_file("certificate"), listen.needed_file("key"), others,
+    doorway = Doorway(host, _port(listen, "port"), _port(listen, "lines_port"), listen.needed_file("certificate"), listen.needed_file("key"), others,
                       admin.file("socket"))
     for table in taken:
         table.end()

@@ -468,6 +468,8 @@ def test_words_of_mgate(host: Callable[..., Gate], cluster: Pair, tmp_path: Path
     assert gate.does("remove", "island0")[0] == 0 and placement.islands() == {}
     placement.close()
     for table, keys, told in (("machine", {"name": "a b"}, "machine.name: is to be"), ("machine", {"database": None}, "machine.database: is missing"),
+                              ("listen", {"host": "0.0.0.0"}, "listen.host: is to be the address at which"),
+                              ("listen", {"host": None}, "listen.host: is to be the address at which"),
                               ("listen", {"port": 0}, "listen.port: is to be a whole number"), ("peers", {"key": None}, "peers.key: is missing")):
         config = tmp_path / "bad.toml"
         tables = gate.tables | {table: {key: value for key, value in (gate.tables[table] | keys).items() if value is not None}}

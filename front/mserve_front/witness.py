@@ -9,6 +9,7 @@ from __future__ import annotations
 import contextlib
 import json
 import os
+import secrets
 import time
 from collections import deque
 from concurrent.futures import ThreadPoolExecutor
@@ -84,8 +85,12 @@ def look(store: str, boot: str) -> Seen | None:
 
 
 def boot_of_machine() -> str:
-    """What tells this start of the machine from others."""
-    return BOOT.read_text().strip()
+    """What tells this start of the machine from others. Where the system does not say that, it tells each time from all others, so that nothing of before is
+    believed."""
+    try:
+        return BOOT.read_text().strip()
+    except OSError:
+        return secrets.token_hex(16)
 
 
 class Reached(NamedTuple):

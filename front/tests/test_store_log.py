@@ -12,6 +12,8 @@ from pathlib import Path
 
 import pytest
 from database import IN_MEMORY
+from mserve_front import witness
+from mserve_front.records import Flush
 from mserve_front.rows import apply, packed, unpacked
 from mserve_front.store_log import changed, image
 from running import PROGRAM
@@ -64,6 +66,20 @@ def held(store: Path, copy: Path) -> dict[bytes, bytes]:
     found = dict(base.execute("SELECT k, v FROM node"))
     base.close()
     return found
+
+
+@pytest.mark.parametrize("said", [True, False])
+def test_what_is_noted_of_a_store_counts_during_one_start_of_the_machine(tmp_path: Path, monkeypatch: pytest.MonkeyPatch, said: bool) -> None:
+    """The next front believes it. Where the system does not say which start this is, as a unit that hides it (ProcSubset=pid), a front begins all the same,
+    and believes nothing of before."""
+    if not said:
+        monkeypatch.setattr(witness, "BOOT", tmp_path / "none")
+    (tmp_path / "store").write_bytes(b"store")
+    before = witness.StoreWitness(tmp_path / "store", True)
+    before.sending(1)
+    before.flushed(Flush(7, 1, 2, 0, 1_000, ()))
+    before.close()
+    assert before.covers and witness.StoreWitness(tmp_path / "store", True).covers is said
 
 
 def drawn(rng: random.Random) -> str:

@@ -200,6 +200,18 @@ def test_systemd_knows_each_word_of_a_unit(unit: str, tmp_path: Path) -> None:
     assert "LimitMemory" in verified(text.replace("[Service]\n", "[Service]\nLimitMemory=4G\n"))[1]
 
 
+@pytest.mark.skipif(os.geteuid() != 0, reason="root alone mounts /proc")
+@pytest.mark.parametrize("unit", ["mfront.service", "mgate.service"])
+def test_a_unit_leaves_what_a_front_reads_of_proc(unit: str) -> None:
+    """A front that keeps a journal asks which start of the machine this is: without that, its unit kept it from starting."""
+    found = re.search(r"^ProcSubset=(\w+)$", (TOP / "packaging" / unit).read_text(encoding="utf-8"), re.MULTILINE)
+    options = f"-o subset={found[1]}" if found and found[1] != "all" else ""
+    words = f"mount -t proc {options} proc /proc && exec {PYTHON} -c 'from mserve_front import witness; print(witness.boot_of_machine())'"
+    done = subprocess.run(["unshare", "--mount", "--propagation", "private", "sh", "-c", words], env=os.environ | {"PYTHONPATH": str(TOP / "front")},
+                          capture_output=True, text=True)
+    assert done.stdout.strip() == Path("/proc/sys/kernel/random/boot_id").read_text().strip(), done.stderr
+
+
 @pytest.mark.parametrize("unit", UNITS)
 def test_sandbox_of_a_unit(unit: str) -> None:
     done = analyze("security", "--offline=yes", "--no-pager", TOP / "packaging" / unit)

@@ -96,12 +96,10 @@ async def test_commands_of_the_page(start) -> None:
     assert await asyncio.to_thread(operator.does, "Recovery to a moment") <= MOST
     async with front.person("ada") as ada:
         assert await ada.told("W ^X") == "2"
-    (front.folder / "standby").mkdir()
     assert await asyncio.to_thread(operator.does, "A standby, and fail-over") <= MOST
     # The machine that failed stands by by the same commands, and takes over in its turn.
     other = front.folder / "other"
-    for name in ("backup", "standby"):
-        (other / name).mkdir(parents=True)
+    (other / "backup").mkdir(parents=True)
     back = Operator(operator.standby, other, "again.toml")
     try:
         operator.standby.hears("serving at")

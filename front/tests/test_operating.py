@@ -122,7 +122,8 @@ async def test_a_machine_that_is_lost_with_its_journal(start) -> None:
     operator = Operator(front)
     async with front.person("ada") as ada:
         await ada.line("S ^X=1")
-        assert await asyncio.to_thread(operator.does, "Backup while users work") <= MOST
+    assert await asyncio.to_thread(operator.does, "Backup while users work") <= MOST
+    async with front.person("ada") as ada:
         await ada.line("S ^X=2")
     front.stop()
     (front.folder / "backup").rename(front.folder / "copy")

@@ -20,7 +20,7 @@ from database import Cluster
 from front import FRONT, PASSWORD, Record, at_rest, in_loop, toml, tool, until
 from machines import HOSTS, Gate, Program, certificates, islands, ports
 from mserve_front.gate_command import settings_of
-from mserve_front.placement import BadPlacement, Placement
+from mserve_front.placement import BadPlacement, Island, Placement
 from mserve_front.settings import BadSettings
 from measured import started_by
 from running import PROGRAM
@@ -454,27 +454,35 @@ def test_words_of_mgate(host: Callable[..., Gate], cluster: Pair, tmp_path: Path
     cluster.does("UPDATE mfront_island SET state = 'ready', target = 'one'")
     with pytest.raises(BadPlacement, match="it is at one, and leaves it for one"):
         placement.move("island0", "one", False)
+    cluster.does("UPDATE mfront_island SET state = 'here', target = NULL")
+    stays(cluster, placement, before, monkeypatch)
+    assert gate.does("remove", "island0")[0] == 0 and placement.islands() == {}
+    placement.close()
+    settings_are_refused(gate, tmp_path / "bad.toml")
+    with pytest.raises(RuntimeError, match="cannot be used"):
+        host("two", peers={"authority": "none"})
+
+
+def stays(cluster: Pair, placement: Placement, before: dict[str, Island], monkeypatch: pytest.MonkeyPatch) -> None:
+    """An island that is on its way is not removed. One that has begun to move since it was looked at stays as it is, and that is said."""
+    cluster.does("UPDATE mfront_island SET state = 'moving', target = 'one'")
     with pytest.raises(BadPlacement, match="island0: it is on its way to one: remove it once it is there"):
         placement.remove("island0")
-    cluster.does("UPDATE mfront_island SET state = 'here', target = NULL")
-    # One that has begun to move since it was looked at stays as it is, and that is said.
-    cluster.does("UPDATE mfront_island SET state = 'moving', target = 'one'")
     with monkeypatch.context() as patched:
         patched.setattr(placement, "islands", lambda: before)
-        for act in (lambda: placement.change("island0", made["island0"].read_text()), lambda: placement.remove("island0")):
+        for act in (lambda: placement.change("island0", before["island0"].settings), lambda: placement.remove("island0")):
             with pytest.raises(BadPlacement, match="island0: it has just begun to move"):
                 act()
     cluster.does("UPDATE mfront_island SET state = 'here', target = NULL")
-    assert gate.does("remove", "island0")[0] == 0 and placement.islands() == {}
-    placement.close()
+
+
+def settings_are_refused(gate: Gate, config: Path) -> None:
+    """Settings of a machine that are wrong in one place: the fault names it."""
     for table, keys, told in (("machine", {"name": "a b"}, "machine.name: is to be"), ("machine", {"database": None}, "machine.database: is missing"),
                               ("listen", {"host": "0.0.0.0"}, "listen.host: is to be the address at which"),
                               ("listen", {"host": None}, "listen.host: is to be the address at which"),
                               ("listen", {"port": 0}, "listen.port: is to be a whole number"), ("peers", {"key": None}, "peers.key: is missing")):
-        config = tmp_path / "bad.toml"
         tables = gate.tables | {table: {key: value for key, value in (gate.tables[table] | keys).items() if value is not None}}
         config.write_text(toml(tables))
         with pytest.raises(BadSettings, match=told):
             settings_of(argparse.Namespace(config=config))
-    with pytest.raises(RuntimeError, match="cannot be used"):
-        host("two", peers={"authority": "none"})

@@ -29,7 +29,7 @@ from troubled_gates import Gates  # noqa: E402
 from troubled_pair import Pair  # noqa: E402
 from troubles import COMBINATIONS, drawn, tried  # noqa: E402
 
-# Seconds after which something is missed in a part, unless the words say otherwise: the machine may have other work. A part takes so many times that at most.
+# Seconds after which something is missed in a part, unless the words say otherwise: the machine may have other work; and how often a part has that at most.
 PATIENT, LONGEST = 240, 15
 # Seconds for which users rest before each line: a standby that begins with the journal runs all that they sent.
 REST = 0.05

@@ -34,7 +34,7 @@ UNSIGNED, SIGNED, REQUEST_COST, CONNECTION_COST = 600.0, 3000.0, 1.0, 2.0
 # Requests of a connection after which it is ended, while its peer is not signed on.
 MOST_REQUESTS = 100
 BACKLOG = 512
-# Seconds between two times that a refusal is told.
+# Seconds between two reports of a refusal.
 TELLING = 60.0
 REASONS = {400: "Bad Request", 413: "Content Too Large", 431: "Request Header Fields Too Large"}
 # No delay for small frames; a peer that is gone without a word is noticed within three minutes.

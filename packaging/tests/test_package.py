@@ -202,7 +202,7 @@ def test_systemd_knows_each_word_of_a_unit(unit: str, tmp_path: Path) -> None:
 
 @pytest.mark.skipif(os.geteuid() != 0, reason="root alone mounts /proc")
 @pytest.mark.parametrize("unit", ["mfront.service", "mgate.service"])
-def test_a_unit_leaves_what_a_front_reads_of_proc(unit: str) -> None:
+def test_a_unit_lets_a_front_know_the_start_of_the_machine(unit: str) -> None:
     """A front that keeps a journal asks which start of the machine this is: without that, its unit kept it from starting."""
     found = re.search(r"^ProcSubset=(\w+)$", (TOP / "packaging" / unit).read_text(encoding="utf-8"), re.MULTILINE)
     options = f"-o subset={found[1]}" if found and found[1] != "all" else ""

@@ -71,7 +71,7 @@ def test_lines_with_indirection_and_without(count: int, language: int) -> None:
     def alike(drawn: Random) -> None:
         plain_run, other_run, places = runs([drawn_line(drawn, language) for _ in range(LINES)])
         plain, other = (replies_of_lines(run, settings=OF_LANGUAGE[language]) for run in (plain_run, other_run))
-        ends["lines with a form of language 1"] += sum("$re" in line.lower() for line in other_run)
+        ends["lines with a form of language 1"] += sum(any(form in line.lower() for form in ("$re", "$ql", "$qs")) for line in other_run)
         for line, other_line, reply, other_reply in zip(plain_run, other_run, plain, other):
             assert (line, reply) == (line, other_reply), other_line
         ends.update(other[place][-1] for place in places)

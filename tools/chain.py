@@ -4,6 +4,7 @@
 
     tools/chain.py [NAME ..]        proves these crates, or all, and those below them
     tools/chain.py --edits [NAME ..]  tries their edits of must-fail/ too
+    tools/chain.py --runs [NAME ..]   plays their programs too, as both compilers made them, against their stdout, as the gate does last
 
 It works on a copy of the sources as they stand when it starts. What `rt ci` proves of a crate, with its checks of the text, is done here by the
 same functions; how many side by side is decided here: a proof gets up to four jobs, first those with the longest chain of others above them, and as
@@ -225,13 +226,13 @@ def say(text: str) -> None:
 
 def main(words: list[str]) -> int:
     """Proves the crates that are named. The status is 0 if all passed, and 2 for words that it does not know."""
-    names = [word for word in words if word != "--edits"]
+    names = [word for word in words if word not in ("--edits", "--runs")]
     crates = crates_named(names, "chain", __doc__)
     if crates is None:
         return 2
     with tempfile.TemporaryDirectory(prefix="mserve-chain-copy-") as room:
         copy_crates(crates, room, {crate: edits_of(crate, "must-fail") for crate in crates} if "--edits" in words else {})
-        status, closing = prove(room, len(crates), say, runs=False)
+        status, closing = prove(room, len(crates), say, runs="--runs" in words)
     faults = [line for line in closing.splitlines() if line.startswith("rt: FAILED") or "NOT REFUSED" in line]
     for line in faults:
         say(line.removeprefix("rt: "))

@@ -1,7 +1,7 @@
 #!/usr/bin/env python3
 # SPDX-License-Identifier: Apache-2.0
 """Breaks lines of antt files that are over 160 columns: a signature before arrows that stand in no bracket, a definition after its `=`, and what it is
-defined as before brackets that stand in none. Where a line has none of these it stays. Imports are for wrap_imports.py.
+defined as before brackets that stand in none. Where a line has none of these it stays. Imports are several of the same module already.
 
     wip/wrap_lines.py FILE ..     then `rt fmt` in the crate, `rt check`, and `tools/house_rules.py --lower`
 

@@ -8,11 +8,12 @@ use Rattle.mgrammar.proofs.GrammarWords.{ArgTree, assign, formats, coded, shown,
 use Rattle.mgrammar.proofs.GrammarWords.{go_to, executed, locked, hang_for, returned, indirect_args, SpacedTree}
 use Rattle.std.specs.Prelude.{◌&&◌, not}
 use Rattle.std.specs.List.{list_all}
-use Rattle.mgrammar.specs.CallsIn.{has_call, has_call_tails, has_call_tail, has_call_operand, has_call_primary, has_call_exprs}
-use Rattle.mgrammar.specs.CallsIn.{has_call_actual, has_call_actuals, has_call_optional, has_call_destination, has_call_arg}
+use Rattle.mgrammar.specs.Grammar.{ReferenceTree, local, global, naked, indirect, extended, ChoicesTree, no_choices, choice}
+use Rattle.mgrammar.specs.CallsIn.{has_call, has_call_tails, has_call_tail, has_call_operand, has_call_primary, has_call_reference, has_call_exprs}
+use Rattle.mgrammar.specs.CallsIn.{has_call_choices, has_call_actual, has_call_actuals, has_call_optional, has_call_destination, has_call_arg}
 use Rattle.mgrammar.specs.CallsIn.{has_call_spaced}
 use Rattle.mgrammar.specs.ProgramsIn.{in_steps, in_steps_tails, in_steps_tail, in_steps_operand, in_steps_primary, in_steps_exprs, in_steps_actual}
-use Rattle.mgrammar.specs.ProgramsIn.{in_steps_actuals, in_steps_optional, in_steps_arg, in_steps_args, in_steps_spaced}
+use Rattle.mgrammar.specs.ProgramsIn.{in_steps_reference, in_steps_choices, in_steps_actuals, in_steps_optional, in_steps_arg, in_steps_args, in_steps_spaced}
 use Rattle.mgrammar.specs.GrammarLaws.{UncalledIsInSteps}
 
 -- neither of two
@@ -40,8 +41,8 @@ mutual
   tail_steps (matches atoms) h = refl
   tail_steps (matches_not atoms) h = refl
   tail_steps (raise o) h = operand_steps o h
-  tail_steps (matches_indirect p) h = ap not h
-  tail_steps (matches_not_indirect p) h = ap not h
+  tail_steps (matches_indirect p) h = primary_steps p h
+  tail_steps (matches_not_indirect p) h = primary_steps p h
 
   operand_steps : (o : OperandTree) → has_call_operand o ≡ false → in_steps_operand o ≡ true
   operand_steps (operand signs p) h = primary_steps p h
@@ -50,12 +51,33 @@ mutual
   primary_steps (number literal) h = refl
   primary_steps (text t) h = refl
   primary_steps (special word) h = refl
-  primary_steps (reference r) h = ap not h
+  primary_steps (reference r) h = reference_steps r h
   primary_steps (bracket e) h = expr_steps e h
   primary_steps (call word args) h = exprs_steps args h
-  primary_steps (select word choices) h = ap not h
-  primary_steps (refer word r more) h = ap not h
+  primary_steps (select word choices) h = choices_steps choices h
+  primary_steps (refer word r more) h =
+      let n = neither (has_call_reference r) (has_call_exprs more) h in
+      both (in_steps_reference r) (in_steps_exprs more) (reference_steps r n.0) (exprs_steps more n.1)
   primary_steps (extrinsic e xs) h = absurd (let clash : true ≡ false = h in cc)
+
+  reference_steps : (r : ReferenceTree) → has_call_reference r ≡ false → in_steps_reference r ≡ true
+  reference_steps (local name subscripts) h = exprs_steps subscripts h
+  reference_steps (global name subscripts) h = exprs_steps subscripts h
+  reference_steps (naked subscripts) h = exprs_steps subscripts h
+  reference_steps (indirect p subscripts) h =
+      let n = neither (has_call_primary p) (has_call_exprs subscripts) h in
+      both (in_steps_primary p) (not (has_call_exprs subscripts)) (primary_steps p n.0) (ap not n.1)
+  reference_steps (extended e name subscripts) h =
+      let n = neither (has_call e) (has_call_exprs subscripts) h in
+      both (in_steps e) (in_steps_exprs subscripts) (expr_steps e n.0) (exprs_steps subscripts n.1)
+
+  choices_steps : (s : ChoicesTree) → has_call_choices s ≡ false → in_steps_choices s ≡ true
+  choices_steps no_choices h = refl
+  choices_steps (choice c v rest) h =
+      let n = neither (has_call c) (has_call v || has_call_choices rest) h in
+      let m = neither (has_call v) (has_call_choices rest) n.1 in
+      let values = both (in_steps v) (in_steps_choices rest) (expr_steps v m.0) (choices_steps rest m.1) in
+      both (in_steps c) (in_steps v && in_steps_choices rest) (expr_steps c n.0) values
 
   exprs_steps : (es : ExprsTree) → has_call_exprs es ≡ false → in_steps_exprs es ≡ true
   exprs_steps no_exprs h = refl

@@ -1,17 +1,17 @@
 -- SPDX-License-Identifier: Apache-2.0
--- Whether each call of a function in a tree stands where it can be carried out a step at a time: under operators, signs and brackets, in
--- the arguments of functions of values, and in actuals. A subscript, a function of a variable, $SELECT and an indirection are evaluated as
--- a whole, as are the targets of SET, the parameters of FOR, and the names and the timeout of LOCK: no call stands in them.
+-- Whether each call of a function in a tree stands where it can be carried out a step at a time: anywhere in an expression, apart from the
+-- subscripts after an indirection, which are evaluated as a whole once the text is read. So are the targets of SET, the parameters of FOR,
+-- the names and the timeout of LOCK, and the argument of an indirection: no call stands in them.
 use Rattle.std.specs.Prelude.{Bool, true, ◌&&◌, ◌||◌, not, List, Option, Some, None}
 use Rattle.std.specs.List.{list_all, list_any}
 use Rattle.mgrammar.specs.Grammar.{ExprTree, expr, TailsTree, no_tails, tail, TailTree, apply, matches, matches_not, raise, matches_indirect}
 use Rattle.mgrammar.specs.Grammar.{matches_not_indirect}
-use Rattle.mgrammar.specs.Grammar.{OperandTree, operand, PrimaryTree, number, text, special, reference, bracket, call, select, refer, extrinsic, ExprsTree}
-use Rattle.mgrammar.specs.Grammar.{no_exprs, exprs}
+use Rattle.mgrammar.specs.Grammar.{OperandTree, operand, PrimaryTree, number, text, special, reference, bracket, call, select, refer, extrinsic, ReferenceTree}
+use Rattle.mgrammar.specs.Grammar.{local, global, naked, indirect, extended, ExprsTree, no_exprs, exprs, ChoicesTree, no_choices, choice}
 use Rattle.mgrammar.specs.Grammar.{ActualTree, missing_actual, value_actual, name_actual, indirect_actual, ActualsTree, no_actuals, actuals}
 use Rattle.mgrammar.specs.Grammar.{ArgTree, assign, formats, coded, shown, kill_one, kill_others, new_one, new_others, tested, loop, do_one, go_to, executed}
 use Rattle.mgrammar.specs.Grammar.{locked, hang_for, returned, indirect_args, SpacedTree, LineTree}
-use Rattle.mgrammar.specs.CallsIn.{has_call_primary, has_call_reference, has_call_exprs, has_call_choices, has_call_optional, has_call_destination}
+use Rattle.mgrammar.specs.CallsIn.{has_call_primary, has_call_reference, has_call_exprs, has_call_optional, has_call_destination}
 use Rattle.mgrammar.specs.CallsIn.{has_call_parameter, has_call_locked}
 
 abbrev mutual
@@ -27,8 +27,8 @@ abbrev mutual
   in_steps_tail (matches atoms) = true
   in_steps_tail (matches_not atoms) = true
   in_steps_tail (raise o) = in_steps_operand o
-  in_steps_tail (matches_indirect p) = not (has_call_primary p)
-  in_steps_tail (matches_not_indirect p) = not (has_call_primary p)
+  in_steps_tail (matches_indirect p) = in_steps_primary p
+  in_steps_tail (matches_not_indirect p) = in_steps_primary p
 
   pub in_steps_operand : OperandTree → Bool
   in_steps_operand (operand signs p) = in_steps_primary p
@@ -37,16 +37,27 @@ abbrev mutual
   in_steps_primary (number literal) = true
   in_steps_primary (text t) = true
   in_steps_primary (special word) = true
-  in_steps_primary (reference r) = not (has_call_reference r)
+  in_steps_primary (reference r) = in_steps_reference r
   in_steps_primary (bracket e) = in_steps e
   in_steps_primary (call word args) = in_steps_exprs args
-  in_steps_primary (select word choices) = not (has_call_choices choices)
-  in_steps_primary (refer word r more) = not (has_call_reference r || has_call_exprs more)
+  in_steps_primary (select word choices) = in_steps_choices choices
+  in_steps_primary (refer word r more) = in_steps_reference r && in_steps_exprs more
   in_steps_primary (extrinsic e xs) = in_steps_actuals xs
+
+  pub in_steps_reference : ReferenceTree → Bool
+  in_steps_reference (local name subscripts) = in_steps_exprs subscripts
+  in_steps_reference (global name subscripts) = in_steps_exprs subscripts
+  in_steps_reference (naked subscripts) = in_steps_exprs subscripts
+  in_steps_reference (indirect p subscripts) = in_steps_primary p && not (has_call_exprs subscripts)
+  in_steps_reference (extended e name subscripts) = in_steps e && in_steps_exprs subscripts
 
   pub in_steps_exprs : ExprsTree → Bool
   in_steps_exprs no_exprs = true
   in_steps_exprs (exprs e rest) = in_steps e && in_steps_exprs rest
+
+  pub in_steps_choices : ChoicesTree → Bool
+  in_steps_choices no_choices = true
+  in_steps_choices (choice c v rest) = in_steps c && (in_steps v && in_steps_choices rest)
 
   pub in_steps_actual : ActualTree → Bool
   in_steps_actual missing_actual = true

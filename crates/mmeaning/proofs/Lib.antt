@@ -38,6 +38,7 @@ pub mod FunctionExamples
 pub mod Uncalled
 pub mod UncalledArguments
 pub mod KeptTests
+pub mod ProgramParts
 pub mod ProgramSteps
 pub mod ProgramArguments
 pub mod ProgramFrames

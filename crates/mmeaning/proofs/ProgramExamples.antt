@@ -1,12 +1,16 @@
 -- SPDX-License-Identifier: Apache-2.0
 -- Programs on examples, as proved equations: those of arguments, and where one pauses.
 use Rattle.mmeaning.proofs.MeaningWords.{◌≡◌, ℕ, suc, true, List, [], ◌∷◌, Option, Some, None, refl, rules, map, codes, option_map, Done, Gives, Text, State}
-use Rattle.mmeaning.proofs.MeaningWords.{PrimaryTree, reference, number, text, apply, join, multiply, minus, one, variable, at_label}
+use Rattle.mmeaning.proofs.MeaningWords.{PrimaryTree, reference, number, text, apply, join, multiply, minus, one, variable, at_label, no_exprs, exprs}
 use Rattle.mmeaning.proofs.MeaningWords.{set_argument, write_argument, do_argument, xecute_argument, args_in, reads_in, Position, context}
 use Rattle.mgrammar.specs.Grammar.{FormTree, add, value_actual, name_actual, missing_actual, quit_argument}
+use Rattle.mspec.specs.Code.{M4}
 use Rattle.mgrammar.proofs.ShortTrees.{plain, named, the_one}
-use Rattle.mmeaning.specs.Programs.{one_value, Op, Operand, Tail, Spend, Sign, Join, Values, Add, Function, Begin, Actual, Hand, Call, Where, Prepare, Ending}
-use Rattle.mmeaning.specs.Programs.{Assign, Show, Run, Return, Enter, Program, calls, begun, program_of}
+use Rattle.mmeaning.specs.Programs.{one_value, Op, Operand, Tail, Spend, Sign, Join, Match_not, Values, Add, Function, Begin, Actual, Hand, Call, Where}
+use Rattle.mmeaning.specs.Programs.{Prepare, Local, Global, Naked, Extended, Named, Read, Data, Resolve, Get, Walk, Order, Unless, Pass, Refuse, Ending, Assign}
+use Rattle.mmeaning.specs.Programs.{Show}
+use Rattle.mmeaning.specs.Programs.{Run}
+use Rattle.mmeaning.specs.Programs.{Return, Enter, Program, calls, begun, program_of}
 
 -- those of the arguments that a text has, in a language that has calls everywhere
 abbrev programs : FormTree → Text → Option (List (Option Program))
@@ -44,9 +48,33 @@ record Programs : Type 0 where
   entered : programs do_argument (codes "F($$G):A")
       ≡ one_of (Operand (plain a) ∷ Where ∷ Begin ∷ called (codes "G") (Hand ∷ [])) (Enter (at_label (codes "F")) true)
   executed : programs xecute_argument (codes "A:$$F") ≡ one_of (called (codes "F") (Where ∷ Operand (plain a) ∷ [])) Run
-  -- there is none yet for a call in a subscript, in $SELECT, in a function of a variable, in an indirection, or in a target
-  none_yet : map (programs write_argument) (codes "A($$F)" ∷ codes "$S($$F:1)" ∷ codes "$G(A($$F))" ∷ codes "@A@($$F)" ∷ codes "@$$F" ∷ [])
-      ≡ none ∷ none ∷ none ∷ none ∷ none ∷ []
+  -- a variable is read after the values of its subscripts
+  subscripts : programs write_argument (codes "A(1,$$F)")
+      ≡ one_of (Spend ∷ Values ∷ Operand (plain (number (codes "1"))) ∷ Add
+      ∷ called (codes "F") (Add ∷ Local (codes "A") ∷ Read ∷ [])) Show
+  of_global : programs set_argument (codes "A=^B($$F)")
+      ≡ one_of (Prepare (one (variable (named (codes "A")))) ∷ Spend ∷ Values
+      ∷ called (codes "F") (Add ∷ Global (codes "B") ∷ Read ∷ [])) Assign
+  of_naked : programs quit_argument (codes "^($$F)") ≡ one_of (Spend ∷ Values ∷ called (codes "F") (Add ∷ Naked ∷ Read ∷ [])) Return
+  of_account : programs quit_argument (codes "^|$$F|B")
+      ≡ one_of (Spend ∷ called (codes "F") (Values ∷ Extended (codes "B") ∷ Read ∷ [])) Return
+  -- the subscripts after an indirection are one step
+  through_a_text : programs quit_argument (codes "@$$F@(1)")
+      ≡ one_of (Spend ∷ called (codes "F") (Named (exprs the_one no_exprs) ∷ Read ∷ [])) Return
+  -- the checks of a variable come before the values after it
+  got : programs quit_argument (codes "$G(A,$$F)")
+      ≡ one_of (Spend ∷ Values ∷ Local (codes "A") ∷ Resolve ∷ Values ∷ called (codes "F") (Add ∷ Get ∷ [])) Return
+  asked : programs quit_argument (codes "$D(A($$F))")
+      ≡ one_of (Spend ∷ Values ∷ called (codes "F") (Add ∷ Local (codes "A") ∷ Data ∷ [])) Return
+  next : programs quit_argument (codes "$O(A($$F))")
+      ≡ one_of (Spend ∷ Values ∷ called (codes "F") (Add ∷ Local (codes "A") ∷ Walk ∷ Values ∷ Order ∷ [])) Return
+  -- a value is passed by if its condition is false, and the choices after one whose condition is true
+  chosen : programs quit_argument (codes "$S($$F:A,1:$$G)")
+      ≡ one_of (Spend ∷ called (codes "F") (Unless 2 ∷ Operand (plain a) ∷ Pass 7
+      ∷ Operand (plain (number (codes "1"))) ∷ Unless 4 ∷ called (codes "G") (Pass 1 ∷ Refuse M4 ∷ []))) Return
+  matched : programs quit_argument (codes "A'?@$$F") ≡ one_of (Operand (plain a) ∷ called (codes "F") (Match_not ∷ [])) Return
+  -- there is none yet for a call in the subscripts after an indirection, in an indirection of arguments, or in a target
+  none_yet : map (programs write_argument) (codes "@A@($$F)" ∷ codes "1_@A@($$F)" ∷ codes "@$$F" ∷ []) ≡ none ∷ none ∷ none ∷ []
   no_target_yet : programs set_argument (codes "A($$F)=1") ≡ none
 
 examples : Programs

@@ -1,13 +1,14 @@
 -- SPDX-License-Identifier: Apache-2.0
 -- Where programs pause, and how they go on.
-use Rattle.mmeaning.proofs.MeaningWords.{◌≡◌, ℕ, Bool, List, [], ◌∷◌, Option, Some, None, refl, sym, ◌∙◌, Text, Act, ◌>>=◌, give, EntryTree, Completion}
-use Rattle.mmeaning.proofs.MeaningWords.{Position, Context, context}
+use Rattle.mmeaning.proofs.MeaningWords.{◌≡◌, ℕ, zero, suc, cond, Bool, List, [], ◌∷◌, Option, Some, None, refl, sym, ◌∙◌, Text, Act, ◌>>=◌, give}
+use Rattle.mmeaning.proofs.MeaningWords.{EntryTree, Completion, Position, Context, context}
 use Rattle.mspec.specs.Scopes.{Binding}
+use Rattle.mmeaning.specs.Operators.{as_truth}
 use Rattle.mmeaning.specs.Levels.{answers}
 use Rattle.mmeaning.specs.Parameters.{bare_list}
 use Rattle.mmeaning.specs.LineMeaning.{entering, returned_value, answer, effect, where_holds}
-use Rattle.mmeaning.specs.Programs.{Item, one_value, handing, Op, Call, Ending, Enter, Run, step, ended_by, going_on, carried, Pause, over, end_begun}
-use Rattle.mmeaning.specs.Programs.{begun_on, begun}
+use Rattle.mmeaning.specs.Programs.{Item, one_value, handing, Op, Call, Unless, Pass, Ending, Enter, Run, step, ended_by, going_on, carried_past}
+use Rattle.mmeaning.specs.Programs.{carried, Pause, over, end_begun, begun_on, begun_past, begun}
 use Rattle.mmeaning.specs.Frames.{Lists, Programs, Conditions, frame, resumed}
 use Rattle.mmeaning.specs.ProgramLaws.{ProgramsPause, ProgramsTakeValues, ConditionsGoOn, ArgumentsPause, ConditionsPause}
 use Rattle.mmeaning.proofs.Calls.{assoc, ended}
@@ -51,14 +52,20 @@ end_pauses a n p (Enter e is_listed) (handing b bs ∷ st) = refl
 end_pauses a n p Run (one_value v ∷ st) = refl
 end_pauses a n p k st = goes_over a n p k (ended_by (context a n p) k st)
 
-pub all_pause : (a : Text) (n : ℕ) (p : Position) (k : Ending) (ops : List Op) (st : List Item)
-    → Alike a n p k (carried (context a n p) ops k st) (then_resumed a n p k (begun (context a n p) ops k st))
-all_pause a n p k [] st = end_pauses a n p k st
-all_pause a n p k (Call e ∷ ops) (handing b bs ∷ st) = call_pauses a n p k e b bs ops st
-all_pause a n p k (o ∷ ops) st = step_pauses a n p k o ops st (λ st. all_pause a n p k ops st)
+-- once this many steps are passed by
+pub all_pause : (a : Text) (n : ℕ) (p : Position) (k : Ending) (m : ℕ) (ops : List Op) (st : List Item)
+    → Alike a n p k (carried_past (context a n p) m ops k st) (then_resumed a n p k (begun_past (context a n p) m ops k st))
+all_pause a n p k m [] st = end_pauses a n p k st
+all_pause a n p k zero (Call e ∷ ops) (handing b bs ∷ st) = call_pauses a n p k e b bs ops st
+all_pause a n p k zero (Unless m ∷ ops) (one_value v ∷ st) =
+    (λ j. as_truth v >>= (λ b. all_pause a n p k (cond b 0 m) ops st j))
+    ∙ sym (assoc (as_truth v) (λ b. begun_past (context a n p) (cond b 0 m) ops k st) (resumed a n p k))
+all_pause a n p k zero (Pass m ∷ ops) st = all_pause a n p k m ops st
+all_pause a n p k zero (o ∷ ops) st = step_pauses a n p k o ops st (λ st. all_pause a n p k 0 ops st)
+all_pause a n p k (suc m) (o ∷ ops) st = all_pause a n p k m ops st
 
 pub programs_pause : ProgramsPause
-programs_pause a n p ops k st = all_pause a n p k ops st
+programs_pause a n p ops k st = all_pause a n p k 0 ops st
 
 pub programs_take_values : ProgramsTakeValues
 programs_take_values a n p ops k st v = refl

@@ -1,27 +1,38 @@
 -- SPDX-License-Identifier: Apache-2.0
 -- The steps of a program evaluate what they come from.
-use Rattle.mmeaning.proofs.MeaningWords.{◌≡◌, Bool, true, false, not, cond, List, [], ◌∷◌, ◌++◌, Some, refl, sym, ◌∙◌, Text, Act, ◌>>=◌, give, ExprTree}
-use Rattle.mmeaning.proofs.MeaningWords.{ExprsTree, PrimaryTree, OperandTree, ActualsTree, expr, tail, no_tails, apply, operand, number, text, reference}
-use Rattle.mmeaning.proofs.MeaningWords.{bracket, refer, exprs, no_exprs, no_actuals, Inside, Completion, Context, value}
-use Rattle.std.specs.Prelude.{◌&&◌, ◌||◌}
+use Rattle.mmeaning.proofs.MeaningWords.{◌≡◌, Bool, true, false, not, cond, List, [], ◌∷◌, ◌++◌, Option, Some, None, refl, sym, ◌∙◌, Text, Act}
+use Rattle.mmeaning.proofs.MeaningWords.{◌>>=◌, give, ExprTree, ExprsTree, PrimaryTree, ReferenceTree, OperandTree, ActualsTree, expr, tail, no_tails, apply}
+use Rattle.mmeaning.proofs.MeaningWords.{operand, number, text, reference, bracket, refer, local, global, naked, indirect, extended, exprs, no_exprs}
+use Rattle.mmeaning.proofs.MeaningWords.{no_actuals, Evaluated, of_local, of_global, of_naked, Inside, Completion, Context, value, evaluated}
+use Rattle.std.specs.Prelude.{ℕ, suc, ◌&&◌, length, slice_get, unwrap_or}
 use Rattle.mspec.specs.Act.{◌>>◌, charge, test_is}
 use Rattle.mspec.specs.Scopes.{Binding, valued}
+use Rattle.mspec.specs.Interpretations.{truth_text}
 use Rattle.mgrammar.specs.Grammar.{SignTree, special, call, select, extrinsic, TailsTree, TailTree, matches, matches_not, raise, matches_indirect}
-use Rattle.mgrammar.specs.Grammar.{matches_not_indirect, ActualTree, missing_actual, value_actual, name_actual, indirect_actual, actuals}
-use Rattle.mgrammar.specs.CallsIn.{has_call, has_call_operand, has_call_primary, has_call_tail, has_call_actual, has_call_reference, has_call_exprs}
-use Rattle.mgrammar.specs.CallsIn.{has_call_choices}
-use Rattle.mgrammar.specs.ProgramsIn.{in_steps, in_steps_tails, in_steps_tail, in_steps_operand, in_steps_primary, in_steps_exprs, in_steps_actual}
-use Rattle.mgrammar.specs.ProgramsIn.{in_steps_actuals}
-use Rattle.mmeaning.specs.Operators.{unaries, binary, raising}
+use Rattle.mgrammar.specs.Grammar.{matches_not_indirect, ChoicesTree, no_choices, choice, ActualTree, missing_actual, value_actual, name_actual}
+use Rattle.mgrammar.specs.Grammar.{indirect_actual, actuals}
+use Rattle.mgrammar.specs.Functions.{data_function, get_function, order_function, FunctionTree, of_values, of_variable, of_choices, function_of}
+use Rattle.mgrammar.specs.CallsIn.{has_call, has_call_operand, has_call_primary, has_call_tail, has_call_actual, has_call_exprs}
+use Rattle.mgrammar.specs.ProgramsIn.{in_steps, in_steps_tails, in_steps_tail, in_steps_operand, in_steps_primary, in_steps_reference, in_steps_exprs}
+use Rattle.mgrammar.specs.ProgramsIn.{in_steps_choices, in_steps_actual, in_steps_actuals}
+use Rattle.mmeaning.specs.Operators.{as_truth, unaries, binary, raising}
 use Rattle.mmeaning.specs.Functions.{call_value}
-use Rattle.mmeaning.specs.Expression.{is_bare, linked_by, tails_value, tail_value, operand_value, primary_value, values, handed, all_handed, handed_over}
+use Rattle.mmeaning.specs.Variables.{reading, ordering, resolve, read_at, read_or, next_at, direction_of, referring}
+use Rattle.mmeaning.specs.Expression.{is_bare, linked_by, named_by, matches_text, tails_value, tail_value, operand_value, primary_value, values, chosen, handed}
+use Rattle.mmeaning.specs.Expression.{all_handed, handed_over}
 use Rattle.mmeaning.specs.LineMeaning.{inside_of, answer, answering}
-use Rattle.mmeaning.specs.Programs.{Item, one_value, some_values, handing, Op, Operand, Tail, Join, Raise, Values, Add, Function, Begin, Actual, Hand}
-use Rattle.mmeaning.specs.Programs.{Hand_name, Call, Ending, plain, going_on, carried, signed, of_value, of_tails, of_tail, of_operand, of_primary, of_values}
-use Rattle.mmeaning.specs.Programs.{of_actual, of_actuals, of_list}
-use Rattle.mmeaning.specs.ProgramLaws.{StepsEvaluate}
+use Rattle.mmeaning.specs.Programs as programs
+use Rattle.mmeaning.specs.Programs.{Item, one_value, some_values, found, placed, walked, handing, Op, Operand, Tail, Join, Raise, Match, Match_not, Values, Add}
+use Rattle.mmeaning.specs.Programs.{Function, Begin, Actual, Hand, Hand_name, Call, Local, Global, Naked, Extended, Named, Read, Data, Resolve, Get, Walk}
+use Rattle.mmeaning.specs.Programs.{Order}
+use Rattle.mmeaning.specs.Programs.{Unless, Pass}
+use Rattle.mmeaning.specs.Programs.{Ending, plain, data_at, going_on, carried_past, carried, signed, referred, of_value, of_tails, of_tail, of_operand}
+use Rattle.mmeaning.specs.Programs.{of_primary}
+use Rattle.mmeaning.specs.Programs.{of_reference, of_actual, of_actuals, of_list}
+use Rattle.mmeaning.specs.ProgramLaws.{StepsEvaluate, StepsFind}
 use Rattle.mmeaning.proofs.Calls.{assoc, ended}
-use Rattle.mmeaning.proofs.UncalledArguments.{operand_plain, tail_plain, handed_plain}
+use Rattle.mmeaning.proofs.ProgramParts.{value_behind, choices_behind}
+use Rattle.mmeaning.proofs.UncalledArguments.{named_plain, operand_plain, tail_plain, handed_plain}
 
 -- each of two
 pub each_of : (a b : Bool) → a && b ≡ true → (a ≡ true) × (b ≡ true)
@@ -81,6 +92,84 @@ module _ (x : Context) (k : Ending) where
   signs_carried [] v ops st = refl
   signs_carried (s ∷ ss) v ops st = stepped (unaries (s ∷ ss) v) (λ w. one_value w ∷ st) ops
 
+  -- ---- steps that are passed by
+
+  -- all of these
+  all_past : (ops rest : List Op) (st : List Item) → Same (carried_past x (length ops) (ops ++ rest) k st) (carried x rest k st)
+  all_past [] rest st = refl
+  all_past (o ∷ ops) rest st = all_past ops rest st
+
+  -- and the one after them
+  one_more_past : (ops : List Op) (o : Op) (rest : List Op) (st : List Item)
+      → Same (carried_past x (suc (length ops)) (ops ++ o ∷ rest) k st) (carried x rest k st)
+  one_more_past [] o rest st = refl
+  one_more_past (p ∷ ops) o rest st = one_more_past ops o rest st
+
+  -- ---- variables
+
+  -- what has a value in the end, once something is there
+  behind_it : {A : Type 0} (p : Act A) (f : A → Act Text) (ops : List Op) (st : List Item) (rest : A → Act Completion)
+      → ((a : A) → Same (rest a) (f a >>= (λ w. carried x ops k (one_value w ∷ st))))
+      → Same (p >>= rest) ((p >>= f) >>= (λ w. carried x ops k (one_value w ∷ st)))
+  behind_it p f ops st rest h = (λ j. p >>= (λ a. h a j)) ∙ sym (assoc p f (λ w. carried x ops k (one_value w ∷ st)))
+
+  module _ (variable : Act Evaluated) (more : Act (List Text)) (of_it of_more : List Op → List Op)
+      (found_there : (ops : List Op) (st : List Item) → Same (carried x (of_it ops) k st) (variable >>= (λ v. carried x ops k (found v ∷ st))))
+      (values_there : (ops : List Op) (st : List Item)
+      → Same (carried x (of_more ops) k (some_values [] ∷ st)) (more >>= (λ vs. carried x ops k (some_values vs ∷ st)))) where
+    get_carried : (v : Evaluated) (ops : List Op) (st : List Item)
+        → Same (carried x (Resolve ∷ Values ∷ of_more (Get ∷ ops)) k (found v ∷ st))
+        ((resolve reading v >>= (λ p. more >>= (λ xs. read_or (unwrap_or (slice_get xs 0) []) p))) >>= (λ w. carried x ops k (one_value w ∷ st)))
+    get_carried v ops st =
+        stepped (resolve reading v) (λ p. placed p ∷ st) (Values ∷ of_more (Get ∷ ops))
+        ∙ behind_it (resolve reading v) (λ p. more >>= (λ xs. read_or (unwrap_or (slice_get xs 0) []) p)) ops st
+        (λ p. carried x (Values ∷ of_more (Get ∷ ops)) k (placed p ∷ st)) (λ p.
+        values_there (Get ∷ ops) (placed p ∷ st)
+        ∙ behind_it more (λ xs. read_or (unwrap_or (slice_get xs 0) []) p) ops st (λ xs. carried x (Get ∷ ops) k (some_values xs ∷ placed p ∷ st)) (λ xs.
+        stepped (read_or (unwrap_or (slice_get xs 0) []) p) (λ w. one_value w ∷ st) ops))
+
+    order_carried : (v : Evaluated) (ops : List Op) (st : List Item)
+        → Same (carried x (Walk ∷ Values ∷ of_more (Order ∷ ops)) k (found v ∷ st))
+        ((resolve ordering v >>= (λ p. more >>= (λ xs. direction_of (slice_get xs 0) >>= (λ d. next_at d p))))
+        >>= (λ w. carried x ops k (one_value w ∷ st)))
+    order_carried v ops st =
+        stepped (resolve ordering v) (λ p. walked p ∷ st) (Values ∷ of_more (Order ∷ ops))
+        ∙ behind_it (resolve ordering v) (λ p. more >>= (λ xs. direction_of (slice_get xs 0) >>= (λ d. next_at d p))) ops st
+        (λ p. carried x (Values ∷ of_more (Order ∷ ops)) k (walked p ∷ st)) (λ p.
+        values_there (Order ∷ ops) (walked p ∷ st)
+        ∙ behind_it more (λ xs. direction_of (slice_get xs 0) >>= (λ d. next_at d p)) ops st
+        (λ xs. carried x (Order ∷ ops) k (some_values xs ∷ walked p ∷ st)) (λ xs.
+        stepped (direction_of (slice_get xs 0) >>= (λ d. next_at d p)) (λ w. one_value w ∷ st) ops))
+
+    referred_carried : (f : Option FunctionTree) (ops : List Op) (st : List Item)
+        → Same (carried x (referred f of_it of_more ops) k st) (referring f variable more >>= (λ w. carried x ops k (one_value w ∷ st)))
+    referred_carried None ops st = refl
+    referred_carried (Some (of_values f least most)) ops st = refl
+    referred_carried (Some (of_variable data_function most)) ops st =
+        found_there (Data ∷ ops) st
+        ∙ behind_it variable (λ v. resolve reading v >>= data_at) ops st _ (λ v. stepped (resolve reading v >>= data_at) (λ w. one_value w ∷ st) ops)
+    referred_carried (Some (of_variable get_function most)) ops st =
+        found_there (Resolve ∷ Values ∷ of_more (Get ∷ ops)) st
+        ∙ behind_it variable (λ v. resolve reading v >>= (λ p. more >>= (λ xs. read_or (unwrap_or (slice_get xs 0) []) p))) ops st _
+        (λ v. get_carried v ops st)
+    referred_carried (Some (of_variable order_function most)) ops st =
+        found_there (Walk ∷ Values ∷ of_more (Order ∷ ops)) st
+        ∙ behind_it variable (λ v. resolve ordering v >>= (λ p. more >>= (λ xs. direction_of (slice_get xs 0) >>= (λ d. next_at d p)))) ops st _
+        (λ v. order_carried v ops st)
+    referred_carried (Some of_choices) ops st = refl
+
+  -- ---- $SELECT
+
+  -- the value of a choice, or the choices after it
+  choice_went : (b : Bool) (n : ℕ) (both ops : List Op) (p q : Act Text) (st : List Item)
+      → Same (carried x both k st) (p >>= (λ w. carried x ops k (one_value w ∷ st)))
+      → Same (carried_past x n both k st) (q >>= (λ w. carried x ops k (one_value w ∷ st)))
+      → Same (carried_past x (cond b 0 n) both k st) (cond b p q >>= (λ w. carried x ops k (one_value w ∷ st)))
+  choice_went true n both ops p q st yes_case no_case = yes_case
+  choice_went false n both ops p q st yes_case no_case = no_case
+
+  -- ---- actuals
+
   -- the list of a function, or of DO, once its actuals are there
   list_of : (c : Bool) (b : Bool) (ops others : List Op) (p : Act (List Binding)) (st : List Item)
       → Same (carried x others k (handing b [] ∷ st)) (p >>= (λ bs. carried x ops k (handing b bs ∷ st)))
@@ -122,8 +211,20 @@ module _ (x : Context) (k : Ending) where
         (λ n. uncalled_tail (raise o) v ops st n)
     tail_carried (matches atoms) v ops st h = uncalled_tail (matches atoms) v ops st refl
     tail_carried (matches_not atoms) v ops st h = uncalled_tail (matches_not atoms) v ops st refl
-    tail_carried (matches_indirect p) v ops st h = uncalled_tail (matches_indirect p) v ops st (denied (has_call_primary p) h)
-    tail_carried (matches_not_indirect p) v ops st h = uncalled_tail (matches_not_indirect p) v ops st (denied (has_call_primary p) h)
+    tail_carried (matches_indirect p) v ops st h = by_test (has_call_primary p)
+        (of_primary p (Match ∷ ops)) (Tail (matches_indirect p) ∷ ops) (one_value v ∷ st) _
+        (λ c. primary_carried p (Match ∷ ops) (one_value v ∷ st) h
+        ∙ behind_it (primary_value i p) (λ t. matches_text i v t >>= (λ b. give (truth_text b))) ops st _ (λ t.
+        stepped (matches_text (plain x) v t) (λ b. one_value (truth_text b) ∷ st) ops
+        ∙ sym (assoc (matches_text i v t) (λ b. give (truth_text b)) (λ w. carried x ops k (one_value w ∷ st)))))
+        (λ n. uncalled_tail (matches_indirect p) v ops st n)
+    tail_carried (matches_not_indirect p) v ops st h = by_test (has_call_primary p)
+        (of_primary p (Match_not ∷ ops)) (Tail (matches_not_indirect p) ∷ ops) (one_value v ∷ st) _
+        (λ c. primary_carried p (Match_not ∷ ops) (one_value v ∷ st) h
+        ∙ behind_it (primary_value i p) (λ t. matches_text i v t >>= (λ b. give (truth_text (not b)))) ops st _ (λ t.
+        stepped (matches_text (plain x) v t) (λ b. one_value (truth_text (not b)) ∷ st) ops
+        ∙ sym (assoc (matches_text i v t) (λ b. give (truth_text (not b))) (λ w. carried x ops k (one_value w ∷ st)))))
+        (λ n. uncalled_tail (matches_not_indirect p) v ops st n)
 
     operand_carried : (o : OperandTree) (ops : List Op) (st : List Item) → in_steps_operand o ≡ true
         → Same (carried x (of_operand o ops) k st) (operand_value i o >>= (λ v. carried x ops k (one_value v ∷ st)))
@@ -138,19 +239,31 @@ module _ (x : Context) (k : Ending) where
     primary_carried (number literal) ops st h = uncalled_primary (number literal) ops st refl
     primary_carried (text t) ops st h = uncalled_primary (text t) ops st refl
     primary_carried (special word) ops st h = uncalled_primary (special word) ops st refl
-    primary_carried (reference r) ops st h = uncalled_primary (reference r) ops st (denied (has_call_reference r) h)
+    primary_carried (reference r) ops st h =
+        stepped charge (λ u. st) (of_reference r (Read ∷ ops))
+        ∙ behind_it charge (λ u. evaluated i r >>= (λ v. resolve reading v >>= read_at)) ops st _ (λ u.
+        reference_carried r (Read ∷ ops) st h
+        ∙ behind_it (evaluated i r) (λ v. resolve reading v >>= read_at) ops st _ (λ v.
+        stepped (resolve reading v >>= read_at) (λ w. one_value w ∷ st) ops))
     primary_carried (bracket e) ops st h =
         stepped charge (λ u. st) (of_value e ops)
         ∙ (λ j. charge >> value_carried e ops st h j)
         ∙ sym (assoc charge (λ u. value i e) (λ v. carried x ops k (one_value v ∷ st)))
     primary_carried (call word args) ops st h =
-        stepped charge (λ u. st) (Values ∷ of_values args (Function word ∷ ops))
+        stepped charge (λ u. st) (Values ∷ programs.of_values args (Function word ∷ ops))
         ∙ (λ j. charge >> values_carried args [] (Function word ∷ ops) st h j)
         ∙ (λ j. charge >> (values i [] args >>= (λ vs. stepped (call_value word vs) (λ v. one_value v ∷ st) ops j)))
         ∙ (λ j. charge >> sym (assoc (values i [] args) (λ vs. call_value word vs) (λ v. carried x ops k (one_value v ∷ st))) j)
         ∙ sym (assoc charge (λ u. values i [] args >>= (λ vs. call_value word vs)) (λ v. carried x ops k (one_value v ∷ st)))
-    primary_carried (select word choices) ops st h = uncalled_primary (select word choices) ops st (denied (has_call_choices choices) h)
-    primary_carried (refer word r more) ops st h = uncalled_primary (refer word r more) ops st (denied (has_call_reference r || has_call_exprs more) h)
+    primary_carried (select word choices) ops st h =
+        stepped charge (λ u. st) (programs.of_choices choices ops)
+        ∙ behind_it charge (λ u. chosen i choices) ops st _ (λ u. choices_carried choices ops st h)
+    primary_carried (refer word r more) ops st h =
+        let m = each_of (in_steps_reference r) (in_steps_exprs more) h in
+        stepped charge (λ u. st) (referred (function_of word) (of_reference r) (programs.of_values more) ops)
+        ∙ behind_it charge (λ u. referring (function_of word) (evaluated i r) (values i [] more)) ops st _ (λ u.
+        referred_carried (evaluated i r) (values i [] more) (of_reference r) (programs.of_values more)
+        (λ rest below. reference_carried r rest below m.0) (λ rest below. values_carried more [] rest below m.1) (function_of word) ops st)
     primary_carried (extrinsic e xs) ops st h =
         stepped charge (λ u. st) (Begin ∷ cond (is_bare xs) (Call e ∷ ops) (of_actuals xs (Call e ∷ ops)))
         ∙ (λ j. charge >> (test_is >>= (λ b.
@@ -160,12 +273,60 @@ module _ (x : Context) (k : Ending) where
         ∙ (λ j. charge >> sym (assoc test_is (λ b. handed_over i xs >>= (λ bs. answer x e bs b)) (λ v. carried x ops k (one_value v ∷ st))) j)
         ∙ sym (assoc charge (λ u. answering x x.position.depth e (handed_over i xs)) (λ v. carried x ops k (one_value v ∷ st)))
 
+    pub reference_carried : (r : ReferenceTree) (ops : List Op) (st : List Item) → in_steps_reference r ≡ true
+        → Same (carried x (of_reference r ops) k st) (evaluated i r >>= (λ v. carried x ops k (found v ∷ st)))
+    reference_carried (local name subscripts) ops st h =
+        values_carried subscripts [] (Local name ∷ ops) st h
+        ∙ sym (assoc (values i [] subscripts) (λ vs. give (of_local name vs)) (λ v. carried x ops k (found v ∷ st)))
+    reference_carried (global name subscripts) ops st h =
+        values_carried subscripts [] (Global name ∷ ops) st h
+        ∙ sym (assoc (values i [] subscripts) (λ vs. give (of_global (record { account = x.account; name = name; subscripts = vs })))
+        (λ v. carried x ops k (found v ∷ st)))
+    reference_carried (naked subscripts) ops st h =
+        values_carried subscripts [] (Naked ∷ ops) st h
+        ∙ sym (assoc (values i [] subscripts) (λ vs. give (of_naked vs)) (λ v. carried x ops k (found v ∷ st)))
+    reference_carried (indirect p subscripts) ops st h =
+        let m = each_of (in_steps_primary p) (not (has_call_exprs subscripts)) h in
+        let none = denied (has_call_exprs subscripts) m.1 in
+        primary_carried p (Named subscripts ∷ ops) st m.0
+        ∙ (λ j. primary_value i p >>= (λ t. stepped (named_by (plain x) subscripts t) (λ v. found v ∷ st) ops j))
+        ∙ (λ j. primary_value i p >>= (λ t. sym (named_plain x.account x.fuel x.position.depth (answering x) subscripts t none) j
+        >>= (λ v. carried x ops k (found v ∷ st))))
+        ∙ sym (assoc (primary_value i p) (λ t. named_by i subscripts t) (λ v. carried x ops k (found v ∷ st)))
+    reference_carried (extended e name subscripts) ops st h =
+        let m = each_of (in_steps e) (in_steps_exprs subscripts) h in
+        value_carried e (Values ∷ programs.of_values subscripts (Extended name ∷ ops)) st m.0
+        ∙ (λ j. value i e >>= (λ owner. values_carried subscripts [] (Extended name ∷ ops) (one_value owner ∷ st) m.1 j))
+        ∙ (λ j. value i e >>= (λ owner. sym (assoc (values i [] subscripts)
+        (λ vs. give (of_global (record { account = owner; name = name; subscripts = vs }))) (λ v. carried x ops k (found v ∷ st))) j))
+        ∙ sym (assoc (value i e) (λ owner. values i [] subscripts >>= (λ vs. give (of_global (record { account = owner; name = name; subscripts = vs }))))
+        (λ v. carried x ops k (found v ∷ st)))
+
+    choices_carried : (s : ChoicesTree) (ops : List Op) (st : List Item) → in_steps_choices s ≡ true
+        → Same (carried x (programs.of_choices s ops) k st) (chosen i s >>= (λ v. carried x ops k (one_value v ∷ st)))
+    choices_carried no_choices ops st h = refl
+    choices_carried (choice c v rest) ops st h =
+        let m = each_of (in_steps c) (in_steps v && in_steps_choices rest) h in
+        let l = each_of (in_steps v) (in_steps_choices rest) m.1 in
+        let later : List Op = programs.of_choices rest ops in
+        let passes : Op = Pass (length (programs.of_choices rest [])) in
+        value_carried c (Unless (suc (length (of_value v []))) ∷ of_value v (passes ∷ later)) st m.0
+        ∙ behind_it (value i c) (λ t. as_truth t >>= (λ b. cond b (value i v) (chosen i rest))) ops st _ (λ t.
+        behind_it (as_truth t) (λ b. cond b (value i v) (chosen i rest)) ops st _ (λ b.
+        choice_went b (suc (length (of_value v []))) (of_value v (passes ∷ later)) ops (value i v) (chosen i rest) st
+        (value_carried v (passes ∷ later) st l.0
+        ∙ (λ j. value i v >>= (λ w. carried_past x (length (programs.of_choices rest [])) (choices_behind rest [] ops j) k (one_value w ∷ st)))
+        ∙ (λ j. value i v >>= (λ w. all_past (programs.of_choices rest []) ops (one_value w ∷ st) j)))
+        ((λ j. carried_past x (suc (length (of_value v []))) (value_behind v [] (passes ∷ later) j) k st)
+        ∙ one_more_past (of_value v []) passes later st
+        ∙ choices_carried rest ops st l.1)))
+
     values_carried : (es : ExprsTree) (vs : List Text) (ops : List Op) (st : List Item) → in_steps_exprs es ≡ true
-        → Same (carried x (of_values es ops) k (some_values vs ∷ st)) (values i vs es >>= (λ ws. carried x ops k (some_values ws ∷ st)))
+        → Same (carried x (programs.of_values es ops) k (some_values vs ∷ st)) (values i vs es >>= (λ ws. carried x ops k (some_values ws ∷ st)))
     values_carried no_exprs vs ops st h = refl
     values_carried (exprs e rest) vs ops st h =
         let m = each_of (in_steps e) (in_steps_exprs rest) h in
-        value_carried e (Add ∷ of_values rest ops) (some_values vs ∷ st) m.0
+        value_carried e (Add ∷ programs.of_values rest ops) (some_values vs ∷ st) m.0
         ∙ (λ j. value i e >>= (λ v. values_carried rest (vs ++ v ∷ []) ops st m.1 j))
         ∙ sym (assoc (value i e) (λ v. values i (vs ++ v ∷ []) rest) (λ ws. carried x ops k (some_values ws ∷ st)))
 
@@ -200,3 +361,6 @@ module _ (x : Context) (k : Ending) where
 
 pub steps_evaluate : StepsEvaluate
 steps_evaluate x e ops k st h = value_carried x k e ops st h
+
+pub steps_find : StepsFind
+steps_find x r ops k st h = reference_carried x k r ops st h

@@ -33,7 +33,7 @@ module _ (a : Text) (d : Depth) (find : Calls → Depth → ReferenceTree → Ex
   abbrev Same : {A : Type 0} → (Inside → Act A) → Type 0
   Same {A} p = ◌≡◌ {A = Act A} (p (with c)) (p (with c'))
 
-  named_same : (subscripts : ExprsTree) (x : Text) → has_call_exprs subscripts ≡ false → Same (λ i. named_by i subscripts x)
+  pub named_same : (subscripts : ExprsTree) (x : Text) → has_call_exprs subscripts ≡ false → Same (λ i. named_by i subscripts x)
   named_same subscripts x h = λ j. an_indirection_free d >> (read_so Zsyntax (λ l. ref_in l x) >>= (λ r. alike c c' (indirected d) r subscripts h j))
 
   mutual

@@ -18,12 +18,12 @@ use Rattle.mgrammar.specs.CallsIn.{has_call_target, has_call_destination, has_ca
 use Rattle.mmeaning.specs.Operators.{as_number, as_truth}
 use Rattle.mmeaning.specs.Functions.{as_whole}
 use Rattle.mmeaning.specs.Variables.{writing, resolve, kill_at, named_lock}
-use Rattle.mmeaning.specs.Expression.{an_indirection_free, is_bare, tail_value, operand_value, primary_value, values, optional_value}
+use Rattle.mmeaning.specs.Expression.{an_indirection_free, is_bare, named_by, tail_value, operand_value, primary_value, values, optional_value}
 use Rattle.mmeaning.specs.Locking.{locking, lock_names, names_of, carried, told}
 use Rattle.mmeaning.specs.Parameters.{handed, all_handed, handed_over}
 use Rattle.mmeaning.specs.LineMeaning.{Prepared, whole, partial, prepared, all_prepared, targets, all_assigned, showing, tabbing, formatting, coded_character}
 use Rattle.mmeaning.specs.LineMeaning.{coding, killing, Returns, returning, holds, where_true, testing, number_of, hanging}
-use Rattle.mmeaning.proofs.Uncalled.{neither, finds_alike, value_same, tail_same, operand_same, primary_same, reference_same, values_same}
+use Rattle.mmeaning.proofs.Uncalled.{neither, finds_alike, named_same, value_same, tail_same, operand_same, primary_same, reference_same, values_same}
 
 module _ (a : Text) (n : ℕ) (d : Depth) (calls : Calls) where
   -- as where no function is called
@@ -44,6 +44,9 @@ module _ (a : Text) (n : ℕ) (d : Depth) (calls : Calls) where
 
   pub reference_plain : (r : ReferenceTree) → has_call_reference r ≡ false → Plain (λ i. evaluated i r)
   reference_plain r h = reference_same a d (finds a n) (finds_alike a n) calls (inside a n d).calls r h
+
+  pub named_plain : (es : ExprsTree) (x : Text) → has_call_exprs es ≡ false → Plain (λ i. named_by i es x)
+  named_plain es x h = named_same a d (finds a n) (finds_alike a n) calls (inside a n d).calls es x h
 
   pub values_plain : (xs : List Text) (es : ExprsTree) → has_call_exprs es ≡ false → Plain (λ i. values i xs es)
   values_plain xs es h = values_same a d (finds a n) (finds_alike a n) calls (inside a n d).calls xs es h

@@ -2,12 +2,13 @@
 -- The laws of programs, as statements. The functions of src/ named after them carry them.
 use Rattle.std.specs.Prelude.{◌≡◌, ℕ, true, List, [], ◌∷◌, Some}
 use Rattle.mspec.specs.Act.{Text, Act, ◌>>=◌}
-use Rattle.mgrammar.specs.Grammar.{ExprTree, ArgTree, CommandTree}
+use Rattle.mgrammar.specs.Grammar.{ExprTree, ReferenceTree, ArgTree, CommandTree}
 use Rattle.mgrammar.specs.CallsIn.{has_call_arg}
-use Rattle.mgrammar.specs.ProgramsIn.{in_steps, in_steps_arg}
-use Rattle.mmeaning.specs.Expression.{value}
+use Rattle.mgrammar.specs.ProgramsIn.{in_steps, in_steps_reference, in_steps_arg}
+use Rattle.mmeaning.specs.Expression.{value, evaluated}
 use Rattle.mmeaning.specs.LineMeaning.{Completion, Returns, Position, Context, context, inside_of, where_holds, argument, arguments, conditional}
-use Rattle.mmeaning.specs.Programs.{Item, one_value, Op, Ending, Program, carried, of_value, program_of, program_of_condition, once_true, begun}
+use Rattle.mmeaning.specs.Programs.{Item, one_value, found, Op, Ending, Program, carried, of_value, of_reference, program_of, program_of_condition}
+use Rattle.mmeaning.specs.Programs.{once_true, begun}
 use Rattle.mmeaning.specs.Frames.{Lists, Programs, Conditions, frame, resumed}
 
 -- an expression is evaluated by its steps, whatever comes after them, and whatever else is on the stack
@@ -15,6 +16,12 @@ abbrev pub StepsEvaluate : Type 0
 StepsEvaluate =
     (x : Context) (e : ExprTree) (ops : List Op) (k : Ending) (st : List Item) → in_steps e ≡ true →
     ◌≡◌ {A = Act Completion} (carried x (of_value e ops) k st) (value (inside_of x) e >>= (λ v. carried x ops k (one_value v ∷ st)))
+
+-- and so a reference, of which nothing is checked before all of it is evaluated
+abbrev pub StepsFind : Type 0
+StepsFind =
+    (x : Context) (r : ReferenceTree) (ops : List Op) (k : Ending) (st : List Item) → in_steps_reference r ≡ true →
+    ◌≡◌ {A = Act Completion} (carried x (of_reference r ops) k st) (evaluated (inside_of x) r >>= (λ v. carried x ops k (found v ∷ st)))
 
 -- there is a program for an argument with a call, if each call in it stands where steps are
 abbrev pub ProgramsAreThere : Type 0

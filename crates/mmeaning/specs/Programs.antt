@@ -3,20 +3,25 @@
 --
 -- What stands before a call and what comes after it are apart here, so that a function's level can open in between. A step does what the
 -- meaning of expressions and lines does at its place, and costs what that costs. What has no call is one step.
-use Rattle.std.specs.Prelude.{Bool, true, false, cond, List, [], ◌∷◌, ◌++◌, Option, Some, None, ℕ}
+use Rattle.std.specs.Prelude.{ℕ, zero, suc, pos, Bool, true, false, not, cond, List, [], ◌∷◌, ◌++◌, length, slice_get, unwrap_or, Option, Some, None}
 use Rattle.mspec.specs.Scopes.{Binding, valued}
-use Rattle.mspec.specs.Code.{Zsyntax}
+use Rattle.mspec.specs.Interpretations.{truth_text}
+use Rattle.mspec.specs.Code.{Code, M4, Zsyntax}
 use Rattle.mspec.specs.Act.{Text, Act, ◌>>=◌, ◌>>◌, give, fail, charge, write, write_formats, test_is}
-use Rattle.mgrammar.specs.Grammar.{SignTree, BinaryTree, ExprTree, expr, TailsTree, no_tails, tail, TailTree, apply, raise}
-use Rattle.mgrammar.specs.Grammar.{OperandTree, operand, PrimaryTree, bracket, call, extrinsic, ExprsTree, no_exprs, exprs}
+use Rattle.mgrammar.specs.Grammar.{SignTree, BinaryTree, ExprTree, expr, TailsTree, no_tails, tail, TailTree, apply, raise, matches_indirect}
+use Rattle.mgrammar.specs.Grammar.{matches_not_indirect, OperandTree, operand, PrimaryTree, reference, bracket, call, select, refer, extrinsic, ReferenceTree}
+use Rattle.mgrammar.specs.Grammar.{local, global, naked, indirect, extended, ExprsTree, no_exprs, exprs, ChoicesTree, no_choices, choice}
 use Rattle.mgrammar.specs.Grammar.{EntryTree, ActualTree, value_actual, indirect_actual, ActualsTree, no_actuals, actuals, DestinationTree}
 use Rattle.mgrammar.specs.Grammar.{ArgTree, assign, formats, coded, shown, kill_one, kill_others, new_one, new_others, tested, loop, do_one, go_to, executed}
 use Rattle.mgrammar.specs.Grammar.{locked, hang_for, returned, indirect_args}
+use Rattle.mgrammar.specs.Functions.{data_function, get_function, order_function, FunctionTree, of_variable, function_of}
 use Rattle.mgrammar.specs.CallsIn.{has_call, has_call_operand, has_call_primary}
 use Rattle.mgrammar.specs.ProgramsIn.{in_steps, in_steps_optional, in_steps_arg}
 use Rattle.mmeaning.specs.Operators.{as_number, as_truth, unaries, binary, raising}
-use Rattle.mmeaning.specs.Functions.{call_value}
-use Rattle.mmeaning.specs.Expression.{Inside, inside, is_bare, linked_by, tail_value, operand_value}
+use Rattle.mmeaning.specs.Functions.{whole_text, call_value}
+use Rattle.mmeaning.specs.Variables.{Evaluated, of_local, of_global, of_naked, Place, reading, ordering, resolve, read_at, read_or, status_at, next_at}
+use Rattle.mmeaning.specs.Variables.{data_number, direction_of}
+use Rattle.mmeaning.specs.Expression.{Inside, inside, is_bare, linked_by, named_by, matches_text, tail_value, operand_value}
 use Rattle.mmeaning.specs.Parameters.{bare_list, handed}
 use Rattle.mmeaning.specs.Levels.{leaves}
 use Rattle.mmeaning.specs.LineMeaning.{Completion, Go_on, Returns, Context, Prepared, all_prepared, targets, all_assigned, spaced_to, character_written}
@@ -24,19 +29,25 @@ use Rattle.mmeaning.specs.LineMeaning.{truth_tested, where_true, entering, answe
 
 -- ---- the stack
 
--- a value; the values of a function's arguments so far; the targets of SET; and what the actuals so far hand over, with what $TEST was
--- before them
+-- a value; the values of arguments or of subscripts so far; a reference, and the place that it names, once that is checked for a read, or
+-- for $ORDER; the targets of SET; and what the actuals so far hand over, with what $TEST was before them
 pub data Item : Type 0 where
   one_value : Text → Item
   some_values : List Text → Item
+  found : Evaluated → Item
+  placed : Place → Item
+  walked : Place → Item
   made : List Prepared → Item
   handing : Bool → List Binding → Item
 
 -- ---- steps
 
 -- An operand, what is done with a value to the left, an actual, and the targets of SET, of which none has a call in it; the step that a
--- primary costs; signs and operators; what brings together the values of a function's arguments, and what actuals hand over; the call of
--- a function; a condition, without which the argument ends; and formats of WRITE.
+-- primary costs; signs, operators, and a pattern that a text is; what brings together values, and what actuals hand over; the call of a
+-- function; a condition, without which the argument ends; and formats of WRITE. What makes a reference of the values of its subscripts, or
+-- of the text of an `@` and the subscripts after that, which have no call; its value, and whether it has one; its checks, where more is
+-- evaluated before its place is asked; and what is then asked of that. In $SELECT, what passes steps by: those of a value whose condition is
+-- false, and those of the choices after the one that is taken. And a code.
 pub data Op : Type 0 where
   Operand : OperandTree → Op
   Tail : TailTree → Op
@@ -44,6 +55,8 @@ pub data Op : Type 0 where
   Sign : List SignTree → Op
   Join : BinaryTree → Op
   Raise : Op
+  Match : Op
+  Match_not : Op
   Values : Op
   Add : Op
   Function : Text → Op
@@ -55,6 +68,20 @@ pub data Op : Type 0 where
   Where : Op
   Formats : List ℕ → Op
   Prepare : DestinationTree → Op
+  Local : Text → Op
+  Global : Text → Op
+  Naked : Op
+  Extended : Text → Op
+  Named : ExprsTree → Op
+  Read : Op
+  Data : Op
+  Resolve : Op
+  Get : Op
+  Walk : Op
+  Order : Op
+  Unless : ℕ → Op
+  Pass : ℕ → Op
+  Refuse : Code → Op
 
 -- what a command does in the end: SET; WRITE of a value, of a column and of a code; IF; a condition of a command; HANG; QUIT; XECUTE; DO,
 -- with whether a list of actuals is written; and GOTO
@@ -79,6 +106,12 @@ pub record Program : Type 0 where
 abbrev pub plain : Context → Inside
 plain x = inside x.account x.fuel x.position.depth
 
+-- what $DATA gives of a place
+abbrev pub data_at : Place → Act Text
+data_at p = do
+  status ← status_at p
+  give (whole_text (pos (data_number status)))
+
 -- the stack goes on with this item on top
 abbrev pub on_top : List Item → Item → Act (Option (List Item))
 on_top st i = give (Some (i ∷ st))
@@ -101,6 +134,12 @@ step x (Join b) (one_value w ∷ one_value v ∷ st) = do
 step x Raise (one_value w ∷ one_value v ∷ st) = do
   z ← raising v w
   on_top st (one_value z)
+step x Match (one_value t ∷ one_value v ∷ st) = do
+  b ← matches_text (plain x) v t
+  on_top st (one_value (truth_text b))
+step x Match_not (one_value t ∷ one_value v ∷ st) = do
+  b ← matches_text (plain x) v t
+  on_top st (one_value (truth_text (not b)))
 step x Values st = on_top st (some_values [])
 step x Add (one_value v ∷ some_values vs ∷ st) = on_top st (some_values (vs ++ v ∷ []))
 step x (Function word) (some_values vs ∷ st) = do
@@ -126,6 +165,32 @@ step x (Formats run) st = write_formats run >> give (Some st)
 step x (Prepare d) st = do
   ps ← all_prepared (plain x) [] (targets d)
   on_top st (made ps)
+step x (Local name) (some_values vs ∷ st) = on_top st (found (of_local name vs))
+step x (Global name) (some_values vs ∷ st) = on_top st (found (of_global (record { account = x.account; name = name; subscripts = vs })))
+step x Naked (some_values vs ∷ st) = on_top st (found (of_naked vs))
+step x (Extended name) (some_values vs ∷ one_value owner ∷ st) = on_top st (found (of_global (record { account = owner; name = name; subscripts = vs })))
+step x (Named subscripts) (one_value v ∷ st) = do
+  r ← named_by (plain x) subscripts v
+  on_top st (found r)
+step x Read (found r ∷ st) = do
+  v ← resolve reading r >>= read_at
+  on_top st (one_value v)
+step x Data (found r ∷ st) = do
+  v ← resolve reading r >>= data_at
+  on_top st (one_value v)
+step x Resolve (found r ∷ st) = do
+  p ← resolve reading r
+  on_top st (placed p)
+step x Get (some_values vs ∷ placed p ∷ st) = do
+  v ← read_or (unwrap_or (slice_get vs 0) []) p
+  on_top st (one_value v)
+step x Walk (found r ∷ st) = do
+  p ← resolve ordering r
+  on_top st (walked p)
+step x Order (some_values vs ∷ walked p ∷ st) = do
+  v ← direction_of (slice_get vs 0) >>= (λ d. next_at d p)
+  on_top st (one_value v)
+step x (Refuse c) st = fail c
 step x o st = fail Zsyntax
 
 -- whether a list of actuals is written is all that the level asks of it
@@ -159,10 +224,19 @@ abbrev pub going_on : (List Item → Act Completion) → Option (List Item) → 
 going_on rest None = give Go_on
 going_on rest (Some st) = rest st
 
+-- once this many steps are passed by
+abbrev pub carried_past : Context → ℕ → List Op → Ending → List Item → Act Completion
+carried_past x n [] k st = ended_by x k st
+carried_past x zero (Unless n ∷ ops) k (one_value v ∷ st) = do
+  b ← as_truth v
+  carried_past x (cond b 0 n) ops k st
+carried_past x zero (Pass n ∷ ops) k st = carried_past x n ops k st
+carried_past x zero (o ∷ ops) k st = step x o st >>= going_on (carried_past x 0 ops k)
+carried_past x (suc n) (o ∷ ops) k st = carried_past x n ops k st
+
 -- what is left of a program does, on this stack
 abbrev pub carried : Context → List Op → Ending → List Item → Act Completion
-carried x [] k st = ended_by x k st
-carried x (o ∷ ops) k st = step x o st >>= going_on (carried x ops k)
+carried x ops k st = carried_past x 0 ops k st
 
 -- ---- what is done up to where a level opens
 
@@ -185,16 +259,31 @@ abbrev pub begun_on : (List Item → Act Pause) → Option (List Item) → Act P
 begun_on rest None = give (over Go_on)
 begun_on rest (Some st) = rest st
 
+abbrev pub begun_past : Context → ℕ → List Op → Ending → List Item → Act Pause
+begun_past x n [] k st = end_begun x k st
+begun_past x zero (Call e ∷ ops) k (handing b bs ∷ st) = give (calls e b bs ops st)
+begun_past x zero (Unless n ∷ ops) k (one_value v ∷ st) = do
+  b ← as_truth v
+  begun_past x (cond b 0 n) ops k st
+begun_past x zero (Pass n ∷ ops) k st = begun_past x n ops k st
+begun_past x zero (o ∷ ops) k st = step x o st >>= begun_on (begun_past x 0 ops k)
+begun_past x (suc n) (o ∷ ops) k st = begun_past x n ops k st
+
 abbrev pub begun : Context → List Op → Ending → List Item → Act Pause
-begun x [] k st = end_begun x k st
-begun x (Call e ∷ ops) k (handing b bs ∷ st) = give (calls e b bs ops st)
-begun x (o ∷ ops) k st = step x o st >>= begun_on (begun x ops k)
+begun x ops k st = begun_past x 0 ops k st
 
 -- ---- the program of a tree
 
 abbrev pub signed : List SignTree → List Op → List Op
 signed [] ops = ops
 signed (s ∷ ss) ops = Sign (s ∷ ss) ∷ ops
+
+-- a function of the variable that the one part finds, and of the values of the other: the checks of the variable come between
+abbrev pub referred : Option FunctionTree → (List Op → List Op) → (List Op → List Op) → List Op → List Op
+referred (Some (of_variable data_function most)) first more ops = first (Data ∷ ops)
+referred (Some (of_variable get_function most)) first more ops = first (Resolve ∷ Values ∷ more (Get ∷ ops))
+referred (Some (of_variable order_function most)) first more ops = first (Walk ∷ Values ∷ more (Order ∷ ops))
+referred f first more ops = Refuse Zsyntax ∷ ops
 
 -- each before the steps that come after it
 abbrev mutual
@@ -208,20 +297,38 @@ abbrev mutual
   pub of_tail : TailTree → List Op → List Op
   of_tail (apply b o) ops = cond (has_call_operand o) (of_operand o (Join b ∷ ops)) (Tail (apply b o) ∷ ops)
   of_tail (raise o) ops = cond (has_call_operand o) (of_operand o (Raise ∷ ops)) (Tail (raise o) ∷ ops)
+  of_tail (matches_indirect p) ops = cond (has_call_primary p) (of_primary p (Match ∷ ops)) (Tail (matches_indirect p) ∷ ops)
+  of_tail (matches_not_indirect p) ops = cond (has_call_primary p) (of_primary p (Match_not ∷ ops)) (Tail (matches_not_indirect p) ∷ ops)
   of_tail s ops = Tail s ∷ ops
 
   pub of_operand : OperandTree → List Op → List Op
   of_operand (operand signs p) ops = cond (has_call_primary p) (of_primary p (signed signs ops)) (Operand (operand signs p) ∷ ops)
 
   pub of_primary : PrimaryTree → List Op → List Op
+  of_primary (reference r) ops = Spend ∷ of_reference r (Read ∷ ops)
   of_primary (bracket e) ops = Spend ∷ of_value e ops
   of_primary (call word args) ops = Spend ∷ Values ∷ of_values args (Function word ∷ ops)
+  of_primary (select word choices) ops = Spend ∷ of_choices choices ops
+  of_primary (refer word r more) ops = Spend ∷ referred (function_of word) (of_reference r) (of_values more) ops
   of_primary (extrinsic e xs) ops = Spend ∷ Begin ∷ cond (is_bare xs) (Call e ∷ ops) (of_actuals xs (Call e ∷ ops))
   of_primary p ops = Operand (operand [] p) ∷ ops
+
+  pub of_reference : ReferenceTree → List Op → List Op
+  of_reference (local name subscripts) ops = Values ∷ of_values subscripts (Local name ∷ ops)
+  of_reference (global name subscripts) ops = Values ∷ of_values subscripts (Global name ∷ ops)
+  of_reference (naked subscripts) ops = Values ∷ of_values subscripts (Naked ∷ ops)
+  of_reference (indirect p subscripts) ops = of_primary p (Named subscripts ∷ ops)
+  of_reference (extended e name subscripts) ops = of_value e (Values ∷ of_values subscripts (Extended name ∷ ops))
 
   pub of_values : ExprsTree → List Op → List Op
   of_values no_exprs ops = ops
   of_values (exprs e rest) ops = of_value e (Add ∷ of_values rest ops)
+
+  -- the value of a choice comes after its condition, and is passed by if that is false; the other choices are passed by after the value
+  pub of_choices : ChoicesTree → List Op → List Op
+  of_choices no_choices ops = Refuse M4 ∷ ops
+  of_choices (choice c v rest) ops =
+      of_value c (Unless (suc (length (of_value v []))) ∷ of_value v (Pass (length (of_choices rest [])) ∷ of_choices rest ops))
 
   pub of_actual : ActualTree → List Op → List Op
   of_actual (value_actual e) ops = cond (has_call e) (of_value e (Hand ∷ ops)) (Actual (value_actual e) ∷ ops)

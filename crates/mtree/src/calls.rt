@@ -6,8 +6,8 @@ ghost use Rattle.mgrammar.specs.Grammar.{tails_of, exprs_of, choices_of, actuals
 ghost use Rattle.mgrammar.specs.CallsIn.{has_call, has_call_tails, has_call_tail, has_call_operand, has_call_primary, has_call_reference, has_call_exprs};
 ghost use Rattle.mgrammar.specs.CallsIn.{has_call_choices, has_call_actual, has_call_actuals, has_call_optional, has_call_target, has_call_destination};
 ghost use Rattle.mgrammar.specs.CallsIn.{has_call_parameter, has_call_locked, has_call_arg};
-ghost use Rattle.mgrammar.specs.ProgramsIn.{in_steps, in_steps_tails, in_steps_tail, in_steps_operand, in_steps_primary, in_steps_exprs, in_steps_actual};
-ghost use Rattle.mgrammar.specs.ProgramsIn.{in_steps_actuals, in_steps_optional, in_steps_arg};
+ghost use Rattle.mgrammar.specs.ProgramsIn.{in_steps, in_steps_tails, in_steps_tail, in_steps_operand, in_steps_primary, in_steps_reference, in_steps_exprs};
+ghost use Rattle.mgrammar.specs.ProgramsIn.{in_steps_choices, in_steps_actual, in_steps_actuals, in_steps_optional, in_steps_arg};
 ghost use Rattle.mtree.specs.Tree.{expr_tree, tail_tree, operand_tree, primary_tree, reference_tree, referring_tree, choice_tree, actual_tree, part_tree};
 ghost use Rattle.mtree.specs.Tree.{target_tree, destination_tree, parameter_tree, locked_tree, arg_tree, condition_tree};
 
@@ -291,7 +291,7 @@ fn both(one: bool, other: bool) -> bool
     one & other
 }
 
-// Whether each call in an expression stands under operators, signs and brackets, in the arguments of functions of values, or in actuals.
+// Whether each call in an expression can be carried out a step at a time: none stands in the subscripts after an indirection.
 #[cycle(steps)]
 fn in_steps(expr: &Expr) -> bool
     ensures { result ≡ in_steps (expr_tree expr.now) }
@@ -320,8 +320,8 @@ fn in_steps_tail(tail: &Tail) -> bool
         Tail::Matches(_) => true,
         Tail::MatchesNot(_) => true,
         Tail::Raise(operand) => in_steps_operand(operand),
-        Tail::MatchesIndirect(operand) => !has_call_primary(operand),
-        Tail::MatchesNotIndirect(operand) => !has_call_primary(operand),
+        Tail::MatchesIndirect(operand) => in_steps_primary(operand),
+        Tail::MatchesNotIndirect(operand) => in_steps_primary(operand),
     }
 }
 
@@ -340,12 +340,41 @@ fn in_steps_primary(primary: &Primary) -> bool
         Primary::Number(_) => true,
         Primary::Text(_) => true,
         Primary::Special(_) => true,
-        Primary::Reference(reference) => !has_call_reference(reference),
+        Primary::Reference(reference) => in_steps_reference(reference),
         Primary::Bracket(inner) => in_steps(inner),
         Primary::Call(_, arguments) => in_steps_exprs(arguments),
-        Primary::Select(_, choices) => !has_call_choices(choices),
-        Primary::Refer(referring) => !has_call_referring(referring),
+        Primary::Select(_, choices) => in_steps_choices(choices),
+        Primary::Refer(referring) => in_steps_referring(referring),
         Primary::Extrinsic(called) => in_steps_actuals(&called.actuals),
+    }
+}
+
+#[cycle(steps)]
+fn in_steps_referring(referring: &Referring) -> bool
+    ensures { result ≡ in_steps_primary (referring_tree referring.now) }
+{
+    both(
+        in_steps_reference(&referring.reference),
+        in_steps_exprs(&referring.more),
+    )
+}
+
+#[cycle(steps)]
+fn in_steps_reference(reference: &Reference) -> bool
+    ensures { result ≡ in_steps_reference (reference_tree reference.now) }
+{
+    match reference {
+        Reference::Variable(_) => true,
+        Reference::Node(_, subscript) => in_steps(subscript),
+        Reference::Local(_, subscripts) => in_steps_exprs(subscripts),
+        Reference::Global(_, subscripts) => in_steps_exprs(subscripts),
+        Reference::Naked(subscripts) => in_steps_exprs(subscripts),
+        Reference::Indirect(operand, subscripts) => {
+            both(in_steps_primary(operand), !has_call_exprs(subscripts))
+        }
+        Reference::Extended(environment, _, subscripts) => {
+            both(in_steps(environment), in_steps_exprs(subscripts))
+        }
     }
 }
 
@@ -357,6 +386,19 @@ fn in_steps_exprs(exprs: &[Expr]) -> bool
     let mut all = true;
     for expr in exprs {
         all = both(all, in_steps(expr));
+    }
+    all
+}
+
+#[cycle(steps)]
+#[tactic(auto, using(crate::proofs::CallsFound::both_more))]
+fn in_steps_choices(choices: &[Choice]) -> bool
+    ensures { result ≡ in_steps_choices (choices_of (map choice_tree choices.now)) }
+{
+    let mut all = true;
+    for choice in choices {
+        let each = both(in_steps(&choice.condition), in_steps(&choice.value));
+        all = both(all, each);
     }
     all
 }

@@ -5,20 +5,25 @@ use Rattle.std.specs.Prelude.{◌==◌, slice_get}
 use Rattle.std.proofs.Math.Dec.{eqb-suc-zero}
 use Rattle.mgrammar.specs.Grammar.{SignTree, ExprTree, expr, TailsTree, no_tails, tail, TailTree, apply, matches, matches_not, raise, matches_indirect}
 use Rattle.mgrammar.specs.Grammar.{matches_not_indirect, OperandTree, operand, PrimaryTree, number, text, special, reference, bracket, call, select, refer}
-use Rattle.mgrammar.specs.Grammar.{extrinsic, ExprsTree, no_exprs, exprs, ActualTree, missing_actual, value_actual, name_actual, indirect_actual, ActualsTree}
+use Rattle.mgrammar.specs.Grammar.{extrinsic, ReferenceTree, local, global, naked, indirect, extended, ExprsTree, no_exprs, exprs, ChoicesTree}
+use Rattle.mgrammar.specs.Grammar.{no_choices, choice, ActualTree, missing_actual, value_actual, name_actual, indirect_actual, ActualsTree}
 use Rattle.mgrammar.specs.Grammar.{no_actuals, actuals, ArgTree, assign, formats, coded, shown, kill_one, kill_others, new_one, new_others, tested, loop}
 use Rattle.mgrammar.specs.Grammar.{do_one, go_to, executed, locked, hang_for, returned, indirect_args}
+use Rattle.mgrammar.specs.Functions as functions
+use Rattle.mgrammar.specs.Functions.{data_function, get_function, order_function, FunctionTree, of_variable, function_of}
 use Rattle.mgrammar.specs.CallsIn.{has_call, has_call_operand, has_call_primary}
 use Rattle.mmeaning.specs.Expression.{is_bare}
 use Rattle.mmeaning.specs.Programs as programs
-use Rattle.mmeaning.specs.Programs.{Op, Spend, Join, Raise, Values, Add, Function, Begin, Hand, Hand_name, Call, Where, Formats, Prepare, signed, of_value}
-use Rattle.mmeaning.specs.Programs.{of_tails, of_tail, of_operand, of_primary, of_values, of_actual, of_actuals, of_list}
+use Rattle.mmeaning.specs.Programs.{Op, Spend, Join, Raise, Match, Match_not, Values, Add, Function, Begin, Hand, Hand_name, Call, Where, Formats, Prepare}
+use Rattle.mmeaning.specs.Programs.{Local, Global, Naked, Extended, Named, Read, Data, Resolve, Get, Walk, Order, signed, referred, of_value, of_tails, of_tail}
+use Rattle.mmeaning.specs.Programs.{of_operand, of_primary, of_reference, of_values, of_choices, of_actual, of_actuals, of_list}
 use Rattle.mprogram.specs.Wholes.{WholeTree, of_argument, of_condition, steps_of, steps_of_argument}
-use Rattle.mprogram.specs.Found.{FoundTree, step, past, found_then, found_before, single, both, in_signs, in_value, in_tails, in_tail, in_operand, in_primary}
-use Rattle.mprogram.specs.Found.{in_values, in_actual, in_actuals, in_list, in_condition, in_argument, in_whole}
+use Rattle.mprogram.specs.Found.{FoundTree, step, past, found_then, found_before, single, both, in_referred, passing_value, passing_choices, in_signs}
+use Rattle.mprogram.specs.Found.{in_value, in_tails, in_tail, in_operand, in_primary, in_reference, in_choices, in_values, in_actual, in_actuals}
+use Rattle.mprogram.specs.Found.{in_list, in_condition, in_argument, in_whole}
 
 -- the step at this number, in a part of a list before whatever comes after it
-abbrev Finds : (List Op → List Op) → (ℕ → FoundTree) → Type 0
+abbrev pub Finds : (List Op → List Op) → (ℕ → FoundTree) → Type 0
 Finds part found = (at : ℕ) (rest : List Op) → slice_get (part rest) at ≡ found_before (found at) rest
 
 -- one part before another
@@ -60,6 +65,31 @@ signs_find : (signs : List SignTree) → Finds (signed signs) (in_signs signs)
 signs_find [] = none_finds
 signs_find (s ∷ ss) = single_finds (programs.Sign (s ∷ ss))
 
+-- a part, a step, another part, and one more step
+apart_finds : (f g : List Op → List Op) (p q : ℕ → FoundTree) (o next last : Op) → Finds f p → Finds g q
+    → Finds (λ rest. f (o ∷ next ∷ g (last ∷ rest)))
+    (λ at. found_then (p at) (λ left. found_then (both o next left) (λ left. found_then (q left) (single last))))
+apart_finds f g p q o next last one other =
+    then_finds f (λ rest. o ∷ next ∷ g (last ∷ rest)) p (λ left. found_then (both o next left) (λ left. found_then (q left) (single last))) one
+    (then_finds (λ rest. o ∷ next ∷ rest) (λ rest. g (last ∷ rest)) (both o next) (λ left. found_then (q left) (single last)) (both_finds o next)
+    (before_finds g q last other))
+
+referred_finds : (f : Option FunctionTree) (first more : List Op → List Op) (p q : ℕ → FoundTree) → Finds first p → Finds more q
+    → Finds (referred f first more) (in_referred f p q)
+referred_finds None first more p q one other = single_finds _
+referred_finds (Some (functions.of_values f least most)) first more p q one other = single_finds _
+referred_finds (Some (of_variable data_function most)) first more p q one other = before_finds first p Data one
+referred_finds (Some (of_variable get_function most)) first more p q one other =
+    apart_finds first more p q Resolve Values Get one other
+referred_finds (Some (of_variable order_function most)) first more p q one other =
+    apart_finds first more p q Walk Values Order one other
+referred_finds (Some functions.of_choices) first more p q one other = single_finds _
+
+-- subscripts, and then what makes a reference of them
+subscripts_find : (f : List Op → List Op) (p : ℕ → FoundTree) (o : Op) → Finds f p
+    → Finds (λ rest. Values ∷ f (o ∷ rest)) (λ at. found_then (single Values at) (λ left. found_then (p left) (single o)))
+subscripts_find f p o one = step_finds Values (λ rest. f (o ∷ rest)) (λ left. found_then (p left) (single o)) (before_finds f p o one)
+
 mutual
   pub value_finds : (e : ExprTree) → Finds (of_value e) (in_value e)
   value_finds (expr first rest) = then_finds (of_operand first) (of_tails rest) (in_operand first) (in_tails rest) (operand_finds first) (tails_find rest)
@@ -79,8 +109,14 @@ mutual
       (before_finds (of_operand o) (in_operand o) Raise (operand_finds o)) (single_finds _)
   tail_finds (matches atoms) = single_finds _
   tail_finds (matches_not atoms) = single_finds _
-  tail_finds (matches_indirect p) = single_finds _
-  tail_finds (matches_not_indirect p) = single_finds _
+  tail_finds (matches_indirect p) =
+      cond_finds (has_call_primary p) (λ rest. of_primary p (Match ∷ rest)) (λ rest. programs.Tail (matches_indirect p) ∷ rest)
+      (λ at. found_then (in_primary p at) (single Match)) (single (programs.Tail (matches_indirect p)))
+      (before_finds (of_primary p) (in_primary p) Match (primary_finds p)) (single_finds _)
+  tail_finds (matches_not_indirect p) =
+      cond_finds (has_call_primary p) (λ rest. of_primary p (Match_not ∷ rest)) (λ rest. programs.Tail (matches_not_indirect p) ∷ rest)
+      (λ at. found_then (in_primary p at) (single Match_not)) (single (programs.Tail (matches_not_indirect p)))
+      (before_finds (of_primary p) (in_primary p) Match_not (primary_finds p)) (single_finds _)
 
   operand_finds : (o : OperandTree) → Finds (of_operand o) (in_operand o)
   operand_finds (operand signs p) =
@@ -92,20 +128,47 @@ mutual
   primary_finds (number literal) = single_finds _
   primary_finds (text t) = single_finds _
   primary_finds (special word) = single_finds _
-  primary_finds (reference r) = single_finds _
+  primary_finds (reference r) =
+      step_finds Spend (λ rest. of_reference r (Read ∷ rest)) (λ left. found_then (in_reference r left) (single Read))
+      (before_finds (of_reference r) (in_reference r) Read (reference_finds r))
   primary_finds (bracket e) = step_finds Spend (of_value e) (in_value e) (value_finds e)
   primary_finds (call word args) =
       then_finds (λ rest. Spend ∷ Values ∷ rest) (λ rest. of_values args (Function word ∷ rest)) (both Spend Values)
       (λ left. found_then (in_values args left) (single (Function word)))
       (both_finds Spend Values) (before_finds (of_values args) (in_values args) (Function word) (values_find args))
-  primary_finds (select word _) = single_finds _
-  primary_finds (refer word r more) = single_finds _
+  primary_finds (select word choices) = step_finds Spend (of_choices choices) (in_choices choices) (choices_find choices)
+  primary_finds (refer word r more) =
+      step_finds Spend (referred (function_of word) (of_reference r) (of_values more)) (in_referred (function_of word) (in_reference r) (in_values more))
+      (referred_finds (function_of word) (of_reference r) (of_values more) (in_reference r) (in_values more) (reference_finds r) (values_find more))
   primary_finds (extrinsic e xs) =
       then_finds (λ rest. Spend ∷ Begin ∷ rest) (λ rest. cond (is_bare xs) (Call e ∷ rest) (of_actuals xs (Call e ∷ rest))) (both Spend Begin)
       (λ left. found_then (cond (is_bare xs) (past left) (in_actuals xs left)) (single (Call e)))
       (both_finds Spend Begin)
       (before_finds (λ rest. cond (is_bare xs) rest (of_actuals xs rest)) (λ left. cond (is_bare xs) (past left) (in_actuals xs left)) (Call e)
       (cond_finds (is_bare xs) (λ rest. rest) (of_actuals xs) past (in_actuals xs) none_finds (actuals_find xs)))
+
+  reference_finds : (r : ReferenceTree) → Finds (of_reference r) (in_reference r)
+  reference_finds (local name subscripts) = subscripts_find (of_values subscripts) (in_values subscripts) (Local name) (values_find subscripts)
+  reference_finds (global name subscripts) = subscripts_find (of_values subscripts) (in_values subscripts) (Global name) (values_find subscripts)
+  reference_finds (naked subscripts) = subscripts_find (of_values subscripts) (in_values subscripts) Naked (values_find subscripts)
+  reference_finds (indirect p subscripts) = before_finds (of_primary p) (in_primary p) (Named subscripts) (primary_finds p)
+  reference_finds (extended e name subscripts) =
+      then_finds (λ rest. of_value e (Values ∷ rest)) (λ rest. of_values subscripts (Extended name ∷ rest))
+      (λ at. found_then (in_value e at) (single Values)) (λ left. found_then (in_values subscripts left) (single (Extended name)))
+      (before_finds (of_value e) (in_value e) Values (value_finds e))
+      (before_finds (of_values subscripts) (in_values subscripts) (Extended name) (values_find subscripts))
+
+  pub choices_find : (s : ChoicesTree) → Finds (of_choices s) (in_choices s)
+  choices_find no_choices = single_finds _
+  choices_find (choice c v rest) =
+      then_finds (λ ops. of_value c (passing_value v ∷ of_value v (passing_choices rest ∷ ops))) (of_choices rest)
+      (λ at. found_then (found_then (in_value c at) (single (passing_value v))) (λ left. found_then (in_value v left) (single (passing_choices rest))))
+      (in_choices rest)
+      (then_finds (λ ops. of_value c (passing_value v ∷ ops)) (λ ops. of_value v (passing_choices rest ∷ ops))
+      (λ at. found_then (in_value c at) (single (passing_value v))) (λ left. found_then (in_value v left) (single (passing_choices rest)))
+      (before_finds (of_value c) (in_value c) (passing_value v) (value_finds c))
+      (before_finds (of_value v) (in_value v) (passing_choices rest) (value_finds v)))
+      (choices_find rest)
 
   values_find : (es : ExprsTree) → Finds (of_values es) (in_values es)
   values_find no_exprs = none_finds

@@ -1,15 +1,19 @@
 -- SPDX-License-Identifier: Apache-2.0
 -- The step at a number, looked for in a tree: what comes there in a part of it, and else how many steps are left to pass after the part.
 -- Each definition follows that of the part's steps: `in_value` is of `of_value`.
-use Rattle.std.specs.Prelude.{ℕ, ◌-◌, ◌==◌, cond, List, [], ◌∷◌, slice_get, Option, Some, None}
+use Rattle.std.specs.Prelude.{ℕ, suc, ◌-◌, ◌==◌, cond, List, [], ◌∷◌, length, slice_get, Option, Some, None}
+use Rattle.mspec.specs.Code.{M4, Zsyntax}
 use Rattle.mgrammar.specs.Grammar.{SignTree, ExprTree, expr, TailsTree, no_tails, tail, TailTree, apply, matches, matches_not, raise, matches_indirect}
 use Rattle.mgrammar.specs.Grammar.{matches_not_indirect, OperandTree, operand, PrimaryTree, number, text, special, reference, bracket, call, select, refer}
-use Rattle.mgrammar.specs.Grammar.{extrinsic, ExprsTree, no_exprs, exprs, ActualTree, missing_actual, value_actual, name_actual, indirect_actual, ActualsTree}
+use Rattle.mgrammar.specs.Grammar.{extrinsic, ReferenceTree, local, global, naked, indirect, extended, ExprsTree, no_exprs, exprs, ChoicesTree}
+use Rattle.mgrammar.specs.Grammar.{no_choices, choice, ActualTree, missing_actual, value_actual, name_actual, indirect_actual, ActualsTree}
 use Rattle.mgrammar.specs.Grammar.{no_actuals, actuals, ArgTree, assign, formats, coded, shown, tested, do_one, go_to, executed, hang_for, returned}
+use Rattle.mgrammar.specs.Functions.{data_function, get_function, order_function, FunctionTree, of_variable, function_of}
 use Rattle.mgrammar.specs.CallsIn.{has_call, has_call_operand, has_call_primary}
 use Rattle.mmeaning.specs.Expression.{is_bare}
-use Rattle.mmeaning.specs.Programs.{Op, Operand, Tail, Spend, Sign, Join, Raise, Values, Add, Function, Begin, Actual, Hand, Hand_name, Call, Where}
-use Rattle.mmeaning.specs.Programs.{Formats, Prepare}
+use Rattle.mmeaning.specs.Programs.{Op, Operand, Tail, Spend, Sign, Join, Raise, Match, Match_not, Values, Add, Function, Begin, Actual, Hand, Hand_name}
+use Rattle.mmeaning.specs.Programs.{Call, Where, Formats, Prepare, Local, Global, Naked, Extended, Named, Read, Data, Resolve, Get, Walk, Order, Unless, Pass}
+use Rattle.mmeaning.specs.Programs.{Refuse, of_value, of_choices}
 use Rattle.mprogram.specs.Wholes.{WholeTree, of_argument, of_condition}
 
 pub data FoundTree : Type 0 where
@@ -32,6 +36,22 @@ abbrev pub in_signs : List SignTree → ℕ → FoundTree
 in_signs [] at = past at
 in_signs (s ∷ ss) at = single (Sign (s ∷ ss)) at
 
+-- a function of the variable that the one part finds, and of the values of the other
+abbrev pub in_referred : Option FunctionTree → (ℕ → FoundTree) → (ℕ → FoundTree) → ℕ → FoundTree
+in_referred (Some (of_variable data_function most)) first more at = found_then (first at) (single Data)
+in_referred (Some (of_variable get_function most)) first more at =
+    found_then (first at) (λ left. found_then (both Resolve Values left) (λ left. found_then (more left) (single Get)))
+in_referred (Some (of_variable order_function most)) first more at =
+    found_then (first at) (λ left. found_then (both Walk Values left) (λ left. found_then (more left) (single Order)))
+in_referred f first more at = single (Refuse Zsyntax) at
+
+-- what passes the value of a choice by, and what passes choices by
+abbrev pub passing_value : ExprTree → Op
+passing_value v = Unless (suc (length (of_value v [])))
+
+abbrev pub passing_choices : ChoicesTree → Op
+passing_choices s = Pass (length (of_choices s []))
+
 abbrev mutual
   pub in_value : ExprTree → ℕ → FoundTree
   in_value (expr first rest) at = found_then (in_operand first at) (in_tails rest)
@@ -45,8 +65,9 @@ abbrev mutual
   in_tail (raise o) at = cond (has_call_operand o) (found_then (in_operand o at) (single Raise)) (single (Tail (raise o)) at)
   in_tail (matches atoms) at = single (Tail (matches atoms)) at
   in_tail (matches_not atoms) at = single (Tail (matches_not atoms)) at
-  in_tail (matches_indirect p) at = single (Tail (matches_indirect p)) at
-  in_tail (matches_not_indirect p) at = single (Tail (matches_not_indirect p)) at
+  in_tail (matches_indirect p) at = cond (has_call_primary p) (found_then (in_primary p at) (single Match)) (single (Tail (matches_indirect p)) at)
+  in_tail (matches_not_indirect p) at =
+      cond (has_call_primary p) (found_then (in_primary p at) (single Match_not)) (single (Tail (matches_not_indirect p)) at)
 
   pub in_operand : OperandTree → ℕ → FoundTree
   in_operand (operand signs p) at = cond (has_call_primary p) (found_then (in_primary p at) (in_signs signs)) (single (Operand (operand signs p)) at)
@@ -55,17 +76,31 @@ abbrev mutual
   in_primary (number literal) at = single (Operand (operand [] (number literal))) at
   in_primary (text t) at = single (Operand (operand [] (text t))) at
   in_primary (special word) at = single (Operand (operand [] (special word))) at
-  in_primary (reference r) at = single (Operand (operand [] (reference r))) at
+  in_primary (reference r) at = found_then (single Spend at) (λ left. found_then (in_reference r left) (single Read))
   in_primary (bracket e) at = found_then (single Spend at) (in_value e)
   in_primary (call word args) at = found_then (both Spend Values at) (λ left. found_then (in_values args left) (single (Function word)))
-  in_primary (select word choices) at = single (Operand (operand [] (select word choices))) at
-  in_primary (refer word r more) at = single (Operand (operand [] (refer word r more))) at
+  in_primary (select word choices) at = found_then (single Spend at) (in_choices choices)
+  in_primary (refer word r more) at = found_then (single Spend at) (in_referred (function_of word) (in_reference r) (in_values more))
   in_primary (extrinsic e xs) at =
       found_then (both Spend Begin at) (λ left. found_then (cond (is_bare xs) (past left) (in_actuals xs left)) (single (Call e)))
+
+  pub in_reference : ReferenceTree → ℕ → FoundTree
+  in_reference (local name subscripts) at = found_then (single Values at) (λ left. found_then (in_values subscripts left) (single (Local name)))
+  in_reference (global name subscripts) at = found_then (single Values at) (λ left. found_then (in_values subscripts left) (single (Global name)))
+  in_reference (naked subscripts) at = found_then (single Values at) (λ left. found_then (in_values subscripts left) (single Naked))
+  in_reference (indirect p subscripts) at = found_then (in_primary p at) (single (Named subscripts))
+  in_reference (extended e name subscripts) at =
+      found_then (found_then (in_value e at) (single Values)) (λ left. found_then (in_values subscripts left) (single (Extended name)))
 
   pub in_values : ExprsTree → ℕ → FoundTree
   in_values no_exprs at = past at
   in_values (exprs e rest) at = found_then (found_then (in_value e at) (single Add)) (in_values rest)
+
+  pub in_choices : ChoicesTree → ℕ → FoundTree
+  in_choices no_choices at = single (Refuse M4) at
+  in_choices (choice c v rest) at =
+      found_then (found_then (found_then (in_value c at) (single (passing_value v)))
+      (λ left. found_then (in_value v left) (single (passing_choices rest)))) (in_choices rest)
 
   pub in_actual : ActualTree → ℕ → FoundTree
   in_actual missing_actual at = single (Actual missing_actual) at

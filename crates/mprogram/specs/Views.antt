@@ -1,11 +1,13 @@
 -- SPDX-License-Identifier: Apache-2.0
 -- Steps of the code, which lend parts of a tree, as the definitions have them.
 use Rattle.std.specs.Prelude.{[], map}
-use Rattle.mgrammar.specs.Grammar.{operand}
+use Rattle.mspec.specs.Code.{M4}
+use Rattle.mgrammar.specs.Grammar.{operand, exprs_of, choices_of}
 use Rattle.mmeaning.specs.Programs as programs
-use Rattle.mtree.specs.Tree.{sign_tree, binary_tree, expr_tree, tail_tree, operand_tree, primary_tree, actual_tree, entry_tree, destination_tree, arg_tree}
+use Rattle.mtree.specs.Tree.{sign_tree, binary_tree, expr_tree, tail_tree, operand_tree, primary_tree, choice_tree, actual_tree, entry_tree, destination_tree}
+use Rattle.mtree.specs.Tree.{arg_tree}
 use Rattle.mprogram.specs.Wholes.{WholeTree, of_argument, of_condition}
-use Rattle.mprogram.specs.Found.{FoundTree, step, past}
+use Rattle.mprogram.specs.Found.{FoundTree, step, past, passing_value, passing_choices}
 use Rattle.mprogram.specs.declared.op.Whole.{Whole}
 use Rattle.mprogram.specs.declared.op.Whole.TheVariants as whole
 use Rattle.mprogram.specs.declared.op.Op.{Op}
@@ -38,6 +40,22 @@ op_view (op.Call e) = programs.Call (entry_tree e.now)
 op_view op.Where = programs.Where
 op_view (op.Formats run) = programs.Formats run.now
 op_view (op.Prepare d) = programs.Prepare (destination_tree d.now)
+op_view op.Match = programs.Match
+op_view op.MatchNot = programs.Match_not
+op_view (op.Local name) = programs.Local name.now
+op_view (op.Global name) = programs.Global name.now
+op_view op.Naked = programs.Naked
+op_view (op.Extended name) = programs.Extended name.now
+op_view (op.Named subscripts) = programs.Named (exprs_of (map expr_tree subscripts.now))
+op_view op.Read = programs.Read
+op_view op.Data = programs.Data
+op_view op.Resolve = programs.Resolve
+op_view op.Get = programs.Get
+op_view op.Walk = programs.Walk
+op_view op.Order = programs.Order
+op_view (op.Unless v) = passing_value (expr_tree v.now)
+op_view (op.Pass rest) = passing_choices (choices_of (map choice_tree rest.now))
+op_view op.NoChoice = programs.Refuse M4
 
 abbrev pub ending_view : Ending → programs.Ending
 ending_view ending.Assign = programs.Assign

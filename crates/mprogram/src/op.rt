@@ -1,8 +1,8 @@
 // SPDX-License-Identifier: Apache-2.0
 // Steps, and what they are of: parts of a tree, lent by it.
-use mnum::Bytes7;
+use mnum::{Bytes7, Name};
 use mtree::{
-    Actual, Arg, Binary, Destination, Entry, Expr, Operand, Primary, Sign, Tail, ValueWord,
+    Actual, Arg, Binary, Choice, Destination, Entry, Expr, Operand, Primary, Sign, Tail, ValueWord,
 };
 
 /// What has steps: an argument of a command, or a command's condition.
@@ -51,6 +51,38 @@ pub enum Op<'t> {
     Formats(&'t Bytes7),
     /// Evaluates what the targets of SET have to evaluate.
     Prepare(&'t Destination),
+    /// Whether the value below the one on top matches the pattern that this is the text of.
+    Match,
+    /// Whether it does not.
+    MatchNot,
+    /// Makes a reference of the values on top: to a local variable of this name.
+    Local(&'t Name),
+    /// To a global variable of the account.
+    Global(&'t Name),
+    /// To a node beside the one that was referred to last.
+    Naked,
+    /// To a global variable of the account whose name is below these values.
+    Extended(&'t Name),
+    /// To what the text on top names, with these subscripts, in which there is no call.
+    Named(&'t [Expr]),
+    /// Reads the variable of the reference on top.
+    Read,
+    /// $DATA of the variable of the reference on top.
+    Data,
+    /// Checks the reference on top, of whose place $GET is to be asked.
+    Resolve,
+    /// $GET of the place below the values on top.
+    Get,
+    /// Checks the reference on top, of whose place $ORDER is to be asked.
+    Walk,
+    /// $ORDER of the place below the values on top.
+    Order,
+    /// Passes by the steps of this value of $SELECT and the one after them, if the value on top is false.
+    Unless(&'t Expr),
+    /// Passes by the steps of these choices of $SELECT.
+    Pass(&'t [Choice]),
+    /// No choice of $SELECT was true.
+    NoChoice,
 }
 
 /// What a command does in the end with what its steps leave.

@@ -1,0 +1,8 @@
+-- SPDX-License-Identifier: Apache-2.0
+use Rattle.std.proofs.Common.{sym}
+use Rattle.mtree.specs.Tree.{expr_tree}
+use Rattle.mprogram.proofs.Counting.{others_counted, value_counted}
+use Rattle.mprogram.proofs.counts.steps_in_value.Goals as goal
+
+pub returns-in-Past : goal.returns-in-Past
+returns-in-Past c = others_counted _ _ c.in-Past.left (value_counted (expr_tree c.args.expr.now) _ c.in-Past.left (sym c.in-Past.ensures))

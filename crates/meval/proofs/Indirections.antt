@@ -7,6 +7,7 @@ use Rattle.meval.proofs.EvalWords.{Inside, inside, is_indirection_free, an_indir
 use Rattle.meval.proofs.EvalWords.{evaluated, through, finds, Did, Yields, assoc, did_then, did_spent, Ghosts, fault_of, Code, Depth, Eval, Evaluates}
 use Rattle.meval.proofs.EvalWords.{standing_of, eval_here, depth_of, true, false, List, Option, Text, yielded_so, read_so}
 use Rattle.mspec.specs.Code as spec
+use Rattle.meval.specs.Acts.{named_within}
 use Rattle.mgrammar.specs.Languages.{ref_in}
 use Rattle.mmeaning.specs.Expression as meaning
 use Rattle.mmeaning.proofs.Indirections.{did_fail}
@@ -63,38 +64,50 @@ module _ {S Y : Type 0} {g : Ghosts S} {j : Y → Evaluated} where
       → Evaluates g (λ i. values i [] es >>= (λ ys. give (with_subscripts (subscripts_of v ++ ys) v))) j old r new → Evaluates g (λ i. values i (subscripts_of v) es >>= (λ zs. give (with_subscripts zs v))) j old r new
   evaluates_behind {old = old} {new = new} {r = r} es v d = subst (λ (p : Inside → Act Evaluated). Evaluates g p j old r new) (λ k i. behind i es v k) d
 
-  -- ---- the text of an operand
+  -- ---- what a text names
 
   -- one too deep
-  pub evaluates_deep : {mid : Eval S} (subscripts : ExprsTree) (x : Text) → is_indirection_free (depth_of mid.depth) ≡ false → Evaluates g (λ i. named_by i subscripts x) j mid (Err code.Zdepth) mid
-  evaluates_deep subscripts x full = deep_fails (λ i. read_so spec.Zsyntax (λ l. ref_in l x) >>= (λ r. i.find i.calls (indirected i.depth) r subscripts)) full
+  pub evaluates_deep : {mid : Eval S} (subscripts : ExprsTree) (x : Text) → is_indirection_free (depth_of mid.depth) ≡ false → Evaluates g (λ i. named_within i subscripts x) j mid (Err code.Zdepth) mid
+  evaluates_deep subscripts x full = deep_fails (λ i. read_so spec.Zsyntax (λ l. ref_in l x) >>= (λ r. through (record i { depth = indirected i.depth }) i.calls r subscripts)) full
 
   -- one whose text names no variable, or for whose tree memory runs out
   pub evaluates_unnamed : {R : Type 0} {mid : Eval S} {e : Code} {r : Result Y Code} {f : R → ReferenceTree} (subscripts : ExprsTree) (x : Text) → is_indirection_free (depth_of mid.depth) ≡ true
-      → Yields fault_of (give_some spec.Zsyntax (ref_in (standing_of mid).given.language x)) f (Err e) → IsErr r × IsErrAnd r (λ c. c ≡ e) → Evaluates g (λ i. named_by i subscripts x) j mid r mid
+      → Yields fault_of (give_some spec.Zsyntax (ref_in (standing_of mid).given.language x)) f (Err e) → IsErr r × IsErrAnd r (λ c. c ≡ e) → Evaluates g (λ i. named_within i subscripts x) j mid r mid
   evaluates_unnamed subscripts x free none is =
-      free_then (λ i. read_so spec.Zsyntax (λ l. ref_in l x) >>= (λ r. i.find i.calls (indirected i.depth) r subscripts)) free
-      (evaluates_stopped (λ i r. i.find i.calls (indirected i.depth) r subscripts) (evaluates_read spec.Zsyntax (λ l. ref_in l x) none) is)
+      free_then (λ i. read_so spec.Zsyntax (λ l. ref_in l x) >>= (λ r. through (record i { depth = indirected i.depth }) i.calls r subscripts)) free
+      (evaluates_stopped (λ i r. through (record i { depth = indirected i.depth }) i.calls r subscripts) (evaluates_read spec.Zsyntax (λ l. ref_in l x) none) is)
 
-  -- a name indirection: its operand spent a step, so what its text names is evaluated with one text fewer, an indirection deeper
-  pub evaluates_entry : {R : Type 0} {old mid within : Eval S} {res : Result Y Code} (p : PrimaryTree) (subscripts : ExprsTree) (x : Text) (tree : R → ReferenceTree) (r : R) (deeper : Depth)
-      → Evaluates g (λ i. primary_value i p) (λ (v : Text). v) old (Ok x) mid → mid.steps < old.steps → is_indirection_free (depth_of mid.depth) ≡ true → depth_of deeper ≡ indirected (depth_of mid.depth)
-      → Yields {E = Code} fault_of (give_some spec.Zsyntax (ref_in (standing_of mid).given.language x)) tree (Ok r) → Evaluates g (λ i. through i i.calls (tree r) subscripts) j (record mid { depth = deeper }) res within
-      → Evaluates g (λ i. evaluated i (indirect p subscripts)) j old res (record within { depth = mid.depth })
-  unfolding finds
-  evaluates_entry {old = old} {mid = mid} {within = within} {res = res} p subscripts x tree r deeper d less free is named k =
+  -- one that names a variable, which is evaluated an indirection deeper
+  pub evaluates_within : {R : Type 0} {old within : Eval S} {res : Result Y Code} (subscripts : ExprsTree) (x : Text) (tree : R → ReferenceTree) (r : R) (deeper : Depth)
+      → is_indirection_free (depth_of old.depth) ≡ true → depth_of deeper ≡ indirected (depth_of old.depth)
+      → Yields {E = Code} fault_of (give_some spec.Zsyntax (ref_in (standing_of old).given.language x)) tree (Ok r) → Evaluates g (λ i. through i i.calls (tree r) subscripts) j (record old { depth = deeper }) res within
+      → Evaluates g (λ i. named_within i subscripts x) j old res (record within { depth = old.depth })
+  evaluates_within {old = old} {within = within} {res = res} subscripts x tree r deeper free is named k =
       let a = (standing_of old).account in
-      let free = subst (λ (e : Depth). is_indirection_free (depth_of e) ≡ true) d.depth free in
-      let is = is ∙ ap (λ (e : Depth). indirected (depth_of e)) d.depth in
       record {
         at = λ sure out locks.
             let found =
-            subst (λ (e : meaning.Depth). Did (standing_of old) (IsSteady g within.store.now) fault_of (λ n. through (inside a n e) no_calls (tree r) subscripts) j (eval_here g mid out locks) res (eval_here g within out locks)) is
-            (moved (λ i. through i i.calls (tree r) subscripts) d.keeps.same refl (k.at sure out locks))
+            subst (λ (e : meaning.Depth). Did (standing_of old) (IsSteady g within.store.now) fault_of (λ n. through (inside a n e) no_calls (tree r) subscripts) j (eval_here g old out locks) res (eval_here g within out locks)) is
+            (k.at sure out locks)
             in
+            rw free (did_then {early = IsSteady g within.store.now} (λ n r. through (inside a n (indirected (depth_of old.depth))) no_calls r subscripts) (yielded_so spec.Zsyntax (λ l. ref_in l x) (eval_here g old out locks) named) found);
+        doubt = k.doubt;
+        keeps = record { same = k.keeps.same; session = k.keeps.session; store = k.keeps.store; fewer = k.keeps.fewer };
+        depth = refl;
+      }
+
+  -- a name indirection: its operand spent a step, so what its text names may enter one text more than there are steps
+  pub evaluates_entry : {old mid new : Eval S} {res : Result Y Code} (p : PrimaryTree) (subscripts : ExprsTree) (x : Text)
+      → Evaluates g (λ i. primary_value i p) (λ (v : Text). v) old (Ok x) mid → mid.steps < old.steps → Evaluates g (λ i. named_within i subscripts x) j mid res new
+      → Evaluates g (λ i. evaluated i (indirect p subscripts)) j old res new
+  unfolding finds
+  evaluates_entry {old = old} p subscripts x d less k =
+      let a = (standing_of old).account in
+      record {
+        at = λ sure out locks.
             did_spent (λ n x. named_by (inside a n (depth_of old.depth)) subscripts x) (d.at (undoubted k.doubt sure) out locks) less
-            (rw free (did_then {early = IsSteady g within.store.now} (λ n r. finds a (suc n) no_calls (indirected (depth_of old.depth)) r subscripts) (yielded_so spec.Zsyntax (λ l. ref_in l x) (eval_here g mid out locks) named) found));
+            (moved (λ i. named_within i subscripts x) d.keeps.same d.depth (k.at sure out locks));
         doubt = Doubts-then d.doubt k.doubt;
-        keeps = keeps_on d.keeps (record { same = k.keeps.same; session = k.keeps.session; store = k.keeps.store; fewer = k.keeps.fewer });
-        depth = d.depth;
+        keeps = keeps_on d.keeps k.keeps;
+        depth = k.depth ∙ d.depth;
       }

@@ -5,6 +5,7 @@ pub mod TreeViews
 pub mod References
 pub mod Trees
 pub mod Asking
+pub mod MayRead
 pub mod Indirections
 pub mod Locks
 pub mod LocalVariables

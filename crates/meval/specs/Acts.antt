@@ -1,18 +1,19 @@
 -- SPDX-License-Identifier: Apache-2.0
 -- What calls of the evaluation do, for acts that the meaning has inside larger ones.
-use Rattle.std.specs.Prelude.{ℤ, pos, Bool, [], map, slice_get, unwrap_or}
+use Rattle.std.specs.Prelude.{ℤ, pos, Bool, List, [], map, slice_get, unwrap_or}
 use Rattle.mspec.specs.Trees.{Direction}
-use Rattle.mspec.specs.Act.{Text, Act, ◌>>=◌, give, give_some}
+use Rattle.mspec.specs.Act.{Text, Act, ◌>>=◌, ◌>>◌, give, give_some, read_so}
 use Rattle.mgrammar.specs.Grammar.{ExprTree, ExprsTree, OperandTree, PrimaryTree, ReferenceTree}
 use Rattle.mgrammar.specs.Functions.{get_function, order_function}
 use Rattle.mspec.specs.Code.{Zsyntax}
 use Rattle.mgrammar.specs.IndirectTexts.{pattern_of}
+use Rattle.mgrammar.specs.Languages.{ref_in}
 use Rattle.mmeaning.specs.Operators.{as_number, as_truth, matching}
 use Rattle.mmeaning.specs.Functions.{whole_text, call_value}
 use Rattle.mspec.specs.LockConflict.{LockName}
 use Rattle.mmeaning.specs.Variables.{Evaluated, Place, reading, writing, ordering, resolve, named_lock, read_at, read_or, put_at, status_at, next_at}
 use Rattle.mmeaning.specs.Variables.{data_number, direction_of, variable_function_value}
-use Rattle.mmeaning.specs.Expression.{Inside, value, values, operand_value, primary_value, matches_text, evaluated}
+use Rattle.mmeaning.specs.Expression.{Inside, an_indirection_free, indirected, value, values, operand_value, primary_value, matches_text, evaluated, through}
 
 -- whether a value matches the pattern that a text is, if an indirection is free
 abbrev pub matches_read : Text → Text → Act Bool
@@ -25,6 +26,14 @@ abbrev pub matches_act : Inside → PrimaryTree → Text → Act Bool
 matches_act i p x = do
   t ← primary_value i p
   matches_text i x t
+
+-- What the variable that a text names has to evaluate, and the subscripts after it, where one text more may be entered than here. It is
+-- `named_by` there.
+abbrev pub named_within : Inside → ExprsTree → Text → Act Evaluated
+named_within i subscripts x = do
+  an_indirection_free i.depth
+  r ← read_so Zsyntax (λ l. ref_in l x)
+  through (record i { depth = indirected i.depth }) i.calls r subscripts
 
 -- whether an expression is true
 abbrev pub truth : Inside → ExprTree → Act Bool
@@ -88,6 +97,12 @@ order_from more i p = do
 
 abbrev pub order_behind : ExprsTree → Inside → Evaluated → Act Text
 order_behind more i v = resolve ordering v >>= order_from more i
+
+-- what $ORDER does with a place, and with the values after the variable
+abbrev pub next_by : List Text → Place → Act Text
+next_by xs p = do
+  d ← direction_of (slice_get xs 0)
+  next_at d p
 
 -- $DATA, $GET and $ORDER of a variable
 abbrev pub data_of : Inside → ReferenceTree → Act Text

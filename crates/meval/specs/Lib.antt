@@ -3,6 +3,7 @@ pub mod Sessions
 pub mod Stores
 pub mod Held
 pub mod Places
+pub mod Kept
 pub mod Acts
 pub mod Evaluates
 pub mod AtHand

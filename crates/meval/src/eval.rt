@@ -17,7 +17,6 @@ use crate::depth::Depth;
 use crate::global_reference::GlobalReference;
 use crate::owner::Owner;
 use crate::place::{Pending, bracketed};
-use crate::reading_reference::{read_pattern, read_reference};
 use crate::session::Session;
 use crate::shortcuts::at_hand;
 use crate::value_list::Values;
@@ -226,8 +225,7 @@ impl<'a, S: NodeStore> Eval<'a, S> {
         Ok(Pending::Global(node))
     }
 
-    // What the variable that an operand's text names has to evaluate, and the subscripts after it. Its text is evaluated one indirection
-    // deeper. No `?` comes in between, so the depth is afterwards what it was.
+    // What the variable that an operand's text names has to evaluate, and the subscripts after it.
     #[cycle(eval)]
     fn named<'u>(
         &mut self,
@@ -239,21 +237,12 @@ impl<'a, S: NodeStore> Eval<'a, S> {
             (map expr_tree subscripts.now)))) pending_view self.old result self.new }
     {
         let value = self.primary(alloc, operand)?;
-        let depth = self.depth;
-        let Some(deeper) = depth.indirected() else {
-            return Err(Code::Zdepth);
-        };
-        let text = value.into_text(alloc)?;
-        let reference = read_reference(alloc, self.language(), text)?;
-        self.depth = deeper;
-        let result = self.through_given(alloc, reference, subscripts);
-        self.depth = depth;
-        result
+        self.named_by(alloc, value, subscripts)
     }
 
     // What a reference that a text gave has to evaluate, and then the subscripts after it.
     #[cycle(eval)]
-    fn through_given<'u>(
+    pub(crate) fn through_given<'u>(
         &mut self,
         alloc: Global,
         reference: Reference,
@@ -367,12 +356,7 @@ impl<'a, S: NodeStore> Eval<'a, S> {
         ensures { Evaluates S.NodeStore (λ i. acts.matches_act i (primary_tree operand.now) value.now) (λ b. b) self.old result self.new }
     {
         let given = self.primary(alloc, operand)?;
-        let Some(_) = self.depth.indirected() else {
-            return Err(Code::Zdepth);
-        };
-        let text = given.into_text(alloc)?;
-        let atoms = read_pattern(alloc, text.as_bytes())?;
-        self.matching(alloc, &atoms, value)
+        self.matches_text(alloc, value, given)
     }
 
     /// What is done with the value to the left, which becomes the result. It is changed in place: a value that is moved right after it is

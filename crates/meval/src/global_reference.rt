@@ -107,6 +107,13 @@ impl<'t> GlobalReference<'t> {
         self.subscripts.as_slice()
     }
 
+    // A copy of its subscripts.
+    pub(crate) fn copied_subscripts(&self, alloc: Global) -> Result<Values, AllocError>
+        ensures { IfOk result (λ values. values ≡ self.now.subscripts) }
+    {
+        self.subscripts.copy(alloc)
+    }
+
     // The subscripts alone.
     pub(crate) fn into_subscripts(self) -> Values
         ensures { result ≡ self.entry.subscripts }

@@ -57,7 +57,7 @@ impl<'a, S: NodeStore> Eval<'a, S> {
     }
 
     // Makes the node the one that was referred to last. If the one before it is of the same global, no name is copied.
-    fn refer(&mut self, node: GlobalReference) -> Result<(), Code>
+    pub(crate) fn refer(&mut self, node: GlobalReference) -> Result<(), Code>
         ensures same { standing_of self.new ≡ standing_of self.old }
         ensures does { Evaluates S.NodeStore (λ i. set_naked (Some node.entry)) (λ u. u) self.old result self.new }
     {
@@ -89,7 +89,11 @@ impl<'a, S: NodeStore> Eval<'a, S> {
     }
 
     // The node beside the one that was referred to last.
-    fn beside<'t>(&self, alloc: Global, values: Values) -> Result<GlobalReference<'t>, Code>
+    pub(crate) fn beside<'t>(
+        &self,
+        alloc: Global,
+        values: Values,
+    ) -> Result<GlobalReference<'t>, Code>
         ensures { Evaluates S.NodeStore (λ i. variables.beside values) (λ node. node) self.now result self.now }
     {
         match &self.session.naked {

@@ -64,8 +64,8 @@ impl Values {
         }
     }
 
-    // These values. Takes no memory.
-    pub(crate) fn of_vec(values: Vec<Value>) -> Values
+    /// These values. Takes no memory.
+    pub fn of_vec(values: Vec<Value>) -> Values
         ensures { result ≡ values.items }
     {
         Values {

@@ -16,10 +16,8 @@ use Rattle.meval.proofs.EvalLaws.{none_chosen}
 use Rattle.std.proofs.Common.{Ok}
 use Rattle.std.specs.Prelude.{not}
 use Rattle.mspec.specs.Interpretations.{truth_text}
-use Rattle.mmeaning.specs.Operators.{matching}
 use Rattle.mmeaning.specs.Expression.{primary_value, matches_text}
-use Rattle.meval.specs.Acts.{matches_read}
-use Rattle.meval.proofs.Indirections.{deep_fails, free_then}
+use Rattle.meval.proofs.Indirections.{evaluates_within}
 use Rattle.mspec.specs.Act.{Text}
 use Rattle.mtree.specs.Functions.{variable_function_tree}
 use Rattle.mtree.specs.Tree.{called_tree}
@@ -268,27 +266,27 @@ pub named-returns-in_err-value : goal.named-returns-in_err-value
 named-returns-in_err-value g t c =
     evaluates_stopped (λ i x. named_by i _ x) c.in_err-value.ensures.does c.from_residual.ensures
 
-pub named-returns-in_default : goal.named-returns-in_default
-named-returns-in_default g t c =
-    let full = not_free _ _ c.in_default.is c.indirected.ensures.free in
-    evaluates_then (λ i x. named_by i _ x) c.in_ok-value.ensures.does (evaluates_deep _ _ full)
+pub named-returns : goal.named-returns
+named-returns g t c = evaluates_entry _ _ _ c.in_ok-value.ensures.does c.in_ok-value.ensures.spent c.named_by.ensures
 
-pub named-returns-in_err-text : goal.named-returns-in_err-text
-named-returns-in_err-text g t c =
-    evaluates_then (λ i x. named_by i _ x) c.in_ok-value.ensures.does (evaluates_wanting _ _ _ c.from_residual-in_err-text.ensures)
+pub named_by-returns-in_default : goal.named_by-returns-in_default
+named_by-returns-in_default g t c = evaluates_deep _ _ (not_free _ _ c.in_default.is c.indirected.ensures.free)
 
-pub named-returns-in_err-reference : goal.named-returns-in_err-reference
-named-returns-in_err-reference g t c =
+pub named_by-returns-in_err-text : goal.named_by-returns-in_err-text
+named_by-returns-in_err-text g t c = evaluates_wanting _ _ _ c.from_residual.ensures
+
+pub named_by-returns-in_err-reference : goal.named_by-returns-in_err-reference
+named_by-returns-in_err-reference g t c =
     let free = is_free _ _ c.in-Some.is c.indirected.ensures.free in
     let none = rw (c.in_ok-text.ensures, c.language.ensures.language) at c.in_err-reference.ensures in
-    evaluates_then (λ i x. named_by i _ x) c.in_ok-value.ensures.does (evaluates_unnamed _ _ free none c.from_residual-in_err-reference.ensures)
+    evaluates_unnamed _ _ free none c.from_residual-in_err-reference.ensures
 
-pub named-returns : goal.named-returns
-named-returns g t c =
+pub named_by-returns : goal.named_by-returns
+named_by-returns g t c =
     let free = is_free _ _ c.in-Some.is c.indirected.ensures.free in
     let deeper = rw c.in-Some.is at c.indirected.ensures.deeper in
     let named = rw (c.in_ok-text.ensures, c.language.ensures.language) at c.in_ok-reference.ensures in
-    evaluates_entry _ _ _ reference_tree _ _ c.in_ok-value.ensures.does c.in_ok-value.ensures.spent free deeper named c.through_given-result.ensures
+    evaluates_within _ _ reference_tree _ _ free deeper named c.through_given-result.ensures
 
 pub through_given-returns-in-Ok : goal.through_given-returns-in-Ok
 through_given-returns-in-Ok g t c = rw (c.in-Ok.ensures.name, variable_is c.in-Ok.name) c.fast_through.ensures
@@ -520,29 +518,9 @@ tail-returns-in_ok-matches-in-MatchesNotIndirect g t c =
 pub matches_indirect-returns-in_err-given : goal.matches_indirect-returns-in_err-given
 matches_indirect-returns-in_err-given g t c = evaluates_stopped (λ i t. matches_text i c.args.value.now t) c.in_err-given.ensures.does c.from_residual.ensures
 
-pub matches_indirect-returns-in_default : goal.matches_indirect-returns-in_default
-matches_indirect-returns-in_default g t c =
-    let full = not_free _ _ c.in_default.is c.indirected.ensures.free in
-    evaluates_then (λ i t. matches_text i c.args.value.now t) c.in_ok-given.ensures.does (deep_fails (λ i. matches_read c.args.value.now c.in_ok-given.given) full)
-
-pub matches_indirect-returns-in_err-text : goal.matches_indirect-returns-in_err-text
-matches_indirect-returns-in_err-text g t c =
-    evaluates_then (λ i t. matches_text i c.args.value.now t) c.in_ok-given.ensures.does (evaluates_wanting _ _ _ c.from_residual-in_err-text.ensures)
-
-pub matches_indirect-returns-in_err-atoms : goal.matches_indirect-returns-in_err-atoms
-matches_indirect-returns-in_err-atoms g t c =
-    let free = is_free _ _ c.in-Some.is c.indirected.ensures.free in
-    let none = rw (c.as_bytes.ensures.bytes, c.in_ok-text.ensures) at c.in_err-atoms.ensures in
-    evaluates_then (λ i t. matches_text i c.args.value.now t) c.in_ok-given.ensures.does
-    (free_then (λ i. matches_read c.args.value.now c.in_ok-given.given) free (evaluates_stopped (λ i atoms. matching atoms c.args.value.now) (evaluates_yielded none) c.from_residual-in_err-atoms.ensures))
-
 pub matches_indirect-returns : goal.matches_indirect-returns
 matches_indirect-returns g t c =
-    let free = is_free _ _ c.in-Some.is c.indirected.ensures.free in
-    let read = rw (c.as_bytes.ensures.bytes, c.in_ok-text.ensures) at c.in_ok-atoms.ensures in
-    let matched = rw c.deref.ensures.value at c.matching.ensures in
-    evaluates_then (λ i t. matches_text i c.args.value.now t) c.in_ok-given.ensures.does
-    (free_then (λ i. matches_read c.args.value.now c.in_ok-given.given) free (evaluates_then (λ i atoms. matching atoms c.args.value.now) (evaluates_yielded read) matched))
+    evaluates_then (λ i t. matches_text i c.args.value.now t) c.in_ok-given.ensures.does c.matches_text.ensures
 
 -- ---- expressions
 

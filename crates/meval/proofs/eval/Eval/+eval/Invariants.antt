@@ -119,6 +119,9 @@ decreases-fast_through g l = 16 * l.self.now.steps + 6
 abbrev pub decreases-through_given : goal.decreases-through_given
 decreases-through_given g l = 16 * l.self.now.steps + 10
 
+abbrev pub decreases-named_by : goal.decreases-named_by
+decreases-named_by g l = 16 * l.self.now.steps + 11
+
 abbrev pub decreases-through : goal.decreases-through
 decreases-through g l = 16 * l.self.now.steps + 9
 

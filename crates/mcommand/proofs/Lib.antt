@@ -9,8 +9,10 @@ pub mod StepsIn
 pub mod Labels
 pub mod Spoken
 pub mod HandedActuals
+pub mod OwnNodes
 pub mod PairedNames
 pub mod LevelFormals
 pub mod Handed
 pub mod Locking
+pub mod Within
 pub mod CommandLaws

@@ -1,6 +1,6 @@
 -- SPDX-License-Identifier: Apache-2.0
 -- What calls say of the acts of a line.
-use Rattle.std.specs.Prelude.{◌≡◌, ℕ, Result}
+use Rattle.std.specs.Prelude.{◌≡◌, ℕ, suc, Result}
 use Rattle.mspec.specs.Act.{Text, Act}
 use Rattle.mmeaning.specs.Expression.{Inside}
 use Rattle.mmeaning.specs.Calls.{Here, Did}
@@ -24,6 +24,15 @@ pub record KeepsLoans {S : Type 0} (old new : Parts S) : Type 0 where
 -- it does an act
 pub record Does {S A X : Type 0} (g : Ghosts S) (p : Inside → Act A) (f : X → A) (old : Parts S) (r : Result X Code) (new : Parts S) : Type 0 where
   pub at : g.doubt new.eval.store.now ≡ 0 → Did (standing_of old.eval) (IsSteady g new.eval.store.now) fault_of (λ n. p (inside_at old.eval n)) f (here_of g old) r (here_of g new)
+  pub doubt : DoubtsOver g old.eval.store.now new.eval.store.now (is_kept r)
+  pub keeps : KeepsLoans old new
+  pub depth : new.eval.depth ≡ old.eval.depth
+
+-- The same where one text more may be entered than steps are left, as within a command, whose own step is spent. What a text names, and no
+-- step came before, is evaluated so.
+pub record DoesWithin {S A X : Type 0} (g : Ghosts S) (p : Inside → Act A) (f : X → A) (old : Parts S) (r : Result X Code) (new : Parts S) : Type 0 where
+  pub at : g.doubt new.eval.store.now ≡ 0 → Did (standing_of old.eval) (IsSteady g new.eval.store.now) fault_of (λ n. p (inside_at old.eval (suc n))) f
+      (here_of g old) r (here_of g new)
   pub doubt : DoubtsOver g old.eval.store.now new.eval.store.now (is_kept r)
   pub keeps : KeepsLoans old new
   pub depth : new.eval.depth ≡ old.eval.depth

@@ -1,19 +1,25 @@
 -- SPDX-License-Identifier: Apache-2.0
 -- The steps of a program where an expression stands: as `step` of the definitions has them, apart from the call of a function, which a
--- level has to be opened for.
-use Rattle.std.specs.Prelude.{Bool, true, false, cond, List, [], ◌∷◌, ◌++◌, Option, Some, None, map}
+-- level has to be opened for, and from what passes steps by.
+use Rattle.std.specs.Prelude.{Bool, true, false, not, cond, List, [], ◌∷◌, ◌++◌, Option, Some, None, map, slice_get, unwrap_or}
 use Rattle.mspec.specs.Code.{Zsyntax}
+use Rattle.mspec.specs.Interpretations.{truth_text}
 use Rattle.mspec.specs.Scopes.{Binding, valued}
 use Rattle.mspec.specs.Act.{Text, Act, ◌>>=◌, ◌>>◌, give, fail, charge, write_formats, test_is}
-use Rattle.mgrammar.specs.Grammar.{SignTree, BinaryTree}
+use Rattle.mgrammar.specs.Grammar.{SignTree, BinaryTree, ExprsTree}
 use Rattle.mmeaning.specs.Operators.{as_truth, unaries, binary, raising}
 use Rattle.mmeaning.specs.Functions.{call_value}
-use Rattle.mmeaning.specs.Expression.{Inside, linked_by, tail_value, operand_value}
+use Rattle.mmeaning.specs.Variables.{Evaluated, of_local, of_global, of_naked, Place, reading, ordering, resolve, read_at, read_or, next_at, direction_of}
+use Rattle.mmeaning.specs.Expression.{Inside, linked_by, named_by, matches_text, tail_value, operand_value}
 use Rattle.mmeaning.specs.Parameters.{handed}
 use Rattle.mmeaning.specs.LineMeaning.{Prepared, all_prepared, targets}
-use Rattle.mmeaning.specs.Programs.{Item, one_value, some_values, made, handing, on_top, Op, Operand, Tail, Spend, Sign, Join, Raise, Values, Add, Function}
-use Rattle.mmeaning.specs.Programs.{Begin, Actual, Hand, Hand_name, Call, Where, Formats, Prepare}
+use Rattle.mmeaning.specs.Programs.{Item, one_value, some_values, found, placed, walked, made, handing, data_at, on_top, Op, Operand, Tail, Spend, Sign}
+use Rattle.mmeaning.specs.Programs.{Join, Raise, Match, Match_not, Values, Add, Function, Begin, Actual, Hand, Hand_name, Call, Where, Formats, Prepare}
+use Rattle.mmeaning.specs.Programs.{Local, Global, Naked, Extended, Named, Read, Data, Resolve, Get, Walk, Order, Unless, Pass, Refuse}
 use Rattle.mlocal.specs.Bindings.{binding_of}
+use Rattle.meval.specs.Acts.{named_within}
+use Rattle.meval.specs.Kept.{readable_view}
+use Rattle.meval.specs.Places.{pending_view}
 use Rattle.mcommand.specs.Prepared.{prepared_view}
 use Rattle.mcommand.specs.declared.items.Item as code
 use Rattle.mcommand.specs.declared.items.Item.TheVariants as item
@@ -23,6 +29,9 @@ use Rattle.mcommand.specs.declared.items.Item.TheVariants as item
 abbrev pub item_view : code.Item → Item
 item_view (item.Value v) = one_value v
 item_view (item.Values vs) = some_values vs.items
+item_view (item.Found pending) = found (pending_view pending)
+item_view (item.Placed place) = placed (readable_view place)
+item_view (item.Walked walk) = walked walk
 item_view (item.Made all) = made (map prepared_view all.items)
 item_view (item.Handing test bs) = handing test (map binding_of bs.items)
 
@@ -44,6 +53,18 @@ abbrev pub values_on_top : List Item → Act (List Text × List Item)
 values_on_top (some_values vs ∷ st) = give (vs, st)
 values_on_top st = fail Zsyntax
 
+abbrev pub found_on_top : List Item → Act (Evaluated × List Item)
+found_on_top (found r ∷ st) = give (r, st)
+found_on_top st = fail Zsyntax
+
+abbrev pub placed_on_top : List Item → Act (Place × List Item)
+placed_on_top (placed p ∷ st) = give (p, st)
+placed_on_top st = fail Zsyntax
+
+abbrev pub walked_on_top : List Item → Act (Place × List Item)
+walked_on_top (walked p ∷ st) = give (p, st)
+walked_on_top st = fail Zsyntax
+
 abbrev pub targets_on_top : List Item → Act (List Prepared × List Item)
 targets_on_top (made ps ∷ st) = give (ps, st)
 targets_on_top st = fail Zsyntax
@@ -54,9 +75,11 @@ handing_on_top st = fail Zsyntax
 
 -- ---- steps
 
--- whether a step is the call of a function
+-- whether a step is the call of a function, or passes steps by
 abbrev pub is_call : Op → Bool
 is_call (Call e) = true
+is_call (Unless n) = true
+is_call (Pass n) = true
 is_call o = false
 
 -- the stack goes on, or the argument ends
@@ -105,6 +128,29 @@ where_step st = do
   b ← as_truth v.0
   give (goes_with b v.1)
 
+abbrev pub local_step : Text → List Item → Act (Option (List Item))
+local_step name st = do
+  vs ← values_on_top st
+  on_top vs.1 (found (of_local name vs.0))
+
+abbrev pub naked_step : List Item → Act (Option (List Item))
+naked_step st = do
+  vs ← values_on_top st
+  on_top vs.1 (found (of_naked vs.0))
+
+abbrev pub extended_step : Text → List Item → Act (Option (List Item))
+extended_step name st = do
+  vs ← values_on_top st
+  owner ← value_on_top vs.1
+  on_top owner.1 (found (of_global (record { account = owner.0; name = name; subscripts = vs.0 })))
+
+-- the variable that the text on top names, where one text more may be entered than here
+abbrev pub named_step : Inside → ExprsTree → List Item → Act (Option (List Item))
+named_step i subscripts st = do
+  v ← value_on_top st
+  r ← named_within i subscripts v.0
+  on_top v.1 (found r)
+
 abbrev pub step_in : Inside → Op → List Item → Act (Option (List Item))
 step_in i (Operand o) st = do
   v ← operand_value i o
@@ -121,6 +167,16 @@ step_in i Raise st = do
   v ← value_on_top w.1
   z ← raising v.0 w.0
   on_top v.1 (one_value z)
+step_in i Match st = do
+  t ← value_on_top st
+  v ← value_on_top t.1
+  b ← matches_text i v.0 t.0
+  on_top v.1 (one_value (truth_text b))
+step_in i Match_not st = do
+  t ← value_on_top st
+  v ← value_on_top t.1
+  b ← matches_text i v.0 t.0
+  on_top v.1 (one_value (truth_text (not b)))
 step_in i Values st = on_top st (some_values [])
 step_in i Add st = add_step st
 step_in i (Function word) st = function_step word st
@@ -143,3 +199,42 @@ step_in i (Formats run) st = write_formats run >> give (Some st)
 step_in i (Prepare d) st = do
   ps ← all_prepared i [] (targets d)
   on_top st (made ps)
+step_in i (Local name) st = local_step name st
+step_in i (Global name) st = do
+  vs ← values_on_top st
+  on_top vs.1 (found (of_global (record { account = i.account; name = name; subscripts = vs.0 })))
+step_in i Naked st = naked_step st
+step_in i (Extended name) st = extended_step name st
+step_in i (Named subscripts) st = do
+  v ← value_on_top st
+  r ← named_by i subscripts v.0
+  on_top v.1 (found r)
+step_in i Read st = do
+  r ← found_on_top st
+  v ← resolve reading r.0 >>= read_at
+  on_top r.1 (one_value v)
+step_in i Data st = do
+  r ← found_on_top st
+  v ← resolve reading r.0 >>= data_at
+  on_top r.1 (one_value v)
+step_in i Resolve st = do
+  r ← found_on_top st
+  p ← resolve reading r.0
+  on_top r.1 (placed p)
+step_in i Get st = do
+  vs ← values_on_top st
+  p ← placed_on_top vs.1
+  v ← read_or (unwrap_or (slice_get vs.0 0) []) p.0
+  on_top p.1 (one_value v)
+step_in i Walk st = do
+  r ← found_on_top st
+  p ← resolve ordering r.0
+  on_top r.1 (walked p)
+step_in i Order st = do
+  vs ← values_on_top st
+  p ← walked_on_top vs.1
+  v ← direction_of (slice_get vs.0 0) >>= (λ d. next_at d p.0)
+  on_top p.1 (one_value v)
+step_in i (Unless n) st = fail Zsyntax
+step_in i (Pass n) st = fail Zsyntax
+step_in i (Refuse c) st = fail c

@@ -5,10 +5,14 @@ ghost use Rattle.mmeaning.specs.Programs.{on_top};
 ghost use Rattle.mmeaning.specs.Yields.{Yields};
 ghost use Rattle.moperator.specs.Codes.{fault_of};
 ghost use Rattle.mlocal.specs.Bindings.{binding_of};
+ghost use Rattle.meval.specs.Places.{pending_view};
+ghost use Rattle.meval.specs.Kept.{readable_view};
 ghost use Rattle.mcommand.specs.Prepared.{prepared_view};
-ghost use Rattle.mcommand.specs.Steps.{item_view, items_view, value_on_top, values_on_top, targets_on_top, handing_on_top, goes_with};
+ghost use Rattle.mcommand.specs.Steps.{item_view, items_view, value_on_top, values_on_top, found_on_top, placed_on_top, walked_on_top, targets_on_top};
+ghost use Rattle.mcommand.specs.Steps.{handing_on_top, goes_with};
 
 use crate::set::Prepared;
+use meval::{Pending, Readable, Walkable};
 use mlocal::Binding;
 use moperator::Code;
 use mvalue::Value;
@@ -18,8 +22,14 @@ use mvalue::Value;
 pub enum Item {
     /// A value.
     Value(Value),
-    /// The values of a function's arguments so far.
+    /// The values of a function's arguments, or of subscripts, so far.
     Values(Vec<Value>),
+    /// A reference, once all that it has to evaluate is evaluated.
+    Found(Pending<'static>),
+    /// The place of a reference, which is checked for a read.
+    Placed(Readable),
+    /// The place of a reference, which is checked for $ORDER.
+    Walked(Walkable),
     /// The targets of SET.
     Made(Vec<Prepared<'static>>),
     /// What `$TEST` was before the actuals, and what these hand over so far.
@@ -40,12 +50,15 @@ pub fn take_value(items: &mut Vec<Item>) -> Result<Value, Code>
     match item {
         Item::Value(value) => Ok(value),
         Item::Values(_) => Err(Code::Zsyntax),
+        Item::Found(_) => Err(Code::Zsyntax),
+        Item::Placed(_) => Err(Code::Zsyntax),
+        Item::Walked(_) => Err(Code::Zsyntax),
         Item::Made(_) => Err(Code::Zsyntax),
         Item::Handing(_, _) => Err(Code::Zsyntax),
     }
 }
 
-/// Takes the values of a function's arguments, which are on top. Takes no memory.
+/// Takes the values of arguments or of subscripts, which are on top. Takes no memory.
 ///
 /// # Errors
 ///
@@ -59,6 +72,63 @@ pub fn take_values(items: &mut Vec<Item>) -> Result<Vec<Value>, Code>
     match item {
         Item::Value(_) => Err(Code::Zsyntax),
         Item::Values(values) => Ok(values),
+        Item::Found(_) => Err(Code::Zsyntax),
+        Item::Placed(_) => Err(Code::Zsyntax),
+        Item::Walked(_) => Err(Code::Zsyntax),
+        Item::Made(_) => Err(Code::Zsyntax),
+        Item::Handing(_, _) => Err(Code::Zsyntax),
+    }
+}
+
+// Takes the reference on top; `Zsyntax` if there is none, as there is in no program. Takes no memory.
+pub(crate) fn take_found(items: &mut Vec<Item>) -> Result<Pending<'static>, Code>
+    ensures { Yields fault_of (found_on_top (items_view items.old.items)) (λ pending. (pending_view pending, items_view items.new.items)) result }
+{
+    let Some(item) = items.pop() else {
+        return Err(Code::Zsyntax);
+    };
+    match item {
+        Item::Value(_) => Err(Code::Zsyntax),
+        Item::Values(_) => Err(Code::Zsyntax),
+        Item::Found(pending) => Ok(pending),
+        Item::Placed(_) => Err(Code::Zsyntax),
+        Item::Walked(_) => Err(Code::Zsyntax),
+        Item::Made(_) => Err(Code::Zsyntax),
+        Item::Handing(_, _) => Err(Code::Zsyntax),
+    }
+}
+
+// Takes the place on top that is checked for a read; `Zsyntax` if there is none. Takes no memory.
+pub(crate) fn take_placed(items: &mut Vec<Item>) -> Result<Readable, Code>
+    ensures { Yields fault_of (placed_on_top (items_view items.old.items)) (λ place. (readable_view place, items_view items.new.items)) result }
+{
+    let Some(item) = items.pop() else {
+        return Err(Code::Zsyntax);
+    };
+    match item {
+        Item::Value(_) => Err(Code::Zsyntax),
+        Item::Values(_) => Err(Code::Zsyntax),
+        Item::Found(_) => Err(Code::Zsyntax),
+        Item::Placed(place) => Ok(place),
+        Item::Walked(_) => Err(Code::Zsyntax),
+        Item::Made(_) => Err(Code::Zsyntax),
+        Item::Handing(_, _) => Err(Code::Zsyntax),
+    }
+}
+
+// Takes the place on top that is checked for $ORDER; `Zsyntax` if there is none. Takes no memory.
+pub(crate) fn take_walked(items: &mut Vec<Item>) -> Result<Walkable, Code>
+    ensures { Yields fault_of (walked_on_top (items_view items.old.items)) (λ walk. (walk, items_view items.new.items)) result }
+{
+    let Some(item) = items.pop() else {
+        return Err(Code::Zsyntax);
+    };
+    match item {
+        Item::Value(_) => Err(Code::Zsyntax),
+        Item::Values(_) => Err(Code::Zsyntax),
+        Item::Found(_) => Err(Code::Zsyntax),
+        Item::Placed(_) => Err(Code::Zsyntax),
+        Item::Walked(walk) => Ok(walk),
         Item::Made(_) => Err(Code::Zsyntax),
         Item::Handing(_, _) => Err(Code::Zsyntax),
     }
@@ -78,6 +148,9 @@ pub fn take_targets(items: &mut Vec<Item>) -> Result<Vec<Prepared<'static>>, Cod
     match item {
         Item::Value(_) => Err(Code::Zsyntax),
         Item::Values(_) => Err(Code::Zsyntax),
+        Item::Found(_) => Err(Code::Zsyntax),
+        Item::Placed(_) => Err(Code::Zsyntax),
+        Item::Walked(_) => Err(Code::Zsyntax),
         Item::Made(all) => Ok(all),
         Item::Handing(_, _) => Err(Code::Zsyntax),
     }
@@ -89,7 +162,8 @@ pub fn take_targets(items: &mut Vec<Item>) -> Result<Vec<Prepared<'static>>, Cod
 ///
 /// `Zsyntax` if it is not, as it is in each program.
 pub fn take_handing(items: &mut Vec<Item>) -> Result<(bool, Vec<Binding>), Code>
-    ensures { Yields fault_of (handing_on_top (items_view items.old.items)) (λ taken. ((taken.0, map binding_of taken.1.items), items_view items.new.items)) result }
+    ensures { Yields fault_of (handing_on_top (items_view items.old.items))
+        (λ taken. ((taken.0, map binding_of taken.1.items), items_view items.new.items)) result }
 {
     let Some(item) = items.pop() else {
         return Err(Code::Zsyntax);
@@ -97,6 +171,9 @@ pub fn take_handing(items: &mut Vec<Item>) -> Result<(bool, Vec<Binding>), Code>
     match item {
         Item::Value(_) => Err(Code::Zsyntax),
         Item::Values(_) => Err(Code::Zsyntax),
+        Item::Found(_) => Err(Code::Zsyntax),
+        Item::Placed(_) => Err(Code::Zsyntax),
+        Item::Walked(_) => Err(Code::Zsyntax),
         Item::Made(_) => Err(Code::Zsyntax),
         Item::Handing(test, bindings) => Ok((test, bindings)),
     }

@@ -12,6 +12,7 @@ mod items;
 mod kill;
 mod lock;
 mod parts;
+mod reference_steps;
 mod set;
 mod steps;
 mod target;

@@ -5,7 +5,7 @@ ghost use Rattle.mmeaning.specs.Programs as programs;
 ghost use Rattle.mtree.specs.Tree.{sign_tree, binary_tree, operand_tree, primary_tree, tail_tree, actual_tree, destination_tree};
 ghost use Rattle.mgrammar.specs.Grammar as grammar;
 ghost use Rattle.mprogram.specs.Views.{op_view};
-ghost use Rattle.mcommand.specs.Does.{Does};
+ghost use Rattle.mcommand.specs.Does.{Does, DoesWithin};
 ghost use Rattle.mmeaning.specs.Yields.{Yields};
 ghost use Rattle.moperator.specs.Codes.{fault_of};
 ghost use Rattle.mlocal.specs.Bindings.{binding_of};
@@ -13,6 +13,7 @@ ghost use Rattle.mcommand.specs.Steps.{items_view, step_in, goes_with, sign_step
 
 use crate::items::{Item, put, take_handing, take_value, take_values};
 use crate::parts::Parts;
+use crate::reference_steps::{extended_step, local_step, naked_step};
 use mlocal::Binding;
 use mnodes::NodeStore;
 use mnum::Bytes7;
@@ -198,14 +199,17 @@ impl<'a, S: NodeStore> Parts<'a, S> {
         put(items, Item::Made(all))
     }
 
-    /// Does a step of a program on its stack. Returns whether the argument goes on: it ends where its condition is false.
+    /// Does a step of a program on its stack, within a command, whose own step is spent. Returns whether the argument goes on: it ends where
+    /// its condition is false.
     ///
     /// # Errors
     ///
-    /// Those of what the step evaluates, and `Zsyntax` for the call of a function, which is for the caller to carry out, and where the
-    /// stack lacks what the step takes, as it does in no program. `Zmem` if memory runs out. The stack is then any.
+    /// Those of what the step evaluates, and `Zsyntax` for the call of a function and for what passes steps by, which are for the caller to
+    /// carry out, and where the stack lacks what the step takes, as it does in no program. `M4` after the last choice of $SELECT. `Zmem` if
+    /// memory runs out. The stack is then any.
     pub fn step(&mut self, alloc: Global, op: Op, items: &mut Vec<Item>) -> Result<bool, Code>
-        ensures { Does S.NodeStore (λ i. step_in i (op_view op.entry) (items_view items.old.items)) (λ goes. goes_with goes (items_view items.new.items)) self.old result self.new }
+        ensures { DoesWithin S.NodeStore (λ i. step_in i (op_view op.entry) (items_view items.old.items))
+            (λ goes. goes_with goes (items_view items.new.items)) self.old result self.new }
     {
         match op {
             Op::Operand(operand) => self.operand_step(alloc, operand, items),
@@ -226,6 +230,22 @@ impl<'a, S: NodeStore> Parts<'a, S> {
             Op::Where => where_step(items),
             Op::Formats(formats) => self.formats_step(formats, items),
             Op::Prepare(destination) => self.prepare_step(alloc, destination, items),
+            Op::Unless(_) => Err(Code::Zsyntax),
+            Op::Pass(_) => Err(Code::Zsyntax),
+            Op::NoChoice => Err(Code::M4),
+            Op::Match => self.match_step(alloc, items),
+            Op::MatchNot => self.match_not_step(alloc, items),
+            Op::Local(name) => local_step(name, items),
+            Op::Global(name) => self.global_step(alloc, name, items),
+            Op::Naked => naked_step(items),
+            Op::Extended(name) => extended_step(alloc, name, items),
+            Op::Named(subscripts) => self.named_step(alloc, subscripts, items),
+            Op::Read => self.read_step(alloc, items),
+            Op::Data => self.data_step(alloc, items),
+            Op::Resolve => self.resolve_step(alloc, items),
+            Op::Get => self.get_step(alloc, items),
+            Op::Walk => self.walk_step(alloc, items),
+            Op::Order => self.order_step(alloc, items),
         }
     }
 }

@@ -1,0 +1,14 @@
+-- SPDX-License-Identifier: Apache-2.0
+use Rattle.mcommand.proofs.CommandLaws.{does_then, does_stopped, does_evaluated, does_yielded}
+use Rattle.mcommand.proofs.OwnNodes.{own_then, own_stopped}
+use Rattle.mcommand.proofs.parts.Parts.global_step.Goals as goal
+
+pub returns-in_err-values : goal.returns-in_err-values
+returns-in_err-values g c = does_stopped _ (does_yielded c.in_err-values.ensures) c.from_residual.ensures
+
+pub returns-in_err-pending : goal.returns-in_err-pending
+returns-in_err-pending g c =
+    does_then _ (does_yielded c.in_ok-values.ensures) (own_stopped _ _ (does_evaluated c.in_err-pending.ensures) c.from_residual-in_err-pending.ensures)
+
+pub returns : goal.returns
+returns g c = does_then _ (does_yielded c.in_ok-values.ensures) (own_then _ _ (does_evaluated c.in_ok-pending.ensures) (does_yielded c.put.ensures))

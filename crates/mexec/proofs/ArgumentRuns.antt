@@ -51,7 +51,8 @@ module _ (x : Context) where
   plain p = sym (assoc p (λ s. give (over s)) (finished x) ∙ ended p)
 
   where_entered : (c : Option ExprTree) (e : Entrance)
-      → ◌≡◌ {A = Act meaning.Completion} (meaning.where_holds x c (entered x e)) (holds (inside_of x) c >>= (λ b. give (cond b (stops e) (over Go_on))) >>= finished x)
+      → ◌≡◌ {A = Act meaning.Completion} (meaning.where_holds x c (entered x e))
+      (holds (inside_of x) c >>= (λ b. give (cond b (stops e) (over Go_on))) >>= finished x)
   where_entered c e = sym (
       assoc (holds (inside_of x) c) (λ b. give (cond b (stops e) (over Go_on))) (finished x)
       ∙ (λ i. holds (inside_of x) c >>= (λ b. either b i)))
@@ -136,7 +137,8 @@ source_uncalled (source.Text given) none =
 loop_uncalled : (args : List Arg) (index : Text) (parameters : List Parameter) → loop_in args ≡ (index, parameters)
     → list_all in_steps_arg (map arg_tree args) ≡ true → list_any has_call_parameter (map parameter_tree parameters) ≡ false
 loop_uncalled (arg.Loop i ps ∷ more) index parameters e steps =
-    let one = denied (list_any has_call_parameter (map parameter_tree ps.items)) (each_of (not (list_any has_call_parameter (map parameter_tree ps.items))) (list_all in_steps_arg (map arg_tree more)) steps).0 in
+    let one = denied (list_any has_call_parameter (map parameter_tree ps.items))
+    (each_of (not (list_any has_call_parameter (map parameter_tree ps.items))) (list_all in_steps_arg (map arg_tree more)) steps).0 in
     subst (λ xs. list_any has_call_parameter (map parameter_tree xs) ≡ false) (ap (λ (x : Text × List Parameter). x.1) e) one
 loop_uncalled args index parameters e steps =
     subst (λ xs. list_any has_call_parameter (map parameter_tree xs) ≡ false) (ap (λ (x : Text × List Parameter). x.1) e) (grind arith)
@@ -169,7 +171,8 @@ module _ {S : Type 0} {g : Ghosts S} where
 
   pub enters_where : (p : Position) (c : Option ExprTree) (e : entrances.Entrance) {old new : Parts S} (r : Result Bool Code)
       → DoesAt g (λ a n. holds (inside a n p.depth) c) (λ (b : Bool). b) old r new
-      → DoesAt g (λ a n. holds (inside a n p.depth) c >>= (λ holds. give (cond holds (stops (entrance_of e)) (over Go_on)))) start_of old (where_applies r e) new
+      → DoesAt g (λ a n. holds (inside a n p.depth) c >>= (λ holds. give (cond holds (stops (entrance_of e)) (over Go_on)))) start_of old
+      (where_applies r e) new
   enters_where p c e (Ok true) d =
       at_then (λ a n holds. give (cond holds (stops (entrance_of e)) (over Go_on))) d (at_gives (stops (entrance_of e)) start_of (progress.Stops e) refl)
   enters_where p c e (Ok false) d =
@@ -180,26 +183,31 @@ module _ {S : Type 0} {g : Ghosts S} where
   pub entered_where : (p : positions.Position) (c : Option ExprTree) → has_call_optional c ≡ false
       → (e : entrances.Entrance) {old new : Parts S} (r : Result Bool Code)
       → Does g (λ i. holds i c) (λ (b : Bool). b) (record old { eval = record old.eval { depth = p.depth } }) r new
-      → DoesAt g (λ a n. holds (inside_of (context a n (position_of p))) c >>= (λ holds. give (cond holds (stops (entrance_of e)) (over Go_on)))) start_of old (where_applies r e) new
+      → DoesAt g (λ a n. holds (inside_of (context a n (position_of p))) c >>= (λ holds. give (cond holds (stops (entrance_of e)) (over Go_on)))) start_of old
+      (where_applies r e) new
   entered_where p c quiet e r d =
       at_as (λ a n. λ i. holds_here (position_of p) c quiet a n i >>= (λ holds. give (cond holds (stops (entrance_of e)) (over Go_on))))
       (enters_where (position_of p) c e r (at_done p.depth d))
 
+  -- arguments, one after another, where one text more may be entered than there are steps
   module _ (p : Position) (all : List Arg) (k : ℕ) (x : Arg) (less : k < length all) (is : x ≡ get_or all k x) where
     from_argument : {old new : Parts S} {r : Result (the_progress.Progress entrances.Entrance × ℕ) Code}
-        → DoesAt g (λ a n. started (context a n p) (arg_tree x) >>= arguments_behind p (map arg_tree (drop (k + 1) all)) a n) (begun_of all) old r new
-        → DoesAt g (λ a n. args_started (context a n p) (map arg_tree (drop k all))) (begun_of all) old r new
+        → DoesAt g (λ a n. started (context a (suc n) p) (arg_tree x) >>= arguments_behind p (map arg_tree (drop (k + 1) all)) a (suc n))
+        (begun_of all) old r new
+        → DoesAt g (λ a n. args_started (context a (suc n) p) (map arg_tree (drop k all))) (begun_of all) old r new
     from_argument {old = old} {new = new} {r = r} does =
-        subst (λ (xs : List Arg). DoesAt g (λ a n. args_started (context a n p) (map arg_tree xs)) (begun_of all) old r new)
+        subst (λ (xs : List Arg). DoesAt g (λ a n. args_started (context a (suc n) p) (map arg_tree xs)) (begun_of all) old r new)
         (sym (next_item all k x less is)) does
 
     -- an argument is begun, and then they do
-    pub argument_begins : {o : the_progress.Progress entrances.Entrance} {old mid new : Parts S} {r : Result (the_progress.Progress entrances.Entrance × ℕ) Code}
-        → DoesAt g (λ a n. started (context a n p) (arg_tree x)) start_of old (Ok o) mid
-        → DoesAt g (λ a n. arguments_behind p (map arg_tree (drop (k + 1) all)) a n (start_of o)) (begun_of all) mid r new → DoesAt g (λ a n. args_started (context a n p) (map arg_tree (drop k all))) (begun_of all) old r new
-    argument_begins does then_does = from_argument (at_then (arguments_behind p (map arg_tree (drop (k + 1) all))) does then_does)
+    pub argument_begins : {o : the_progress.Progress entrances.Entrance} {old mid new : Parts S}
+        {r : Result (the_progress.Progress entrances.Entrance × ℕ) Code}
+        → DoesAt g (λ a n. started (context a (suc n) p) (arg_tree x)) start_of old (Ok o) mid
+        → DoesAt g (λ a n. arguments_behind p (map arg_tree (drop (k + 1) all)) a (suc n) (start_of o)) (begun_of all) mid r new
+        → DoesAt g (λ a n. args_started (context a (suc n) p) (map arg_tree (drop k all))) (begun_of all) old r new
+    argument_begins does then_does = from_argument (at_then (λ a n. arguments_behind p (map arg_tree (drop (k + 1) all)) a (suc n)) does then_does)
 
     pub argument_stopped : {old new : Parts S} {r : Result (the_progress.Progress entrances.Entrance × ℕ) Code} {e : Code}
-        → DoesAt g (λ a n. started (context a n p) (arg_tree x)) start_of old (Err e) new → IsErr r × IsErrAnd r (λ x. x ≡ e)
-        → DoesAt g (λ a n. args_started (context a n p) (map arg_tree (drop k all))) (begun_of all) old r new
-    argument_stopped does h = from_argument (at_stopped (arguments_behind p (map arg_tree (drop (k + 1) all))) does h)
+        → DoesAt g (λ a n. started (context a (suc n) p) (arg_tree x)) start_of old (Err e) new → IsErr r × IsErrAnd r (λ x. x ≡ e)
+        → DoesAt g (λ a n. args_started (context a (suc n) p) (map arg_tree (drop k all))) (begun_of all) old r new
+    argument_stopped does h = from_argument (at_stopped (λ a n. arguments_behind p (map arg_tree (drop (k + 1) all)) a (suc n)) does h)

@@ -6,6 +6,7 @@ use Rattle.mexec.proofs.ExecWords.{CommandTree, as_truth, Inside, inside, inside
 use Rattle.mexec.proofs.ExecWords.{left, frame, Enough, MovedOn, residual_is, did_then, did_failed, did_gives, did_lost, then_follows, then_failed, assoc}
 use Rattle.mexec.proofs.ExecWords.{ended, Ghosts, fault_of, Code, Zmem, standing_of, depth_of, Parts, Does, DoesAt, KeepsLoans, here_of, Runs, view, stack}
 use Rattle.mexec.proofs.ExecWords.{stacked, resting, completion_of, position_of, went, listing, at_done, keeps_at_depth, keeps_itself, keeps_on, Completion}
+use Rattle.mmeaning.proofs.Calls.{did_spent}
 use Rattle.mmeaning.specs.Frames.{Fits}
 use Rattle.mexec.specs.Frames.{RunsIf, RunsWithin}
 use Rattle.mmeaning.specs.LineMeaning as meaning
@@ -26,6 +27,27 @@ at_then {g = g} q {f = f} {j = j} {old = old} {mid = mid} {new = new} {x = x} {r
   at = λ sure.
       did_then (q (standing_of old.eval).account) (d.at (undoubted k.doubt sure))
       (subst (λ b. Did b (IsSteady g new.eval.store.now) fault_of (λ n. q b.account n (f x)) j (here_of g mid) r (here_of g new)) d.keeps.eval.same (k.at sure));
+  doubt = Doubts-then d.doubt k.doubt;
+  keeps = keeps_on d.keeps k.keeps;
+}
+
+-- what is done whatever texts may be entered is done where one more may be
+pub one_more : {S A X : Type 0} {g : Ghosts S} (p : Text → ℕ → Act A) {f : X → A} {old new : Parts S} {r : Result X Code}
+    → DoesAt g p f old r new → DoesAt g (λ a n. p a (suc n)) f old r new
+one_more p k = record {
+  at = λ sure. let did = k.at sure in record { at = λ n le. did.at (suc n) (omega arith); fewer = did.fewer };
+  doubt = k.doubt;
+  keeps = k.keeps;
+}
+
+-- once a step is spent, one text more may be entered than there are steps
+pub at_spent : {S A B X Y : Type 0} {g : Ghosts S} {p : Text → ℕ → Act A} (q : Text → ℕ → A → Act B) {f : X → A} {j : Y → B} {old mid new : Parts S} {x : X} {r : Result Y Code}
+    → DoesAt g p f old (Ok x) mid → mid.eval.steps < old.eval.steps → DoesAt g (λ a n. q a (suc n) (f x)) j mid r new
+    → DoesAt g (λ a n. p a n >>= q a n) j old r new
+at_spent {g = g} q {f = f} {j = j} {old = old} {mid = mid} {new = new} {x = x} {r = r} d less k = record {
+  at = λ sure.
+      did_spent (q (standing_of old.eval).account) (d.at (undoubted k.doubt sure)) less
+      (subst (λ b. Did b (IsSteady g new.eval.store.now) fault_of (λ n. q b.account (suc n) (f x)) j (here_of g mid) r (here_of g new)) d.keeps.eval.same (k.at sure));
   doubt = Doubts-then d.doubt k.doubt;
   keeps = keeps_on d.keeps k.keeps;
 }
@@ -250,6 +272,34 @@ module _ {S A X : Type 0} {g : Ghosts S} {p : Text → ℕ → Act A} (q : Text 
         doubt = Doubts-then d.doubt k.doubt;
         keeps = keeps_on d.keeps k.keeps;
       }
+
+-- what is done where one text more may be entered, and then what runs within a command
+module _ {S A X : Type 0} {g : Ghosts S} (p : Text → ℕ → Act A) (q : Text → ℕ → A → Act meaning.Completion) {f : X → A} where
+  pub further_then : {x : X} {fs fs' : List View} {old mid new : Parts S} {r : Result Completion Code} → DoesAt g (λ a n. p a (suc n)) f old (Ok x) mid
+      → RunsWithin g (λ a n. q a n (f x)) fs mid r fs' new → RunsWithin g (λ a n. p a n >>= q a n) fs old r fs' new
+  further_then {x = x} {fs = fs} {fs' = fs'} {old = old} {mid = mid} {new = new} {r = r} d k = record {
+    at = go;
+    doubt = Doubts-then d.doubt k.doubt;
+    keeps = keeps_on d.keeps k.keeps;
+  }
+    where
+      go : g.doubt new.eval.store.now ≡ 0 → (n : ℕ) (ns : List ℕ) → old.eval.steps < n → Enough old.eval.steps fs ns
+          → MovedOn (standing_of old.eval) (IsSteady g new.eval.store.now) fault_of completion_of (p (standing_of old.eval).account n >>= q (standing_of old.eval).account n) (left (standing_of old.eval).account fs ns) (here_of g old) r fs' (here_of g new)
+      go sure zero ns less e = absurd (omega arith)
+      go sure (suc n) ns less e =
+          let few = d.keeps.eval.fewer in
+          on_then (q (standing_of old.eval).account (suc n)) n (omega arith) (d.at (undoubted k.doubt sure))
+          (moved_to (λ a. q a (suc n) (f x)) (λ a. left a fs ns) d.keeps.eval.same (k.at sure (suc n) ns (omega (arith, few)) (enough mid.eval.steps old.eval.steps fs ns few e)))
+
+  pub further_stopped : {fs fs' : List View} {old new : Parts S} {r : Result Completion Code} {e : Code} → DoesAt g (λ a n. p a (suc n)) f old (Err e) new
+      → IsErr r × IsErrAnd r (λ x. x ≡ e) → RunsWithin g (λ a n. p a n >>= q a n) fs old r fs' new
+  further_stopped {fs = fs} {fs' = fs'} {old = old} {new = new} {r = r} {e = c} d h =
+      subst (λ r. RunsWithin g (λ a n. p a n >>= q a n) fs old r fs' new) (sym (residual_is r c h)) (record { at = go; doubt = d.doubt; keeps = d.keeps })
+    where
+      go : g.doubt new.eval.store.now ≡ 0 → (n : ℕ) (ns : List ℕ) → old.eval.steps < n → Enough old.eval.steps fs ns
+          → MovedOn (standing_of old.eval) (IsSteady g new.eval.store.now) fault_of completion_of (p (standing_of old.eval).account n >>= q (standing_of old.eval).account n) (left (standing_of old.eval).account fs ns) (here_of g old) (Err c) fs' (here_of g new)
+      go sure zero ns less e = absurd (omega arith)
+      go sure (suc n) ns less e = on_failed (q (standing_of old.eval).account (suc n)) n (omega arith) (d.at sure)
 
 -- what runs anywhere runs within a command
 pub runs_within : {S : Type 0} {g : Ghosts S} {p : Text → ℕ → Act meaning.Completion} {fs fs' : List View} {old new : Parts S} {r : Result Completion Code}

@@ -1,6 +1,6 @@
 -- SPDX-License-Identifier: Apache-2.0
 -- Arguments, commands and lines up to where they stop, and then what is left of them, is what they do.
-use Rattle.mexec.proofs.ExecWords.{slice_get, Option, ◌≡◌, ℕ, ◌+◌, ◌-◌, ◌≤◌, ◌<◌, Bool, true, false, cond, List, [], ◌∷◌, None, Some, Result, Ok, Err, length}
+use Rattle.mexec.proofs.ExecWords.{slice_get, Option, ◌≡◌, ℕ, suc, ◌+◌, ◌-◌, ◌≤◌, ◌<◌, Bool, true, false, cond, List, [], ◌∷◌, None, Some, Result, Ok, Err, length}
 use Rattle.mexec.proofs.ExecWords.{get_or, map, drop, refl, sym, ap, ◌∙◌, subst, arith, IsErr, IsErrAnd, IfOk, Text, Act, ◌>>=◌, ◌>>◌, give, charge, next_item}
 use Rattle.mexec.proofs.ExecWords.{KeywordTree, for_word, do_word, ArgTree, loop, CommandTree, Context, Turning, Go_on, after, arguments, bare, commands}
 use Rattle.mexec.proofs.ExecWords.{conditional, context, effect, holds, inside_of, View, assoc, ended, arg_tree, command_tree, spaced_tree, Arg, Line, Ghosts}
@@ -32,7 +32,7 @@ use Rattle.mexec.specs.Frames.{command_in}
 use Rattle.mexec.specs.declared.front.Stop.TheVariants as stop
 use Rattle.mexec.proofs.ArgumentRuns.{argument_is}
 use Rattle.mexec.proofs.Loops.{course_runs, turn_begins, turn_done}
-use Rattle.mexec.proofs.Calls.{at_then, at_failed, at_stopped, at_gives, at_as, runs_then, runs_stopped, runs_as, spent_within, some_item}
+use Rattle.mexec.proofs.Calls.{at_then, at_spent, one_more, at_failed, at_stopped, at_gives, at_as, runs_then, runs_stopped, runs_as, spent_within, some_item}
 use Rattle.mexec.specs.Frames.{RunsWithin}
 
 -- ---- acts
@@ -213,22 +213,25 @@ module _ {S : Type 0} {g : Ghosts S} (p : Position) (l : Line) (k : ℕ) (x : Sp
       subst (λ (xs : List Spaced). DoesAt g (λ a n. front (context a n p) (map (λ c. c.0) (map spaced_tree xs))) (front_of l) old r new)
       (sym (next_item l.commands.items k x less is)) does
 
-  -- a command is done up to where it stops, and then they do
+  -- a command is done up to where it stops, its step spent, and then they do
   pub command_begins : {X : Type 0} {f : X → Unit {0}} {u : X} {o : the_progress.Progress the_stop.Stop} {old mid next new : Parts S} {r : Result (the_progress.Progress the_stop.Stop × ℕ) Code}
-      → DoesAt g (λ a n. charge) f old (Ok u) mid
-      → DoesAt g (λ a n. command_started (context a n p) (command_tree x.command)) (outcome_of x.command.args.items) mid (Ok o) next → DoesAt g (λ a n. commands_behind p (commands_from l (k + 1)) a n (outcome_of x.command.args.items o)) (front_of l) next r new
+      → DoesAt g (λ a n. charge) f old (Ok u) mid → mid.eval.steps < old.eval.steps
+      → DoesAt g (λ a n. command_started (context a (suc n) p) (command_tree x.command)) (outcome_of x.command.args.items) mid (Ok o) next → DoesAt g (λ a n. commands_behind p (commands_from l (k + 1)) a n (outcome_of x.command.args.items o)) (front_of l) next r new
       → DoesAt g (λ a n. front (context a n p) (commands_from l k)) (front_of l) old r new
-  command_begins c does then_does =
+  command_begins {o = o} c less does then_does =
       from_command
-      (at_then (λ a n _. command_started (context a n p) (command_tree x.command) >>= commands_behind p (commands_from l (k + 1)) a n) c (at_then (commands_behind p (commands_from l (k + 1))) does then_does))
+      (at_spent (λ a n _. command_started (context a n p) (command_tree x.command) >>= commands_behind p (commands_from l (k + 1)) a n) c less
+      (at_then (λ a n. commands_behind p (commands_from l (k + 1)) a (suc n)) does
+      (one_more (λ a n. commands_behind p (commands_from l (k + 1)) a n (outcome_of x.command.args.items o)) then_does)))
 
   pub command_stopped : {X : Type 0} {f : X → Unit {0}} {u : X} {old mid new : Parts S} {r : Result (the_progress.Progress the_stop.Stop × ℕ) Code} {e : Code}
-      → DoesAt g (λ a n. charge) f old (Ok u) mid
-      → DoesAt g (λ a n. command_started (context a n p) (command_tree x.command)) (outcome_of x.command.args.items) mid (Err e) new → IsErr r × IsErrAnd r (λ x. x ≡ e)
+      → DoesAt g (λ a n. charge) f old (Ok u) mid → mid.eval.steps < old.eval.steps
+      → DoesAt g (λ a n. command_started (context a (suc n) p) (command_tree x.command)) (outcome_of x.command.args.items) mid (Err e) new → IsErr r × IsErrAnd r (λ x. x ≡ e)
       → DoesAt g (λ a n. front (context a n p) (commands_from l k)) (front_of l) old r new
-  command_stopped c does h =
+  command_stopped c less does h =
       from_command
-      (at_then (λ a n _. command_started (context a n p) (command_tree x.command) >>= commands_behind p (commands_from l (k + 1)) a n) c (at_stopped (commands_behind p (commands_from l (k + 1))) does h))
+      (at_spent (λ a n _. command_started (context a n p) (command_tree x.command) >>= commands_behind p (commands_from l (k + 1)) a n) c less
+      (at_stopped (λ a n. commands_behind p (commands_from l (k + 1)) a (suc n)) does h))
 
 -- no step is left for the next command
 pub charge_stopped : {S X : Type 0} {g : Ghosts S} (p : Position) (l : Line) (k : ℕ) {f : X → Unit {0}} {old new : Parts S} {r : Result (the_progress.Progress the_stop.Stop × ℕ) Code} {e : Code}

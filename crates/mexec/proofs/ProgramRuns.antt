@@ -4,7 +4,7 @@ use Rattle.mexec.proofs.ExecWords.{◌≡◌, ℕ, zero, suc, ◌+◌, ◌-◌, 
 use Rattle.mexec.proofs.ExecWords.{drop, refl, sym, ◌∙◌, subst, arith, ap, IsErr, IsErrAnd, Text, Act, ◌>>=◌, ◌>>◌, give, set_test, as_truth, Context, Go_on}
 use Rattle.mexec.proofs.ExecWords.{context, Position, depth_of, inside, position_of, assoc, Ghosts, Code, Parts, Does, DoesAt, completion_of, went, at_done}
 use Rattle.mexec.proofs.ExecWords.{Completion}
-use Rattle.std.specs.Prelude.{option_map}
+use Rattle.std.specs.Prelude.{IfErr, IfOk, cond, option_map, ◌≤◌}
 use Rattle.mgrammar.specs.Grammar.{EntryTree}
 use Rattle.mmeaning.specs.LineMeaning as meaning
 use Rattle.mspec.specs.Act.{fail}
@@ -12,7 +12,8 @@ use Rattle.mspec.specs.Code as spec
 use Rattle.moperator.specs.declared.code.Code.TheVariants as code
 use Rattle.mmeaning.specs.LineMeaning.{where_true, truth_tested, returned_value}
 use Rattle.mmeaning.specs.Operators.{as_number}
-use Rattle.mmeaning.specs.Programs.{Item, one_value, some_values, made, handing, Op, Call, Ending, plain, step, Pause, over, calls, begun_on, begun}
+use Rattle.mmeaning.specs.Programs.{Item, one_value, some_values, found, placed, walked, made, handing, Op, Call, Unless, Pass, Ending, plain, step, Pause}
+use Rattle.mmeaning.specs.Programs.{over, calls, begun_on, begun_past, begun}
 use Rattle.mprogram.specs.Views.{op_view, ending_view}
 use Rattle.mprogram.specs.Wholes.{WholeTree, steps_of, ending_of}
 use Rattle.mprogram.specs.declared.op.Ending as the_ending
@@ -22,12 +23,16 @@ use Rattle.mprogram.specs.declared.op.Op.TheVariants as op
 use Rattle.mcommand.specs.Conditions.{hung, truth_set}
 use Rattle.mcommand.specs.Steps.{step_in, is_call, goes_with, handing_on_top, value_on_top}
 use Rattle.mcommand.proofs.StepsIn.{step_is}
-use Rattle.mexec.specs.Programs.{calls_with, pause_of, pauses, ends, ends_with}
+use Rattle.mcommand.specs.Does.{DoesWithin}
+use Rattle.mmeaning.specs.Yields.{Yields}
+use Rattle.mmeaning.proofs.Yieldings.{yields_gives, yields_wanting}
+use Rattle.moperator.specs.Codes.{fault_of}
+use Rattle.mexec.specs.Programs.{calls_with, chosen_from, pause_of, pauses, ends, ends_with}
 use Rattle.mexec.specs.declared.frames.Position as positions
 use Rattle.mexec.specs.declared.programs.Pause as the_pause
 use Rattle.mexec.specs.declared.programs.Pause.TheVariants as pause
 use Rattle.mexec.specs.declared.completion.Completion.TheVariants as completion
-use Rattle.mexec.proofs.Calls.{at_then, at_failed, at_stopped, at_gives, at_as}
+use Rattle.mexec.proofs.Calls.{at_then, at_failed, at_stopped, at_gives, at_as, one_more}
 use Rattle.mexec.proofs.LevelRuns.{at_any, at_yielded}
 use Rattle.mexec.proofs.ProgramEnds.{ends_is}
 
@@ -48,6 +53,18 @@ drop_past [] (suc at) h = refl
 drop_past (y ∷ all) zero h = absurd (let clash : ◌≡◌ {A = Option _} (Some y) None = h in cc)
 drop_past (y ∷ all) (suc at) h = drop_past all at h
 
+none_dropped : {A : Type 0} (n : ℕ) → ◌≡◌ {A = List A} (drop n []) []
+none_dropped zero = refl
+none_dropped (suc n) = refl
+
+-- what is left of a list from a place on, from one of its places on
+pub drop_further : {A : Type 0} (n at : ℕ) (all : List A) → drop n (drop at all) ≡ drop (at + n) all
+drop_further n zero all = ap (λ m. drop m all) (let same : n ≡ zero + n = omega arith in same)
+drop_further n (suc at) [] = none_dropped n ∙ sym (none_dropped (suc at + n))
+drop_further n (suc at) (x ∷ all) =
+    let same : suc (at + n) ≡ suc at + n = omega arith in
+    drop_further n at all ∙ ap (λ m. drop m (x ∷ all)) same
+
 -- a place at which something stands is one of the list
 pub within_list : {A : Type 0} (all : List A) (at : ℕ) (x : A) → slice_get all at ≡ Some x → at < length all
 within_list [] at x h = absurd (let clash : ◌≡◌ {A = Option _} None (Some x) = h in cc)
@@ -59,10 +76,26 @@ pub no_item : {A : Type 0} (r : Option A) → ((x : A) → r ≡ Some x → ⊥)
 no_item None h = refl
 no_item (Some x) h = absurd (h x refl)
 
--- a step of the code that is no call
-pub no_call : (o : the_op.Op) → ((e : _) → o ≡ op.Call e → ⊥) → is_call (op_view o) ≡ false
-no_call (op.Call e) h = absurd (h e refl)
-no_call o h = refl
+-- a step of the code that is no call, and passes no steps by
+pub no_call : (o : the_op.Op) → ((e : _) → o ≡ op.Call e → ⊥) → ((v : _) → o ≡ op.Unless v → ⊥) → ((rest : _) → o ≡ op.Pass rest → ⊥)
+    → is_call (op_view o) ≡ false
+no_call (op.Call e) entries values choices = absurd (entries e refl)
+no_call (op.Unless v) entries values choices = absurd (values v refl)
+no_call (op.Pass rest) entries values choices = absurd (choices rest refl)
+no_call o entries values choices = refl
+
+-- ---- how far a jump goes
+
+pub past_yields : (at n : ℕ) (st : List Item) (r : Result ℕ Code) → IfOk r (λ past. past ≡ at + n) → IfErr r (λ c. c ≡ code.Zmem)
+    → Yields {A = ℕ × List Item} fault_of (give (at + n, st)) (λ (next : ℕ). (next, st)) r
+past_yields at n st (Ok to) is wants =
+    let same : ◌≡◌ {A = ℕ × List Item} (to, st) (at + n, st) = (λ i. (is i, st)) in
+    yields_gives {A = ℕ × List Item} (at + n, st) (λ (next : ℕ). (next, st)) to same
+past_yields at n st (Err c) is wants = yields_wanting {A = ℕ × List Item} (give (at + n, st)) (λ (next : ℕ). (next, st)) code.Zmem (Err c) refl (refl, wants)
+
+pub past_on : (at n : ℕ) (r : Result ℕ Code) → IfOk r (λ past. past ≡ at + n) → IfOk r (λ past. at ≤ past)
+past_on at n (Ok to) is = omega (arith, is)
+past_on at n (Err c) is = tt
 
 -- ---- acts
 
@@ -74,6 +107,8 @@ module _ (x : Context) where
   step_begun : (o : Op) (ops : List Op) (k : Ending) (st : List Item) → is_call o ≡ false
       → Same (begun x (o ∷ ops) k st) (step x o st >>= begun_on (begun x ops k))
   step_begun (Call e) ops k st h = absurd (let clash : true ≡ false = h in cc)
+  step_begun (Unless n) ops k st h = absurd (let clash : true ≡ false = h in cc)
+  step_begun (Pass n) ops k st h = absurd (let clash : true ≡ false = h in cc)
   step_begun o ops k st h = refl
 
   pub begun_is : (o : Op) (ops : List Op) (k : Ending) (st : List Item) → is_call o ≡ false
@@ -86,8 +121,48 @@ module _ (x : Context) where
   call_begun e ops k [] = refl
   call_begun e ops k (one_value v ∷ st) = refl
   call_begun e ops k (some_values vs ∷ st) = refl
+  call_begun e ops k (found r ∷ st) = refl
+  call_begun e ops k (placed p ∷ st) = refl
+  call_begun e ops k (walked p ∷ st) = refl
   call_begun e ops k (made ps ∷ st) = refl
   call_begun e ops k (handing b bs ∷ st) = refl
+
+  -- once steps are passed by, those after them are left
+  past_begun : (n : ℕ) (ops : List Op) (k : Ending) (st : List Item) → Same (begun_past x n ops k st) (begun x (drop n ops) k st)
+  past_begun zero ops k st = refl
+  past_begun (suc n) [] k st = refl
+  past_begun (suc n) (o ∷ ops) k st = past_begun n ops k st
+
+  pub passed_begun : (at n : ℕ) (ops : List Op) (k : Ending) (st : List Item) → Same (begun_past x n (drop at ops) k st) (begun x (drop (at + n) ops) k st)
+  passed_begun at n ops k st = past_begun n (drop at ops) k st ∙ ap (λ (rest : List Op). begun x rest k st) (drop_further n at ops)
+
+  -- the condition of a choice
+  condition_begun : (n : ℕ) (ops : List Op) (k : Ending) (st : List Item)
+      → Same (begun x (Unless n ∷ ops) k st) (value_on_top st >>= (λ v. as_truth v.0 >>= (λ b. begun_past x (cond b 0 n) ops k v.1)))
+  condition_begun n ops k [] = refl
+  condition_begun n ops k (one_value v ∷ st) = refl
+  condition_begun n ops k (some_values vs ∷ st) = refl
+  condition_begun n ops k (found r ∷ st) = refl
+  condition_begun n ops k (placed p ∷ st) = refl
+  condition_begun n ops k (walked p ∷ st) = refl
+  condition_begun n ops k (made ps ∷ st) = refl
+  condition_begun n ops k (handing b bs ∷ st) = refl
+
+  -- its value, or what comes after that
+  either_begun : (b : Bool) (at n : ℕ) (ops : List Op) (k : Ending) (st : List Item)
+      → Same (begun_past x (cond b 0 n) (drop at ops) k st) (begun x (drop (cond b at (at + n)) ops) k st)
+  either_begun true at n ops k st = refl
+  either_begun false at n ops k st = passed_begun at n ops k st
+
+  pub chosen_begun : (at n : ℕ) (ops : List Op) (k : Ending) (st : List Item)
+      → Same (begun x (Unless n ∷ drop at ops) k st) (chosen_from at n st >>= (λ there. begun x (drop there.0 ops) k there.1))
+  chosen_begun at n ops k st =
+      condition_begun n (drop at ops) k st
+      ∙ (λ j. value_on_top st >>= (λ v. as_truth v.0 >>= (λ b. either_begun b at n ops k v.1 j)))
+      ∙ sym (assoc {B = ℕ × List Item} (value_on_top st) (λ v. as_truth v.0 >>= (λ b. give (cond b at (at + n), v.1)))
+      (λ there. begun x (drop there.0 ops) k there.1)
+      ∙ (λ j. value_on_top st >>=
+      (λ v. assoc {B = ℕ × List Item} (as_truth v.0) (λ b. give (cond b at (at + n), v.1)) (λ there. begun x (drop there.0 ops) k there.1) j)))
 
 -- what a command does in the end with a value
 pub ends_by_value : (x : Context) (k : the_ending.Ending) (st : List Item) → (k ≡ ending.Assign → ⊥)
@@ -143,56 +218,90 @@ pub value_lacks : {S : Type 0} {g : Ghosts S} (s : Completion) → ((v : _) → 
     → DoesAt g (λ a n. returned_value (completion_of s)) (λ (v : Text). v) parts (Err code.M17) parts
 value_lacks s none = at_as (λ a n. no_value s none) (at_yielded (record { ends = λ s. refl }))
 
--- ---- a program from a place on, on a stack
+-- ---- a program from a place on, on a stack, where one text more may be entered than there are steps
 
 abbrev pub From : {S : Type 0} (g : Ghosts S) (w : WholeTree) (p : positions.Position) → ℕ → List Item → Parts S → Result the_pause.Pause Code → Parts S
     → Type 0
-From g w p at st old r new = DoesAt g (λ a n. begun (context a n (position_of p)) (drop at (steps_of w)) (ending_of w) st) (pause_of w) old r new
+From g w p at st old r new = DoesAt g (λ a n. begun (context a (suc n) (position_of p)) (drop at (steps_of w)) (ending_of w) st) (pause_of w) old r new
 
 module _ {S : Type 0} {g : Ghosts S} (w : WholeTree) (p : positions.Position) where
   -- a step, at the depth of its line
   pub step_at : (o : Op) (st st' : List Item) {old new : Parts S} {r : Result Bool Code} → old.eval.depth ≡ p.depth
-      → Does g (λ i. step_in i o st) (λ (goes : Bool). goes_with goes st') old r new
-      → DoesAt g (λ a n. step_in (inside a n (depth_of p.depth)) o st) (λ (goes : Bool). goes_with goes st') old r new
+      → DoesWithin g (λ i. step_in i o st) (λ (goes : Bool). goes_with goes st') old r new
+      → DoesAt g (λ a n. step_in (inside a (suc n) (depth_of p.depth)) o st) (λ (goes : Bool). goes_with goes st') old r new
   step_at o st st' same d = rw (sym same) (record { at = λ sure. d.at sure; doubt = d.doubt; keeps = d.keeps })
 
   from_steps : (at : ℕ) (o : Op) (st : List Item) → slice_get (steps_of w) at ≡ Some o → {old new : Parts S} {r : Result the_pause.Pause Code}
-      → DoesAt g (λ a n. begun (context a n (position_of p)) (o ∷ drop (at + 1) (steps_of w)) (ending_of w) st) (pause_of w) old r new → From g w p at st old r new
+      → DoesAt g (λ a n. begun (context a (suc n) (position_of p)) (o ∷ drop (at + 1) (steps_of w)) (ending_of w) st) (pause_of w) old r new
+      → From g w p at st old r new
   from_steps at o st there {old = old} {new = new} {r = r} d =
-      subst (λ ops. DoesAt g (λ a n. begun (context a n (position_of p)) ops (ending_of w) st) (pause_of w) old r new) (sym (drop_at (steps_of w) at o there)) d
+      subst (λ ops. DoesAt g (λ a n. begun (context a (suc n) (position_of p)) ops (ending_of w) st) (pause_of w) old r new)
+      (sym (drop_at (steps_of w) at o there)) d
 
   -- the call of a function
   pub comes_to_call : (at : ℕ) (e : EntryTree) (st : List Item) → slice_get (steps_of w) at ≡ Some (Call e)
       → {old new : Parts S} {r : Result the_pause.Pause Code} → DoesAt g (λ a n. calls_with w e (at + 1) st) (pause_of w) old r new → From g w p at st old r new
   comes_to_call at e st there d =
-      from_steps at (Call e) st there (at_as (λ a n. call_begun (context a n (position_of p)) e (drop (at + 1) (steps_of w)) (ending_of w) st) d)
+      from_steps at (Call e) st there (at_as (λ a n. call_begun (context a (suc n) (position_of p)) e (drop (at + 1) (steps_of w)) (ending_of w) st) d)
 
   -- where no step is left
   pub comes_to_end : (at : ℕ) (st : List Item) → slice_get (steps_of w) at ≡ None → {old new : Parts S} {r : Result the_pause.Pause Code}
       → DoesAt g (λ a n. ends (context a n (position_of p)) (ending_of w) st) (pause_of w) old r new → From g w p at st old r new
   comes_to_end at st none {old = old} {new = new} {r = r} d =
-      subst (λ ops. DoesAt g (λ a n. begun (context a n (position_of p)) ops (ending_of w) st) (pause_of w) old r new) (sym (drop_past (steps_of w) at none))
-      (at_as (λ a n. ends_is (context a n (position_of p)) (ending_of w) st) d)
+      subst (λ ops. DoesAt g (λ a n. begun (context a (suc n) (position_of p)) ops (ending_of w) st) (pause_of w) old r new)
+      (sym (drop_past (steps_of w) at none))
+      (at_as (λ a n. ends_is (context a (suc n) (position_of p)) (ending_of w) st)
+      (one_more (λ a n. ends (context a n (position_of p)) (ending_of w) st) d))
 
-  module _ (at : ℕ) (o : Op) (st st' : List Item) (there : slice_get (steps_of w) at ≡ Some o) (quiet : is_call o ≡ false) {old : Parts S} (same : old.eval.depth ≡ p.depth) where
+  -- the condition of a choice, which is on top
+  module _ (at n : ℕ) (st : List Item) (there : slice_get (steps_of w) at ≡ Some (Unless n)) {old : Parts S} where
+    by_choice : {new : Parts S} {r : Result the_pause.Pause Code}
+        → DoesAt g (λ a m. chosen_from (at + 1) n st >>= (λ to. begun (context a (suc m) (position_of p)) (drop to.0 (steps_of w)) (ending_of w) to.1))
+        (pause_of w) old r new → From g w p at st old r new
+    by_choice d = from_steps at (Unless n) st there (at_as (λ a m. chosen_begun (context a (suc m) (position_of p)) (at + 1) n (steps_of w) (ending_of w) st) d)
+
+    pub choice_goes_on : (to : ℕ) (st' : List Item) {new : Parts S} {r : Result the_pause.Pause Code}
+        → Yields {E = Code} fault_of (chosen_from (at + 1) n st) (λ (next : ℕ). (next, st')) (Ok to) → From g w p to st' old r new → From g w p at st old r new
+    choice_goes_on to st' y k =
+        by_choice (at_then (λ a m to. begun (context a (suc m) (position_of p)) (drop to.0 (steps_of w)) (ending_of w) to.1) (at_yielded y) k)
+
+    pub choice_stopped : (st' : List Item) {r : Result the_pause.Pause Code} {e : Code}
+        → Yields fault_of (chosen_from (at + 1) n st) (λ (next : ℕ). (next, st')) (Err e) → IsErr r × IsErrAnd r (λ x. x ≡ e) → From g w p at st old r old
+    choice_stopped st' y h =
+        by_choice (at_stopped (λ a m to. begun (context a (suc m) (position_of p)) (drop to.0 (steps_of w)) (ending_of w) to.1) (at_yielded y) h)
+
+  -- steps that are passed by
+  pub passes_by : (at n : ℕ) (st : List Item) → slice_get (steps_of w) at ≡ Some (Pass n) → {old new : Parts S} {r : Result the_pause.Pause Code}
+      → From g w p (at + 1 + n) st old r new → From g w p at st old r new
+  passes_by at n st there d =
+      from_steps at (Pass n) st there (at_as (λ a m. passed_begun (context a (suc m) (position_of p)) (at + 1) n (steps_of w) (ending_of w) st) d)
+
+  module _ (at : ℕ) (o : Op) (st st' : List Item) (there : slice_get (steps_of w) at ≡ Some o) (quiet : is_call o ≡ false) {old : Parts S}
+      (same : old.eval.depth ≡ p.depth) where
     by_step : {new : Parts S} {r : Result the_pause.Pause Code}
-        → DoesAt g (λ a n. step_in (inside a n (depth_of p.depth)) o st >>= begun_on (begun (context a n (position_of p)) (drop (at + 1) (steps_of w)) (ending_of w))) (pause_of w) old r new → From g w p at st old r new
-    by_step d = from_steps at o st there (at_as (λ a n. begun_is (context a n (position_of p)) o (drop (at + 1) (steps_of w)) (ending_of w) st quiet) d)
+        → DoesAt g (λ a n. step_in (inside a (suc n) (depth_of p.depth)) o st
+        >>= begun_on (begun (context a (suc n) (position_of p)) (drop (at + 1) (steps_of w)) (ending_of w))) (pause_of w) old r new
+        → From g w p at st old r new
+    by_step d = from_steps at o st there (at_as (λ a n. begun_is (context a (suc n) (position_of p)) o (drop (at + 1) (steps_of w)) (ending_of w) st quiet) d)
 
     -- a step is done, and then the others
     pub step_goes_on : {mid new : Parts S} {r : Result the_pause.Pause Code}
-        → Does g (λ i. step_in i o st) (λ (goes : Bool). goes_with goes st') old (Ok true) mid → From g w p (at + 1) st' mid r new → From g w p at st old r new
+        → DoesWithin g (λ i. step_in i o st) (λ (goes : Bool). goes_with goes st') old (Ok true) mid → From g w p (at + 1) st' mid r new
+        → From g w p at st old r new
     step_goes_on d k =
-        by_step (at_then (λ a n. begun_on (begun (context a n (position_of p)) (drop (at + 1) (steps_of w)) (ending_of w))) (step_at o st st' same d) k)
+        by_step (at_then (λ a n. begun_on (begun (context a (suc n) (position_of p)) (drop (at + 1) (steps_of w)) (ending_of w))) (step_at o st st' same d) k)
 
     -- one after which the argument ends
-    pub step_ends : {mid : Parts S} → Does g (λ i. step_in i o st) (λ (goes : Bool). goes_with goes st') old (Ok false) mid
+    pub step_ends : {mid : Parts S} → DoesWithin g (λ i. step_in i o st) (λ (goes : Bool). goes_with goes st') old (Ok false) mid
         → From g w p at st old (Ok (pause.Over completion.GoOn)) mid
     step_ends d =
         by_step
-        (at_then (λ a n. begun_on (begun (context a n (position_of p)) (drop (at + 1) (steps_of w)) (ending_of w))) (step_at o st st' same d) (at_gives (over Go_on) (pause_of w) (pause.Over completion.GoOn) refl))
+        (at_then (λ a n. begun_on (begun (context a (suc n) (position_of p)) (drop (at + 1) (steps_of w)) (ending_of w))) (step_at o st st' same d)
+        (at_gives (over Go_on) (pause_of w) (pause.Over completion.GoOn) refl))
 
     pub step_stopped : {new : Parts S} {r : Result the_pause.Pause Code} {e : Code}
-        → Does g (λ i. step_in i o st) (λ (goes : Bool). goes_with goes st') old (Err e) new → IsErr r × IsErrAnd r (λ x. x ≡ e) → From g w p at st old r new
+        → DoesWithin g (λ i. step_in i o st) (λ (goes : Bool). goes_with goes st') old (Err e) new → IsErr r × IsErrAnd r (λ x. x ≡ e)
+        → From g w p at st old r new
     step_stopped d h =
-        by_step (at_stopped (λ a n. begun_on (begun (context a n (position_of p)) (drop (at + 1) (steps_of w)) (ending_of w))) (step_at o st st' same d) h)
+        by_step (at_stopped (λ a n. begun_on (begun (context a (suc n) (position_of p)) (drop (at + 1) (steps_of w)) (ending_of w)))
+        (step_at o st st' same d) h)

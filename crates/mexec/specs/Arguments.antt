@@ -70,14 +70,14 @@ abbrev pub entrance_of : entrances.Entrance → Entrance
 entrance_of (entrance.Lines c) = into_lines (called_tree c.now)
 entrance_of (entrance.Text e) = into_text (expr_tree e.now)
 entrance_of (entrance.Indirect k p) = into_given (form_of (keyword_tree k)) (primary_tree p.now)
-entrance_of (entrance.Paused a r) = into_pause (ending_of (of_argument (arg_tree a.now))) (pause_of (of_argument (arg_tree a.now)) r.value)
+entrance_of (entrance.Paused r) = into_pause (ending_of (of_argument (arg_tree r.value.arg.now))) (pause_of (of_argument (arg_tree r.value.arg.now)) r.value.pause)
 
 -- what is entered before the arguments from one on: no function is called in it, or it is the program of the argument before them
 abbrev pub IsReady : List Arg → ℕ → entrances.Entrance → Type 0
 IsReady args at (entrance.Lines c) = has_call_actuals (called_tree c.now).1 ≡ false
 IsReady args at (entrance.Text e) = has_call (expr_tree e.now) ≡ false
 IsReady args at (entrance.Indirect k p) = has_call_primary (primary_tree p.now) ≡ false
-IsReady args at (entrance.Paused a r) = slice_get args (at - 1) ≡ Some a.now
+IsReady args at (entrance.Paused r) = slice_get args (at - 1) ≡ Some r.value.arg.now
 
 abbrev pub start_of : the_progress.Progress entrances.Entrance → Progress Entrance
 start_of = progress_of entrance_of

@@ -1,6 +1,6 @@
 -- SPDX-License-Identifier: Apache-2.0
 -- Programs as the code carries them out: what they come to, and what a command does in the end.
-use Rattle.std.specs.Prelude.{ℕ, List, Result, Ok, Err, map, drop}
+use Rattle.std.specs.Prelude.{ℕ, ◌+◌, List, Result, Ok, Err, cond, map, drop}
 use Rattle.mspec.specs.Act.{Text, Act, ◌>>=◌, ◌>>◌, give, write}
 use Rattle.mmeaning.specs.Operators.{as_number, as_truth}
 use Rattle.mmeaning.specs.LineMeaning as meaning
@@ -39,6 +39,13 @@ abbrev pub calls_with : WholeTree → EntryTree → ℕ → List Item → Act Pa
 calls_with w e at st = do
   taken ← handing_on_top st
   give (calls e taken.0.0 taken.0.1 (drop at (steps_of w)) taken.1)
+
+-- where a program goes on after the condition of a choice, which is on top: here, or this many steps further if it is false
+abbrev pub chosen_from : ℕ → ℕ → List Item → Act (ℕ × List Item)
+chosen_from at n st = do
+  v ← value_on_top st
+  b ← as_truth v.0
+  give (cond b at (at + n), v.1)
 
 -- ---- what a command does in the end
 

@@ -1,6 +1,6 @@
 // SPDX-License-Identifier: Apache-2.0
 // The arguments of a command, one after another.
-ghost use Rattle.std.specs.Prelude.{◌≡◌, ◌-◌, ℕ, List, Some, false, true, map, drop, slice_get, IfOk};
+ghost use Rattle.std.specs.Prelude.{◌≡◌, ◌-◌, ℕ, suc, List, Some, false, true, map, drop, slice_get, IfOk};
 ghost use Rattle.std.specs.List.{list_all, list_any};
 ghost use Rattle.mgrammar.specs.CallsIn.{has_call, has_call_arg as the_has_call_arg, has_call_optional};
 ghost use Rattle.mgrammar.specs.ProgramsIn.{in_steps_arg};
@@ -33,7 +33,14 @@ pub(crate) enum Entrance<'t> {
     Lines(&'t Called),
     Text(&'t Expr),
     Indirect(Keyword, &'t Primary),
-    Paused(&'t Arg, Box<Pause<'t>>),
+    Paused(Box<Paused<'t>>),
+}
+
+// An argument in which functions are called, and what its program has come to.
+#[derive(Drop)]
+pub(crate) struct Paused<'t> {
+    pub(crate) arg: &'t Arg,
+    pub(crate) pause: Pause<'t>,
 }
 
 // An argument that goes on with the next, once it is done.
@@ -171,7 +178,8 @@ fn calls_in_argument(arg: &Arg, may_call: bool) -> bool
     if may_call { has_call_arg(arg) } else { false }
 }
 
-// What an argument in which functions are called does, up to where its program opens a level. Kept out of line, since it is rare.
+// What an argument in which functions are called does, up to where its program opens a level. One text more may be entered in it, and in
+// each argument, than there are steps: the command's own is spent. Kept out of line, since it is rare.
 #[inline(never)]
 fn program_begun<'t, S: NodeStore>(
     alloc: Global,
@@ -182,15 +190,15 @@ fn program_begun<'t, S: NodeStore>(
     requires calls { the_has_call_arg (arg_tree arg.now) ≡ true }
     requires stepped { in_steps_arg (arg_tree arg.now) ≡ true }
     ensures enters { (args : List Arg) (at : ℕ) → slice_get args (at - 1) ≡ Some arg.now → IfOk result (λ progress. IfStops progress (IsReady args at)) }
-    ensures does { DoesAt S.NodeStore (λ a n. started (context a n (position_of position.now)) (arg_tree arg.now)) start_of parts.old result parts.new }
+    ensures does { DoesAt S.NodeStore (λ a n. started (context a (suc n) (position_of position.now)) (arg_tree arg.now)) start_of parts.old result parts.new }
 {
     let whole = Whole::Argument(arg);
     let pause = begun(alloc, parts, position, whole, 0, Vec::new(alloc))?;
     match pause {
         Pause::Over(completion) => Ok(Progress::Over(completion)),
         other => {
-            let boxed = Box::new(alloc, other)?;
-            Ok(Progress::Stops(Entrance::Paused(arg, boxed)))
+            let boxed = Box::new(alloc, Paused { arg, pause: other })?;
+            Ok(Progress::Stops(Entrance::Paused(boxed)))
         }
     }
 }
@@ -207,7 +215,7 @@ fn argument_begun<'t, S: NodeStore>(
     requires plain { may_call ≡ false → the_has_call_arg (arg_tree arg.now) ≡ false }
     requires stepped { in_steps_arg (arg_tree arg.now) ≡ true }
     ensures enters { (args : List Arg) (at : ℕ) → slice_get args (at - 1) ≡ Some arg.now → IfOk result (λ progress. IfStops progress (IsReady args at)) }
-    ensures does { DoesAt S.NodeStore (λ a n. started (context a n (position_of position.now)) (arg_tree arg.now)) start_of parts.old result parts.new }
+    ensures does { DoesAt S.NodeStore (λ a n. started (context a (suc n) (position_of position.now)) (arg_tree arg.now)) start_of parts.old result parts.new }
 {
     if calls_in_argument(arg, may_call) {
         program_begun(alloc, parts, position, arg)
@@ -229,7 +237,7 @@ pub(crate) fn arguments_begun<'t, S: NodeStore>(
     requires plain { may_call ≡ false → list_any the_has_call_arg (map arg_tree args.now) ≡ false }
     requires stepped { list_all in_steps_arg (map arg_tree args.now) ≡ true }
     ensures enters { IfOk result (λ begun. IfStops begun.0 (IsReady args.now begun.1)) }
-    ensures does { DoesAt S.NodeStore (λ a n. args_started (context a n (position_of position.now)) (map arg_tree (drop from args.now))) (begun_of args.now) parts.old result parts.new }
+    ensures does { DoesAt S.NodeStore (λ a n. args_started (context a (suc n) (position_of position.now)) (map arg_tree (drop from args.now))) (begun_of args.now) parts.old result parts.new }
 {
     let mut at = from;
     while at < args.len() {
@@ -265,9 +273,10 @@ pub(crate) fn enter_argument<S: NodeStore>(
         Entrance::Indirect(keyword, operand) => {
             giving(alloc, parts, position, keyword, operand, scratch)
         }
-        Entrance::Paused(_, pause) => {
+        Entrance::Paused(paused) => {
             let place = Place::Argument(source, argument.saturating_sub(1));
-            resume_first(alloc, parts, place, Box::into_inner(pause), scratch)
+            let Paused { arg: _, pause } = Box::into_inner(paused);
+            resume_first(alloc, parts, place, pause, scratch)
         }
     }
 }

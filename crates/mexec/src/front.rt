@@ -1,6 +1,6 @@
 // SPDX-License-Identifier: Apache-2.0
 // The commands of a line, one after another, as far as they need no frame.
-ghost use Rattle.std.specs.Prelude.{◌≡◌, ◌<◌, [], false, true, map, IfOk};
+ghost use Rattle.std.specs.Prelude.{◌≡◌, ◌<◌, suc, [], false, true, map, IfOk};
 ghost use Rattle.std.specs.List.{list_all, list_any};
 ghost use Rattle.mgrammar.specs.CallsIn.{has_call_arg, has_call_optional as the_has_call_optional};
 ghost use Rattle.mgrammar.specs.ProgramsIn.{in_steps_arg};
@@ -85,7 +85,8 @@ fn bare<'t, S: NodeStore>(
     }
 }
 
-// What a command with this word and these arguments does, if its condition holds. Functions may be called in them, or not.
+// What a command with this word and these arguments does, if its condition holds. Functions may be called in them, or not. The command's
+// own step is spent, so one text more may be entered than there are steps.
 #[inline(always)]
 pub(crate) fn effect<'t, S: NodeStore>(
     alloc: Global,
@@ -98,7 +99,7 @@ pub(crate) fn effect<'t, S: NodeStore>(
     requires plain { may_call ≡ false → list_any has_call_arg (map arg_tree args.now) ≡ false }
     requires stepped { list_all in_steps_arg (map arg_tree args.now) ≡ true }
     ensures stops { IfOk result (λ outcome. IfStops outcome (StopsIn args.now)) }
-    ensures does { DoesAt S.NodeStore (λ a n. effect_started (context a n (position_of position.now)) (keyword_tree keyword) (map arg_tree args.now)) (outcome_of args.now) parts.old result parts.new }
+    ensures does { DoesAt S.NodeStore (λ a n. effect_started (context a (suc n) (position_of position.now)) (keyword_tree keyword) (map arg_tree args.now)) (outcome_of args.now) parts.old result parts.new }
 {
     match args.first() {
         None => bare(alloc, parts, keyword),
@@ -136,7 +137,7 @@ fn command<'t, S: NodeStore>(
     requires plain { may_call ≡ false → has_call_command (command_tree command.now) ≡ false }
     requires stepped { in_steps_command (command_tree command.now) ≡ true }
     ensures stops { IfOk result (λ outcome. IfStops outcome (StopsAt command.now)) }
-    ensures does { DoesAt S.NodeStore (λ a n. command_started (context a n (position_of position.now)) (command_tree command.now)) (outcome_of command.now.args.items) parts.old result parts.new }
+    ensures does { DoesAt S.NodeStore (λ a n. command_started (context a (suc n) (position_of position.now)) (command_tree command.now)) (outcome_of command.now.args.items) parts.old result parts.new }
 {
     if calls_in_condition(&command.condition, may_call) {
         return Ok(Progress::Stops(Stop::Condition(command)));

@@ -1,18 +1,19 @@
 // SPDX-License-Identifier: Apache-2.0
 // Programs: an argument, or a condition, in which functions are called, a step at a time. Where a function's level opens, what is left of
 // the program stays on the frames.
-ghost use Rattle.std.specs.Prelude.{◌≡◌, ◌+◌, Some, IfErr, IfOk, is_some, map, drop, true};
+ghost use Rattle.std.specs.Prelude.{◌≡◌, ◌≤◌, ◌+◌, suc, [], Some, IfErr, IfOk, is_some, length, map, drop, true};
 ghost use Rattle.mmeaning.specs.Frames.{frame, Programs, resumed};
 ghost use Rattle.mmeaning.specs.LineMeaning as meaning;
 ghost use Rattle.mmeaning.specs.LineMeaning.{context};
 ghost use Rattle.mmeaning.specs.Levels.{leaves};
 ghost use Rattle.mmeaning.specs.Programs as programs;
-ghost use Rattle.mmeaning.specs.Programs.{listed};
+ghost use Rattle.mgrammar.specs.Grammar.{choices_of};
+ghost use Rattle.mmeaning.specs.Programs.{listed, of_choices, of_value};
 ghost use Rattle.mlocal.specs.Bindings.{binding_of};
 ghost use Rattle.mmeaning.specs.Yields.{Yields};
 ghost use Rattle.moperator.specs.Codes.{fault_of};
 ghost use Rattle.moperator.specs.declared.code.Code.TheVariants.{Zmem};
-ghost use Rattle.mtree.specs.Tree.{entry_tree};
+ghost use Rattle.mtree.specs.Tree.{choice_tree, entry_tree, expr_tree};
 ghost use Rattle.mprogram.specs.Wholes.{WholeTree, steps_of, ending_of as the_ending_of};
 ghost use Rattle.mprogram.specs.Views.{ending_view, whole_view};
 ghost use Rattle.mcommand.specs.Does.{DoesAt};
@@ -20,7 +21,7 @@ ghost use Rattle.mcommand.specs.Steps.{items_view};
 ghost use Rattle.mexec.specs.Falls.{FallsByTwo, FallsFurther};
 ghost use Rattle.mexec.specs.Frames.{RunsIf, RunsWithin, completion_of, holder_position, position_of, stack, view};
 ghost use Rattle.mexec.specs.Places.{place_position, whole_at};
-ghost use Rattle.mexec.specs.Programs.{call_of, calls_with, ends, ends_with, pause_of, pauses};
+ghost use Rattle.mexec.specs.Programs.{call_of, calls_with, chosen_from, ends, ends_with, pause_of, pauses};
 ghost use Rattle.mexec.specs.Wholes.{ending_within, steps_within, whole_of};
 
 use crate::arguments::leads_to;
@@ -34,8 +35,8 @@ use mcommand::{Item, Parts, take_handing, take_targets, take_value};
 use mlocal::Binding;
 use mnodes::NodeStore;
 use moperator::{Code, truth_of};
-use mprogram::{Ending, Op, Whole, ending_of, op_at};
-use mtree::Entry;
+use mprogram::{Ending, Op, Whole, ending_of, op_at, steps_in_choices, steps_in_value};
+use mtree::{Choice, Entry, Expr};
 use mvalue::Value;
 use std::alloc::Global;
 
@@ -175,7 +176,49 @@ fn after_step(at: usize) -> Result<usize, Code>
     }
 }
 
-// A program from one of its steps on, with this stack, as far as it comes by itself.
+// The number of the step that comes after those of a value of $SELECT and one more.
+fn past_value(at: usize, value: &Expr) -> Result<usize, Code>
+    ensures past { IfOk result (λ past. past ≡ at + suc (length (of_value (expr_tree value.now) []))) }
+    ensures wants { IfErr result (λ code. code ≡ Zmem) }
+{
+    let Some(count) = steps_in_value(value) else {
+        return Err(Code::Zmem);
+    };
+    match at.checked_add(count) {
+        Some(last) => after_step(last),
+        None => Err(Code::Zmem),
+    }
+}
+
+// The number of the step that comes after those of choices of $SELECT.
+fn past_choices(at: usize, choices: &[Choice]) -> Result<usize, Code>
+    ensures past { IfOk result (λ past. past ≡ at + length (of_choices (choices_of (map choice_tree choices.now)) [])) }
+    ensures wants { IfErr result (λ code. code ≡ Zmem) }
+{
+    let Some(count) = steps_in_choices(choices) else {
+        return Err(Code::Zmem);
+    };
+    match at.checked_add(count) {
+        Some(past) => Ok(past),
+        None => Err(Code::Zmem),
+    }
+}
+
+// The number of the step that comes after the condition of a choice, which is on top: the first of the choice's value, or one past that if the
+// condition is false.
+fn chosen(at: usize, value: &Expr, items: &mut Vec<Item>) -> Result<usize, Code>
+    ensures on { IfOk result (λ next. at ≤ next) }
+    ensures does { Yields fault_of (chosen_from at (suc (length (of_value (expr_tree value.now) []))) (items_view items.old.items)) (λ next. (next, items_view items.new.items)) result }
+{
+    let condition = take_value(items)?;
+    let is_true = truth_of(&condition)?;
+    if is_true {
+        return Ok(at);
+    }
+    past_value(at, value)
+}
+
+// A program from one of its steps on, with this stack, as far as it comes by itself. A text may be entered in it, as within a command.
 pub(crate) fn begun<'t, S: NodeStore>(
     alloc: Global,
     parts: &mut Parts<S>,
@@ -184,7 +227,7 @@ pub(crate) fn begun<'t, S: NodeStore>(
     from: usize,
     items: Vec<Item>,
 ) -> Result<Pause<'t>, Code>
-    ensures { DoesAt S.NodeStore (λ a n. programs.begun (context a n (position_of position.now)) (drop from (steps_of (whole_view whole.entry))) (the_ending_of (whole_view whole.entry)) (items_view items.items)) (pause_of (whole_view whole.entry)) parts.old result parts.new }
+    ensures { DoesAt S.NodeStore (λ a n. programs.begun (context a (suc n) (position_of position.now)) (drop from (steps_of (whole_view whole.entry))) (the_ending_of (whole_view whole.entry)) (items_view items.items)) (pause_of (whole_view whole.entry)) parts.old result parts.new }
 {
     parts.eval.depth = position.depth;
     let mut stack = items;
@@ -193,6 +236,8 @@ pub(crate) fn begun<'t, S: NodeStore>(
         let next = after_step(at)?;
         match op {
             Op::Call(entry) => return called(entry, next, stack),
+            Op::Unless(value) => at = chosen(next, value, &mut stack)?,
+            Op::Pass(choices) => at = past_choices(next, choices)?,
             other => {
                 let goes_on = parts.step(alloc, other, &mut stack)?;
                 if !goes_on {

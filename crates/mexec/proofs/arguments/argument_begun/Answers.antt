@@ -1,5 +1,6 @@
 -- SPDX-License-Identifier: Apache-2.0
-use Rattle.mexec.proofs.ExecLaws.{sym, context, arg_tree, position_of, at_as, started_without}
+use Rattle.mexec.proofs.ExecLaws.{suc, sym, context, arg_tree, position_of, at_as, one_more, started_without}
+use Rattle.mexec.specs.Arguments.{started_plainly}
 use Rattle.mexec.proofs.arguments.argument_begun.Goals as goal
 
 pub program_begun-requires-clause-calls : goal.program_begun-requires-clause-calls
@@ -11,7 +12,8 @@ argument-requires g c = let none = rw c.if-calls_in_argument.false at c.calls_in
 pub returns-else-calls_in_argument-clause-does : goal.returns-else-calls_in_argument-clause-does
 returns-else-calls_in_argument-clause-does g c =
     let none = rw c.if-calls_in_argument.false at c.calls_in_argument.ensures in
-    at_as (λ a n. started_without (context a n (position_of c.args.position.now)) (arg_tree c.args.arg.now) (sym none)) c.argument.ensures.does
+    at_as (λ a n. started_without (context a (suc n) (position_of c.args.position.now)) (arg_tree c.args.arg.now) (sym none))
+    (one_more (λ a n. started_plainly (context a n (position_of c.args.position.now)) (arg_tree c.args.arg.now)) c.argument.ensures.does)
 
 pub returns-else-calls_in_argument-clause-enters : goal.returns-else-calls_in_argument-clause-enters
 returns-else-calls_in_argument-clause-enters g c = λ args at there. c.argument.ensures.enters args at

@@ -1,5 +1,6 @@
 -- SPDX-License-Identifier: Apache-2.0
-use Rattle.mexec.proofs.ExecLaws.{map, drop, context, arg_tree, source_args, source_position, position_of, args_left, within_then, within_stopped, runs_as}
+use Rattle.mexec.proofs.ExecLaws.{map, drop, context, arg_tree, source_args, source_position}
+use Rattle.mexec.proofs.ExecLaws.{position_of, args_started, args_left, further_then, further_stopped, runs_as}
 use Rattle.mexec.proofs.ExecLaws.{runs_completion, arguments_is, rest_stepped, source_stepped, source_uncalled, arith}
 use Rattle.std.proofs.lemmas.Bool.{ltb-false}
 use Rattle.mgrammar.specs.ProgramsIn.{in_steps_arg}
@@ -9,22 +10,28 @@ pub returns-in_err-begun-clause-does : goal.returns-in_err-begun-clause-does
 returns-in_err-begun-clause-does g c =
     let s = c.args.source in
     let does = rw (c.position.ensures, c.all.ensures) at c.in_err-begun.ensures.does in
-    runs_as (λ a n. arguments_is a n (position_of (source_position s)) (map arg_tree (drop c.args.from (source_args s))) (rest_stepped in_steps_arg arg_tree (source_args s) c.args.from (source_stepped s)))
-    (within_stopped (λ a n w. args_left (context a n (position_of (source_position s))) w.0 w.1) does c.from_residual.ensures)
+    runs_as (λ a n. arguments_is a n (position_of (source_position s)) (map arg_tree (drop c.args.from (source_args s)))
+    (rest_stepped in_steps_arg arg_tree (source_args s) c.args.from (source_stepped s)))
+    (further_stopped (λ a n. args_started (context a n (position_of (source_position s))) (map arg_tree (drop c.args.from (source_args s))))
+    (λ a n w. args_left (context a n (position_of (source_position s))) w.0 w.1) does c.from_residual.ensures)
 
 pub returns-in-Over-clause-does : goal.returns-in-Over-clause-does
 returns-in-Over-clause-does g c =
     let s = c.args.source in
     let does = rw (c.position.ensures, c.all.ensures, c.in-Over.is) at c.in_ok-begun.ensures.does in
-    runs_as (λ a n. arguments_is a n (position_of (source_position s)) (map arg_tree (drop c.args.from (source_args s))) (rest_stepped in_steps_arg arg_tree (source_args s) c.args.from (source_stepped s)))
-    (within_then (λ a n w. args_left (context a n (position_of (source_position s))) w.0 w.1) does (runs_completion c.in-Over.completion))
+    runs_as (λ a n. arguments_is a n (position_of (source_position s)) (map arg_tree (drop c.args.from (source_args s)))
+    (rest_stepped in_steps_arg arg_tree (source_args s) c.args.from (source_stepped s)))
+    (further_then (λ a n. args_started (context a n (position_of (source_position s))) (map arg_tree (drop c.args.from (source_args s))))
+    (λ a n w. args_left (context a n (position_of (source_position s))) w.0 w.1) does (runs_completion c.in-Over.completion))
 
 pub returns-in-Stops-clause-does : goal.returns-in-Stops-clause-does
 returns-in-Stops-clause-does g c =
     let s = c.args.source in
     let does = rw (c.position.ensures, c.all.ensures, c.in-Stops.is) at c.in_ok-begun.ensures.does in
-    runs_as (λ a n. arguments_is a n (position_of (source_position s)) (map arg_tree (drop c.args.from (source_args s))) (rest_stepped in_steps_arg arg_tree (source_args s) c.args.from (source_stepped s)))
-    (within_then (λ a n w. args_left (context a n (position_of (source_position s))) w.0 w.1) does c.enter_argument.ensures.does)
+    runs_as (λ a n. arguments_is a n (position_of (source_position s)) (map arg_tree (drop c.args.from (source_args s)))
+    (rest_stepped in_steps_arg arg_tree (source_args s) c.args.from (source_stepped s)))
+    (further_then (λ a n. args_started (context a n (position_of (source_position s))) (map arg_tree (drop c.args.from (source_args s))))
+    (λ a n w. args_left (context a n (position_of (source_position s))) w.0 w.1) does c.enter_argument.ensures.does)
 
 pub arguments_begun-requires-clause-plain : goal.arguments_begun-requires-clause-plain
 arguments_begun-requires-clause-plain g c = λ h.

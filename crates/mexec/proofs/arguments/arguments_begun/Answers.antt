@@ -1,5 +1,5 @@
 -- SPDX-License-Identifier: Apache-2.0
-use Rattle.mexec.proofs.ExecLaws.{◌+◌, [], map, drop, refl, arith, none_left, context, arg_tree, over, stops, entrance_of, args_started, begun_of}
+use Rattle.mexec.proofs.ExecLaws.{suc, ◌+◌, [], map, drop, refl, arith, none_left, context, arg_tree, over, stops, entrance_of, args_started, begun_of}
 use Rattle.mexec.proofs.ExecLaws.{completion_of, position_of, at_gives, at_as, argument_begins, argument_stopped, passes_next, one_uncalled, one_stepped}
 use Rattle.mexec.proofs.ExecLaws.{item_there}
 use Rattle.mgrammar.specs.CallsIn.{has_call_arg}
@@ -35,7 +35,7 @@ returns-in_default-clause-does g c =
     let does = rw c.in-Over.is at c.in_ok-completion.ensures.does in
     c.loop-at.invariant _ _
     (argument_begins p all c.loop-at.at c.index-args-at.result c.loop-at-test.true c.index-args-at.is does
-    (at_as (λ a n. passes_next s behind (args_started (context a n p) behind) c.in_default.not-GoOn) (at_gives (over (completion_of s), behind) (begun_of all) (progress.Over s, c.loop-at.at + 1) refl)))
+    (at_as (λ a n. passes_next s behind (args_started (context a (suc n) p) behind) c.in_default.not-GoOn) (at_gives (over (completion_of s), behind) (begun_of all) (progress.Over s, c.loop-at.at + 1) refl)))
 
 pub returns-in-Stops-clause-does : goal.returns-in-Stops-clause-does
 returns-in-Stops-clause-does g c =

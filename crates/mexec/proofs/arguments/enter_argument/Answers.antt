@@ -43,5 +43,5 @@ returns-in-Paused-clause-does g c =
     let s = c.args.source in
     let ready = rw (c.in-Paused.is, sym c.saturating_sub.ensures) at c.requires in
     let whole = argument_whole (source_args s) c.saturating_sub.result _ ready in
-    let does = rw (c.in_ok-leave.ensures.frames, c.into_inner.ensures) at (c.resume_first.ensures.does _ whole) in
+    let does = rw (c.in_ok-leave.ensures.frames, c.into_inner-pause.ensures) at (c.resume_first.ensures.does _ whole) in
     rw c.in-Paused.is (within_listing (position_of (source_position s)) (map arg_tree (drop c.args.argument (source_args s))) does)

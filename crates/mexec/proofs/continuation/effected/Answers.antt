@@ -1,6 +1,6 @@
 -- SPDX-License-Identifier: Apache-2.0
 use Rattle.mexec.proofs.ExecLaws.{true, arith, map, sym, ap, ◌∙◌, context, arg_tree, keyword_tree, position_of, rest_tree, args_before, runs_as}
-use Rattle.mexec.proofs.ExecLaws.{runs_completion, within_then, within_stopped, falls_within, before_stepped, command_there, effect_is}
+use Rattle.mexec.proofs.ExecLaws.{runs_completion, further_then, further_stopped, effect_started, falls_within, before_stepped, command_there, effect_is}
 use Rattle.std.specs.Prelude.{false, ◌≡◌}
 use Rattle.mexec.specs.Fronts.{finishes}
 use Rattle.mexec.specs.Frames.{spaced_before}
@@ -26,7 +26,8 @@ returns-in_err-outcome-clause-does g c =
     let does = rw (c.deref.ensures, c.deref-2.ensures.value) at c.in_err-outcome.ensures.does in
     rw there.0
     (runs_as (λ a n. effect_is a n p (keyword_tree command.keyword) (map arg_tree command.args.items) (rest_tree behind) stepped)
-    (within_stopped (λ a n. finishes (context a n p) (rest_tree behind)) does c.from_residual.ensures))
+    (further_stopped (λ a n. effect_started (context a n p) (keyword_tree command.keyword) (map arg_tree command.args.items))
+    (λ a n. finishes (context a n p) (rest_tree behind)) does c.from_residual.ensures))
 
 pub returns-in-Over-clause-does : goal.returns-in-Over-clause-does
 returns-in-Over-clause-does g c =
@@ -38,7 +39,8 @@ returns-in-Over-clause-does g c =
     let does = rw (c.deref.ensures, c.deref-2.ensures.value, c.in-Over.is) at c.in_ok-outcome.ensures.does in
     rw there.0
     (runs_as (λ a n. effect_is a n p (keyword_tree command.keyword) (map arg_tree command.args.items) (rest_tree behind) stepped)
-    (within_then (λ a n. finishes (context a n p) (rest_tree behind)) does (runs_completion c.in-Over.completion)))
+    (further_then (λ a n. effect_started (context a n p) (keyword_tree command.keyword) (map arg_tree command.args.items))
+    (λ a n. finishes (context a n p) (rest_tree behind)) does (runs_completion c.in-Over.completion)))
 
 pub stopped_at-requires : goal.stopped_at-requires
 stopped_at-requires g c =
@@ -66,4 +68,5 @@ returns-in-Stops-clause-does g c =
     let rest = rw there.1 at c.stopped_at.ensures.does in
     rw there.0
     (runs_as (λ a n. effect_is a n p (keyword_tree command.keyword) (map arg_tree command.args.items) (rest_tree behind) stepped)
-    (within_then (λ a n. finishes (context a n p) (rest_tree behind)) does rest))
+    (further_then (λ a n. effect_started (context a n p) (keyword_tree command.keyword) (map arg_tree command.args.items))
+    (λ a n. finishes (context a n p) (rest_tree behind)) does rest))

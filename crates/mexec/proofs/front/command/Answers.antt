@@ -1,9 +1,12 @@
 -- SPDX-License-Identifier: Apache-2.0
-use Rattle.mexec.proofs.ExecLaws.{◌≡◌, Bool, map, cond, refl, Act, give, Context, Go_on, context, keyword_tree, arg_tree, at_done, position_of, Progress, over}
+use Rattle.mexec.proofs.ExecLaws.{suc, ◌≡◌, Bool, map, cond, refl, Act, give}
+use Rattle.mexec.proofs.ExecLaws.{Context, Go_on, context, keyword_tree, arg_tree, at_done, position_of, Progress, over}
 use Rattle.mmeaning.proofs.ProgramSteps.{each_of}
-use Rattle.mexec.proofs.ExecLaws.{effect_started, outcome_of, Stop, at_then, at_stopped, at_gives, at_as, condition_tree, holds_here, neither, Option}
+use Rattle.mexec.proofs.ExecLaws.{effect_started, outcome_of, Stop, at_then, at_stopped, at_gives}
+use Rattle.mexec.proofs.ExecLaws.{at_as, one_more, inside_of, condition_tree, holds_here, neither, Option}
 use Rattle.mexec.proofs.ExecLaws.{effect_stops, stops, ap, sym, ◌∙◌, DoesAt, Ghosts, Parts, Result, Code, Position}
 use Rattle.std.specs.Prelude.{false, true}
+use Rattle.mmeaning.specs.LineMeaning.{holds}
 use Rattle.std.specs.List.{list_any}
 use Rattle.mgrammar.specs.Grammar.{ExprTree}
 use Rattle.mgrammar.specs.CallsIn.{has_call_arg, has_call_optional}
@@ -47,17 +50,22 @@ effect-requires-clause-stepped g c =
 -- a command whose condition has no call
 plainly : {S : Type 0} {g : Ghosts S} (p : Position) (command : Command) {old new : Parts S} {r : Result (the_progress.Progress the_stop.Stop) Code}
     → has_call_optional (condition command) ≡ false
-    → DoesAt g (λ a n. command_started_plainly (context a n p) (command_tree command)) (outcome_of command.args.items) old r new → DoesAt g (λ a n. command_started (context a n p) (command_tree command)) (outcome_of command.args.items) old r new
+    → DoesAt g (λ a n. command_started_plainly (context a (suc n) p) (command_tree command)) (outcome_of command.args.items) old r new
+    → DoesAt g (λ a n. command_started (context a (suc n) p) (command_tree command)) (outcome_of command.args.items) old r new
 plainly p command none does =
     at_as
-    (λ a n. ap (λ b. cond b (give (stops (at_condition (command_tree command)))) (command_started_plainly (context a n p) (command_tree command))) none) does
+    (λ a n. ap (λ b. cond b (give (stops (at_condition (command_tree command))))
+    (command_started_plainly (context a (suc n) p) (command_tree command))) none) does
 
 pub returns-in_err-applies-clause-does : goal.returns-in_err-applies-clause-does
 returns-in_err-applies-clause-does g c =
     let none = c.if-calls_in_condition.false in
     let quiet = sym c.calls_in_condition.ensures ∙ none in
     plainly (position_of c.args.position.now) c.args.command.now quiet
-    (at_stopped (λ a n. applied (context a n (position_of c.args.position.now)) c.args.command.now) (at_as (holds_here (position_of c.args.position.now) (condition c.args.command.now) quiet) (at_done c.args.position.now.depth c.in_err-applies.ensures)) c.from_residual.ensures)
+    (at_stopped (λ a n. applied (context a (suc n) (position_of c.args.position.now)) c.args.command.now)
+    (one_more (λ a n. holds (inside_of (context a n (position_of c.args.position.now))) (condition c.args.command.now))
+    (at_as (holds_here (position_of c.args.position.now) (condition c.args.command.now) quiet)
+    (at_done c.args.position.now.depth c.in_err-applies.ensures))) c.from_residual.ensures)
 
 pub returns-then-applies-clause-does : goal.returns-then-applies-clause-does
 returns-then-applies-clause-does g c =
@@ -66,7 +74,9 @@ returns-then-applies-clause-does g c =
     let applies = rw c.if-applies.true at c.in_ok-applies.ensures in
     let effect = rw c.deref.ensures.value at c.effect.ensures.does in
     plainly (position_of c.args.position.now) c.args.command.now quiet
-    (at_then (λ a n. applied (context a n (position_of c.args.position.now)) c.args.command.now) (at_as (holds_here (position_of c.args.position.now) (condition c.args.command.now) quiet) (at_done c.args.position.now.depth applies)) effect)
+    (at_then (λ a n. applied (context a (suc n) (position_of c.args.position.now)) c.args.command.now)
+    (one_more (λ a n. holds (inside_of (context a n (position_of c.args.position.now))) (condition c.args.command.now))
+    (at_as (holds_here (position_of c.args.position.now) (condition c.args.command.now) quiet) (at_done c.args.position.now.depth applies))) effect)
 
 pub returns-then-applies-clause-stops : goal.returns-then-applies-clause-stops
 returns-then-applies-clause-stops g c =
@@ -79,13 +89,17 @@ returns-else-applies-clause-does g c =
     let quiet = sym c.calls_in_condition.ensures ∙ none in
     let applies = rw c.if-applies.false at c.in_ok-applies.ensures in
     plainly (position_of c.args.position.now) c.args.command.now quiet
-    (at_then (λ a n. applied (context a n (position_of c.args.position.now)) c.args.command.now) (at_as (holds_here (position_of c.args.position.now) (condition c.args.command.now) quiet) (at_done c.args.position.now.depth applies)) (at_gives (over Go_on) (outcome_of c.args.command.now.args.items) _ refl))
+    (at_then (λ a n. applied (context a (suc n) (position_of c.args.position.now)) c.args.command.now)
+    (one_more (λ a n. holds (inside_of (context a n (position_of c.args.position.now))) (condition c.args.command.now))
+    (at_as (holds_here (position_of c.args.position.now) (condition c.args.command.now) quiet) (at_done c.args.position.now.depth applies)))
+    (at_gives (over Go_on) (outcome_of c.args.command.now.args.items) _ refl))
 
 pub returns-then-calls_in_condition-clause-does : goal.returns-then-calls_in_condition-clause-does
 returns-then-calls_in_condition-clause-does g c =
     let has = sym c.calls_in_condition.ensures ∙ c.if-calls_in_condition.true in
     let command = c.args.command.now in
-    at_as (λ a n. ap (λ b. cond b (give (stops (at_condition (command_tree command)))) (command_started_plainly (context a n (position_of c.args.position.now)) (command_tree command))) has)
+    at_as (λ a n. ap (λ b. cond b (give (stops (at_condition (command_tree command))))
+    (command_started_plainly (context a (suc n) (position_of c.args.position.now)) (command_tree command))) has)
     (at_gives (stops (at_condition (command_tree command))) (outcome_of command.args.items) _ refl)
 
 pub returns-then-calls_in_condition-clause-stops : goal.returns-then-calls_in_condition-clause-stops

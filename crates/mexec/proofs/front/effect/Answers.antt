@@ -1,7 +1,8 @@
 -- SPDX-License-Identifier: Apache-2.0
-use Rattle.mexec.proofs.ExecLaws.{◌≡◌, List, [], ◌∷◌, Some, None, slice_get, unwrap_or, map, ap, sym, refl, ◌∙◌, context, keyword_tree, arg_tree}
-use Rattle.mexec.proofs.ExecLaws.{parameter_tree, position_of, stops, at_loop, at_gives, at_as, gives_stop, begun_stops, other_started}
+use Rattle.mexec.proofs.ExecLaws.{suc, ◌≡◌, List, [], ◌∷◌, Some, None, slice_get, unwrap_or, map, ap, sym, refl, ◌∙◌, context, keyword_tree, arg_tree}
+use Rattle.mexec.proofs.ExecLaws.{parameter_tree, position_of, stops, at_loop, at_gives, at_as, one_more, gives_stop, begun_stops, other_started}
 use Rattle.mtree.specs.declared.tree.Arg.TheVariants as arg
+use Rattle.mexec.specs.Fronts.{word_started}
 use Rattle.mexec.proofs.front.effect.Goals as goal
 
 -- the first of a list
@@ -21,7 +22,8 @@ returns-in-None-clause-stops g c =
 pub returns-in-None-clause-does : goal.returns-in-None-clause-does
 returns-in-None-clause-does g c =
     let first = rw c.in-None.is at c.first.ensures.value in
-    rw (first_none c.args.args.now (sym first)) (c.bare.ensures.does (position_of c.args.position.now))
+    rw (first_none c.args.args.now (sym first))
+    (one_more (λ a n. word_started (context a n (position_of c.args.position.now)) (keyword_tree c.args.keyword)) (c.bare.ensures.does (position_of c.args.position.now)))
 
 pub returns-in-Loop-clause-stops : goal.returns-in-Loop-clause-stops
 returns-in-Loop-clause-stops g c =
@@ -44,5 +46,5 @@ returns-in_default-clause-does g c =
     let some = first_some c.args.args.now c.in-Some.first.now (sym first) in
     let does = rw some.1 at c.arguments_begun.ensures.does in
     rw (c.stopped.ensures, some.1)
-    (at_as (λ a n. other_started (context a n (position_of c.args.position.now)) (keyword_tree c.args.keyword) c.in-Some.first.now (map arg_tree some.0) c.in_default.not-Loop)
+    (at_as (λ a n. other_started (context a (suc n) (position_of c.args.position.now)) (keyword_tree c.args.keyword) c.in-Some.first.now (map arg_tree some.0) c.in_default.not-Loop)
     (gives_stop (c.in-Some.first.now ∷ some.0) c.arguments_begun.result does))

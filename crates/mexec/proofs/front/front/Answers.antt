@@ -37,7 +37,7 @@ returns-in_err-completion-clause-does g c =
     let v = c.args.line.now.commands in
     let test = rw c.len.ensures at c.loop-at-test.true in
     let less : c.loop-at.at < length v.items = omega (arith, test, v.ok) in
-    c.loop-at.invariant.leads _ _ (command_stopped (position_of c.args.position.now) c.args.line.now c.loop-at.at c.index.result.now less c.index.ensures (at_plain c.in_ok-charge.ensures.does) c.in_err-completion.ensures.does c.from_residual-in_err-completion.ensures)
+    c.loop-at.invariant.leads _ _ (command_stopped (position_of c.args.position.now) c.args.line.now c.loop-at.at c.index.result.now less c.index.ensures (at_plain c.in_ok-charge.ensures.does) c.in_ok-charge.ensures.spent c.in_err-completion.ensures.does c.from_residual-in_err-completion.ensures)
 
 pub loop-at-preserved : goal.loop-at-preserved
 loop-at-preserved g c =
@@ -49,7 +49,7 @@ loop-at-preserved g c =
       fewer = omega arith;
       leads = λ r q k.
           c.loop-at.invariant.leads r q
-          (command_begins (position_of c.args.position.now) c.args.line.now c.loop-at.at c.index.result.now less c.index.ensures (at_plain c.in_ok-charge.ensures.does) does k);
+          (command_begins (position_of c.args.position.now) c.args.line.now c.loop-at.at c.index.result.now less c.index.ensures (at_plain c.in_ok-charge.ensures.does) c.in_ok-charge.ensures.spent does k);
     }
 
 pub returns-in_default-clause-does : goal.returns-in_default-clause-does
@@ -62,7 +62,7 @@ returns-in_default-clause-does g c =
     let s = c.in-Over.completion in
     let does = rw c.in-Over.is at c.in_ok-completion.ensures.does in
     c.loop-at.invariant.leads _ _
-    (command_begins p l c.loop-at.at c.index.result.now less c.index.ensures (at_plain c.in_ok-charge.ensures.does) does
+    (command_begins p l c.loop-at.at c.index.result.now less c.index.ensures (at_plain c.in_ok-charge.ensures.does) c.in_ok-charge.ensures.spent does
     (at_as (λ a n. passes_next s rest (front (context a n p) rest) c.in_default.not-GoOn) (at_gives (over (completion_of s), rest) (front_of l) (progress.Over s, c.loop-at.at + 1) refl)))
 
 pub returns-in-Stops-clause-spent : goal.returns-in-Stops-clause-spent
@@ -90,7 +90,7 @@ returns-in-Stops-clause-does g c =
     let there = args_there l c.loop-at.at x less c.index.ensures in
     let does = rw c.in-Stops.is at c.in_ok-completion.ensures.does in
     c.loop-at.invariant.leads _ _
-    (command_begins (position_of c.args.position.now) l c.loop-at.at x less c.index.ensures (at_plain c.in_ok-charge.ensures.does) does
+    (command_begins (position_of c.args.position.now) l c.loop-at.at x less c.index.ensures (at_plain c.in_ok-charge.ensures.does) c.in_ok-charge.ensures.spent does
     (at_gives (stops (stop_of x.command.args.items st), commands_from l (c.loop-at.at + 1)) (front_of l) (progress.Stops st, c.loop-at.at + 1) (rw there refl)))
 
 pub command-requires-clause-plain : goal.command-requires-clause-plain

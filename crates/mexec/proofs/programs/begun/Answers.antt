@@ -2,7 +2,7 @@
 use Rattle.mexec.proofs.ExecLaws.{refl, sym, ◌∙◌, arith, at_depth, at_wanting, at_yielded, residual_is, position_of}
 use Rattle.mprogram.specs.Views.{op_view, whole_view}
 use Rattle.mcommand.specs.Steps.{items_view}
-use Rattle.mexec.proofs.ProgramRuns.{comes_to_call, comes_to_end, no_call, step_goes_on, step_ends, step_stopped, within_list, no_item}
+use Rattle.mexec.proofs.ProgramRuns.{choice_goes_on, choice_stopped, passes_by, comes_to_call, comes_to_end, no_call, step_goes_on, step_ends, step_stopped, within_list, no_item}
 use Rattle.mexec.proofs.programs.begun.Goals as goal
 
 pub loop-op-init : goal.loop-op-init
@@ -11,7 +11,7 @@ loop-op-init g c = record { depth = refl; leads = λ r p k. at_depth c.args.posi
 pub loop-op-preserved : goal.loop-op-preserved
 loop-op-preserved g c =
     let there = rw c.in-Some.is at c.op_at.ensures in
-    let quiet = no_call c.in-Some.op c.in_default-op.not-Call in
+    let quiet = no_call c.in-Some.op c.in_default-op.not-Call c.in_default-op.not-Unless c.in_default-op.not-Pass in
     let does = rw c.if-not-goes_on.false at c.in_ok-goes_on-in_default-op.ensures in
     record {
       depth = c.in_ok-goes_on-in_default-op.ensures.depth ∙ c.loop-op.invariant.depth;
@@ -30,14 +30,14 @@ loop-op-smaller g c =
 pub returns-in_err-goes_on-in_default-op : goal.returns-in_err-goes_on-in_default-op
 returns-in_err-goes_on-in_default-op g c =
     let there = rw c.in-Some.is at c.op_at.ensures in
-    let quiet = no_call c.in-Some.op c.in_default-op.not-Call in
+    let quiet = no_call c.in-Some.op c.in_default-op.not-Call c.in_default-op.not-Unless c.in_default-op.not-Pass in
     c.loop-op.invariant.leads _ _
     (step_stopped (whole_view c.args.whole) c.args.position.now c.loop-op.at (op_view c.in-Some.op) (items_view c.loop-op.stack.items) _ (sym there) quiet c.loop-op.invariant.depth c.in_err-goes_on-in_default-op.ensures c.from_residual-in_err-goes_on-in_default-op.ensures)
 
 pub returns-then-not-goes_on : goal.returns-then-not-goes_on
 returns-then-not-goes_on g c =
     let there = rw c.in-Some.is at c.op_at.ensures in
-    let quiet = no_call c.in-Some.op c.in_default-op.not-Call in
+    let quiet = no_call c.in-Some.op c.in_default-op.not-Call c.in_default-op.not-Unless c.in_default-op.not-Pass in
     let does = rw c.if-not-goes_on.true at c.in_ok-goes_on-in_default-op.ensures in
     c.loop-op.invariant.leads _ _
     (step_ends (whole_view c.args.whole) c.args.position.now c.loop-op.at (op_view c.in-Some.op) (items_view c.loop-op.stack.items) _ (sym there) quiet c.loop-op.invariant.depth does)
@@ -57,3 +57,54 @@ returns g c =
     let none = rw (no_item _ c.in_default.not-Some) at c.op_at.ensures in
     let does = rw c.ending_of.ensures at (c.ended.ensures (whole_view c.args.whole)) in
     c.loop-op.invariant.leads _ _ (comes_to_end (whole_view c.args.whole) c.args.position.now c.loop-op.at (items_view c.loop-op.stack.items) (sym none) does)
+
+pub loop-op-preserved-in-Unless : goal.loop-op-preserved-in-Unless
+loop-op-preserved-in-Unless g c =
+    let w = whole_view c.args.whole in
+    let there = rw (c.in-Some.is, c.in-Unless.is) at c.op_at.ensures in
+    let chosen = rw c.in_ok-next.ensures.next at c.in_ok-at-in-Unless.ensures.does in
+    record {
+      depth = c.loop-op.invariant.depth;
+      leads = λ r q k.
+          c.loop-op.invariant.leads r q (choice_goes_on w c.args.position.now c.loop-op.at _ (items_view c.loop-op.stack.items) (sym there) _ _ chosen k);
+    }
+
+pub loop-op-smaller-in-Unless : goal.loop-op-smaller-in-Unless
+loop-op-smaller-in-Unless g c =
+    let there = rw (c.in-Some.is, c.in-Unless.is) at c.op_at.ensures in
+    let less = within_list _ c.loop-op.at _ (sym there) in
+    let next = c.in_ok-next.ensures.next in
+    let on = c.in_ok-at-in-Unless.ensures.on in
+    omega (arith, less, next, on)
+
+pub returns-in_err-at-in-Unless : goal.returns-in_err-at-in-Unless
+returns-in_err-at-in-Unless g c =
+    let w = whole_view c.args.whole in
+    let there = rw (c.in-Some.is, c.in-Unless.is) at c.op_at.ensures in
+    let stopped = rw c.in_ok-next.ensures.next at c.in_err-at-in-Unless.ensures.does in
+    c.loop-op.invariant.leads _ _
+    (choice_stopped w c.args.position.now c.loop-op.at _ (items_view c.loop-op.stack.items) (sym there) _ stopped c.from_residual-in_err-at-in-Unless.ensures)
+
+pub loop-op-preserved-in-Pass : goal.loop-op-preserved-in-Pass
+loop-op-preserved-in-Pass g c =
+    let w = whole_view c.args.whole in
+    let there = rw (c.in-Some.is, c.in-Pass.is) at c.op_at.ensures in
+    record {
+      depth = c.loop-op.invariant.depth;
+      leads = λ r q k.
+          c.loop-op.invariant.leads r q
+          (passes_by w c.args.position.now c.loop-op.at _ (items_view c.loop-op.stack.items) (sym there)
+          (rw (c.in_ok-at-in-Pass.ensures.past, c.in_ok-next.ensures.next) at k));
+    }
+
+pub loop-op-smaller-in-Pass : goal.loop-op-smaller-in-Pass
+loop-op-smaller-in-Pass g c =
+    let there = rw (c.in-Some.is, c.in-Pass.is) at c.op_at.ensures in
+    let less = within_list _ c.loop-op.at _ (sym there) in
+    let next = c.in_ok-next.ensures.next in
+    let past = c.in_ok-at-in-Pass.ensures.past in
+    omega (arith, less, next, past)
+
+pub returns-in_err-at-in-Pass : goal.returns-in_err-at-in-Pass
+returns-in_err-at-in-Pass g c =
+    c.loop-op.invariant.leads _ _ (at_wanting _ _ _ (rw c.in_err-at-in-Pass.ensures.wants at c.from_residual-in_err-at-in-Pass.ensures))

@@ -1,7 +1,8 @@
 -- SPDX-License-Identifier: Apache-2.0
-use Rattle.mexec.proofs.ExecLaws.{◌≡◌, sym, drop, true, position_of, runs_as, within_then, within_stopped}
+use Rattle.mexec.proofs.ExecLaws.{◌≡◌, sym, drop, true, position_of, context, runs_as, further_then, further_stopped}
 use Rattle.std.specs.Prelude.{false}
 use Rattle.mmeaning.specs.Frames.{resumed}
+use Rattle.mmeaning.specs.Programs.{begun}
 use Rattle.mmeaning.proofs.ProgramFrames.{programs_pause}
 use Rattle.mprogram.specs.Views.{whole_view}
 use Rattle.mprogram.specs.Wholes.{steps_of, ending_of}
@@ -17,7 +18,8 @@ returns-in_err-pause-clause-does g c =
     let does = rw c.position.ensures at c.in_err-pause.ensures in
     rw (sym whole)
     (runs_as (λ a n. programs_pause a n p (drop c.args.from (steps_of w)) (ending_of w) (items_view c.args.items.items))
-    (within_stopped (λ a n. resumed a n p (ending_of w)) does c.from_residual.ensures))
+    (further_stopped (λ a n. begun (context a n p) (drop c.args.from (steps_of w)) (ending_of w) (items_view c.args.items.items))
+    (λ a n. resumed a n p (ending_of w)) does c.from_residual.ensures))
 
 pub returns-clause-does : goal.returns-clause-does
 returns-clause-does g c =
@@ -27,7 +29,8 @@ returns-clause-does g c =
     let does = rw c.position.ensures at c.in_ok-pause.ensures in
     rw (sym whole)
     (runs_as (λ a n. programs_pause a n p (drop c.args.from (steps_of w)) (ending_of w) (items_view c.args.items.items))
-    (within_then (λ a n. resumed a n p (ending_of w)) does (c.resume.ensures.does w (sym whole))))
+    (further_then (λ a n. begun (context a n p) (drop c.args.from (steps_of w)) (ending_of w) (items_view c.args.items.items))
+    (λ a n. resumed a n p (ending_of w)) does (c.resume.ensures.does w (sym whole))))
 
 pub returns-in_default-clause-does : goal.returns-in_default-clause-does
 returns-in_default-clause-does g c =

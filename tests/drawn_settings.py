@@ -61,6 +61,8 @@ TEXTS = [
     'S ^ROUTINE("P",3)="V(X) S ^{g}({i})=$G(X)_{v} Q ^{g}({i})_$QUIT"', 'S ^ROUTINE("P",4)="W(X) Q:$G(X)<1 {v} Q $$W(X-1)_$$V(.X)"',
     'W $$V^P({v}),$RE({v})', 'S ^{g}({i})=$$W^P($RE({v}),1) W ^{g}({i})', 'W:$$V^P(.A)[$RE({v}) $$W^P(2),A', 'D A^P(.A,$$V^P($RE({v}))) W A',
     'W $RE({v}) X "W $$V^P($G(^{g}({i})))"', 'S A=$$V^P(^|"{o}"|{g}({i}))_$RE({v}) W A',
+    'W ^{g}($$V^P({i})),$RE({v})', 'W $G(^|"{o}"|{g}($$V^P(.A)),$$W^P(1)),$RE({v})', 'S A=$S($$V^P({v})[{i}:$RE({v}),1:^|"{o}"|{g}({i})) W A',
+    'W $G(@("^|""{o}""|{g}("_$L($$V^P({v}))_")"),$RE({v}))', 'W $O(^|"{o}"|{g}($$W^P({i}))),$D(^($$V^P(.A))),$RE({v})',
     'S $E(^{g}({i}),2,3)=$RE({v}) W ^{g}({i})', 'S $P(^|"{o}"|{g}({i}),",",2,3)=$RE({v})', 'S $E(^|"{o}"|{g}({i}),0)=$RE({v}) W $D(^({i}))',
 ]
 # Lines that have routines of others run, and that store routines whose lines do so. These have DO as a whole word: in D and G a line is known that
@@ -68,6 +70,7 @@ TEXTS = [
 LIBRARY_TEXTS = [
     *['D A^|"{o}"|R', 'D ^|"{o}"|R', 'D C^|"{o}"|L({v},.A) W A', 'D E^|"{o}"|L', 'D D^|"{o}"|L'] * 2, 'D B^|"{o}"|R W $X', 'G A^|"{o}"|R', 'G E^|"{o}"|L',
     'W $$V^|"{o}"|L({v})', 'S A=$$K^|"{o}"|L(.A) W A', 'S ^ROUTINE("L",9)="K(X) S X={v},^{g}({i})=X Q $$V(X)"', *['D C^|"{o}"|L($$V^|"{o}"|L,.A)'] * 2,
+    'W $G(^{g}($$V^|"{o}"|L({v}))),$S($$K^|"{o}"|L(.A):A,1:2)', 'W $D(^|"{o}"|{g}($$V^|"{o}"|L,{i})),$RE({v})',
     'D A^|"{o}"|R:1,E^|"{o}"|L:0', 'X "D E^|""{o}""|L"', 'D A^|"{o}"|P(.A,{v}) W A', 'D B^|"{o}"|P(.A),E^|"{o}"|L', 'D NO^|"{o}"|R', 'D A^|"{o}"|NONE',
     'D E^|"no name"|L', 'D E^|""|L', 'S E="E^|""{o}""|L" D @E', 'D F^|"{o}"|L', 'D G^|"{o}"|L', 'D H^|"{o}"|L', 'D I^|"{o}"|L', 'D E^|"{o}"|L W $D(^{g}),$T',
     'S ^ROUTINE("L",1)="C(X,Y) S Y=X,^{g}({i})=X D E W ^{g}({i}) Q"', 'S ^ROUTINE("L",2)="D DO A^R Q"', 'S ^ROUTINE("L",2)="D DO E^|""{o}""|L Q"',

@@ -12,8 +12,9 @@ the same few kinds of steps:
     ["inner", NAME]            the same, one bracket deeper
     ["mark", NAME, STEP]       the step, with its place kept under a name
 
-The rules of values are there twice: as they are, and with `whole` before their names for what is evaluated as a whole, as subscripts and the
-parameters of FOR. From language 1 on the former have calls of functions, and the latter have none.
+The rules of values and of variables are there twice: as they are, and with `whole` before their names for what is evaluated as a whole, as
+what SET assigns to, the parameters of FOR, and the subscripts after an indirection. From language 1 on the former have calls of functions, and the
+latter have none.
 
 A text is in the grammar if the rule `line` reaches its end. The place that was reached at most is that of the fault: what comes before
 it begins some line of the grammar, and what follows does not go on with it."""
@@ -141,6 +142,7 @@ def bracketed(step: Step) -> Step:
 
 
 CONDITION = all_of(text(":"), rule("expression"))
+# The operand of an indirection of arguments.
 OPERAND = all_of(text("@"), inner(f"{WHOLE}primary"))
 OPERATOR = r"[+\-*/\\#_=<>&!\[]|\]\]?|'(?:[=<>&!\[]|\]\]?)"
 COUNT = r"(?:[0-9]{1,4}(?![0-9.])|[0-9]{0,4}\.[0-9]{0,4}(?![0-9]))"
@@ -155,10 +157,19 @@ def entry(language: int) -> Step:
     return mark("entry", any_of(all_of(text(r"\^"), routine), all_of(text(NAME, "entry"), perhaps(all_of(text(r"\^", "more"), routine)))))
 
 
-def expression(operator: str, kind: str) -> Step:
-    """Operands of a kind, and operators that this pattern finds, or patterns, after them."""
-    operand = rule(f"{kind}operand")
-    return all_of(operand, ["many", any_of(all_of(text(operator, "operator"), operand), all_of(text(r"'?\?"), rule("pattern")))])
+def further(language: int, kind: str) -> Step:
+    """An operator and its operand of a kind, or a pattern."""
+    operator = text(OPERATOR if language < 1 else rf"\*\*|{OPERATOR}", "operator")
+    return any_of(all_of(operator, rule(f"{kind}operand")), all_of(text(r"'?\?"), rule(f"{kind}pattern")))
+
+
+def argument(language: int) -> Step:
+    """An expression. An `@` with its operand and nothing more gives arguments, and is evaluated as a whole."""
+    more: Step = ["many", further(language, "")]
+    subscripts = all_of(text(r"@(?=\()"), rule(f"{WHOLE}subscripts"))
+    return any_of(all_of(text("(?!@)"), rule("expression")),
+                  all_of(text("@"), inner("primary"), any_of(subscripts, further(language, ""), text("(?!)", "given")), more),
+                  OPERAND)
 
 
 def of_values(language: int) -> dict[str, tuple[int, int]]:
@@ -178,7 +189,7 @@ def halts(language: int) -> list[Step]:
     """HALT, and HANG if the language has it."""
     if language < HANG_SINCE:
         return [command("H HALT", None, True)]
-    seconds = listed(rule("expression"))
+    seconds = listed(rule("argument"))
     return [command("H", seconds, True), command("HALT", None, True), command("HANG", seconds, False)]
 
 
@@ -202,7 +213,7 @@ def target(words: str, least: int, most: int) -> Step:
     further: list[Step] = []
     for _ in range(most - least):
         further = [perhaps(all_of(text(","), inner(f"{WHOLE}expression"), *further))]
-    return all_of(text(rf"\${either(words)}\(", "target"), inner("variable"), *[text(",", "comma"), inner(f"{WHOLE}expression")] * least, *further,
+    return all_of(text(rf"\${either(words)}\(", "target"), inner(f"{WHOLE}variable"), *[text(",", "comma"), inner(f"{WHOLE}expression")] * least, *further,
                   text(r"\)", f"close ${words.split()[-1]} of SET"))
 
 
@@ -211,7 +222,7 @@ def targets(language: int) -> Step:
     found = dict(TARGETS)
     for since, more in TARGETS_SINCE.items():
         found.update(more if since <= language else {})
-    return any_of(*[target(words, *counts) for words, counts in found.items()], rule("variable"))
+    return any_of(*[target(words, *counts) for words, counts in found.items()], rule(f"{WHOLE}variable"))
 
 
 def atom(language: int) -> Step:
@@ -227,23 +238,36 @@ def called(language: int, kind: str) -> list[Step]:
     return [all_of(text(r"\$\$", "operand"), entry(language), HANDED)] if language >= FUNCTIONS_SINCE else []
 
 
+def variables(kind: str) -> dict[str, Step]:
+    """The rules of variables whose parts are of a kind."""
+    value, subscripts = inner(f"{kind}expression"), rule(f"{kind}subscripts")
+    return {f"{kind}variable": any_of(
+                all_of(text(NAME, "variable"), subscripts),
+                all_of(text(r"\^(?!\()", "variable"), perhaps(all_of(text(r"\|"), value, text(r"\|", "bar"))), text(NAME, "name"), subscripts),
+                all_of(text(r"\^(?=\()"), subscripts),
+                all_of(text("@"), inner(f"{kind}primary"), perhaps(all_of(text(r"@(?=\()"), rule(f"{WHOLE}subscripts"))))),
+            f"{kind}subscripts": perhaps(all_of(text(r"\("), listed(value), text(r"\)", "close")))}
+
+
 def of_kind(language: int, kind: str) -> dict[str, Step]:
     """The rules of values of a kind."""
-    whole = inner(f"{WHOLE}expression")
-    return {f"{kind}expression": expression(OPERATOR if language < 1 else rf"\*\*|{OPERATOR}", kind),
+    value, variable = inner(f"{kind}expression"), rule(f"{kind}variable")
+    return {**variables(kind),
+            f"{kind}expression": all_of(rule(f"{kind}operand"), ["many", further(language, kind)]),
+            f"{kind}pattern": any_of(all_of(text("@"), inner(f"{kind}primary")), rule("atoms")) if language else rule("atoms"),
             f"{kind}operand": all_of(text(r"[+\-']*"), rule(f"{kind}primary")),
             f"{kind}primary": any_of(
                 text(r"(?:[0-9]+(?:\.[0-9]+)?|\.[0-9]+)(?:E[+-]?[0-9]+)?", "operand"),
                 text('"(?:[^"]|"")*"(?!")', "operand"),
-                rule("variable"),
-                all_of(text(r"\("), inner(f"{kind}expression"), text(r"\)", "close")),
+                variable,
+                all_of(text(r"\("), value, text(r"\)", "close")),
                 all_of(text(r"(?=\$)"), rule(f"{kind}dollar"))),
             f"{kind}dollar": any_of(
                 *[text(rf"\${either(words)}(?![A-Za-z(])", "operand") for words in specials(language)],
                 *[function(words, *values(*counts, kind)) for words, counts in of_values(language).items()],
-                *[function(words, inner("variable"), *([perhaps(all_of(text(",", "more"), whole))] if most else []))
+                *[function(words, inner(f"{kind}variable"), *([perhaps(all_of(text(",", "more"), value))] if most else []))
                   for words, most in OF_VARIABLE.items()],
-                function("S SELECT", listed(all_of(whole, text(":", "colon"), whole))), *called(language, kind))}
+                function("S SELECT", listed(all_of(value, text(":", "colon"), value))), *called(language, kind))}
 
 
 def rules(language: int) -> dict[str, Step]:
@@ -252,8 +276,8 @@ def rules(language: int) -> dict[str, Step]:
     formats = [all_of(text("[!#]+"), perhaps(column)), column, all_of(text(r"\*"), rule("expression"))] if language >= 1 else [text("!+")]
     return {**SHARED, **(actual() if language >= PARAMETERS_SINCE else {}),
             "command": any_of(*COMMANDS, *entering(language), *halts(language)), "target": targets(language),
-            "written": any_of(*formats, rule("expression")), "atom": atom(language),
-            "pattern": any_of(OPERAND, rule("atoms")) if language else rule("atoms"), **of_kind(language, ""), **of_kind(language, WHOLE)}
+            "argument": argument(language), "written": any_of(*formats, rule("argument")), "atom": atom(language),
+            **of_kind(language, ""), **of_kind(language, WHOLE)}
 
 
 # Actuals, or no list of them.
@@ -262,12 +286,12 @@ HANDED = perhaps(bracketed(inner("actual")))
 COMMANDS = [
     command("S SET", listed(rule("assignment")), False),
     command("W WRITE", listed(rule("written")), False),
-    command("I IF", listed(rule("expression")), True, False),
+    command("I IF", listed(rule("argument")), True, False),
     command("F FOR", all_of(text(NAME, "name"), text("=", "equals"), listed(rule("parameter"))), True, False),
-    command("K KILL", listed(any_of(bracketed(text(NAME, "name")), rule("variable"))), True),
+    command("K KILL", listed(any_of(bracketed(text(NAME, "name")), rule(f"{WHOLE}variable"))), True),
     command("N NEW", listed(any_of(bracketed(text(NAME, "name")), text(NAME, "name"), OPERAND)), True),
     command("E ELSE", None, True, False),
-    command("X XECUTE", listed(all_of(rule("expression"), rule("condition"))), False),
+    command("X XECUTE", listed(any_of(all_of(rule("argument"), rule("condition")), all_of(rule("expression"), CONDITION))), False),
     command("L LOCK", listed(mark("lock", rule("locked"))), True)]
 # The rules that all languages have alike.
 SHARED: dict[str, Step] = {
@@ -280,15 +304,8 @@ SHARED: dict[str, Step] = {
         text(":", "more"), rule(f"{WHOLE}expression"), perhaps(all_of(text(":", "more"), rule(f"{WHOLE}expression")))))),
     "locked": all_of(text("[+-]?"), any_of(all_of(text(r"\("), listed(inner("lockable")), text(r"\)", "close")), rule("lockable")),
                      perhaps(all_of(text(":"), rule(f"{WHOLE}expression")))),
-    "lockable": all_of(text(r"(?!\^\()", "lockable"), rule("variable")),
+    "lockable": all_of(text(r"(?!\^\()", "lockable"), rule(f"{WHOLE}variable")),
     "atoms": all_of(rule("atom"), ["many", rule("atom")]),
-    "variable": any_of(
-        all_of(text(NAME, "variable"), rule("subscripts")),
-        all_of(text(r"\^(?!\()", "variable"), perhaps(all_of(text(r"\|"), inner(f"{WHOLE}expression"), text(r"\|", "bar"))), text(NAME, "name"),
-               rule("subscripts")),
-        all_of(text(r"\^(?=\()"), rule("subscripts")),
-        all_of(OPERAND, perhaps(all_of(text(r"@(?=\()"), rule("subscripts"))))),
-    "subscripts": perhaps(all_of(text(r"\("), listed(inner(f"{WHOLE}expression")), text(r"\)", "close"))),
 }
 # The tables of all languages that an account can have.
 LANGUAGES: dict[int, dict[str, Step]] = {language: rules(language) for language in (0, *OF_VALUES_SINCE)}

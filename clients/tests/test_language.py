@@ -112,7 +112,8 @@ def test_new_line_of_a_language(number: int) -> None:
 
 @pytest.mark.parametrize(("line", "marked", "name"), [
     ("W 1 2", "W 1^ 2", "two expressions need a comma, or two commands one space"), ("D F(1)", "D F^(1)", f"parameters{NEEDS}"),
-    ("W $$F(1)", "W ^$$F(1)", f"an extrinsic function{NEEDS}"), ("S A=B($$F)", "S A=B(^$$F)", NO_CALL), ("W 1_$S($$F:1)", "W 1_$S(^$$F:1)", NO_CALL),
+    ("W $$F(1)", "W ^$$F(1)", f"an extrinsic function{NEEDS}"), ("S A=B($$F)", "S A=B(^$$F)", f"an extrinsic function{NEEDS}"),
+    ("S B($$F)=A", "S B(^$$F)=A", NO_CALL), ("W @$$F", "W @^$$F", NO_CALL),
     ("F I=$$F:1:2 W I", "F I=^$$F:1:2 W I", NO_CALL), ("K $$F", "K ^$$F", "a variable is wanted"), ("D $$F", "D ^$$F", "no label or routine"),
     ('write "hello', 'write ^"hello', "a string without its closing quote"),
     ("foo", "^foo", "no command has this name"), ("W $HOROLOG", "W ^$HOROLOG", "$HOROLOG"), ("MERGE A=B", "^MERGE A=B", "MERGE"),
@@ -173,8 +174,10 @@ def test_language_of_an_account(server: Server) -> None:
     ("G F(1)", ["parameters of GOTO", "parameters of GOTO"]), ("Q X+1", [f"QUIT with a value{NEEDS}", None]),
     ("Q A,B", ["several values of QUIT", "several values of QUIT"]), ("Q $QUIT", [f"QUIT with a value{NEEDS}", None]),
     ("W $Q", [f"$QUIT{NEEDS}", None]), ("W $$F(.X)", [f"an extrinsic function{NEEDS}", None]),
-    ("D F($$G(1))", [f"parameters{NEEDS}", None]), ("W A($$F)", [NO_CALL, NO_CALL]), ("S A=$$F(A($$G))", [f"an extrinsic function{NEEDS}", NO_CALL]),
-    ("Q:$G(A,$$F)", [NO_CALL, NO_CALL]), ("W $$", [f"an extrinsic function{NEEDS}", "no label or routine"]),
+    ("D F($$G(1))", [f"parameters{NEEDS}", None]), ("W A($$F)", [f"an extrinsic function{NEEDS}", None]), ("K A($$F)", [NO_CALL, NO_CALL]),
+    ("Q:$G(A,$$F)", [f"an extrinsic function{NEEDS}", None]), ("W $S($$F:1)", [f"an extrinsic function{NEEDS}", None]),
+    ("W @$$F", [NO_CALL, NO_CALL]), ("I A,@$$F", [NO_CALL, NO_CALL]), ("W @A@($$F)", [NO_CALL, NO_CALL]), ("W @$$F@(1)", [NO_CALL, None]),
+    ("W $$", [f"an extrinsic function{NEEDS}", "no label or routine"]),
     ("W $$F(1", [f"an extrinsic function{NEEDS}", "a ) is missing"]), ("Q W 1", ["two spaces follow a command without arguments"] * 2),
     ("R X", ["READ", "READ"]), ("W $re(", [f"$REVERSE{NEEDS}", "an operand is missing"]),
     ('D A^|"LIB"|R(1,.X):C', [f"a routine of another account{NEEDS}", None]), ('G:X ^|"A""B"|R:X,A', [f"a routine of another account{NEEDS}", None]),

@@ -152,7 +152,8 @@ class Evaluator:
     def value_of_order(self, tree: tuple, direction: tuple | None) -> str:
         self.charge()
         place = self.finished(self.evaluated(tree), "read", is_walk=True, least=1)
-        return self.tree_of(place).order(place[2], self.is_forward(direction))
+        is_forward = self.is_forward(direction)
+        return self.tree_of(place).order(place[2], is_forward)
 
     def is_forward(self, direction: tuple | None) -> bool:
         """Whether a walk goes forward. ZARG if it goes neither way."""
@@ -165,7 +166,8 @@ class Evaluator:
         """The name of the next node that has a text, or of the one before, and empty if there is none. The argument is what naked references go by."""
         self.charge()
         place = self.finished(self.evaluated(tree), "read", is_walk=True)
-        found = self.tree_of(place).following(place[2], self.is_forward(direction))
+        is_forward = self.is_forward(direction)
+        found = self.tree_of(place).following(place[2], is_forward)
         return "" if found is None else name_text(self.account.name, *place[:2], found)
 
     def value_of_name(self, tree: tuple, count: tuple | None) -> str:

@@ -256,9 +256,10 @@ class Reader:
         if command in INDIRECT and self.next() == "@":
             begun = self.at
             self.at += 1
-            operand = self.at_once(lambda: self.inside(self.primary))
+            self.inside(self.primary)
             if self.next() in ("", ",", " ", ";") and not self.text.startswith("@(", self.at):
-                return "indirect arguments", operand
+                self.at = begun + 1
+                return "indirect arguments", self.at_once(lambda: self.inside(self.primary))
             self.at = begun
         return getattr(self, "argument_of_" + command.lower())()
 
@@ -294,7 +295,7 @@ class Reader:
         return kind, found[0], found[1:]
 
     def argument_of_kill(self) -> Tree:
-        return ("names", self.bracketed(self.name)) if self.takes("(") else ("variable", self.reference())
+        return ("names", self.bracketed(self.name)) if self.takes("(") else ("variable", self.at_once(self.reference))
 
     def argument_of_new(self) -> Tree:
         return ("names", self.bracketed(self.name)) if self.takes("(") else ("name", self.name())
@@ -454,13 +455,13 @@ class Reader:
         if word in ("T", "TEXT") and self.has("$TEXT"):
             return self.line_argument()
         if word in ("S", "SELECT"):
-            return "select", self.at_once(lambda: self.listed(self.choice))
+            return "select", self.listed(self.choice)
         for short, (long, most) in OF_VARIABLE.items():
             if word in (short, long) and (long in ("DATA", "GET", "ORDER") or self.has("$" + long)):
                 if long in ("ORDER", "DATA") and self.has("names of globals") and self.takes("^$"):
                     return f"{long.lower()} names", *self.listing(), *([self.expression() if self.takes(",") else None] if most else [])
                 variable = self.reference()
-                return long.lower(), variable, self.at_once(self.expression) if most and self.takes(",") else None
+                return long.lower(), variable, self.expression() if most and self.takes(",") else None
         found = self.listed(self.expression)
         for short, long, least, most, since, function in FUNCTIONS:
             if word in (short, long) and least <= len(found) <= most and since <= self.language:
@@ -486,7 +487,7 @@ class Reader:
 
     def pattern(self) -> Tree:
         if self.has("pattern indirection") and self.takes("@"):
-            return "pattern by", self.at_once(lambda: self.inside(self.primary))
+            return "pattern by", self.inside(self.primary)
         return "pattern", self.atoms()
 
     def atoms(self) -> tuple[Atom, ...]:
@@ -511,12 +512,10 @@ class Reader:
 
     def reference(self) -> Tree:
         """A variable: its kind, and its name, its environment or its operand, with its subscripts or None."""
-        return self.at_once(self.variable)
-
-    def variable(self) -> Tree:
         if self.takes("@"):
             operand = self.inside(self.primary)
-            return "indirect", operand, self.subscripts() if self.text.startswith("@(", self.at) and self.takes("@") else None
+            more = self.text.startswith("@(", self.at) and self.takes("@")
+            return "indirect", operand, self.at_once(self.subscripts) if more else None
         if not self.takes("^"):
             return "local", self.name(), self.subscripts()
         if self.next() == "(":

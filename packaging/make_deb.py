@@ -157,7 +157,7 @@ def put_documents(root: Path) -> None:
 
 def put_system(root: Path) -> None:
     """Units, settings, the user and the folders of the services."""
-    for name in ("mserve.service", "mfront.service", "mgate.service"):
+    for name in ("mserve.service", "mfront.service", "mgate.service", "mserve-backup@.service", "mserve-backup@.timer"):
         put(root, f"lib/systemd/system/{name}", (TOP / "packaging" / name).read_bytes())
     for source, place in {"front.toml": "etc/mserve/front.toml", "settings.toml": "etc/mserve/settings.toml", "logrotate": "etc/logrotate.d/mserve",
                           "sysusers.conf": "usr/lib/sysusers.d/mserve.conf", "tmpfiles.conf": "usr/lib/tmpfiles.d/mserve.conf"}.items():

@@ -4,7 +4,7 @@ there, and removed without a trace but the data.
 
 The root is this system with a layer of its own over it (overlayfs), in namespaces of its own for mounts and the network: dpkg and the package's
 scripts run as they do anywhere. That takes root's rights; without them the tests are skipped by name, but where the variable CI is true: there
-that is a failure. There is no systemd in it: what it would run is read from the unit, and run as the unit's user."""
+that is a failure. There is no systemd in it: what it would run is read from the unit, and run as the unit's user. `test_booted.py` has systemd."""
 from __future__ import annotations
 
 import json
@@ -18,96 +18,19 @@ from collections.abc import Iterator
 from pathlib import Path
 
 import pytest
+from roots import PASSWORD, PATIENCE, PYTHON, TOP, Root, commands, made, missed
 
-TOP = Path(__file__).resolve().parent.parent.parent
-MAKE = TOP / "packaging" / "make_deb.py"
-PYTHON = "/usr/bin/python3"
-PASSWORD = "correct horse battery"
-UNITS = ("mserve.service", "mfront.service", "mgate.service")
-# Seconds for what is to be there, however busy the machine is.
-PATIENCE = 120
+SERVICES = ("mserve.service", "mfront.service", "mgate.service", "mserve-backup@.service")
+UNITS = (*SERVICES, "mserve-backup@.timer")
 # The highest exposure, of 10, that `systemd-analyze security` may find.
 MOST_EXPOSURE = 2.0
 DATA = re.compile(r"/(?:var/lib/mserve|var/log/mserve|etc/mserve/(?:key|certificate)\.pem|etc/mserve$)")
-
-
-def missed(what: str) -> None:
-    """Skips a test for something that is not there, or fails it where continuous integration has to have that."""
-    if os.environ.get("CI") == "true":
-        pytest.fail(what)
-    pytest.skip(what)
-
-
-def made(folder: Path) -> Path:
-    """The package, made in a folder."""
-    done = subprocess.run([PYTHON, MAKE, "--to", folder], capture_output=True, text=True, timeout=120)
-    assert (done.returncode, done.stderr) == (0, ""), done.stderr
-    return Path(done.stdout.strip())
 
 
 @pytest.fixture(scope="module")
 def package(tmp_path_factory: pytest.TempPathFactory) -> Path:
     """The package of this tree."""
     return made(tmp_path_factory.mktemp("package"))
-
-
-class Root:
-    """A root of its own: a layer over this system, in a namespace of mounts and one of the network."""
-
-    def __init__(self, folder: Path) -> None:
-        self.layer, self.place = folder / "layers" / "upper", folder / "root"
-        self._holder = subprocess.Popen(["unshare", "--mount", "--net", "--propagation", "private", "sleep", "600"])
-        self._await_own()
-        self.place.mkdir()
-        (folder / "layers").mkdir()
-        parts = shlex.quote(str(folder / "layers"))
-        where = shlex.quote(str(self.place))
-        status, told = self._inside(f"mount -t tmpfs tmpfs {parts} && mkdir {parts}/upper {parts}/work && "
-                                    f"mount -t overlay overlay -o lowerdir=/,upperdir={parts}/upper,workdir={parts}/work {where} && "
-                                    f"mount --rbind /proc {where}/proc && mount --rbind /dev {where}/dev && mount -t tmpfs tmpfs {where}/run && "
-                                    "ip link set lo up")
-        if status:
-            self.end()
-            missed(f"a root of its own cannot be made here, which takes root's rights, overlayfs and iproute2: {told.strip()}")
-
-    def _await_own(self) -> None:
-        """Waits until the namespaces are there: what is mounted before would be mounted for the whole machine."""
-        end = time.monotonic() + PATIENCE
-        while any(os.readlink(f"/proc/{self._holder.pid}/ns/{kind}") == os.readlink(f"/proc/self/ns/{kind}") for kind in ("mnt", "net")):
-            if self._holder.poll() is not None or time.monotonic() > end:
-                self.end()
-                missed("a root of its own cannot be made here: unshare --mount --net is refused")
-            time.sleep(0.01)
-
-    def _words(self, command: str) -> list[str]:
-        return ["nsenter", "--target", str(self._holder.pid), "--mount", "--net", "bash", "-c", command]
-
-    def _inside(self, command: str) -> tuple[int, str]:
-        done = subprocess.run(self._words(command), capture_output=True, text=True, timeout=300)
-        return done.returncode, done.stdout + done.stderr
-
-    def words(self, command: str) -> list[str]:
-        """The words that run a command of a shell in this root, in the tree's folder."""
-        inner = f"cd {shlex.quote(str(TOP))} && {command}"
-        place = shlex.quote(str(self.place))
-        return self._words(f"exec env -u PYTHONPATH -u PYTHONPYCACHEPREFIX LC_ALL=C.UTF-8 PATH=/usr/sbin:/usr/bin:/sbin:/bin chroot {place} bash -c "
-                           f"{shlex.quote(inner)}")
-
-    def run(self, command: str, told: str = "") -> str:
-        """Runs a command of a shell in this root: what it writes. It has to end well."""
-        done = subprocess.run(self.words(command), input=told, capture_output=True, text=True, timeout=300)
-        assert done.returncode == 0, f"{command}: {done.stdout}{done.stderr}"
-        return done.stdout
-
-    def changed(self) -> set[str]:
-        """The paths of what was made or changed in this root; what is taken away is not among them."""
-        listed = self._inside(f"find {shlex.quote(str(self.layer))} -mindepth 1 ! -type c -printf '/%P\\n'")[1]
-        return set(listed.splitlines())
-
-    def end(self) -> None:
-        """Ends the namespaces, and with them the layer."""
-        self._holder.kill()
-        self._holder.wait()
 
 
 @pytest.fixture(scope="module")
@@ -121,13 +44,6 @@ def root(tmp_path_factory: pytest.TempPathFactory) -> Iterator[Root]:
     one = Root(tmp_path_factory.mktemp("root"))
     yield one
     one.end()
-
-
-def commands() -> list[str]:
-    """The commands of docs/OPERATING.md that set a service up from nothing."""
-    page = (TOP / "docs" / "OPERATING.md").read_text(encoding="utf-8")
-    block = re.search(r"^## From nothing\n.*?^```\n(.*?)^```$", page, re.MULTILINE | re.DOTALL)[1]
-    return block.replace("\\\n", " ").splitlines()
 
 
 def started(root: Root, unit: str) -> subprocess.Popen[bytes]:
@@ -189,15 +105,18 @@ def analyze(*words: str | Path) -> subprocess.CompletedProcess[str]:
 
 @pytest.mark.parametrize("unit", UNITS)
 def test_systemd_knows_each_word_of_a_unit(unit: str, tmp_path: Path) -> None:
-    """The package is not installed here, so /bin/true stands for its commands. A word that is none is found."""
-    text = re.sub(r"^(Exec\w+=-?)/usr/\S+", r"\1/bin/true", (TOP / "packaging" / unit).read_text(encoding="utf-8"), flags=re.MULTILINE)
+    """The package is not installed here, so /bin/true stands for its commands. A word that is none is found. A template has a name."""
+    of_timer, unit = unit.endswith(".timer"), unit.replace("@.", "@front.")
+    if of_timer:
+        (tmp_path / unit).with_suffix(".service").write_text("[Service]\nExecStart=/bin/true\n", encoding="utf-8")
+    text = re.sub(r"^(Exec\w+=-?)/usr/\S+", r"\1/bin/true", (TOP / "packaging" / unit.replace("@front.", "@.")).read_text(encoding="utf-8"), flags=re.MULTILINE)
 
     def verified(written: str) -> tuple[int, str]:
         (tmp_path / unit).write_text(written, encoding="utf-8")
         done = analyze("verify", "--man=no", "--recursive-errors=no", tmp_path / unit)
         return done.returncode, done.stdout + done.stderr
     assert verified(text) == (0, "")
-    assert "LimitMemory" in verified(text.replace("[Service]\n", "[Service]\nLimitMemory=4G\n"))[1]
+    assert "LimitMemory" in verified(re.sub(r"^\[(Service|Timer)\]\n", r"[\1]\nLimitMemory=4G\n", text, flags=re.MULTILINE))[1]
 
 
 @pytest.mark.skipif(os.geteuid() != 0, reason="root alone mounts /proc")
@@ -212,7 +131,7 @@ def test_a_unit_lets_a_front_know_the_start_of_the_machine(unit: str) -> None:
     assert done.stdout.strip() == Path("/proc/sys/kernel/random/boot_id").read_text().strip(), done.stderr
 
 
-@pytest.mark.parametrize("unit", UNITS)
+@pytest.mark.parametrize("unit", SERVICES)
 def test_sandbox_of_a_unit(unit: str) -> None:
     done = analyze("security", "--offline=yes", "--no-pager", TOP / "packaging" / unit)
     found = re.search(r"Overall exposure level for \S+: ([0-9.]+)", done.stdout)
@@ -326,11 +245,11 @@ def browsed(root: Root) -> None:
         assert root.run(f"{PYTHON} -B -c {shlex.quote(BROWSE)} {shlex.quote(PASSWORD)}") == "by the package\n"
 
 
-def removed(root: Root, before: set[str]) -> None:
-    """Removes the package, and looks for what it left."""
+def removed(root: Root, before: set[str], data: re.Pattern[str] = DATA) -> None:
+    """Removes the package, and looks for what it left besides data."""
     root.run("apt-get purge -y mserve")
     assert "mserve" not in root.run("dpkg-query -W -f '${Package}\\n'").split()
     ours = {path for path in root.changed() - before if re.search(r"mserve|mfront|mjournal|mbackup|mgate|mshell|mroutine|mglobal|misland", path)
             and not path.startswith(str(TOP))}
-    assert {path for path in ours if not DATA.match(path)} == set()
+    assert {path for path in ours if not data.match(path)} == set()
     assert {"/var/lib/mserve/store", "/var/lib/mserve/users.json", "/var/log/mserve/audit.log", "/etc/mserve/key.pem"} <= ours

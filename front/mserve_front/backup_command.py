@@ -18,10 +18,13 @@ from .control import ControlError, asked
 from .ending import DEFAULT, FAILED, FOUND, USAGE
 from .figures import VERIFIED
 from .folders import sync_folder, write_whole
+from .journal import LogFault
+from .nightly import fronts_of, night
 from .settings import BadSettings, Table, journal_settings, read_toml
 from .snapshots import SCRATCH, BadSnapshot, Manifest, accounts_of, check, differ, finish, put_back, read_manifest, snapshots_of, tidied
 
 NAME = "mbackup"
+STATUSES_OF = {BadSettings: USAGE, BadSnapshot: FOUND, ControlError: FAILED, LogFault: FAILED}
 STATUSES = "Status: 0 all went well; 1 a snapshot or a store is not what it is to be; 2 the words or the settings are wrong; 3 it cannot be done; " \
            "130 an interrupt."
 
@@ -52,6 +55,10 @@ def words() -> argparse.ArgumentParser:
     one.add_argument("folder", type=Path, metavar="FOLDER")
     one.add_argument("--config", type=Path, default=Path(DEFAULT), metavar="FILE", help=f"the settings of the front (default {DEFAULT})")
     one.add_argument("--scratch", type=Path, metavar="FOLDER", help="where the scratch store is made (default: the folder of snapshots)")
+    one = add("nightly", nightly, "take a snapshot, and verify it, of a front or of each island of a machine", "What a night does: an exact snapshot in the "
+              "folder that the front's settings name (journal.backup), which is verified. One that fails holds no other up.")
+    one.add_argument("--config", type=Path, default=Path(DEFAULT), metavar="FILE", help=f"the settings of the front, or of the machine (default {DEFAULT})")
+    one.add_argument("--keep", type=int, metavar="DAYS", help="then remove what is older, of the journal and of the snapshots (default: nothing)")
     one = add("compare", compared, "compare a store that nobody has open with a snapshot", "As after mjournal replay up to the snapshot's line.")
     one.add_argument("snapshot", type=Path, metavar="SNAPSHOT")
     one.add_argument("store", type=Path, metavar="STORE")
@@ -146,6 +153,19 @@ def verified(options: argparse.Namespace) -> int:
     return 0
 
 
+def nightly(options: argparse.Namespace) -> int:
+    """Does for each front what a night does; the highest status of all."""
+    def of_one(given: argparse.Namespace) -> int:
+        return night(given.config, options.keep, take, verified)
+    worst = 0
+    for name, config in fronts_of(options.config):
+        status = ending.ended(NAME, argparse.Namespace(act=of_one, config=config), STATUSES_OF)
+        if status and name:
+            say(f"island {name}: status {status}")
+        worst = max(worst, status)
+    return worst
+
+
 def digest_of(manifest: Manifest) -> str:
     """What tells a journal, and what all accounts held, from others."""
     return hashlib.sha256(json.dumps([manifest.journal, asdict(manifest)["accounts"]], sort_keys=True).encode()).hexdigest()
@@ -191,4 +211,4 @@ def say(text: str) -> None:
 
 def main() -> int:
     """The status of the command."""
-    return ending.ended(NAME, words().parse_args(), {BadSettings: USAGE, BadSnapshot: FOUND, ControlError: FAILED})
+    return ending.ended(NAME, words().parse_args(), STATUSES_OF)

@@ -48,7 +48,7 @@ def test_help_of_each_command(command: Run, words: list[str]) -> None:
     assert all(option in manual or option == "--help" for option in re.findall(r"--\w+", done.stdout))
 
 
-@pytest.mark.parametrize(("name", "count"), [("mjournal", 5), ("mbackup", 6), ("mgate", 6)])
+@pytest.mark.parametrize(("name", "count"), [("mjournal", 5), ("mbackup", 7), ("mgate", 6)])
 def test_help_of_the_tools(name: str, count: int) -> None:
     """Each command has its help, and the manual page has each command and option."""
     manual = (FRONT / "man" / f"{name}.1").read_text().replace("\\-", "-")

@@ -4,7 +4,9 @@
 snapshots are taken and verified by a replay from the one before; then what the journal has before them goes. At the end the stores are held against a
 replay from the last one. A day by default; SIGTERM ends it in order, and it says what it found.
 
-The record has a line for each minute: lines, their waits, memory, open files, and processor time. Status 1 if something was not as it is to be."""
+A day may come in parts: each run with the same record is one of them. The record gets a line for each snapshot that was verified, with what was measured
+since the one before, and one at the end: of a part that was cut off all counts but what came after its last snapshot. What it prints has a line for each
+minute. Status 1 if something was not as it is to be, which the record has too."""
 from __future__ import annotations
 
 import argparse
@@ -15,6 +17,7 @@ import random
 import shutil
 import signal
 import statistics
+import subprocess
 import sys
 import tempfile
 import time
@@ -23,8 +26,8 @@ from pathlib import Path
 
 sys.path[:0] = [str(Path(__file__).resolve().parent / folder) for folder in ("tests", "tests/steps", ".", "../clients", "../tools")]
 
-from database import IN_MEMORY  # noqa: E402
-from front import Patience, Person, Record, tool, until  # noqa: E402
+from database import IN_MEMORY, Cluster  # noqa: E402
+from front import FRONT, Patience, Person, Record, tool, until  # noqa: E402
 from measured import memory, processor_time, started_by  # noqa: E402
 from running import require_program  # noqa: E402
 from test_replay import backup  # noqa: E402
@@ -36,8 +39,11 @@ from troubles import COMBINATIONS, STEPS, as_replayed, befalls  # noqa: E402
 STRETCH, TROUBLE, SNAPSHOT = 60, 3, 10
 # Seconds between two lines of a user: the first, the least and the most.
 RESTS, LEAST, MOST = 0.1, 0.001, 2.0
-# Seconds after which something is missed: the machine may have other work.
+# Seconds after which something is missed, unless the words say otherwise: the machine may have other work.
 PATIENT = 240
+HOUR, DAY = 3600, 86_400
+# What the record has the median of, of the stretches since its last line.
+MEASURED = ("median", "late", "megabytes", "files", "share", "load")
 
 
 class Paced(Counting):
@@ -54,18 +60,60 @@ class Paced(Counting):
         return record
 
 
-class Day:
-    """The run: a pair, its users, and the record of what was measured."""
+class Kept:
+    """The record of all parts: a line for each snapshot that was verified, and for each end."""
 
-    def __init__(self, folder: Path, record: Path, share: float) -> None:
-        """`share` is the part of the machine that all of it takes."""
-        self.pair, self.users = Pair(folder), Paced()
+    def __init__(self, place: Path) -> None:
+        self._place = place
+        self.rows: list[Record] = [json.loads(line) for line in place.read_text().splitlines(keepends=True) if line.endswith("\n")] if place.exists() else []
+        # The number of the part that begins now.
+        self.part = 1 + max((row["part"] for row in self.rows), default=0)
+
+    def add(self, **what: object) -> None:
+        """Notes something of the part that runs."""
+        row = {"part": self.part, "time": f"{datetime.now(UTC):%Y-%m-%d %H:%M}", **what}
+        self.rows.append(row)
+        with self._place.open("a") as record:
+            record.write(json.dumps(row) + "\n")
+
+    def told(self) -> str:
+        """What was found in all parts."""
+        good = [row for row in self.rows if "failed" not in row]
+        parts = [[row for row in good if row["part"] == number] for number in sorted({row["part"] for row in good})]
+        seconds, lines, troubles = (sum(row[key] for row in good) for key in ("seconds", "lines", "troubles"))
+        found = [f"{seconds / HOUR:.2f} hours of a day's {DAY // HOUR}, in {len(parts)} parts; {lines} lines answered, none lost or twice; {troubles} "
+                 f"troubles, each taken over; {sum('snapshot' in row for row in good)} snapshots verified by a replay; "
+                 f"{sum('end' in row for row in good)} times the stores of leader and standby were a replay's at the end",
+                 *(f"part {row['part']} FAILED: {row['failed']}" for row in self.rows if "failed" in row)]
+        measured = [row for row in good if "share" in row]
+        if measured:
+            found.append(f"medians: reply {middle(measured, 'median'):.1f} ms, 99th percentile {middle(measured, 'late'):.1f} ms, "
+                         f"share of the machine {middle(measured, 'share') * 100:.2f} %, load {middle(measured, 'load'):.1f}")
+        for part in parts:
+            sizes = [(row["megabytes"], row["files"]) for row in part if "share" in row]
+            if sizes:
+                first, last = (f"{size:.0f} MB and {opened:.0f} open files" for size, opened in (sizes[0], sizes[-1]))
+                found.append(f"part {part[0]['part']}, {part[0].get('kind', 'files')}, {sum(row['seconds'] for row in part) / HOUR:.1f} hours of "
+                             f"{part[0]['revision']}: first {first}, last {last}")
+        return "\n".join(found)
+
+
+class Day:
+    """One part: a pair, its users, and what was measured since the last snapshot that was verified."""
+
+    def __init__(self, folder: Path, kept: Kept, cluster: Cluster | None, options: argparse.Namespace) -> None:
+        self._kind, self.pair, self.users = options.kind, Pair(folder, cluster), Paced()
         self.pair.long = True
         self.stopping = asyncio.Event()
-        self.troubles = self.snapshots = 0
+        self._kept, self._rng = kept, random.Random(f"part {kept.part}")
+        # The part of the machine that all of it takes; how long a stretch of work is, and how many there are between two snapshots.
+        self._share, self._stretch, self._snapshot = options.share / 100, options.stretch, options.snapshot
+        self._revision = revision()
         self._verified: Path | None = None
-        self._record, self._share, self._rng = record, share, random.Random(7)
-        self._began = time.monotonic()
+        self._began = self._since = time.monotonic()
+        # What was answered up to the last line of the record; how many troubles came since then, and what was measured in each stretch.
+        self._answered, self._troubles = 0, 0
+        self._stretches: list[Record] = []
 
     async def runs(self, seconds: float) -> None:
         """Works for so long, or until it is stopped; then holds the stores against a replay."""
@@ -76,10 +124,12 @@ class Day:
                 stretch += 1
                 if stretch % TROUBLE == 0:
                     await self._meets_trouble()
-                if stretch % SNAPSHOT == 0:
-                    await self._is_backed_up()
+                if stretch % self._snapshot == 0:
+                    self._keeps(snapshot=await self._is_backed_up())
             await as_replayed(self.pair, self._verified)
-        except BaseException:
+            self._keeps(end="as a replay's")
+        except BaseException as error:
+            self._kept.add(revision=self._revision, kind=self._kind, failed=f"{type(error).__name__}: {error}"[:1000])
             print(self.pair.told(), flush=True)
             raise
         finally:
@@ -90,34 +140,37 @@ class Day:
         return [*fronts, *started_by(fronts)]
 
     async def _works(self) -> None:
-        """A stretch of work, which is measured and noted; the next one takes the share that it is to take."""
+        """A stretch of work, which is measured and told; the next one takes the share that it is to take."""
         # What a start leaves for a moment is gone by the end, and what it starts then is not counted.
         pids = [os.getpid(), *self._processes()]
         before, began = {pid: processor_time([pid]) for pid in living(pids)}, time.monotonic()
         self.users.waits.clear()
         self.users.begin(self.pair)
         try:
-            await asyncio.wait_for(self.stopping.wait(), STRETCH)
+            await asyncio.wait_for(self.stopping.wait(), self._stretch)
         except TimeoutError:
             pass
         await self.users.end()
         pids = [pid for pid in living(pids) if pid in before]
         taken = sum(processor_time([pid]) - before[pid] for pid in pids) / (time.monotonic() - began) / (os.cpu_count() or 1)
         self.users.rest = min(max(self.users.rest * taken / self._share, LEAST), MOST)
-        self._notes(lines=len(self.users.waits), median=milliseconds(self.users.waits, 0.5), late=milliseconds(self.users.waits, 0.99),
-                    longest=milliseconds(self.users.waits, 1), megabytes=round(memory(pids), 1), files=files(pids), share=round(taken, 4))
+        self._stretches.append({
+            "lines": len(self.users.waits), "median": milliseconds(self.users.waits, 0.5), "late": milliseconds(self.users.waits, 0.99),
+            "longest": milliseconds(self.users.waits, 1), "megabytes": round(memory(pids), 1), "files": files(pids), "share": round(taken, 4),
+            "load": round(os.getloadavg()[0], 1)})
+        tells(self._stretches[-1])
 
     async def _meets_trouble(self) -> None:
         """One trouble of the matrix."""
-        step, what, then = self._rng.choice(COMBINATIONS["files"])
-        print(f"{what}, when {step}; then {then}", flush=True)
+        step, what, then = self._rng.choice(COMBINATIONS[self._kind])
+        tells({"trouble": what, "when": step, "then": then})
         began = time.monotonic()
         await befalls(self.pair, self.users, (step, what, then), self._rng.randrange(1, 12) if step not in STEPS[-3:] else 1)
-        self.troubles += 1
-        self._notes(trouble=what, when=step, then=then, seconds=round(time.monotonic() - began, 1))
+        self._troubles += 1
+        tells({"taken over": f"after {time.monotonic() - began:.1f} seconds"})
 
-    async def _is_backed_up(self) -> None:
-        """A snapshot while users work; it is verified by a replay from the one before, which goes then."""
+    async def _is_backed_up(self) -> str:
+        """A snapshot while users work; it is verified by a replay from the one before, which goes then. Gives what that said."""
         folder, leader = self.pair.folder / "backup", self.pair.leader
         folder.mkdir(exist_ok=True)
         self.users.begin(self.pair)
@@ -137,12 +190,25 @@ class Day:
         status, _, told = await asyncio.to_thread(tool("mjournal"), *self.pair.journal, "expire", self._verified)
         if status:
             raise ValueError(f"a journal that does not expire: {told}")
-        self.snapshots += 1
-        self._notes(snapshot=output.strip().rpartition("\n")[2])
+        return output.strip().rpartition("\n")[2].partition(": good: ")[2]
 
-    def _notes(self, **what: object) -> None:
-        with self._record.open("a") as record:
-            record.write(json.dumps({"time": f"{datetime.now(UTC):%Y-%m-%d %H:%M:%S}", **what}) + "\n")
+    def _keeps(self, **how: object) -> None:
+        """Notes what came since the last line of the record: it is verified."""
+        now, stretches = time.monotonic(), self._stretches
+        figures = {key: middle(stretches, key) for key in MEASURED} | {"longest": max(one["longest"] for one in stretches)} if stretches else {}
+        self._kept.add(revision=self._revision, kind=self._kind, seconds=round(now - self._since), lines=self.users.answered - self._answered,
+                       troubles=self._troubles, **figures, **how)
+        self._since, self._answered, self._stretches, self._troubles = now, self.users.answered, [], 0
+
+
+def tells(what: Record) -> None:
+    """Prints what was measured, or what comes."""
+    print(json.dumps({"time": f"{datetime.now(UTC):%Y-%m-%d %H:%M:%S}", **what}), flush=True)
+
+
+def middle(rows: list[Record], key: str) -> float:
+    """The median of a figure."""
+    return round(statistics.median(row[key] for row in rows), 4)
 
 
 def milliseconds(waits: list[float], part: float) -> float:
@@ -160,47 +226,49 @@ def files(pids: list[int]) -> int:
     return sum(len(list(Path(f"/proc/{pid}/fd").iterdir())) for pid in pids)
 
 
-def told(day: Day, record: Path) -> str:
-    """What was found."""
-    found = [json.loads(line) for line in record.read_text().splitlines()]
-    works = [one for one in found if "lines" in one]
-    hour = works[:60], works[-60:]
-    sizes, opened = ([statistics.median(float(one[key]) for one in some) for some in hour] for key in ("megabytes", "files"))
-    return (f"{len(works)} minutes, {day.users.answered} lines answered, none lost or twice; {day.troubles} troubles, each taken over; {day.snapshots} "
-            f"snapshots verified by a replay; the stores of leader and standby are the replay's\n"
-            f"median of the minutes: reply {statistics.median(one['median'] for one in works):.1f} ms, 99th percentile "
-            f"{statistics.median(one['late'] for one in works):.1f} ms, share of the machine {statistics.median(one['share'] for one in works) * 100:.1f} %\n"
-            f"first hour and last hour: {sizes[0]:.0f} and {sizes[1]:.0f} MB, {opened[0]:.0f} and {opened[1]:.0f} open files")
+def revision() -> str:
+    """The revision of these sources, if that is known."""
+    return subprocess.run(["git", "-C", FRONT, "describe", "--always", "--dirty"], capture_output=True, text=True).stdout.strip()
 
 
-async def run(options: argparse.Namespace) -> None:
-    """Runs, in a folder of its own."""
-    with tempfile.TemporaryDirectory(dir=options.folder, prefix="day-") as folder:
-        day = await asyncio.to_thread(Day, Path(folder), options.record, options.share / 100)
-        for number in (signal.SIGTERM, signal.SIGINT):
-            asyncio.get_running_loop().add_signal_handler(number, day.stopping.set)
-        await day.runs(options.seconds)
-    print(told(day, options.record))
+async def run(options: argparse.Namespace, kept: Kept) -> None:
+    """Runs a part, in a folder of its own."""
+    cluster = None if options.kind == "files" else await asyncio.to_thread(Cluster)
+    try:
+        with tempfile.TemporaryDirectory(dir=options.folder, prefix="day-") as folder:
+            day = await asyncio.to_thread(Day, Path(folder), kept, cluster, options)
+            for number in (signal.SIGTERM, signal.SIGINT):
+                asyncio.get_running_loop().add_signal_handler(number, day.stopping.set)
+            await day.runs(options.seconds)
+    finally:
+        if cluster is not None:
+            cluster.remove()
 
 
 def main() -> int:
     """The status of the command."""
-    words = argparse.ArgumentParser(description="Has users work at a leader with a standby for long, with troubles and snapshots.")
-    words.add_argument("record", type=Path, metavar="RECORD", help="the file that gets what is measured, a line for each minute")
-    words.add_argument("--seconds", type=float, default=86_400, metavar="S", help="for so long (default a day)")
+    words = argparse.ArgumentParser(description="Has users work at a leader with a standby for long, with troubles and snapshots; a day may come in parts.")
+    words.add_argument("record", type=Path, metavar="RECORD", help="the file that has what was found; a further run with it is a further part")
+    words.add_argument("--seconds", type=float, default=DAY, metavar="S", help="for so long (default a day)")
     words.add_argument("--share", type=float, default=5, metavar="N", help="percent of the machine that all of it takes (default 5)")
+    words.add_argument("--kind", choices=("files", "database"), default="files", help="where the journal is (default files)")
     words.add_argument("--folder", type=Path, default=Path(IN_MEMORY), metavar="FOLDER", help=f"where stores and journal are (default {IN_MEMORY})")
+    words.add_argument("--stretch", type=float, default=STRETCH, metavar="S", help=f"seconds of a stretch of work; after {TROUBLE} of them comes a trouble "
+                       f"(default {STRETCH})")
+    words.add_argument("--snapshot", type=int, default=SNAPSHOT, metavar="N", help=f"stretches between two snapshots (default {SNAPSHOT})")
+    words.add_argument("--patience", type=float, default=PATIENT, metavar="S", help=f"seconds after which something is missed (default {PATIENT})")
     options = words.parse_args()
     require_program()
-    Patience.seconds = PATIENT
-    if options.record.exists():
-        sys.exit(f"day: {options.record}: it is there already: name another record")
+    Patience.seconds = options.patience
+    kept, status = Kept(options.record), 0
     try:
-        asyncio.run(run(options))
+        asyncio.run(run(options, kept))
     except Exception as error:
         print(f"day: {type(error).__name__}: {error}", file=sys.stderr)
-        return 1
-    return 0
+        status = 1
+    # Another part may have run beside this one.
+    print(Kept(options.record).told())
+    return status
 
 
 if __name__ == "__main__":

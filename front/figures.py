@@ -3,7 +3,8 @@
 """All figures of the journal and of many machines, one measurement after another, unattended and within fifteen minutes. Each has a limit of its own;
 what it printed up to there is kept. On a quiet machine these are the figures of docs/PERFORMANCE.md.
 
-With `--to FILE` the times of take-overs, moves, a lost database and replies are a table there too.
+With `--to FILE` the times of take-overs, moves, a lost database and replies are a table there too. `--failures` makes these alone, the shortest first, and
+within ten minutes.
 
 Status 1 if a measurement failed or was cut off; the last line says how many did."""
 from __future__ import annotations
@@ -32,10 +33,14 @@ PYTHON = "/usr/bin/python3"
 APART = Path(f"/dev/shm/mfront-figures-{os.getpid()}")
 TEST = [PYTHON, "-m", "pytest", "-q", "-s", "-c", str(HERE / "pytest.ini"), "--rootdir", str(HERE.parent), "-p", "no:cacheprovider"]
 # Of a line that is for the table: what was done, and how long it took.
-FIGURE = re.compile(r"\.*(without service after a kill|\d+ leaders killed[^:;]*|\d+ islands moved|a machine with \d+ islands killed and started|served again"
-                    r"|\d+ lines of a million steps beside \d+ lines|\w+ journal, store in \w+)[^:]*?(?:;[^:]*)?:? ?(.*?)(?:; processor time.*)?$")
-# Seconds for all.
-ALL = 900
+FIGURE = re.compile(r"\.*(without service after a kill|\d+ leaders killed[^:;]*|\d+ islands moved|a machine with \d+ islands killed and started"
+                    r"|served again|nobody served|\d+ lines of a million steps beside \d+ lines|\w+ journal, store in \w+)"
+                    r"[^:]*?(?:;[^:]*)?:? ?(.*?)(?:; processor time.*)?$")
+# Seconds for all, and for those of failures alone.
+ALL, ALL_FAILURES = 900, 600
+# What is without service, and for how long, in this order.
+FAILURES = ("time without service", "a leader that is stopped", "a database that is lost", "leaders killed", "a heavy account beside another",
+            "few machines with many users")
 
 
 @dataclass(frozen=True, slots=True)
@@ -63,9 +68,10 @@ def measurements(short: bool) -> list[Measurement]:
         Measurement("few machines with many users",
                     (PYTHON, machines, "--islands", "3", "--accounts", grouped, "--seconds", seconds, "--moved", "1"), 120),
         Measurement("time without service", (PYTHON, rates, "--kinds", "--killed", killed), 120),
+        Measurement("a leader that is stopped", (*TEST, *apart, str(HERE / "tests" / "test_standby.py"), "-k", "once_the_leader_is_stopped"), 60),
         Measurement("leaders killed", (*TEST, *apart, str(HERE / "tests" / "test_standby.py"), "-k", "leaders_that_are_killed", "--count", count), 300),
         Measurement("a database that is lost",
-                    (*TEST, *apart, str(HERE / "tests" / "test_table.py"), "-k", "goes_on_soon or that_is_away and not minute"), 90),
+                    (*TEST, *apart, str(HERE / "tests" / "test_table.py"), "-k", "goes_on_soon or that_is_away and not minute"), 120),
         Measurement("a heavy account beside another", (*TEST, str(HERE / "tests" / "test_alone.py"), "-k", "heavy"), 90),
         Measurement("journals, one user", (PYTHON, rates, "--users", "1", "--seconds", one, "--replayed", "0", "--killed", "0", "--stores", "memory"), 60),
         Measurement("journals over a store in a file, 64 users",
@@ -127,12 +133,15 @@ def main() -> int:
     words.add_argument("--short", action="store_true", help="small ones, which try that each works: no figures")
     words.add_argument("--to", type=Path, metavar="FILE", help="where the table is written")
     words.add_argument("--only", metavar="WORD", help="only those whose name has this word")
+    words.add_argument("--failures", action="store_true", help="only what is without service, and for how long: promotion, take-over, a database that is lost")
     options = words.parse_args()
     require_program()
     print(machine(), flush=True)
-    end, failed = time.monotonic() + ALL, 0
+    end, failed = time.monotonic() + (ALL_FAILURES if options.failures else ALL), 0
     made: list[tuple[Measurement, list[str], float]] = []
     chosen = [one for one in measurements(options.short) if options.only is None or options.only in one.name]
+    if options.failures:
+        chosen = sorted((one for one in chosen if one.name in FAILURES), key=lambda one: FAILURES.index(one.name))
     for one in chosen:
         left = end - time.monotonic()
         if left < 20:

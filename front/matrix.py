@@ -25,12 +25,17 @@ sys.path[:0] = [str(Path(__file__).resolve().parent / folder) for folder in ("te
 from database import IN_MEMORY, Cluster  # noqa: E402
 from front import Patience  # noqa: E402
 from running import require_program  # noqa: E402
-from troubled_gates import Gates  # noqa: E402
+from troubled_gates import Alone, Gates  # noqa: E402
 from troubled_pair import Pair  # noqa: E402
 from troubles import COMBINATIONS, drawn, tried  # noqa: E402
 
 # Seconds after which something is missed in a part, unless the words say otherwise: the machine may have other work; and how often a part has that at most.
 PATIENT, LONGEST = 240, 15
+# What is troubled, by its kind, and which kinds have a database.
+MADE = {"files": Pair, "database": Pair, "gates": Gates, "alone": Alone}
+OVER_DATABASE = ("database", "gates")
+# Combinations of all kinds.
+ALL = sum(map(len, COMBINATIONS.values()))
 # Seconds for which users rest before each line: a standby that begins with the journal runs all that they sent.
 REST = 0.05
 
@@ -45,20 +50,21 @@ class Part:
 
 
 def parts(wanted: int, size: int) -> Iterator[Part]:
-    """All parts, of the kinds in turn; they are the same ones at each run."""
-    each = {kind: drawn(kind, -(-wanted // len(COMBINATIONS)), random.Random(kind)) for kind in COMBINATIONS}
+    """All parts, of the kinds in turn, as many of each as it has of all combinations; they are the same ones at each run."""
+    each = {kind: drawn(kind, -(-wanted * len(combinations) // ALL), random.Random(kind)) for kind, combinations in COMBINATIONS.items()}
     for start in range(0, max(map(len, each.values())), size):
         for kind, chosen in each.items():
-            yield Part(f"{kind} {start}", kind, chosen[start:start + size])
+            if start < len(chosen):
+                yield Part(f"{kind} {start}", kind, chosen[start:start + size])
 
 
 async def ran(part: Part) -> dict[str, object]:
     """Runs a part, and gives what it came to."""
-    cluster = None if part.kind == "files" else await asyncio.to_thread(Cluster)
+    cluster = await asyncio.to_thread(Cluster) if part.kind in OVER_DATABASE else None
     try:
         with tempfile.TemporaryDirectory(dir=IN_MEMORY, prefix="matrix-") as folder:
             async with asyncio.timeout(LONGEST * Patience.seconds):
-                troubled = await asyncio.to_thread(Gates if part.kind == "gates" else Pair, Path(folder), cluster)
+                troubled = await asyncio.to_thread(MADE[part.kind], Path(folder), *([] if cluster is None else [cluster]))
                 counting = await tried(troubled, part.chosen, random.Random(part.name), REST)
         return {"tried": len(part.chosen), "fired": sum(troubled.fired.values()), "answered": counting.answered}
     finally:
@@ -96,7 +102,7 @@ def main() -> int:
     """The status of the command."""
     words = argparse.ArgumentParser(description="Tries troubles of a leader with a standby, part by part, and goes on where it was cut off.")
     words.add_argument("record", type=Path, metavar="RECORD", help="the file that has what was tried")
-    words.add_argument("--wanted", type=int, default=1000, metavar="N", help="combinations in all (default 1000)")
+    words.add_argument("--wanted", type=int, default=ALL, metavar="N", help=f"combinations in all (default {ALL}: each one once)")
     words.add_argument("--part", type=int, default=20, metavar="N", help="combinations of a part (default 20)")
     words.add_argument("--seconds", type=float, default=float("inf"), metavar="S", help="begin no part after so long")
     words.add_argument("--patience", type=float, default=PATIENT, metavar="S", help=f"seconds after which something is missed (default {PATIENT})")

@@ -83,10 +83,10 @@ def toml(tables: dict[str, dict[str, object]]) -> str:
 Ran = tuple[int, str, str]
 
 
-def tool(name: str, *before: str) -> Callable[..., Ran]:
-    """Runs a command of front/: its status, what it writes, and what it tells."""
+def tool(name: str, *before: str, front: Path = FRONT) -> Callable[..., Ran]:
+    """Runs a command of a front, of front/ mostly: its status, what it writes, and what it tells."""
     def run(*words: object) -> Ran:
-        done = subprocess.run([sys.executable, FRONT / name, *before, *map(str, words)], capture_output=True, text=True, timeout=2 * Patience.seconds)
+        done = subprocess.run([sys.executable, front / name, *before, *map(str, words)], capture_output=True, text=True, timeout=2 * Patience.seconds)
         return done.returncode, done.stdout, done.stderr
     return run
 

@@ -39,10 +39,12 @@ class Gate:
 
     # What its processes have in their environment besides.
     environment: Mapping[str, str] = MappingProxyType({})
+    # The folder of its commands.
+    front = FRONT
 
     def __init__(self, folder: Path, name: str, database: str, ports: dict[str, int], certificates: Path, environment: Mapping[str, str] | None = None,
-                 **more: dict[str, object]) -> None:
-        self.environment = environment or self.environment
+                 front: Path = FRONT, **more: dict[str, object]) -> None:
+        self.environment, self.front = environment or self.environment, front
         self.folder, self.name, self.host, self.ports = folder / name, name, HOSTS[name], ports
         self.folder.mkdir(exist_ok=True)
         self.authority = certificates / "authority.pem"
@@ -56,13 +58,13 @@ class Gate:
         for table, keys in more.items():
             tables[table] = {key: value for key, value in (tables[table] | keys).items() if value is not None}
         self.tables, self.config = tables, self.folder / "machine.toml"
-        self.config.write_text(toml(tables))
+        self.write()
         self.process = self._started()
 
     def _started(self) -> subprocess.Popen[bytes]:
         with (self.folder / "told").open("a") as told:
             before = self.told().count("serving at https")
-            process = subprocess.Popen([sys.executable, FRONT / "mgate", "--config", self.config], stdin=subprocess.DEVNULL, stderr=told,
+            process = subprocess.Popen([sys.executable, self.front / "mgate", "--config", self.config], stdin=subprocess.DEVNULL, stderr=told,
                                        start_new_session=True, env=os.environ | self.environment)
         end = time.monotonic() + Patience.seconds
         while True:
@@ -73,6 +75,10 @@ class Gate:
             if over:
                 raise RuntimeError(self.told())
             time.sleep(0.02)
+
+    def write(self) -> None:
+        """Writes its settings."""
+        self.config.write_text(toml(self.tables))
 
     def again(self) -> None:
         """Starts it again."""
@@ -95,7 +101,7 @@ class Gate:
 
     def does(self, *words: object) -> Ran:
         """Runs mgate by its settings."""
-        return tool("mgate")(*words, "--config", self.config)
+        return tool("mgate", front=self.front)(*words, "--config", self.config)
 
     @property
     def context(self) -> ssl.SSLContext:

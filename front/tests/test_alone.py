@@ -190,11 +190,14 @@ async def test_an_operator_sees_all_islands_and_has_logs_opened_anew(alone: Path
 
 
 async def snapshots(folder: Path) -> None:
-    """Makes a snapshot of each island by the page's commands, and verifies it: then that is no alarm any more, but for an island where it cannot be done."""
-    lines = re.search(r"islands of this machine, each night.*?\n\n(.*?)\n\n", PAGE, re.DOTALL)[1].replace("/var/lib/mserve/islands", str(folder / "islands"))
+    """Makes a snapshot of each island as the page's timer does, and verifies it: then that is no alarm any more, but for an island where it cannot be done."""
+    assert "systemctl enable --now mserve-backup@machine.timer" in PAGE
+    unit = (FRONT.parent / "packaging" / "mserve-backup@.service").read_text()
+    words = re.search(r"^ExecStart=/usr/bin/mbackup (.*)$", unit, re.MULTILINE)[1].replace("/etc/mserve/%i.toml", str(folder / "machine.toml"))
     (folder / "islands" / "HEAVY" / "backup").write_text("no folder")
-    script = f'mbackup() {{ {sys.executable} {FRONT / "mbackup"} "$@"; }}\n{lines}'
-    done = await asyncio.to_thread(subprocess.run, ["bash", "-c", script], capture_output=True, text=True, timeout=8 * Patience.seconds)
+    command = [sys.executable, FRONT / "mbackup", *words.split()]
+    done = await asyncio.to_thread(subprocess.run, command, capture_output=True, text=True, timeout=8 * Patience.seconds)
+    assert done.returncode == 3 and "island HEAVY: status 3" in done.stderr
     old = ": No snapshot was verified for two days."
     await shows(folder, lambda found: [what.partition(":")[0] for what in alarms(found) if what.endswith(old)] == ["HEAVY"], f"snapshots: {done.stderr}")
 

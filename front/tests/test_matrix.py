@@ -11,12 +11,12 @@ from pathlib import Path
 import pytest
 from database import IN_MEMORY, Cluster
 from front import in_loop
-from troubled_gates import Gates
+from troubled_gates import Alone, Gates
 from troubled_pair import Pair
 from troubles import Troubled, drawn, tried
 
 # Combinations that are tried, unless more are asked for (--count).
-TRIED = {"files": 40, "database": 10, "gates": 6}
+TRIED = {"files": 40, "database": 10, "gates": 6, "alone": 6}
 
 
 @pytest.fixture
@@ -27,9 +27,10 @@ def folder() -> Iterator[Path]:
 
 
 @pytest.mark.long
+@pytest.mark.parametrize(("kind", "made"), [("files", Pair), ("alone", Alone)])
 @in_loop(36_000)
-async def test_the_matrix_of_troubles(folder: Path, count: int) -> None:
-    await enough_of(Pair(folder), "files", count)
+async def test_the_matrix_of_troubles(folder: Path, kind: str, made: Callable[[Path], Troubled], count: int) -> None:
+    await enough_of(await asyncio.to_thread(made, folder), kind, count)
 
 
 @pytest.mark.long

@@ -26,10 +26,12 @@ PLACE = Path(__file__).resolve().parent / "steps"
 # What is done then: the leader goes on or is started again; the standby is promoted, and the leader stands by; its machine is gone, and a new standby begins
 # with the journal; it is stopped in order, and takes the journal back; its place moves to the standby, as a gate has an island move.
 THENS = ("go on", "promote", "gone", "in order", "move")
-# The database is one of the troubles of a journal that it has; a full disk is its own. Gates have no front promoted but by a move.
+# The database is one of the troubles of a journal that it has; a full disk is its own. Gates have no front promoted but by a move, and a machine that is
+# alone has nothing to move to.
 OF_DATABASE = ("database", *(what for what in WHATS if what != "disk full"))
 COMBINATIONS = {"files": tuple(itertools.product(STEPS, WHATS, THENS)), "database": tuple(itertools.product(STEPS, OF_DATABASE, THENS)),
-                "gates": tuple(itertools.product(STEPS, OF_DATABASE, [then for then in THENS if then != "promote"]))}
+                "gates": tuple(itertools.product(STEPS, OF_DATABASE, [then for then in THENS if then != "promote"])),
+                "alone": tuple(itertools.product(STEPS, WHATS, ("go on", "in order")))}
 # Seconds between two kills of a server, of which one is to bring a step about.
 BETWEEN = 5.0
 # Troubles by which the process ends in which they come.

@@ -2,11 +2,16 @@
 // The laws of programs. Each function's contract is the law, and its body is empty: the code never calls them.
 ghost use Rattle.mmeaning.specs.ProgramLaws.{ArgumentsPause, ConditionsGoOn, ConditionsPause, ProgramsAreThere, ProgramsCarryArguments};
 ghost use Rattle.mmeaning.specs.ProgramLaws.{ProgramsCarryConditions};
-ghost use Rattle.mmeaning.specs.ProgramLaws.{ProgramsPause, ProgramsTakeValues, StepsEvaluate};
+ghost use Rattle.mmeaning.specs.ProgramLaws.{ProgramsPause, ProgramsTakeValues, StepsEvaluate, StepsFind};
 
 /// The steps of an expression evaluate it, whatever comes after them, and whatever else is on the stack.
 pub fn steps_evaluate()
     ensures { StepsEvaluate }
+{}
+
+/// The steps of a reference evaluate it in the same way.
+pub fn steps_find()
+    ensures { StepsFind }
 {}
 
 /// An argument with a call has a program, if each call in it stands where steps are.

@@ -1,12 +1,12 @@
 -- SPDX-License-Identifier: Apache-2.0
 -- The statements are accepted: each is one, takes the parameters that it is given, and is well typed.
-use Rattle.mstore.proofs.Words.{◌≡◌, ℕ, Bool, true, false, List, [], ◌∷◌, refl, inl, inr, Blob, Row, Query, Key, everything, understood, schema, Add, Get, Kill}
-use Rattle.mstore.proofs.Words.{Replace, Step, sql, Term, Trees}
+use Rattle.mstore.proofs.Words.{◌≡◌, ℕ, Bool, true, false, List, [], ◌∷◌, refl, inl, inr, Blob, Row, Query, Key, everything, understood, schema, Add, Ahead, Get}
+use Rattle.mstore.proofs.Words.{Int, Kill, Replace, Step, pos, sql, Term, Trees}
 use Rattle.sqlite_schema.specs.Program.{lets_of}
 use Rattle.sqlite_sql.specs.Program.{ProgramOverflows}
 use Rattle.sqlite_typing.specs.Types.{accepts_program, accepts_terms}
 use Rattle.sqlite_rules.proofs.ListLemmas.{any_has}
-use Rattle.mstore.proofs.Texts.{program, table_query, replace_query, kill_query, step_query, at_key}
+use Rattle.mstore.proofs.Texts.{ahead_query, program, table_query, replace_query, kill_query, step_query, at_key}
 use Rattle.mstore.proofs.Causes.{Takes, IsChange}
 use Rattle.sqlite.specs.Term.{col, lit}
 use Rattle.sqlite.specs.declared.types.Value.TheVariants.{Null}
@@ -31,6 +31,10 @@ pub step_takes : (down : Bool) (low high : List ℕ) → Takes (sql (Step down))
 unfolding understood everything
 step_takes true low high = (refl, refl, refl)
 step_takes false low high = (refl, refl, refl)
+
+pub ahead_takes : (low high : List ℕ) (most : ℕ) → Takes (sql Ahead) (Blob low ∷ Blob high ∷ Int (pos most) ∷ []) (understood schema (sql Ahead))
+unfolding understood everything
+ahead_takes low high most = (refl, refl, refl)
 
 pub add_changes : IsChange (understood schema (sql Add))
 unfolding understood everything
@@ -60,6 +64,9 @@ pub step_typed : (down : Bool) (low high : List ℕ) → IsTyped (step_query dow
 step_typed true low high = refl
 step_typed false low high = refl
 
+pub ahead_typed : (low high : List ℕ) (most : ℕ) → IsTyped ahead_query (Blob low ∷ Blob high ∷ Int (pos most) ∷ [])
+ahead_typed low high most = refl
+
 pub replace_typed : (k v : List ℕ) → IsTyped replace_query (Blob k ∷ Blob v ∷ [])
 replace_typed k v = refl
 
@@ -71,3 +78,7 @@ pub no_overflow : (tree : ℕ) (tests project : List Term) (order : List (Term �
     → ProgramOverflows db params [] (lets_of (program (table_query tree tests project order))) (table_query tree tests project order) → ⊥
 no_overflow tree tests project order db params (inl h) = h
 no_overflow tree tests project order db params (inr h) = (any_has _ _ h).2
+
+pub ahead_fits : (db : Trees) (params : Row) → ProgramOverflows db params [] (lets_of (program ahead_query)) ahead_query → ⊥
+ahead_fits db params (inl h) = h
+ahead_fits db params (inr h) = (any_has _ _ h).2

@@ -1,8 +1,8 @@
 -- SPDX-License-Identifier: Apache-2.0
 -- The first and the last key of rows within bounds, as those of the globals that the rows hold.
 use Rattle.mstore.proofs.Words.{ℕ, ◌≡◌, ◌⊎◌, inl, inr, Bool, true, false, cond, ◌&&◌, Option, Some, None, option_map, is_some, List, [], ◌∷◌, map, length}
-use Rattle.mstore.proofs.Words.{reverse, refl, sym, ◌∙◌, ap, subst, arith, Ordering, Less, Equal, Greater, and_parts, option_or, AllByRecursion, eq_by_cmp}
-use Rattle.mstore.proofs.Words.{ordering_reverse, eq_by_cmp_equiv, Equal-is, slice_cmp, nat_list_cmp_total, nat_cmp-IsAntisymmetric, slice_cmp-IsAntisymmetric}
+use Rattle.mstore.proofs.Words.{reverse, refl, sym, ◌∙◌, ap, subst, arith, and_parts, option_or, AllByRecursion, eq_by_cmp}
+use Rattle.mstore.proofs.Words.{eq_by_cmp_equiv, Equal-is, slice_cmp, nat_cmp-IsAntisymmetric, slice_cmp-IsAntisymmetric}
 use Rattle.mstore.proofs.Words.{len-entries, len-empty, entries, entries_sorted, entries-insert, get-entries, empty, reverse-append, find-append, Node}
 use Rattle.mstore.proofs.Words.{significant_digits, node_cmp, NoneEmpty, node_of, Globals, keys_of, is_between, node_cmp_total, key_order, IsKey, none_empty}
 use Rattle.mstore.proofs.Words.{ShowsBytes, is_below, is_nearer, lookup_by, globals_by, AreKeyed, step_key, Text}
@@ -11,6 +11,7 @@ use Rattle.std.specs.Prelude.{⊤, T, IsSome}
 use Rattle.std.specs.List.{find}
 use Rattle.std.specs.Ordering.{nat_cmp, is_eq, is_lt}
 use Rattle.std.specs.FinMap.Entries as Entries
+use Rattle.mstore.proofs.KeyBounds.{below_not as below_back, not_itself as below_itself, same_if as neither_below}
 use Rattle.mstore.proofs.KeyedRows.{key, node_at, same_of, gets}
 
 -- ---- keys in a list
@@ -29,15 +30,6 @@ IsFound : Bool → (List ℕ → Bool) → List (List ℕ) → Option (List ℕ)
 IsFound down p ks None = (q : List ℕ) → In ks q → p q ≡ false
 IsFound down p ks (Some k) = In ks k × ((p k ≡ true) × ((q : List ℕ) → In ks q → p q ≡ true → is_nearer down k q ≡ false))
 
-below_itself : (k : List ℕ) → is_below k k ≡ false
-below_itself k = subst (λ r. is_lt r ≡ false) (sym ((Equal-is (slice_cmp nat_cmp k k)).0 ((eq_by_cmp_equiv nat_list_cmp_total).refl k))) refl
-
-not_back : (r s : Ordering) → r ≡ ordering_reverse s → is_lt s ≡ true → is_lt r ≡ false
-not_back r s h e = grind arith
-
-below_back : (k q : List ℕ) → is_below k q ≡ true → is_below q k ≡ false
-below_back k q e = not_back (slice_cmp nat_cmp q k) (slice_cmp nat_cmp k q) (nat_list_cmp_total.antisymm q k) e
-
 -- what holds of the first and of those after it
 each_of : (P : List ℕ → Type 0) (k : List ℕ) (ks : List (List ℕ)) → P k → ((q : List ℕ) → In ks q → P q) → (q : List ℕ) → (q ≡ k) ⊎ In ks q → P q
 each_of P k ks here later q (inl same) = subst P (sym same) here
@@ -49,9 +41,11 @@ found_first p [] rising = λ q is. absurd is
 found_first p (k ∷ ks) rising = here (p k) refl (find p ks) (found_first p ks rising.1)
   where
     here : (b : Bool) → p k ≡ b → (r : Option (List ℕ)) → IsFound false p ks r → IsFound false p (k ∷ ks) (cond b (Some k) r)
-    here true e r found = (inl refl, (e, each_of (λ q. p q ≡ true → is_below q k ≡ false) k ks (λ t. below_itself k) (λ q later t. below_back k q (rising.0 q later))))
+    here true e r found =
+        (inl refl, (e, each_of (λ q. p q ≡ true → is_below q k ≡ false) k ks (λ t. below_itself k) (λ q later t. below_back k q (rising.0 q later))))
     here false e None found = each_of (λ q. p q ≡ false) k ks e found
-    here false e (Some h) found = (inr found.0, (found.1.0, each_of (λ q. p q ≡ true → is_below q h ≡ false) k ks (λ t. let no : false ≡ true = sym e ∙ t in absurd (cc)) found.1.1))
+    here false e (Some h) found =
+        (inr found.0, (found.1.0, each_of (λ q. p q ≡ true → is_below q h ≡ false) k ks (λ t. let no : false ≡ true = sym e ∙ t in absurd (cc)) found.1.1))
 
 found_last : (p : List ℕ → Bool) (ks : List (List ℕ)) → AreRising ks → IsFound true p ks (find p (reverse ks))
 unfolding In AreRising IsFound
@@ -64,7 +58,8 @@ found_last p (k ∷ ks) rising =
     here true e None found =
         (inl refl, (e, each_of (λ q. p q ≡ true → is_below k q ≡ false) k ks (λ t. below_itself k) (λ q later t. let no : false ≡ true = sym (found q later) ∙ t in absurd (cc))))
     here false e None found = each_of (λ q. p q ≡ false) k ks e found
-    here b e (Some h) found = (inr found.0, (found.1.0, each_of (λ q. p q ≡ true → is_below h q ≡ false) k ks (λ t. below_back k h (rising.0 h found.0)) found.1.1))
+    here b e (Some h) found =
+        (inr found.0, (found.1.0, each_of (λ q. p q ≡ true → is_below h q ≡ false) k ks (λ t. below_back k h (rising.0 h found.0)) found.1.1))
 
 -- ---- the keys of globals
 
@@ -77,7 +72,8 @@ keys_in es = map key (map (λ e. e.0) es)
 below_node : (x y : Node) → NoneEmpty x.subscripts → NoneEmpty y.subscripts → is_lt (node_cmp significant_digits x y) ≡ true → is_below (key x) (key y) ≡ true
 below_node x y some_x some_y e = ap is_lt (key_order significant_digits x y some_x some_y) ∙ e
 
-below_in : (x : Node) → NoneEmpty x.subscripts → (es : List (Node × Text)) → AllSome es → T (Entries.below_all (node_cmp significant_digits) x es) → (q : List ℕ) → In (keys_in es) q → is_below (key x) q ≡ true
+below_in : (x : Node) → NoneEmpty x.subscripts → (es : List (Node × Text)) → AllSome es → T (Entries.below_all (node_cmp significant_digits) x es)
+    → (q : List ℕ) → In (keys_in es) q → is_below (key x) q ≡ true
 unfolding In AllSome keys_in
 below_in x some [] all below q is = absurd is
 below_in x some (e ∷ es) all below q is =
@@ -119,7 +115,8 @@ unfolding In keys_in
 found_in [] n some = absurd (cc)
 found_in (e ∷ es) n some = here (eq_by_cmp (node_cmp significant_digits) n e.0) refl some (found_in es n)
   where
-    here : (b : Bool) → eq_by_cmp (node_cmp significant_digits) n e.0 ≡ b → IsSome (cond b (Some e.1) (Entries.find (node_cmp significant_digits) n es)) → (IsSome (Entries.find (node_cmp significant_digits) n es) → In (keys_in es) (key n)) → (key n ≡ key e.0) ⊎ In (keys_in es) (key n)
+    here : (b : Bool) → eq_by_cmp (node_cmp significant_digits) n e.0 ≡ b → IsSome (cond b (Some e.1) (Entries.find (node_cmp significant_digits) n es))
+        → (IsSome (Entries.find (node_cmp significant_digits) n es) → In (keys_in es) (key n)) → (key n ≡ key e.0) ⊎ In (keys_in es) (key n)
     here true e some rest = inl (ap key (same_of n _ e))
     here false e some rest = inr (rest some)
 
@@ -138,20 +135,14 @@ of_none (x ∷ es) e = absurd (omega arith)
 same_key : (a b : List ℕ) → is_eq (slice_cmp nat_cmp a b) ≡ true → a ≡ b
 same_key a b e = slice_cmp-IsAntisymmetric nat_cmp-IsAntisymmetric a b ((Equal-is (slice_cmp nat_cmp a b)).0 e)
 
-neither_below : (a b : List ℕ) → is_below a b ≡ false → is_below b a ≡ false → a ≡ b
-neither_below a b e f = by_order (slice_cmp nat_cmp a b) refl e (subst (λ r. is_lt r ≡ false) (nat_list_cmp_total.antisymm b a) f)
-  where
-    by_order : (r : Ordering) → slice_cmp nat_cmp a b ≡ r → is_lt r ≡ false → is_lt (ordering_reverse (slice_cmp nat_cmp a b)) ≡ false → a ≡ b
-    by_order Less e t f = absurd (cc)
-    by_order Equal e t f = slice_cmp-IsAntisymmetric nat_cmp-IsAntisymmetric a b e
-    by_order Greater e t f = let no : true ≡ false = subst (λ r. is_lt (ordering_reverse r) ≡ false) e f in absurd (cc)
-
 module _ {A : Type 0} (key_of value_of : A → List ℕ) where
   key_is : (rows : List A) → AreKeyed key_of rows → (k : List ℕ) → IsSome (lookup_by key_of value_of rows k) → IsKey k
   key_is [] keyed k some = absurd (cc)
   key_is (r ∷ rows) keyed k some = here (is_eq (slice_cmp nat_cmp (key_of r) k)) refl some (key_is rows keyed.1 k)
     where
-      here : (b : Bool) → is_eq (slice_cmp nat_cmp (key_of r) k) ≡ b → IsSome (option_map value_of (cond b (Some r) (find (λ x. is_eq (slice_cmp nat_cmp (key_of x) k)) rows))) → (IsSome (lookup_by key_of value_of rows k) → IsKey k) → IsKey k
+      here : (b : Bool) → is_eq (slice_cmp nat_cmp (key_of r) k) ≡ b
+          → IsSome (option_map value_of (cond b (Some r) (find (λ x. is_eq (slice_cmp nat_cmp (key_of x) k)) rows)))
+          → (IsSome (lookup_by key_of value_of rows k) → IsKey k) → IsKey k
       here true e some rest = subst IsKey (same_key (key_of r) k e) keyed.0
       here false e some rest = rest some
 
@@ -191,7 +182,8 @@ module _ {A : Type 0} (key_of value_of : A → List ℕ) where
     nearest_is false h k e f = neither_below k h e f
     nearest_is true h k e f = neither_below k h f e
 
-    shown : (down : Bool) (low high : List ℕ) (r : Option (List ℕ)) (found : IsFound down (is_between low high) (keys_of (globals_by key_of value_of rows)) r) (q : Option (List ℕ)) → ShowsBytes down (lookup_by key_of value_of rows) low high q → q ≡ r
+    shown : (down : Bool) (low high : List ℕ) (r : Option (List ℕ)) (found : IsFound down (is_between low high) (keys_of (globals_by key_of value_of rows)) r) (q : Option (List ℕ))
+        → ShowsBytes down (lookup_by key_of value_of rows) low high q → q ≡ r
     unfolding IsFound
     shown down low high None found None shows = refl
     shown down low high None found (Some k) shows = let no : false ≡ true = sym (found k (some_in k shows.some)) ∙ shows.within in absurd (cc)
@@ -199,6 +191,7 @@ module _ {A : Type 0} (key_of value_of : A → List ℕ) where
     shown down low high (Some h) found (Some k) shows =
         ap Some (nearest_is down h k (found.1.1 k (some_in k shows.some) shows.within) (shows.none_nearer h (in_some h found.0) found.1.0))
 
-    pub steps : (down : Bool) (low high : List ℕ) (q : Option (List ℕ)) → ShowsBytes down (lookup_by key_of value_of rows) low high q → q ≡ step_key down (globals_by key_of value_of rows) low high
+    pub steps : (down : Bool) (low high : List ℕ) (q : Option (List ℕ)) → ShowsBytes down (lookup_by key_of value_of rows) low high q
+        → q ≡ step_key down (globals_by key_of value_of rows) low high
     steps false low high q shows = shown false low high _ (found_first (is_between low high) (keys_of (globals_by key_of value_of rows)) are_rising) q shows
     steps true low high q shows = shown true low high _ (found_last (is_between low high) (keys_of (globals_by key_of value_of rows)) are_rising) q shows

@@ -3,7 +3,7 @@
 use Rattle.mstore.proofs.Words.{arith, ◌≡◌, ◌<◌, ◌∙◌, inl, inr, Bool, true, false, None, ℕ, List, [], ◌∷◌, Result, Ok, Err, IsTrue, sym, subst, schema, Ghosts}
 use Rattle.mstore.proofs.Words.{Row, Error, Held, state, Executes, IsPlain, Blob, QueriesRow, understood, IsIdle, IsStore, Stays, stored, RemovesWithin}
 use Rattle.mstore.proofs.Words.{IsInForm, Add, Kill, Replace, sql, OnErr, OnOk, is_ok, holds, runs_as, doubt_of, Database, HasVersion, this_version, AreNodes}
-use Rattle.mstore.proofs.Words.{globals_by, key_of, value_of, ap}
+use Rattle.mstore.proofs.Words.{globals_by, key_of, value_of, ap, Shown, FailsToQuery}
 use Rattle.std.proofs.Common.{nat_lt}
 use Rattle.std.proofs.lemmas.Bool.Decides.{nat_tests}
 use Rattle.mnodes.specs.declared.store.StoreFault.{StoreFault}
@@ -11,7 +11,7 @@ use Rattle.mstore.specs.Database.{node_rows}
 use Rattle.mstore.specs.Putting.{PutsIf}
 use Rattle.mstore.specs.Statements.{AddsRow, MeetsRow, is_put}
 use Rattle.mstore.proofs.Doubting.{open_if}
-use Rattle.mstore.proofs.States.{stays_calm, same_version, query_row_stays, failed_execute_stays, came}
+use Rattle.mstore.proofs.States.{stays_calm, same_version, query_row_stays, shown_stays, failed_query_stays, failed_execute_stays, came}
 use Rattle.mstore.proofs.Texts.{add_is, add_command, kill_is, kill_command, replace_is, replace_command}
 use Rattle.mstore.proofs.Adds.{adds}
 use Rattle.mstore.proofs.Maps.{lookup_none}
@@ -59,6 +59,16 @@ module _ {S : Type 0} (g : Ghosts S) (old new : Held S) (was : IsStore (state g 
       → IsStore (state g new) × (stored g new ≡ stored g old) × (node_rows g new ≡ node_rows g old)
   query_keeps sql params r plain h =
       kept_sound (query_row_stays (state g old) (state g new) idle is_open sql params r (subst (λ s. IsPlain (understood s sql)) (sym was.calm.schema_is) plain) h)
+
+  -- also if all rows were asked for
+  pub rows_keep : (sql : List ℕ) (params : Row) (rows : List Row) → IsPlain (understood schema sql) → Shown sql params (state g old) (state g new) rows
+      → IsStore (state g new) × (stored g new ≡ stored g old) × (node_rows g new ≡ node_rows g old)
+  rows_keep sql params rows plain h =
+      kept_sound (shown_stays (state g old) (state g new) idle is_open sql params rows (subst (λ s. IsPlain (understood s sql)) (sym was.calm.schema_is) plain) h)
+
+  pub no_rows_keep : (sql : List ℕ) (params : Row) (e : Error) → FailsToQuery sql params (state g old) (state g new) e
+      → IsStore (state g new) × (stored g new ≡ stored g old) × (node_rows g new ≡ node_rows g old)
+  no_rows_keep sql params e h = kept_sound (failed_query_stays (state g old) (state g new) idle is_open sql params e h)
 
   failed_execute : (sql : List ℕ) (params : Row) (e : Error) → Executes sql params (state g old) (state g new) (Err e)
       → IsStore (state g new) × (stored g new ≡ stored g old)

@@ -56,7 +56,8 @@ module _ (old new : State) (was : IsIdle old) (is_open : IsTrue new.is_open) whe
   unfolding Shown
   shown_stays sql params rows plain h = rows_stay sql h.0 _ rows _ (subst IsPlain h.1.is plain).0 h.2
 
-  pub query_row_stays : (sql : List ℕ) (params : Row) (r : Result Row Error) → IsPlain (understood old.now.schema sql) → QueriesRow sql params old new r → Stays old new
+  pub query_row_stays : (sql : List ℕ) (params : Row) (r : Result Row Error) → IsPlain (understood old.now.schema sql) → QueriesRow sql params old new r
+      → Stays old new
   unfolding QueriesRow
   query_row_stays sql params (Ok row) plain (inl h) = unchanged_stays h.1
   query_row_stays sql params (Ok row) plain (inr h) = shown_stays sql params h.0 plain h.1
@@ -66,12 +67,13 @@ module _ (old new : State) (was : IsIdle old) (is_open : IsTrue new.is_open) whe
 refusal_is : (limit : Option ℕ) (command : Command) (db : Database) (params : Row) → RefusesToRead limit command db params QueryReturnedNoRows → ⊥
 refusal_is limit command db params h = grind arith
 
-not_run_is : (old new : State) (sql : List ℕ) (params : Row) → IsNotRun old new sql params QueryReturnedNoRows → ⊥
+pub not_run_is : (old new : State) (sql : List ℕ) (params : Row) → IsNotRun old new sql params QueryReturnedNoRows → ⊥
 unfolding IsNotRun
 not_run_is old new sql params h = grind arith
 
 -- no row is given only where the answer has none
-pub no_row_is : (sql : List ℕ) (params : Row) (old new : State) → IsPlain (understood old.now.schema sql) → QueriesRow sql params old new (Err QueryReturnedNoRows) → Shown sql params old new []
+pub no_row_is : (sql : List ℕ) (params : Row) (old new : State) → IsPlain (understood old.now.schema sql)
+    → QueriesRow sql params old new (Err QueryReturnedNoRows) → Shown sql params old new []
 unfolding QueriesRow FailsToQuery
 no_row_is sql params old new plain (inl (inl h)) = absurd (not_run_is old new sql params h)
 no_row_is sql params old new plain (inl (inr h)) =
@@ -85,7 +87,8 @@ asks_plain s command is old has = subst (λ c. IsPlain (understood c (sql s))) (
 -- ---- what is made of what came
 
 -- what holds of each answer holds of the row that it gives
-pub shows_found : {F : Type 0} (P : Option Row → Type 0) (Q : Result Row Error → Type 0) → (Q (Err QueryReturnedNoRows) → P None) → ((row : Row) → Q (Ok row) → P (Some row))
+pub shows_found : {F : Type 0} (P : Option Row → Type 0) (Q : Result Row Error → Type 0) → (Q (Err QueryReturnedNoRows) → P None)
+    → ((row : Row) → Q (Ok row) → P (Some row))
     → (answer : Result Row Error) → Q answer → (r : Result (Option Row) F) → IfOk r (Gives answer) → IfOk r P
 shows_found P Q h e answer f r k = grind arith
 
@@ -97,5 +100,6 @@ came A B C Q ok err (Err f) q (Err g) e = (let it = err f q in (it.0, tt, it.1))
 came A B C Q ok err (Ok n) q (Err g) e = absurd cc
 came A B C Q ok err (Err f) q (Ok u) e = absurd cc
 
-pub carried : {U F : Type 0} (P : Type 0) (Q : Result ℕ Error → Type 0) → ((n : ℕ) → Q (Ok n) → P) → (count : Result ℕ Error) → Q count → (r : Result U F) → is_ok r ≡ is_ok count → OnOk r P
+pub carried : {U F : Type 0} (P : Type 0) (Q : Result ℕ Error → Type 0) → ((n : ℕ) → Q (Ok n) → P) → (count : Result ℕ Error) → Q count → (r : Result U F)
+    → is_ok r ≡ is_ok count → OnOk r P
 carried P Q ok count q r e = (came (Unit {0}) P (Unit {0}) Q (λ n h. (tt, ok n h)) (λ _ _. (tt, tt)) count q r e).1

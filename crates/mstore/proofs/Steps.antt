@@ -11,22 +11,22 @@ use Rattle.mstore.proofs.Maps.{lookup_has, lookup_none, lookup_some}
 use Rattle.mstore.proofs.States.{asks_plain, no_row_is}
 use Rattle.mstore.proofs.RowTests.{in_range_is, key_column}
 
-there_is : (rows : List Row) (q : List ℕ) → IsSome (lookup rows q) → (r : Row) × Has rows r × (key_of r ≡ q)
+pub there_is : (rows : List Row) (q : List ℕ) → IsSome (lookup rows q) → (r : Row) × Has rows r × (key_of r ≡ q)
 there_is rows q h = go (lookup rows q) refl h
   where
     go : (o : Option (List ℕ)) → lookup rows q ≡ o → IsSome o → (r : Row) × Has rows r × (key_of r ≡ q)
     go None e none = absurd cc
     go (Some v) e some = let it = lookup_some rows q v e in (it.0, it.1, it.2)
 
-has_index : {X : Type 0} (xs : List X) (x d : X) → Has xs x → (j : ℕ) × (j < length xs) × (get_or xs j d ≡ x)
+pub has_index : {X : Type 0} (xs : List X) (x d : X) → Has xs x → (j : ℕ) × (j < length xs) × (get_or xs j d ≡ x)
 has_index [] x d h = absurd h
 has_index (y ∷ xs) x d (inl same) = (0, omega arith, sym same)
 has_index (y ∷ xs) x d (inr later) = let it = has_index xs x d later in (suc it.0, omega (arith, it.1), it.2)
 
-abbrev end_key : Bool → Key
+abbrev pub end_key : Bool → Key
 end_key down = record { collation = Binary; descending = down }
 
-abbrev sorts_by : Output → Value
+abbrev pub sorts_by : Output → Value
 sorts_by o = column o.0 0
 
 -- no output of the answer is before the first
@@ -53,7 +53,8 @@ module _ (down : Bool) (old new : State) (store : IsStore old) (low high : List 
   abbrev rows : List Row
   rows = old.now.trees 0
 
-  nearest : (row : Row) (tail : List Row) (a : IsAnswer (step_query down) (overlay old.now.trees []) params (row ∷ tail)) (ordered : List Output) → a.ordered ≡ ordered
+  nearest : (row : Row) (tail : List Row) (a : IsAnswer (step_query down) (overlay old.now.trees []) params (row ∷ tail)) (ordered : List Output)
+      → a.ordered ≡ ordered
       → (k : List ℕ) × (row ≡ Blob k ∷ []) × IsNearest down (content old) low high k
   nearest row tail a [] none = absurd (let e = a.shown ∙ ap (map (λ (o : Output). o.1)) none in cc)
   nearest row tail a (o ∷ rest) some =

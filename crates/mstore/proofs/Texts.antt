@@ -3,7 +3,7 @@
 use Rattle.mstore.proofs.Words.{◌≡◌, ℕ, Bool, List, [], ◌∷◌, codes, Ok, refl, pos, negsuc, true, false, Some, None, Query, inner, end, lit, col, op2, Source}
 use Rattle.mstore.proofs.Words.{Command, Key, Binary, Null, Int, Compare, Eq, Ge, Lt, Abort, Select, Insert, InsertOr, Update, Delete, IsPlain, command_of}
 use Rattle.mstore.proofs.Words.{Upsert, Program, Values, everything, understood, reads_listing, version_name, node, meta, schema, NodeTable, MetaTable, Add}
-use Rattle.mstore.proofs.Words.{Get, Put, Kill, Replace, Which, Each, sql, Statement, Step, Term}
+use Rattle.mstore.proofs.Words.{Ahead, Get, Put, Kill, Replace, Which, Each, sql, Statement, Step, Term}
 use Rattle.sqlite.specs.Compile.{table_defined_by}
 
 pub node_is : table_defined_by (sql NodeTable) ≡ Ok node
@@ -113,6 +113,17 @@ pub step_is : (down : Bool) → Asks (Step down) (step_command down)
 unfolding understood everything
 step_is false = (refl, (refl, refl), refl)
 step_is true = (refl, (refl, refl), refl)
+
+-- as many of the rows of a range, in the order of their keys, as the third parameter says
+abbrev pub ahead_query : Query
+ahead_query = record (table_query 0 in_range (col 1 1 ∷ col 1 2 ∷ []) (by_key false)) { limit = col 0 2 }
+
+abbrev pub ahead_command : Command
+ahead_command = Select (program ahead_query) (codes "k" ∷ codes "v" ∷ [])
+
+pub ahead_is : Asks Ahead ahead_command
+unfolding understood everything
+ahead_is = (refl, (refl, refl), refl)
 
 abbrev pub all_command : Command
 all_command = Select (program (table_query 0 [] (col 1 0 ∷ col 1 1 ∷ col 1 2 ∷ []) [])) (codes "rowid" ∷ codes "k" ∷ codes "v" ∷ [])

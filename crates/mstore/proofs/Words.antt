@@ -106,6 +106,7 @@ pub use Rattle.mstore.specs.Map.{Content, HasNone, IsNearest, PutsAt, RemovesWit
 pub use Rattle.mstore.specs.Moving.{IsAny, IsMoving, IsOldCalm, IsOldStore, IsWorking, MovesKey, MovesRow, RanInside, ShowContent}
 pub use Rattle.mstore.specs.Rows.{AreNodes, AreNumbered, AreRows, HasOther, HasOtherBy, IsInForm, IsAbove, IsInFormBy, IsNode, IsValue, RiseFrom, ShowsKey}
 pub use Rattle.mstore.specs.Rows.{ShowsNodeBy, ShowsValue, is_at, key_of, lookup, shown_of, value_of}
-pub use Rattle.mstore.specs.Statements.{Add, Each, Get, Gives, Kill, MetaTable, NodeTable, Put, Replace, Set, Statement, Step, Version, Which, sql}
+pub use Rattle.mstore.specs.Statements.{Add, Ahead, Each, Get, Gives, Kill, MetaTable, NodeTable, Put, Replace, Set, Statement, Step, Version, Which}
+pub use Rattle.mstore.specs.Statements.{sql}
 pub use Rattle.mstore.specs.Versions.{HoldBy, digits_of, number_of}
 pub use Rattle.mnodes.specs.declared.plain.Entry.{Entry}

@@ -7,6 +7,7 @@ pub mod Layout
 pub mod Map
 pub mod Rows
 pub mod Statements
+pub mod Stretch
 pub mod Versions
 pub mod Moving
 pub mod InMemory

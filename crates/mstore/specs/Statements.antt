@@ -26,8 +26,9 @@ pub data Statement : Type 0 where
   -- a value put at a key that has none, and one put in the place of the value at a key
   Add : Statement
   Replace : Statement
-  -- the first key of a range, and the last
+  -- the first key of a range, and the last; and the first rows of a range, up to a limit
   Step : Bool → Statement
+  Ahead : Statement
   -- the version; each row; and the version that it gets
   Which : Statement
   Each : Statement
@@ -44,6 +45,7 @@ sql Add = codes "INSERT INTO node (k, v) VALUES (?1, ?2)"
 sql Replace = codes "UPDATE node SET v = ?2 WHERE k = ?1"
 sql (Step false) = codes "SELECT k FROM node WHERE k >= ?1 AND k < ?2 ORDER BY k"
 sql (Step true) = codes "SELECT k FROM node WHERE k >= ?1 AND k < ?2 ORDER BY k DESC"
+sql Ahead = codes "SELECT k, v FROM node WHERE k >= ?1 AND k < ?2 ORDER BY k LIMIT ?3"
 sql Which = codes "SELECT rowid, n FROM meta WHERE name = 'version'"
 sql Each = codes "SELECT rowid, k, v FROM node"
 sql Set = codes "UPDATE meta SET n = 2 WHERE name = 'version'"

@@ -4,6 +4,7 @@
 //! What a store of nodes is stands in `mnodes`.
 #![tactic(auto)]
 
+mod ahead;
 mod create;
 pub mod file_laws;
 pub mod files;
@@ -12,6 +13,7 @@ mod migrating;
 mod open_fault;
 mod opening;
 mod statements;
+mod stretch;
 pub mod table;
 mod version;
 

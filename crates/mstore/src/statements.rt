@@ -1,14 +1,16 @@
 // SPDX-License-Identifier: Apache-2.0
 // The statements, each alone.
 
-ghost use Rattle.std.specs.Prelude.{◌≡◌, ◌≢◌, ◌↔◌, ◌⊎◌, ℕ, IfOk, IsTrue, OnOk, OnErr, is_ok, false, Ok, Err, None};
+ghost use Rattle.std.specs.Prelude.{◌≡◌, ◌≢◌, ◌↔◌, ◌≤◌, ◌⊎◌, ℕ, IfOk, IsTrue, OnOk, OnErr, is_ok, false, Ok, Err, None};
 ghost use Rattle.sqlite.specs.Held.{state};
+ghost use Rattle.mnodes.specs.Doubt.{shut};
 ghost use Rattle.mstore.specs.Database.{DoubtsStore, IsKept, IsStore, doubt_of, holds, node_rows, stored};
 ghost use Rattle.mstore.specs.Map.{RemovesWithin, is_down};
 ghost use Rattle.mstore.specs.Putting.{FailsIfFull, PutsAs, PutsBy};
 ghost use Rattle.mstore.specs.Rows.{IsInForm, ShowsValue, ShowsKey};
 ghost use Rattle.mstore.specs.Room.{AreUpTo, IsFaultless};
 ghost use Rattle.mstore.specs.Statements.{AddsRow, Gives, IsRefusal, MeetsRow, Step, is_put, sql};
+ghost use Rattle.mstore.specs.Stretch.{ShowsFirst};
 
 use mkey::Direction;
 use mnodes::StoreFault;
@@ -29,6 +31,8 @@ pub(crate) const KILL: &str = "DELETE FROM node WHERE k >= ?1 AND k < ?2";
 pub(crate) const NEXT: &str = "SELECT k FROM node WHERE k >= ?1 AND k < ?2 ORDER BY k";
 
 pub(crate) const PREV: &str = "SELECT k FROM node WHERE k >= ?1 AND k < ?2 ORDER BY k DESC";
+
+pub(crate) const AHEAD: &str = "SELECT k, v FROM node WHERE k >= ?1 AND k < ?2 ORDER BY k LIMIT ?3";
 
 // For a store of version 1, whose rows are moved by the two that put and take away.
 pub(crate) const SET: &str = "UPDATE meta SET n = 2 WHERE name = 'version'";
@@ -100,12 +104,34 @@ pub(crate) fn find_key<S: Alter>(
 ) -> Result<Option<Row>, StoreFault>
     ensures limit { conn.new.step_limit ≡ conn.old.step_limit }
     ensures doubt { DoubtsStore S.Store conn.old conn.new (is_ok result) }
+    ensures answered { doubt_of S.Store conn.new ≡ shut → is_ok result ≡ false }
     ensures kept { IsKept S.Store conn.old conn.new }
     ensures found { IsStore (state S.Store conn.old) → doubt_of S.Store conn.new ≡ 0 → IfOk result (ShowsKey (is_down direction)
         (holds S.Store conn.old) low.now high.now) }
     ensures store { IsFaultless S.Store → IsStore (state S.Store conn.old) → conn.old.step_limit ≡ None → result ≢ Err StoreFault.Store }
 {
     found(conn.query_row(step(direction), params![low, high]))
+}
+
+// The first rows of a range, up to a limit.
+pub(crate) fn find_rows<S: Alter>(
+    conn: &mut Connection<S>,
+    low: &[u8],
+    high: &[u8],
+    most: u32,
+) -> Result<Vec<Row>, StoreFault>
+    ensures limit { conn.new.step_limit ≡ conn.old.step_limit }
+    ensures order { doubt_of S.Store conn.old ≤ doubt_of S.Store conn.new }
+    ensures answered { doubt_of S.Store conn.new ≡ shut → is_ok result ≡ false }
+    ensures kept { IsKept S.Store conn.old conn.new }
+    ensures found { IsStore (state S.Store conn.old) → doubt_of S.Store conn.new ≡ 0 → IfOk result (λ rows. ShowsFirst (holds S.Store conn.old) low.now high.now
+        most rows.items) }
+    ensures store { IsFaultless S.Store → IsStore (state S.Store conn.old) → conn.old.step_limit ≡ None → result ≢ Err StoreFault.Store }
+{
+    match conn.query_all(AHEAD, params![low, high, most]) {
+        Ok(rows) => Ok(rows),
+        Err(error) => Err(fault_of(&error)),
+    }
 }
 
 // Whether a change met a row.

@@ -14,17 +14,18 @@ ghost use Rattle.mstore.specs.Map.{is_down, step_key};
 ghost use Rattle.mstore.specs.Room.{counted_on, IsFaultless};
 ghost use Rattle.mstore.specs.Rows.{IsValue};
 
+use crate::ahead::{first_key, last_key, text_at};
 use crate::create::make_tables;
 use crate::layout::is_blank;
 use crate::open_fault::OpenFault;
 use crate::opening::{open_beside, open_tables};
-use crate::statements::{fault_of, find_key, find_value, remove_range, store_value};
-use mkey::{Direction, NodeKey};
+use crate::statements::{fault_of, remove_range, store_value};
+use crate::stretch::Stretch;
+use mkey::NodeKey;
 use mmemory::Memory;
 use mnodes::{NodeStore, StoreFault};
 use mnum::Bytes7;
-use mspec::limits::MAX_TEXT;
-use sqlite::{Alter, Connection, Row};
+use sqlite::{Alter, Connection};
 use sqlite_disk::Disk;
 use sqlite_store::FileStore;
 use std::alloc::Global;
@@ -43,6 +44,8 @@ pub struct Table<S: Alter> {
     numbers: u64,
     // The last put was of a key that had no value: then the next one most likely is, too.
     adds: bool,
+    // Rows that were read ahead.
+    stretch: Stretch,
     alloc: Global,
 }
 
@@ -54,6 +57,7 @@ impl<S: Alter + Drop> Drop for Table<S> {
             alone: _,
             numbers: _,
             adds: _,
+            stretch: _,
             alloc: _,
         } = self;
     }
@@ -62,8 +66,9 @@ impl<S: Alter + Drop> Drop for Table<S> {
 impl<S: Alter> Model for Table<S> {
     ghost use Rattle.std.specs.Prelude.{◌≡◌, IsTrue, None};
     ghost use Rattle.sqlite.specs.Held.{state};
-    ghost use Rattle.mstore.specs.Database.{TableOver, table_code, doubt_of, node_rows, IsStore};
+    ghost use Rattle.mstore.specs.Database.{TableOver, table_code, doubt_of, holds, node_rows, IsStore};
     ghost use Rattle.mstore.specs.Room.{AreCounted};
+    ghost use Rattle.mstore.specs.Stretch.{Agrees};
 
     ghost Value = { TableOver S };
 
@@ -72,7 +77,8 @@ impl<S: Alter> Model for Table<S> {
     ghost view = { λ t. record { conn = t.conn; is_alone = t.alone; numbers = t.numbers } };
 
     ghost invariant = { λ t. (IsTrue t.alone → doubt_of S.Store t.conn ≡ 0 → IsStore (state S.Store t.conn)) × (t.conn.step_limit ≡ None)
-        × (IsTrue t.alone → doubt_of S.Store t.conn ≡ 0 → AreCounted t.numbers (node_rows S.Store t.conn)) };
+        × (IsTrue t.alone → doubt_of S.Store t.conn ≡ 0 → AreCounted t.numbers (node_rows S.Store t.conn))
+        × (IsTrue t.alone → doubt_of S.Store t.conn ≡ 0 → Agrees (holds S.Store t.conn) t.stretch) };
 }
 
 impl Table<Memory> {
@@ -105,11 +111,13 @@ impl Table<Memory> {
         }
         make_tables(&mut conn)?;
         conn.set_step_limit(None);
+        let stretch = Stretch::new(alloc);
         Ok(Table {
             conn,
             alone: true,
             numbers: 0,
             adds: true,
+            stretch,
             alloc,
         })
     }
@@ -140,11 +148,13 @@ impl<D: Disk> Table<FileStore<D>> {
         match open_beside(alloc, &mut conn) {
             Ok(alone) => {
                 conn.set_step_limit(None);
+                let stretch = Stretch::new(alloc);
                 Ok(Table {
                     conn,
                     alone,
                     numbers: LAST_NUMBER,
                     adds: false,
+                    stretch,
                     alloc,
                 })
             }
@@ -185,11 +195,13 @@ impl<S: Alter> Table<S> {
         match open_tables(alloc, &mut conn) {
             Ok(()) => {
                 conn.set_step_limit(None);
+                let stretch = Stretch::new(alloc);
                 Ok(Table {
                     conn,
                     alone: true,
                     numbers: LAST_NUMBER,
                     adds: false,
+                    stretch,
                     alloc,
                 })
             }
@@ -214,6 +226,7 @@ impl<S: Alter> Table<S> {
             alone: _,
             numbers: _,
             adds: _,
+            stretch: _,
             alloc: _,
         } = self;
         conn
@@ -229,54 +242,6 @@ fn one_more(numbers: u64) -> u64
     } else {
         numbers
     }
-}
-
-// The text that a row shows.
-fn text_in(row: &Row) -> Result<Bytes7, StoreFault>
-    ensures text { IfOk result (λ text. column row.now 0 ≡ Blob text) }
-    ensures short { IfOk result (λ text. length text ≤ max_text) }
-    ensures told { (v : List ℕ) → row.now ≡ Blob v ∷ [] → IsValue v → result ≢ Err StoreFault.Store }
-{
-    let bytes = bytes_in(row)?;
-    if bytes.len() > MAX_TEXT {
-        return Err(StoreFault::Store);
-    }
-    match Bytes7::new(bytes) {
-        Ok(text) => Ok(text),
-        Err(_) => Err(StoreFault::Store),
-    }
-}
-
-// The bytes that a row shows.
-fn bytes_in(row: &Row) -> Result<Vec<u8>, StoreFault>
-    ensures bytes { IfOk result (λ bytes. column row.now 0 ≡ Blob bytes.items) }
-    ensures told { (v : List ℕ) → row.now ≡ Blob v ∷ [] → result ≢ Err StoreFault.Store }
-{
-    match row.get::<Vec<u8>>(0) {
-        Ok(bytes) => Ok(bytes),
-        Err(error) => Err(fault_of(&error)),
-    }
-}
-
-// The bytes of the first key of a range, or of the last.
-fn key_within<S: Alter>(
-    conn: &mut Connection<S>,
-    direction: Direction,
-    low: &[u8],
-    high: &[u8],
-) -> Result<Option<Vec<u8>>, StoreFault>
-    ensures doubt { DoubtsStore S.Store conn.old conn.new (is_ok result) }
-    ensures kept { IsKept S.Store conn.old conn.new }
-    ensures limit { conn.new.step_limit ≡ conn.old.step_limit }
-    ensures store { IsFaultless S.Store → IsStore (state S.Store conn.old) → conn.old.step_limit ≡ None → result ≢ Err StoreFault.Store }
-    ensures found { IsStore (state S.Store conn.old) → doubt_of S.Store conn.new ≡ 0 → IfOk result (λ key. option_map (λ bytes. bytes.items) key ≡ step_key
-        (is_down direction) (stored S.Store conn.old) low.now high.now) }
-{
-    let Some(row) = find_key(conn, direction, low, high)? else {
-        return Ok(None);
-    };
-    let bytes = bytes_in(&row)?;
-    Ok(Some(bytes))
 }
 
 impl<S: Alter> NodeStore for Table<S> {
@@ -301,11 +266,12 @@ impl<S: Alter> NodeStore for Table<S> {
         ensures store { IsFaultless S.Store → IsTrue (has_room S.Store self.new) → result ≢ Err StoreFault.Store }
         ensures counts { self.new.numbers ≡ self.old.numbers }
     {
-        let Some(row) = find_value(&mut self.conn, key.as_bytes())? else {
-            return Ok(None);
-        };
-        let text = text_in(&row)?;
-        Ok(Some(text))
+        text_at(
+            &mut self.conn,
+            &mut self.stretch,
+            self.alloc,
+            key.as_bytes(),
+        )
     }
 
     fn put(&mut self, key: &NodeKey, text: &Bytes7) -> Result<(), StoreFault>
@@ -318,12 +284,11 @@ impl<S: Alter> NodeStore for Table<S> {
         ensures counts { self.new.numbers ≡ counted_on self.old.numbers }
     {
         self.numbers = one_more(self.numbers);
-        store_value(
-            &mut self.conn,
-            &mut self.adds,
-            key.as_bytes(),
-            text.as_bytes(),
-        )
+        let bytes = key.as_bytes();
+        self.stretch.leave_out(bytes);
+        let put = store_value(&mut self.conn, &mut self.adds, bytes, text.as_bytes());
+        self.stretch.settle(put.is_ok());
+        put
     }
 
     fn kill(&mut self, key: &NodeKey) -> Result<(), StoreFault>
@@ -335,7 +300,12 @@ impl<S: Alter> NodeStore for Table<S> {
         ensures counts { self.new.numbers ≡ self.old.numbers }
     {
         let end = key.after_subtree(self.alloc)?;
-        remove_range(&mut self.conn, key.as_bytes(), end.as_slice())
+        let low = key.as_bytes();
+        let high = end.as_slice();
+        self.stretch.leave_out_range(low, high);
+        let killed = remove_range(&mut self.conn, low, high);
+        self.stretch.settle(killed.is_ok());
+        killed
     }
 
     fn next(&mut self, low: &[u8], high: &[u8]) -> Result<Option<Vec<u8>>, StoreFault>
@@ -347,7 +317,7 @@ impl<S: Alter> NodeStore for Table<S> {
         ensures store { IsFaultless S.Store → IsTrue (has_room S.Store self.new) → result ≢ Err StoreFault.Store }
         ensures counts { self.new.numbers ≡ self.old.numbers }
     {
-        key_within(&mut self.conn, Direction::Forward, low, high)
+        first_key(&mut self.conn, &mut self.stretch, self.alloc, low, high)
     }
 
     fn prev(&mut self, low: &[u8], high: &[u8]) -> Result<Option<Vec<u8>>, StoreFault>
@@ -359,7 +329,7 @@ impl<S: Alter> NodeStore for Table<S> {
         ensures store { IsFaultless S.Store → IsTrue (has_room S.Store self.new) → result ≢ Err StoreFault.Store }
         ensures counts { self.new.numbers ≡ self.old.numbers }
     {
-        key_within(&mut self.conn, Direction::Backward, low, high)
+        last_key(&mut self.conn, &mut self.stretch, self.alloc, low, high)
     }
 
     ghost steady_is_sound = { λ beneath. beneath.memory };

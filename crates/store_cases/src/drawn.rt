@@ -18,7 +18,8 @@ const LOG: &str = "transcripts_drawn.db-wal";
 const WORDS: [&str; 10] = ["1", "2", "10", ".5", "-1", "A", "B", "AB", "01", "a"];
 
 /// For each case, a seed and a count, prints how many answers of the plain store and of a table in memory, and of the plain store
-/// and of a table in a file, differ: in `count` drawn questions, after `count` drawn puts, and a kill for each sixteen of them.
+/// and of a table in a file, differ: in `count` drawn questions, after `count` drawn puts, and a kill for each sixteen of them; and
+/// then in a twentieth as many walks, of up to twenty steps with a question at each, and a put or a kill at each eighth.
 ///
 /// # Errors
 ///
@@ -92,6 +93,11 @@ fn differences<S: NodeStore, T: NodeStore>(
             found = found.saturating_add(1);
         }
     }
+    for _ in 0..count / 20 {
+        if !walks_alike(first, second, alloc, &mut state)? {
+            found = found.saturating_add(1);
+        }
+    }
     Ok(found)
 }
 
@@ -139,6 +145,39 @@ fn same_neighbours<S: NodeStore, T: NodeStore>(
     let other_after = second.next(low, high).ok().context("not read")?;
     let other_before = second.prev(low, high).ok().context("not read")?;
     Ok(same(after, other_after) && same(before, other_before))
+}
+
+// Whether two stores give the same walk from a drawn node on, while both change alike.
+fn walks_alike<S: NodeStore, T: NodeStore>(
+    first: &mut S,
+    second: &mut T,
+    alloc: Global,
+    state: &mut u64,
+) -> anyhow::Result<bool> {
+    let mut low = drawn_key(alloc, state)?.into_bytes();
+    for _ in 0..20 {
+        let after = first.next(&low, &[255]).ok().context("not read")?;
+        let other = second.next(&low, &[255]).ok().context("not read")?;
+        let Some(found) = after else {
+            return Ok(other.is_none());
+        };
+        if !is_same(found.as_slice(), &other) || !answers_alike(first, second, alloc, state)? {
+            return Ok(false);
+        }
+        if draw(state) % 8 == 0 {
+            change_both(first, second, alloc, state)?;
+        }
+        low = found;
+        low.push(1)?;
+    }
+    Ok(true)
+}
+
+fn is_same(left: &[u8], right: &Option<Vec<u8>>) -> bool {
+    match right {
+        Some(right) => right.as_slice() == left,
+        None => false,
+    }
 }
 
 fn same(left: Option<Vec<u8>>, right: Option<Vec<u8>>) -> bool {

@@ -21,8 +21,8 @@ const FILE: &str = "transcripts_stores.db";
 const LOG: &str = "transcripts_stores.db-wal";
 
 /// Plays calls one after another over the plain store, and prints what they give. Does the same over a table in memory that is
-/// opened again before each call, and over one in a file that is closed and opened again; if they give something else, it is
-/// printed too.
+/// opened again before each call, over one that stays, so that it reads ahead, and over one in a file that is closed and opened
+/// again; if they give something else, it is printed too.
 ///
 /// # Errors
 ///
@@ -38,6 +38,8 @@ pub fn play_stores(rt: &HostRuntime, cases: &[&str], out: &mut Vec<u8>) -> anyho
     })?;
     let in_memory = over_table(alloc, Table::open_memory(alloc)?, cases)?;
     print_others(alloc, "in a table:", &in_memory, &given, out)?;
+    let in_one = over_one_table(alloc, Table::open_memory(alloc)?, cases)?;
+    print_others(alloc, "in a table that reads ahead:", &in_one, &given, out)?;
     remove(rt, FILE, LOG);
     let in_a_file = in_a_file(rt, cases);
     remove(rt, FILE, LOG);
@@ -67,6 +69,21 @@ fn over_table<S: Alter + Drop>(
             Ok(again) => again,
             Err(_) => anyhow::bail!("a table that is not adopted"),
         };
+    }
+    Ok(given)
+}
+
+// What the calls give over a table that stays.
+fn over_one_table<S: Alter + Drop>(
+    alloc: Global,
+    mut table: Table<S>,
+    cases: &[&str],
+) -> anyhow::Result<Vec<u8>> {
+    let mut given = Vec::new(alloc);
+    for case in cases {
+        if !case.starts_with("# ") {
+            print(&mut given, &call(&mut table, alloc, case)?)?;
+        }
     }
     Ok(given)
 }

@@ -2,7 +2,7 @@
 use Rattle.mstore.proofs.Words.{[], ◌∷◌, subst, Blob, Row, state, Step, sql, QueriesRow, ShowsKey, content, is_down}
 use Rattle.mstore.proofs.Texts.{step_is, step_command}
 use Rattle.mstore.proofs.Steps.{steps, steps_none}
-use Rattle.mstore.proofs.Doubting.{clean_if, clean_if_shut, shut_if, order, query_row_open, found_fails}
+use Rattle.mstore.proofs.Doubting.{answered_open, clean_if, clean_if_shut, shut_if, order, query_row_open, found_fails}
 use Rattle.mstore.proofs.Sound.{query_keeps}
 use Rattle.mstore.proofs.Asked.{step_causes, unrefused}
 use Rattle.mstore.proofs.States.{shows_found, asks_plain}
@@ -49,3 +49,12 @@ returns-clause-store g c beneath was unlimited =
     unrefused c.query_row.result c.found.result
     (λ e is. step_causes g.S.Store old new beneath was unlimited down c.args.low.now c.args.high.now e (subst (QueriesRow (sql (Step down)) params (state g.S.Store old) (state g.S.Store new)) is ran))
     c.found.ensures.refused c.found.ensures.none
+
+pub returns-clause-answered : goal.returns-clause-answered
+returns-clause-answered g c is_shut =
+    let old = state g.S.Store c.args.conn.now in
+    let new = state g.S.Store c.query_row.new.self in
+    let down = is_down c.args.direction in
+    let params : Row = Blob c.args.low.now ∷ Blob c.args.high.now ∷ [] in
+    let asked = rw (c.step.ensures, c.params-to_sql.ensures, c.params-to_sql-2.ensures) at c.query_row.ensures.row in
+    answered_open old new (sql (Step down)) params c.query_row.result (asked (clean_if_shut new is_shut)) c.found.result c.found.ensures.row (shut_if new is_shut)

@@ -11,6 +11,7 @@ invariant_of-result g c = (
   λ alone sure. unlimited_store over_files c.open_beside.new.conn c.set_step_limit.new.self c.set_step_limit.ensures (λ sure. c.in-Ok.ensures.store sure alone) sure,
   ap (λ h. h.step_limit) c.set_step_limit.ensures,
   λ alone sure. none_counted _,
+  λ alone sure. c.new-stretch.ensures _,
 )
 
 pub returns-in-Ok-clause-opened : goal.returns-in-Ok-clause-opened

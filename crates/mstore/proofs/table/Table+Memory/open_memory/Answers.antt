@@ -15,6 +15,7 @@ invariant_of-result c =
       λ alone sure less.
           let made : IsBare (state over_memory c.make_tables.new.conn).now = c.in_ok-make_tables.ensures.made (memory_is_sure over_memory c.make_tables.new.conn memory_is) blank in
           subst (AreUpTo 0) (sym (subst (λ h. IsBare (state over_memory h).now) (sym c.set_step_limit.ensures) made).empty) (λ r h. absurd h),
+      λ alone sure. c.new-stretch.ensures _,
     )
 
 pub returns-clause-empty : goal.returns-clause-empty

@@ -9,6 +9,7 @@ invariant_of-result g c = (
   λ alone sure. unlimited_store g.S.Store c.open_tables.new.conn c.set_step_limit.new.self c.set_step_limit.ensures (λ sure. c.in-Ok.ensures.store sure) sure,
   ap (λ h. h.step_limit) c.set_step_limit.ensures,
   λ alone sure. none_counted _,
+  λ alone sure. c.new-stretch.ensures _,
 )
 
 pub returns-in-Ok-clause-store : goal.returns-in-Ok-clause-store

@@ -2,10 +2,11 @@
 use Rattle.mstore.proofs.Words.{is_down, rules}
 use Rattle.mstore.proofs.Doubting.{memory_is_sure}
 use Rattle.mstore.proofs.Tied.{step_none, step_some}
-use Rattle.mstore.proofs.table.key_within.Goals as goal
+use Rattle.mstore.proofs.ahead.key_within.Goals as goal
 
 pub returns-in_default-clause-found : goal.returns-in_default-clause-found
-returns-in_default-clause-found g c was sure = step_none g.S.Store c.args.conn.now was (is_down c.args.direction) c.args.low.now c.args.high.now (rw c.in_default.is at c.in_ok-row.ensures.found was sure)
+returns-in_default-clause-found g c was sure =
+    step_none g.S.Store c.args.conn.now was (is_down c.args.direction) c.args.low.now c.args.high.now (rw c.in_default.is at c.in_ok-row.ensures.found was sure)
 
 pub returns-clause-found : goal.returns-clause-found
 returns-clause-found g c was sure =

@@ -1,0 +1,14 @@
+-- SPDX-License-Identifier: Apache-2.0
+use Rattle.mstore.proofs.Words.{Bool, true, false, if◌then◌else◌, None, Some, ap, sym, ◌∙◌}
+use Rattle.mstore.specs.Stretch.{shown_key}
+use Rattle.mstore.proofs.stretch.key_from.Goals as goal
+
+pub returns-then-is_before : goal.returns-then-is_before
+returns-then-is_before c =
+    let test = rw c.column_of-key.ensures at (sym c.is_before.ensures ∙ c.if-is_before.true) in
+    sym (ap (λ (b : Bool). if b then None else Some (shown_key c.args.row.now)) test)
+
+pub returns : goal.returns
+returns c =
+    let test = rw c.column_of-key.ensures at (sym c.is_before.ensures ∙ c.if-is_before.false) in
+    ap Some (c.in_ok-bytes.ensures ∙ c.column_of-key.ensures) ∙ sym (ap (λ (b : Bool). if b then None else Some (shown_key c.args.row.now)) test)

@@ -8,14 +8,15 @@ use Rattle.mspec.specs.Scopes.{Binding, valued}
 use Rattle.mspec.specs.Act.{Text, Act, ◌>>=◌, ◌>>◌, give, fail, charge, write_formats, test_is}
 use Rattle.mgrammar.specs.Grammar.{SignTree, BinaryTree, ExprsTree}
 use Rattle.mmeaning.specs.Operators.{as_truth, unaries, binary, raising}
-use Rattle.mmeaning.specs.Functions.{call_value}
-use Rattle.mmeaning.specs.Variables.{Evaluated, of_local, of_global, of_naked, Place, reading, ordering, resolve, read_at, read_or, next_at, direction_of}
+use Rattle.mmeaning.specs.Functions.{whole_at, call_value}
+use Rattle.mmeaning.specs.Variables.{Evaluated, of_local, of_global, of_naked, Place, reading, ordering, resolve, read_at, read_or, next_at}
+use Rattle.mmeaning.specs.Variables.{direction_of, named}
 use Rattle.mmeaning.specs.Expression.{Inside, linked_by, named_by, matches_text, tail_value, operand_value}
 use Rattle.mmeaning.specs.Parameters.{handed}
 use Rattle.mmeaning.specs.LineMeaning.{Prepared, all_prepared, targets}
 use Rattle.mmeaning.specs.Programs.{Item, one_value, some_values, found, placed, walked, made, handing, data_at, on_top, Op, Operand, Tail, Spend, Sign}
 use Rattle.mmeaning.specs.Programs.{Join, Raise, Match, Match_not, Values, Add, Function, Begin, Actual, Hand, Hand_name, Call, Where, Formats, Prepare}
-use Rattle.mmeaning.specs.Programs.{Local, Global, Naked, Extended, Named, Read, Data, Resolve, Get, Walk, Order, Unless, Pass, Refuse}
+use Rattle.mmeaning.specs.Programs.{Local, Global, Naked, Extended, Named, Read, Data, Resolve, Get, Walk, Order, Tell_name, Unless, Pass, Refuse}
 use Rattle.mlocal.specs.Bindings.{binding_of}
 use Rattle.meval.specs.Acts.{named_within}
 use Rattle.meval.specs.Kept.{readable_view}
@@ -235,6 +236,11 @@ step_in i Order st = do
   p ← walked_on_top vs.1
   v ← direction_of (slice_get vs.0 0) >>= (λ d. next_at d p.0)
   on_top p.1 (one_value v)
+step_in i Tell_name st = do
+  vs ← values_on_top st
+  r ← found_on_top vs.1
+  v ← whole_at 0 vs.0 >>= (λ most. named i.account most r.0)
+  on_top r.1 (one_value v)
 step_in i (Unless n) st = fail Zsyntax
 step_in i (Pass n) st = fail Zsyntax
 step_in i (Refuse c) st = fail c

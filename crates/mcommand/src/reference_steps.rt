@@ -172,4 +172,19 @@ impl<'a, S: NodeStore> Parts<'a, S> {
         let value = self.eval.next_at(alloc, &walk, &values)?;
         put(items, Item::Value(value))
     }
+
+    // What $NAME gives of the reference below the values on top.
+    pub(crate) fn tell_name_step(
+        &mut self,
+        alloc: Global,
+        items: &mut Vec<Item>,
+    ) -> Result<bool, Code>
+        ensures { Does S.NodeStore (λ i. step_in i programs.Tell_name (items_view items.old.items))
+            (λ goes. goes_with goes (items_view items.new.items)) self.old result self.new }
+    {
+        let values = take_values(items)?;
+        let pending = take_found(items)?;
+        let value = self.eval.name_found(alloc, pending, &values)?;
+        put(items, Item::Value(value))
+    }
 }

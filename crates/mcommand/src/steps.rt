@@ -246,6 +246,7 @@ impl<'a, S: NodeStore> Parts<'a, S> {
             Op::Get => self.get_step(alloc, items),
             Op::Walk => self.walk_step(alloc, items),
             Op::Order => self.order_step(alloc, items),
+            Op::TellName => self.tell_name_step(alloc, items),
         }
     }
 }

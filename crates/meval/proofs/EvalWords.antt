@@ -11,7 +11,7 @@ pub use Rattle.mgrammar.specs.Grammar.{ActualTree, ActualsTree, EntryTree, ExprT
 pub use Rattle.mgrammar.specs.Grammar.{bracket, call, choices_of, expr, exprs, exprs_of, extended, extrinsic, global, indirect, local, naked, no_exprs}
 pub use Rattle.mgrammar.specs.Grammar.{no_tails, number, operand, refer, reference, select, special, tail, tails_of, text}
 pub use Rattle.mgrammar.specs.Specials.{special_of}
-pub use Rattle.mgrammar.specs.Functions.{VariableFunctionTree, data_function, function_of, get_function, order_function}
+pub use Rattle.mgrammar.specs.Functions.{VariableFunctionTree, data_function, function_of, get_function, name_function, order_function}
 pub use Rattle.mmeaning.proofs.Calls.{asked, assoc, did_failed, did_gives, did_lost, did_spent, did_then, residual_is}
 pub use Rattle.mmeaning.proofs.Yieldings.{yielded, yielded_so, yields_gives}
 pub use Rattle.mmeaning.specs.Calls.{Did, Ends, FailedBy, Here, Standing, ops_of}
@@ -19,11 +19,13 @@ pub use Rattle.mmeaning.specs.Expression.{Inside, an_indirection_free, chosen, e
 pub use Rattle.mmeaning.specs.Expression.{operand_value, primary_value, tail_value, tails_value, through, value, values}
 unfoldable pub use Rattle.mmeaning.specs.Expression.{finds}
 pub use Rattle.mmeaning.specs.Operators.{as_number, as_text, as_truth, binary, both_numbers}
-pub use Rattle.mmeaning.specs.Variables.{Evaluated, Place, allowed, at_local, at_node, beside, checked, data_number, direction_of, found_at, named_lock}
-pub use Rattle.mmeaning.specs.Variables.{next_at, node_place, of_global, of_local, of_naked, ordering, put_at, read_at, read_or, reading, referring, replaced}
-pub use Rattle.mmeaning.specs.Variables.{resolve, some_subscript, special_value, status_at, subscripts_of, variable_function_value, with_subscripts}
+pub use Rattle.mmeaning.specs.Variables.{Evaluated, Place, allowed, at_local, at_node, beside, checked, data_number, direction_of, environment_of, found_at}
+pub use Rattle.mmeaning.specs.Variables.{name_with, named, named_lock, next_at, node_named, node_place, of_global, of_local, of_naked}
+pub use Rattle.mmeaning.specs.Variables.{ordering, put_at, read_at, read_or}
+pub use Rattle.mmeaning.specs.Variables.{reading, referring, replaced, resolve, some_subscript, special_value, status_at, subscripts_of}
+pub use Rattle.mmeaning.specs.Variables.{variable_function_value, with_subscripts}
 pub use Rattle.mmeaning.specs.Yields.{Yields}
-pub use Rattle.mmeaning.specs.Functions.{call_value, whole_text}
+pub use Rattle.mmeaning.specs.Functions.{call_value, whole_at, whole_text}
 pub use Rattle.mnum.specs.Num.{units}
 pub use Rattle.mnum.specs.declared.num.Num.{Num}
 pub use Rattle.moperator.specs.Codes.{fault_of}
@@ -52,7 +54,8 @@ pub use Rattle.mtree.specs.Tree.{referring_tree, sign_tree, tail_layer, tail_tre
 pub use Rattle.mtree.specs.declared.tree.Choice.{Choice}
 pub use Rattle.mtree.specs.declared.tree.Expr.{Expr}
 pub use Rattle.mtree.specs.declared.tree.Tail.{Tail}
-pub use Rattle.meval.specs.Acts.{data_act, data_at, direction_act, get_act, get_from, operand_number, order_behind, order_from, primary_number, read_act}
+pub use Rattle.meval.specs.Acts.{data_act, data_at, direction_act, get_act, get_from, most_act, name_behind, operand_number, order_behind, order_from}
+pub use Rattle.meval.specs.Acts.{primary_number, read_act}
 pub use Rattle.meval.specs.Evaluates.{Evaluates, KeepsEval, Leads, depth_of, eval_here, own_global, standing_of}
 pub use Rattle.meval.specs.Held.{name_view}
 pub use Rattle.meval.specs.Places.{IsOpen, pending_view, place_view, status_view, undefined_at, use_of, walk_view}

@@ -9,6 +9,7 @@ pub mod MayRead
 pub mod Indirections
 pub mod Locks
 pub mod LocalVariables
+pub mod NodeNames
 pub mod Chains
 pub mod PowerRuns
 pub mod EvalLaws

@@ -5,7 +5,8 @@ use Rattle.meval.proofs.EvalWords.{significant_digits, numeric_value, number_tex
 use Rattle.meval.proofs.EvalWords.{ExprsTree, number, reference, local, no_exprs, exprs, as_text, Inside, value, values, evaluated, primary_value, Evaluated}
 use Rattle.meval.proofs.EvalWords.{Place, ordering, of_local, at_local, checked, resolve, direction_of, next_at, Yields, assoc, units, Num, Ghosts, fault_of}
 use Rattle.meval.proofs.EvalWords.{Code, Eval, Evaluates, direction_act, data_act, get_act, read_act, read_or, unwrap_or, order_from, order_behind, true, List}
-use Rattle.meval.proofs.EvalWords.{VariableFunctionTree, data_function, get_function, order_function, variable_function_value, Text}
+use Rattle.meval.proofs.EvalWords.{VariableFunctionTree, data_function, get_function, name_function, order_function, variable_function_value, name_behind, Text}
+use Rattle.meval.proofs.EvalWords.{ℤ, Option, whole_at, named, most_act}
 use Rattle.mspec.specs.Code as spec
 use Rattle.moperator.specs.declared.code.Code.TheVariants as code
 use Rattle.meval.proofs.Calls.{evaluates_then, evaluates_failed, evaluates_stopped, evaluates_gives, evaluates_yielded, evaluates_fails}
@@ -59,9 +60,10 @@ module _ {S : Type 0} {g : Ghosts S} where
 
   -- a function of a variable that is not evaluated
   pub function_failed : {old new : Eval S} {p : Inside → Act Evaluated} {c : Code} (f : VariableFunctionTree) (more : ExprsTree) → Evaluates g p (λ (v : Evaluated). v) old (Err c) new
-      → Evaluates g (λ i. variable_function_value f (p i) (values i [] more)) (λ (t : Text). t) old (Err c) new
+      → Evaluates g (λ i. variable_function_value i.account f (p i) (values i [] more)) (λ (t : Text). t) old (Err c) new
   function_failed data_function more d = evaluates_failed (λ i v. data_act v) d
   function_failed get_function more d = evaluates_failed (get_act more) d
+  function_failed name_function more d = evaluates_failed (name_behind more) d
   function_failed order_function more d = evaluates_failed (order_behind more) d
 
   -- once it is let through
@@ -90,6 +92,19 @@ module _ {S : Type 0} {g : Ghosts S} where
         → Evaluates g (λ i. order_from more i p) (λ (t : Text). t) old r new
     ordered_stopped told h =
         regrouped (λ i. values i [] more) (λ i xs. direction_of (slice_get xs 0)) (λ i d. next_at d p) (evaluates_stopped (λ i d. next_at d p) told h)
+
+  -- ---- $NAME
+
+  module _ (more : ExprsTree) (v : Evaluated) where
+    pub named_as : {old mid new : Eval S} (most : Option ℤ) {r : Result Text Code} → Evaluates g (λ i. most_act i more) (λ (m : Option ℤ). m) old (Ok most) mid
+        → Evaluates g (λ i. named i.account most v) (λ (t : Text). t) mid r new → Evaluates g (λ i. name_behind more i v) (λ (t : Text). t) old r new
+    named_as most told k =
+        regrouped (λ i. values i [] more) (λ i xs. whole_at 0 xs) (λ i m. named i.account m v) (evaluates_then (λ i m. named i.account m v) told k)
+
+    pub named_stopped : {old new : Eval S} {c : Code} {r : Result Text Code} → Evaluates g (λ i. most_act i more) (λ (m : Option ℤ). m) old (Err c) new
+        → IsErr r × IsErrAnd r (λ x. x ≡ c) → Evaluates g (λ i. name_behind more i v) (λ (t : Text). t) old r new
+    named_stopped told h =
+        regrouped (λ i. values i [] more) (λ i xs. whole_at 0 xs) (λ i m. named i.account m v) (evaluates_stopped (λ i m. named i.account m v) told h)
 
   -- a local variable with one subscript, once $ORDER's checks let it through
   pub walk_through : {e : Eval S} (name : Text) (xs : List Text) → Yields {E = Code} fault_of (checked ordering xs) (λ (u : Unit {0}). u) (Ok tt) → Evaluates g (λ i. resolve ordering (of_local name xs)) (λ (p : Place). p) e (Ok (at_local name xs)) e

@@ -28,7 +28,7 @@ module _ {S : Type 0} {g : Ghosts S} where
   charge_failed (bracket e') e d = evaluates_failed (λ i _. value i e') d
   charge_failed (call word args) e d = evaluates_failed (λ i _. values i [] args >>= call_value word) d
   charge_failed (select word choices) e d = evaluates_failed (λ i _. chosen i choices) d
-  charge_failed (refer word r more) e d = evaluates_failed (λ i _. referring (function_of word) (evaluated i r) (values i [] more)) d
+  charge_failed (refer word r more) e d = evaluates_failed (λ i _. referring i.account (function_of word) (evaluated i r) (values i [] more)) d
   charge_failed (extrinsic e' xs) e d = evaluates_failed (λ i _. i.calls i.depth e' (handed_over i xs)) d
 
   -- no function is called

@@ -1,18 +1,18 @@
 -- SPDX-License-Identifier: Apache-2.0
 -- What calls of the evaluation do, for acts that the meaning has inside larger ones.
-use Rattle.std.specs.Prelude.{ℤ, pos, Bool, List, [], map, slice_get, unwrap_or}
+use Rattle.std.specs.Prelude.{ℤ, pos, Bool, List, Option, [], map, slice_get, unwrap_or}
 use Rattle.mspec.specs.Trees.{Direction}
 use Rattle.mspec.specs.Act.{Text, Act, ◌>>=◌, ◌>>◌, give, give_some, read_so}
 use Rattle.mgrammar.specs.Grammar.{ExprTree, ExprsTree, OperandTree, PrimaryTree, ReferenceTree}
-use Rattle.mgrammar.specs.Functions.{get_function, order_function}
+use Rattle.mgrammar.specs.Functions.{get_function, name_function, order_function}
 use Rattle.mspec.specs.Code.{Zsyntax}
 use Rattle.mgrammar.specs.IndirectTexts.{pattern_of}
 use Rattle.mgrammar.specs.Languages.{ref_in}
 use Rattle.mmeaning.specs.Operators.{as_number, as_truth, matching}
-use Rattle.mmeaning.specs.Functions.{whole_text, call_value}
+use Rattle.mmeaning.specs.Functions.{whole_text, whole_at, call_value}
 use Rattle.mspec.specs.LockConflict.{LockName}
 use Rattle.mmeaning.specs.Variables.{Evaluated, Place, reading, writing, ordering, resolve, named_lock, read_at, read_or, put_at, status_at, next_at}
-use Rattle.mmeaning.specs.Variables.{data_number, direction_of, variable_function_value}
+use Rattle.mmeaning.specs.Variables.{data_number, direction_of, named, variable_function_value}
 use Rattle.mmeaning.specs.Expression.{Inside, an_indirection_free, indirected, value, values, operand_value, primary_value, matches_text, evaluated, through}
 
 -- whether a value matches the pattern that a text is, if an indirection is free
@@ -104,15 +104,36 @@ next_by xs p = do
   d ← direction_of (slice_get xs 0)
   next_at d p
 
--- $DATA, $GET and $ORDER of a variable
+-- how many subscripts $NAME is to give, and what it does with a variable that is evaluated
+abbrev pub most_act : Inside → ExprsTree → Act (Option ℤ)
+most_act i more = do
+  xs ← values i [] more
+  whole_at 0 xs
+
+abbrev pub name_behind : ExprsTree → Inside → Evaluated → Act Text
+name_behind more i v = do
+  xs ← values i [] more
+  most ← whole_at 0 xs
+  named i.account most v
+
+-- what $NAME does with a reference, and with the values after the variable
+abbrev pub name_by : List Text → Inside → Evaluated → Act Text
+name_by xs i v = do
+  most ← whole_at 0 xs
+  named i.account most v
+
+-- $DATA, $GET, $NAME and $ORDER of a variable
 abbrev pub data_of : Inside → ReferenceTree → Act Text
 data_of i r = evaluated i r >>= data_act
 
 abbrev pub get_of : Inside → ReferenceTree → ExprsTree → Act Text
-get_of i r more = variable_function_value get_function (evaluated i r) (values i [] more)
+get_of i r more = variable_function_value i.account get_function (evaluated i r) (values i [] more)
 
 abbrev pub order_of : Inside → ReferenceTree → ExprsTree → Act Text
-order_of i r more = variable_function_value order_function (evaluated i r) (values i [] more)
+order_of i r more = variable_function_value i.account order_function (evaluated i r) (values i [] more)
+
+abbrev pub name_of : Inside → ReferenceTree → ExprsTree → Act Text
+name_of i r more = variable_function_value i.account name_function (evaluated i r) (values i [] more)
 
 -- the value of a variable
 abbrev pub variable_value : Inside → ReferenceTree → Act Text

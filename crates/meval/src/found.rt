@@ -24,7 +24,7 @@ use mgrant::Mode;
 use mkey::AccountName;
 use mnodes::NodeStore;
 use mnum::Name;
-use moperator::Code;
+use moperator::{Code, whole_at};
 use mtree::Expr;
 use mvalue::Value;
 use std::alloc::{AllocError, Global};
@@ -242,5 +242,19 @@ impl<'a, S: NodeStore> Eval<'a, S> {
             return Ok(next_value(alloc, None));
         }
         self.next(alloc, walk, direction)
+    }
+
+    /// What $NAME gives of a variable, once all that its reference has to evaluate is evaluated: with as many subscripts as the first of
+    /// these says. Nothing is asked of the settings, since a name tells nothing that the reference did not.
+    ///
+    /// # Errors
+    ///
+    /// `Zover` if the number of the first of them is too large; `M1` if the reference is naked and none came before it; `Zarg` if the number
+    /// is below 0; `Zlong` if the name has more than 4,095 characters; `Zmem` if memory runs out.
+    pub fn name_found(&self, alloc: Global, pending: Pending, more: &[Value]) -> Result<Value, Code>
+        ensures { Evaluates S.NodeStore (λ i. acts.name_by more.now i (pending_view pending.entry)) (λ v. v) self.now result self.now }
+    {
+        let most = whole_at(more, 0)?;
+        self.named_pending(alloc, pending, most)
     }
 }

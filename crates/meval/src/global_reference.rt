@@ -86,6 +86,13 @@ impl<'t> GlobalReference<'t> {
         self.owner.as_bytes()
     }
 
+    // The account as a text.
+    pub(crate) fn account_text(&self, alloc: Global) -> Result<Bytes7, AllocError>
+        ensures { IfOk result (λ text. text ≡ self.now.account) }
+    {
+        self.owner.text(alloc)
+    }
+
     // Whether an account can have that name.
     pub(crate) fn is_of_account(&self) -> bool
         ensures { IsTrue result ↔ IsAccountName self.now.account }

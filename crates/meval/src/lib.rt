@@ -12,6 +12,7 @@ mod globals;
 mod kept;
 mod lock_names;
 mod lookups;
+mod naming;
 mod open_levels;
 mod owner;
 mod patterns;

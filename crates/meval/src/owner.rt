@@ -59,6 +59,16 @@ impl Owner {
         }
     }
 
+    // Its text.
+    pub(crate) fn text(&self, alloc: Global) -> Result<Bytes7, AllocError>
+        ensures { IfOk result (λ text. text ≡ owner_text self.now) }
+    {
+        match self {
+            Owner::Account(name) => Bytes7::from_slice(alloc, name.as_bytes()),
+            Owner::Other(text) => text.copy(),
+        }
+    }
+
     // Whether it is a name that an account can have.
     pub(crate) fn is_account(&self) -> bool
         ensures { IsTrue result ↔ IsAccountName (owner_text self.now) }

@@ -1,5 +1,5 @@
 // SPDX-License-Identifier: Apache-2.0
-// $DATA, $GET and $ORDER of a variable. Each of them has a function of its own: a function clears the stack space of all its cases at each call.
+// $DATA, $GET, $NAME and $ORDER of a variable. Each of them has a function of its own: a function clears the stack space of all its cases at each call.
 ghost use Rattle.std.specs.Prelude.{[], map};
 ghost use Rattle.mgrammar.specs.Grammar.{exprs_of};
 ghost use Rattle.mgrammar.specs.Functions.{function_of};
@@ -15,7 +15,7 @@ use crate::eval::Eval;
 use crate::walk::{data_value, direction};
 use mkey::Direction;
 use mnodes::NodeStore;
-use moperator::Code;
+use moperator::{Code, whole_at};
 use mtree::{Expr, Reference, Referring, VariableFunction};
 use mvalue::Value;
 use std::alloc::Global;
@@ -24,8 +24,8 @@ impl<'a, S: NodeStore> Eval<'a, S> {
     // The value of a function of a variable.
     #[cycle(eval)]
     pub(crate) fn referring(&mut self, alloc: Global, referring: &Referring) -> Result<Value, Code>
-        ensures { Evaluates S.NodeStore (λ i. variables.referring (function_of (out-Referring referring.now).word) (meaning.evaluated i (reference_tree
-            (out-Referring referring.now).reference)) (meaning.values i [] (exprs_of (map expr_tree (out-Referring referring.now).more.items))))
+        ensures { Evaluates S.NodeStore (λ i. variables.referring i.account (function_of (out-Referring referring.now).word) (meaning.evaluated i
+            (reference_tree (out-Referring referring.now).reference)) (meaning.values i [] (exprs_of (map expr_tree (out-Referring referring.now).more.items))))
             (λ v. v) self.old result self.new }
     {
         let function = referring.word.function();
@@ -35,6 +35,7 @@ impl<'a, S: NodeStore> Eval<'a, S> {
         match function {
             VariableFunction::Data => self.data_of(alloc, &referring.reference),
             VariableFunction::Get => self.get_of(alloc, &referring.reference, &referring.more),
+            VariableFunction::Name => self.name_of(alloc, &referring.reference, &referring.more),
             VariableFunction::Order => self.order_of(alloc, &referring.reference, &referring.more),
         }
     }
@@ -60,6 +61,35 @@ impl<'a, S: NodeStore> Eval<'a, S> {
         let place = self.place_to_read(alloc, reference)?;
         let more = self.values(alloc, more)?;
         self.read_or(alloc, &place, more)
+    }
+
+    // What $NAME gives of a variable, with as many subscripts as the first of these says.
+    #[cycle(eval)]
+    #[inline(never)]
+    fn name_of(
+        &mut self,
+        alloc: Global,
+        reference: &Reference,
+        more: &[Expr],
+    ) -> Result<Value, Code>
+        ensures { Evaluates S.NodeStore (λ i. acts.name_of i (reference_tree reference.now) (exprs_of (map expr_tree more.now)))
+            (λ v. v) self.old result self.new }
+    {
+        let pending = self.evaluated(alloc, reference)?;
+        let most = self.most(alloc, more)?;
+        self.named_pending(alloc, pending, most)
+    }
+
+    // How many subscripts $NAME is to give, by the first of the arguments after the variable.
+    #[cycle(eval)]
+    pub(crate) fn most(&mut self, alloc: Global, more: &[Expr]) -> Result<Option<i64>, Code>
+        ensures { Evaluates S.NodeStore (λ i. acts.most_act i (exprs_of (map expr_tree more.now))) (λ most. most) self.old result self.new }
+    {
+        if more.is_empty() {
+            return Ok(None);
+        }
+        let values = self.values(alloc, more)?;
+        whole_at(values.as_slice(), 0)
     }
 
     // What $ORDER gives of a variable, in the direction that the first of these says.

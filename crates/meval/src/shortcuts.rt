@@ -28,7 +28,7 @@ use crate::walk::{data_value, first_or_empty, next_value};
 use mkey::{Direction, values_ok};
 use mnodes::NodeStore;
 use mnum::{Name, Num};
-use moperator::{Code, computed, number_of};
+use moperator::{Code, computed, name_text, number_of};
 use mtree::{Expr, Literal, Operand, Primary, Reference, VariableFunction};
 use mvalue::Value;
 use std::alloc::Global;
@@ -209,14 +209,16 @@ impl<'a, S: NodeStore> Eval<'a, S> {
         subscript: &Expr,
         more: &[Expr],
     ) -> Result<Value, Code>
-        ensures { Evaluates S.NodeStore (λ i. variables.variable_function_value (variable_function_tree function) (meaning.evaluated i (local name.now (exprs
-            (expr_tree subscript.now) no_exprs))) (meaning.values i [] (exprs_of (map expr_tree more.now)))) (λ v. v) self.old result self.new }
+        ensures { Evaluates S.NodeStore (λ i. variables.variable_function_value i.account (variable_function_tree function) (meaning.evaluated i
+            (local name.now (exprs (expr_tree subscript.now) no_exprs))) (meaning.values i [] (exprs_of (map expr_tree more.now))))
+            (λ v. v) self.old result self.new }
     {
         let mut value = Value::of_whole(0);
         self.eval_into(alloc, subscript, &mut value)?;
         match function {
             VariableFunction::Data => self.fast_data(name, &value),
             VariableFunction::Get => self.fast_get(alloc, name, &value, more),
+            VariableFunction::Name => self.fast_name(alloc, name, &value, more),
             VariableFunction::Order => self.fast_order(alloc, name, &value, more),
         }
     }
@@ -271,6 +273,24 @@ impl<'a, S: NodeStore> Eval<'a, S> {
             Some(value) => Ok(value.copy()?),
             None => Ok(first_or_empty(alloc, others)),
         }
+    }
+
+    // `name_of`, for a local variable with this subscript.
+    #[cycle(eval)]
+    #[inline(never)]
+    fn fast_name(
+        &mut self,
+        alloc: Global,
+        name: &Name,
+        subscript: &Value,
+        more: &[Expr],
+    ) -> Result<Value, Code>
+        ensures { Evaluates S.NodeStore (λ i. acts.name_behind (exprs_of (map expr_tree more.now)) i (variables.of_local name.now (subscript.now ∷ [])))
+            (λ v. v) self.old result self.new }
+    {
+        let most = self.most(alloc, more)?;
+        let front = name.as_bytes7().copy()?;
+        name_text(alloc, front, from_ref(subscript), most)
     }
 
     // `order_of`, for a local variable with this subscript.

@@ -167,6 +167,7 @@ record Languages : Type 0 where
   -- in each kind of argument, in a condition, and in whichever command of a line
   arguments : AreOfOne has_line (
       codes "W $QL(A)" ∷ codes "W $qlength(A)" ∷ codes "W $QS(A,1)" ∷ codes "W $QSUBSCRIPT(A,-1)" ∷
+      codes "W $NA(A)" ∷ codes "W $name(^A(1),2)" ∷ codes "W $NA(^(1),A)" ∷
       codes "S A=$RE(A)" ∷ codes "S A($RE(A))=1" ∷ codes "S $P(A,$RE(A))=1" ∷ codes "S $P(A,1,$RE(A))=1" ∷ codes "S (A,B($RE(A)))=1" ∷ codes "K A($RE(A))" ∷
       codes "I $RE(A)" ∷ codes "F I=$RE(A)" ∷ codes "F I=1:$RE(A)" ∷ codes "F I=1:1:$RE(A)" ∷ codes "D A:$RE(A)" ∷ codes "G A:$RE(A)" ∷ codes "X $RE(A)" ∷
       codes "X A:$RE(A)" ∷ codes "L A($RE(A))" ∷ codes "L (A,B($RE(A)))" ∷ codes "L A:$RE(A)" ∷ codes "Q:$RE(A)" ∷ codes "S @$RE(A)" ∷
@@ -187,6 +188,7 @@ record Languages : Type 0 where
   no_forms : AreOfNone has_line (
       codes "W $I(1)" ∷ codes "W $JO" ∷ codes "W $IOS" ∷ codes "S $I=1" ∷ codes "S $J=1" ∷ codes "HANG" ∷ codes "HANG:A" ∷ codes "HALT 1" ∷ codes "H 1," ∷ codes "H 1:A" ∷
       codes "W $QL(1,2)" ∷ codes "W $QS(1)" ∷ codes "W $QS(1,2,3)" ∷ codes "S $QS(A,1)=1" ∷
+      codes "W $NA()" ∷ codes "W $NA(1)" ∷ codes "W $NA(A,1,2)" ∷ codes "S $NA(A)=1" ∷
       codes "W $J(A)" ∷ codes "W $J(A,1,2,3)" ∷ codes "W $FN(A)" ∷ codes "W $FN(A,B,1,2)" ∷ codes "W $RE()" ∷ codes "W $RE(1,2)" ∷ codes "W $RE" ∷ codes "W $REV(1)" ∷ codes "S $RE(A)=1" ∷
       codes "W 2**" ∷ codes "W **2" ∷ codes "W 2***3" ∷ codes "W 2** 3" ∷ codes "W 2* *3" ∷ codes "W 2'**3" ∷
       codes "W ?5!" ∷ codes "W ?" ∷ codes "W !?" ∷ codes "W !*1" ∷ codes "W *" ∷ codes "W *1!" ∷ codes "W #A" ∷ codes "W !A" ∷ codes "W *1#" ∷ codes "W #@A" ∷ [])

@@ -1,7 +1,8 @@
 -- SPDX-License-Identifier: Apache-2.0
--- Names taken apart on examples, as proved equations. The parts are GT.M's; what only GT.M takes for a name is said there.
+-- Names taken apart and put together on examples, as proved equations. The parts are GT.M's; what only GT.M takes for a name is said there.
 use Rattle.mgrammar.proofs.GrammarWords.{◌≡◌, ℕ, List, [], ◌∷◌, Option, Some, None, map, rules, codes}
 use Rattle.mgrammar.specs.NameValues.{NameValue, name_value_of, value_after, environment_at, name_subscripts_at, name_subscript_at}
+use Rattle.mgrammar.specs.NameValues.{subscripts_text, global_text}
 use Rattle.mspec.proofs.ComputedNumbers.{computes}
 use Rattle.mgrammar.specs.ReadingWords.{many, list_at, name_at}
 
@@ -37,3 +38,14 @@ record AreNoNames : Type 0 where
 are_no_names : AreNoNames
 unfolding computes many list_at name_at name_value_of value_after environment_at name_subscripts_at name_subscript_at
 are_no_names = search rules
+
+record ArePutTogether : Type 0 where
+  none : subscripts_text [] ≡ []
+  numbers : subscripts_text (codes "1" ∷ codes "-.5" ∷ []) ≡ codes "(1,-.5)"
+  strings : subscripts_text (codes "1.0" ∷ codes "a\"b" ∷ [] ∷ []) ≡ codes "(\"1.0\",\"a\"\"b\",\"\")"
+  own_global : global_text None (codes "A") ≡ codes "^A"
+  other_global : global_text (Some (codes "a\"b")) (codes "A") ≡ codes "^|\"a\"\"b\"|A"
+
+are_put_together : ArePutTogether
+unfolding computes
+are_put_together = search rules

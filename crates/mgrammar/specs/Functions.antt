@@ -24,6 +24,7 @@ pub data ValueFunctionTree : Type 0 where
 pub data VariableFunctionTree : Type 0 where
   data_function : VariableFunctionTree
   get_function : VariableFunctionTree
+  name_function : VariableFunctionTree
   order_function : VariableFunctionTree
 
 -- what stands in the brackets: from this many values to that many, or without a bound; a variable, and up to this many values after it; or choices
@@ -52,6 +53,7 @@ function_rows =
     ∷ row (codes "g") (codes "get") (of_variable get_function 1) 0
     ∷ row (codes "j") (codes "justify") (of_values justify_function 2 (Some 3)) 0
     ∷ row (codes "l") (codes "length") (of_values length_function 1 (Some 2)) 0
+    ∷ row (codes "na") (codes "name") (of_variable name_function 1) 1
     ∷ row (codes "o") (codes "order") (of_variable order_function 1) 0
     ∷ row (codes "p") (codes "piece") (of_values piece_function 2 (Some 4)) 0
     ∷ row (codes "ql") (codes "qlength") (of_values name_length_function 1 (Some 1)) 1

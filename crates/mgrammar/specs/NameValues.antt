@@ -1,12 +1,13 @@
 -- SPDX-License-Identifier: Apache-2.0
--- Names of nodes as texts, taken apart.
+-- Names of nodes as texts, taken apart and put together.
 --
--- Restates "namevalue" of "$QLENGTH" and "$QSUBSCRIPT" of ISO/IEC 11756:1999: the name of a variable, of a global after a `^` and an
+-- Restates "namevalue" of "$NAME", "$QLENGTH" and "$QSUBSCRIPT" of ISO/IEC 11756:1999: the name of a variable, of a global after a `^` and an
 -- environment between bars or none, with subscripts in brackets or none. An environment is a string; a subscript is a string, or the
 -- canonical text of a number.
 use Rattle.std.specs.Prelude.{ℕ, ◌||◌, ◌==◌, Bool, false, if◌then◌else◌, List, [], ◌∷◌, ◌++◌, Option, Some, None, is_some}
 use Rattle.mspec.specs.Number.{significant_digits}
 use Rattle.mspec.specs.NodeOrder.{canonical_value}
+use Rattle.mgrammar.specs.Grammar.{spell_string}
 use Rattle.mgrammar.specs.ReadingWords.{Read, ◌>>=◌, run_of, after_run, name_at, text_from, past, list_at, is_digit_or_point}
 
 -- the environment, which is empty if none is written; the name, with its `^`; the subscripts
@@ -17,12 +18,16 @@ pub record NameValue : Type 0 where
 
 -- ---- subscripts
 
+-- whether a subscript is written as a number
+abbrev pub is_number_text : List ℕ → Bool
+is_number_text s = is_some (canonical_value significant_digits s)
+
 -- a character of the canonical text of a number
 abbrev pub is_number_part : ℕ → Bool
 is_number_part c = is_digit_or_point c || c == 45
 
 abbrev pub canonical_by : List ℕ → List ℕ → Read (List ℕ)
-canonical_by number cs = if is_some (canonical_value significant_digits number) then Some (number, cs) else None
+canonical_by number cs = if is_number_text number then Some (number, cs) else None
 
 abbrev pub subscript_by : Option (List ℕ) → List ℕ → Read (List ℕ)
 subscript_by None cs = canonical_by (run_of is_number_part cs) (after_run is_number_part cs)
@@ -68,3 +73,22 @@ value_by (Some global) cs = environment_at global >>= λ e. value_after e.0 (94 
 -- the parts of the name that a text is
 unfoldable pub name_value_of : List ℕ → Option NameValue
 name_value_of cs = value_by (past 94 cs) cs
+
+-- ---- names put together
+
+abbrev pub subscript_text : List ℕ → List ℕ
+subscript_text s = if is_number_text s then s else spell_string s
+
+-- subscripts after one, with a comma before each, and the bracket after them
+abbrev pub more_subscripts : List (List ℕ) → List ℕ
+more_subscripts [] = 41 ∷ []
+more_subscripts (x ∷ xs) = 44 ∷ (subscript_text x ++ more_subscripts xs)
+
+abbrev pub subscripts_text : List (List ℕ) → List ℕ
+subscripts_text [] = []
+subscripts_text (x ∷ xs) = 40 ∷ (subscript_text x ++ more_subscripts xs)
+
+-- the name of a global, with its environment if it has one
+abbrev pub global_text : Option (List ℕ) → List ℕ → List ℕ
+global_text None name = 94 ∷ name
+global_text (Some environment) name = 94 ∷ 124 ∷ (spell_string environment ++ (124 ∷ name))

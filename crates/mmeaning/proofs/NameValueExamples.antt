@@ -1,11 +1,13 @@
 -- SPDX-License-Identifier: Apache-2.0
--- $QLENGTH and $QSUBSCRIPT on examples, as proved equations. The values are GT.M's; what is refused is refused there too.
+-- $QLENGTH, $QSUBSCRIPT and $NAME on examples, as proved equations. The values are GT.M's; what is refused is refused there too.
 use Rattle.mmeaning.proofs.MeaningWords.{◌≡◌, List, [], ◌∷◌, codes, State, Text, Done, Gives, Fails, computes, reads_in, rules}
-use Rattle.mspec.specs.Code.{Code, M90, Zarg}
+use Rattle.std.specs.Prelude.{Some, None, pos, negsuc}
+use Rattle.mspec.specs.Code.{Code, M1, M90, Zarg}
 use Rattle.mspec.specs.Plan.{Plan}
 use Rattle.mspec.specs.Act.{Outcome}
 use Rattle.mgrammar.specs.NameValues.{name_value_of, value_after, environment_at, name_subscripts_at, name_subscript_at}
 use Rattle.mmeaning.specs.Functions.{call_value}
+use Rattle.mmeaning.specs.Variables.{Evaluated, of_local, of_global, of_naked, named}
 
 module _ (s : State) where
   abbrev gives : Text → Plan (Outcome Text)
@@ -39,3 +41,25 @@ module _ (s : State) where
 names_taken : (s : State) → NamesTaken s
 unfolding computes reads_in name_value_of value_after environment_at name_subscripts_at name_subscript_at
 names_taken s = search rules
+
+-- $NAME of what a reference evaluates to, in a line of the account A whose last node is ^A(1,2)
+module _ (s : State) where
+  abbrev last_node : State
+  last_node = record s { naked = Some (record { account = codes "A"; name = codes "A"; subscripts = codes "1" ∷ codes "2" ∷ [] }) }
+
+  abbrev node : Text → Evaluated
+  node account = of_global (record { account = account; name = codes "B"; subscripts = codes "1" ∷ codes "x" ∷ [] })
+
+  record NamesGiven : Type 0 where
+    local : named (codes "A") None (of_local (codes "X") []) s ≡ Done (Gives (codes "X") s)
+    own : named (codes "A") None (node (codes "A")) s ≡ Done (Gives (codes "^B(1,\"x\")") s)
+    other : named (codes "A") (Some (pos 1)) (node (codes "E")) s ≡ Done (Gives (codes "^|\"E\"|B(1)") s)
+    none : named (codes "A") (Some (pos 0)) (node (codes "A")) s ≡ Done (Gives (codes "^B") s)
+    all : named (codes "A") (Some (pos 9)) (node (codes "A")) s ≡ Done (Gives (codes "^B(1,\"x\")") s)
+    below_none : named (codes "A") (Some (negsuc 0)) (node (codes "A")) s ≡ Done (Fails Zarg s)
+    naked : named (codes "A") None (of_naked (codes "3" ∷ [])) last_node ≡ Done (Gives (codes "^A(1,3)") last_node)
+    beside_none : named (codes "A") (Some (negsuc 0)) (of_naked (codes "3" ∷ [])) (record s { naked = None }) ≡ Done (Fails M1 (record s { naked = None }))
+
+names_given : (s : State) → NamesGiven s
+unfolding computes
+names_given s = search rules

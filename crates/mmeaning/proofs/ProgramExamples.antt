@@ -8,7 +8,7 @@ use Rattle.mspec.specs.Code.{M4}
 use Rattle.mgrammar.proofs.ShortTrees.{plain, named, the_one}
 use Rattle.mmeaning.specs.Programs.{one_value, Op, Operand, Tail, Spend, Sign, Join, Match_not, Values, Add, Function, Begin, Actual, Hand, Call, Where}
 use Rattle.mmeaning.specs.Programs.{Prepare, Local, Global, Naked, Extended, Named, Read, Data, Resolve, Get, Walk, Order, Unless, Pass, Refuse, Ending, Assign}
-use Rattle.mmeaning.specs.Programs.{Show}
+use Rattle.mmeaning.specs.Programs.{Tell_name, Show}
 use Rattle.mmeaning.specs.Programs.{Run}
 use Rattle.mmeaning.specs.Programs.{Return, Enter, Program, calls, begun, program_of}
 
@@ -68,6 +68,11 @@ record Programs : Type 0 where
       ≡ one_of (Spend ∷ Values ∷ called (codes "F") (Add ∷ Local (codes "A") ∷ Data ∷ [])) Return
   next : programs quit_argument (codes "$O(A($$F))")
       ≡ one_of (Spend ∷ Values ∷ called (codes "F") (Add ∷ Local (codes "A") ∷ Walk ∷ Values ∷ Order ∷ [])) Return
+  -- $NAME has no check between
+  node_name : programs quit_argument (codes "$NA(A($$F))")
+      ≡ one_of (Spend ∷ Values ∷ called (codes "F") (Add ∷ Local (codes "A") ∷ Values ∷ Tell_name ∷ [])) Return
+  first_of_name : programs quit_argument (codes "$NA(^(1),$$F)")
+      ≡ one_of (Spend ∷ Values ∷ Operand (plain (number (codes "1"))) ∷ Add ∷ Naked ∷ Values ∷ called (codes "F") (Add ∷ Tell_name ∷ [])) Return
   -- a value is passed by if its condition is false, and the choices after one whose condition is true
   chosen : programs quit_argument (codes "$S($$F:A,1:$$G)")
       ≡ one_of (Spend ∷ called (codes "F") (Unless 2 ∷ Operand (plain a) ∷ Pass 7

@@ -11,20 +11,20 @@ use Rattle.mspec.specs.Interpretations.{truth_text}
 use Rattle.mgrammar.specs.Grammar.{SignTree, special, call, select, extrinsic, TailsTree, TailTree, matches, matches_not, raise, matches_indirect}
 use Rattle.mgrammar.specs.Grammar.{matches_not_indirect, ChoicesTree, no_choices, choice, ActualTree, missing_actual, value_actual, name_actual}
 use Rattle.mgrammar.specs.Grammar.{indirect_actual, actuals}
-use Rattle.mgrammar.specs.Functions.{data_function, get_function, order_function, FunctionTree, of_values, of_variable, of_choices, function_of}
+use Rattle.mgrammar.specs.Functions.{data_function, get_function, name_function, order_function, FunctionTree, of_values, of_variable, of_choices, function_of}
 use Rattle.mgrammar.specs.CallsIn.{has_call, has_call_operand, has_call_primary, has_call_tail, has_call_actual, has_call_exprs}
 use Rattle.mgrammar.specs.ProgramsIn.{in_steps, in_steps_tails, in_steps_tail, in_steps_operand, in_steps_primary, in_steps_reference, in_steps_exprs}
 use Rattle.mgrammar.specs.ProgramsIn.{in_steps_choices, in_steps_actual, in_steps_actuals}
 use Rattle.mmeaning.specs.Operators.{as_truth, unaries, binary, raising}
-use Rattle.mmeaning.specs.Functions.{call_value}
-use Rattle.mmeaning.specs.Variables.{reading, ordering, resolve, read_at, read_or, next_at, direction_of, referring}
+use Rattle.mmeaning.specs.Functions.{whole_at, call_value}
+use Rattle.mmeaning.specs.Variables.{reading, ordering, resolve, read_at, read_or, next_at, direction_of, named, referring}
 use Rattle.mmeaning.specs.Expression.{is_bare, linked_by, named_by, matches_text, tails_value, tail_value, operand_value, primary_value, values, chosen, handed}
 use Rattle.mmeaning.specs.Expression.{all_handed, handed_over}
 use Rattle.mmeaning.specs.LineMeaning.{inside_of, answer, answering}
 use Rattle.mmeaning.specs.Programs as programs
 use Rattle.mmeaning.specs.Programs.{Item, one_value, some_values, found, placed, walked, handing, Op, Operand, Tail, Join, Raise, Match, Match_not, Values, Add}
 use Rattle.mmeaning.specs.Programs.{Function, Begin, Actual, Hand, Hand_name, Call, Local, Global, Naked, Extended, Named, Read, Data, Resolve, Get, Walk}
-use Rattle.mmeaning.specs.Programs.{Order}
+use Rattle.mmeaning.specs.Programs.{Order, Tell_name}
 use Rattle.mmeaning.specs.Programs.{Unless, Pass}
 use Rattle.mmeaning.specs.Programs.{Ending, plain, data_at, going_on, carried_past, carried, signed, referred, of_value, of_tails, of_tail, of_operand}
 use Rattle.mmeaning.specs.Programs.{of_primary}
@@ -141,8 +141,17 @@ module _ (x : Context) (k : Ending) where
         (λ xs. carried x (Order ∷ ops) k (some_values xs ∷ walked p ∷ st)) (λ xs.
         stepped (direction_of (slice_get xs 0) >>= (λ d. next_at d p)) (λ w. one_value w ∷ st) ops))
 
+    name_carried : (v : Evaluated) (ops : List Op) (st : List Item)
+        → Same (carried x (Values ∷ of_more (Tell_name ∷ ops)) k (found v ∷ st))
+        ((more >>= (λ xs. whole_at 0 xs >>= (λ most. named x.account most v))) >>= (λ w. carried x ops k (one_value w ∷ st)))
+    name_carried v ops st =
+        values_there (Tell_name ∷ ops) (found v ∷ st)
+        ∙ behind_it more (λ xs. whole_at 0 xs >>= (λ most. named x.account most v)) ops st
+        (λ xs. carried x (Tell_name ∷ ops) k (some_values xs ∷ found v ∷ st)) (λ xs.
+        stepped (whole_at 0 xs >>= (λ most. named x.account most v)) (λ w. one_value w ∷ st) ops)
+
     referred_carried : (f : Option FunctionTree) (ops : List Op) (st : List Item)
-        → Same (carried x (referred f of_it of_more ops) k st) (referring f variable more >>= (λ w. carried x ops k (one_value w ∷ st)))
+        → Same (carried x (referred f of_it of_more ops) k st) (referring x.account f variable more >>= (λ w. carried x ops k (one_value w ∷ st)))
     referred_carried None ops st = refl
     referred_carried (Some (of_values f least most)) ops st = refl
     referred_carried (Some (of_variable data_function most)) ops st =
@@ -152,6 +161,9 @@ module _ (x : Context) (k : Ending) where
         found_there (Resolve ∷ Values ∷ of_more (Get ∷ ops)) st
         ∙ behind_it variable (λ v. resolve reading v >>= (λ p. more >>= (λ xs. read_or (unwrap_or (slice_get xs 0) []) p))) ops st _
         (λ v. get_carried v ops st)
+    referred_carried (Some (of_variable name_function most)) ops st =
+        found_there (Values ∷ of_more (Tell_name ∷ ops)) st
+        ∙ behind_it variable (λ v. more >>= (λ xs. whole_at 0 xs >>= (λ most. named x.account most v))) ops st _ (λ v. name_carried v ops st)
     referred_carried (Some (of_variable order_function most)) ops st =
         found_there (Walk ∷ Values ∷ of_more (Order ∷ ops)) st
         ∙ behind_it variable (λ v. resolve ordering v >>= (λ p. more >>= (λ xs. direction_of (slice_get xs 0) >>= (λ d. next_at d p)))) ops st _
@@ -261,7 +273,7 @@ module _ (x : Context) (k : Ending) where
     primary_carried (refer word r more) ops st h =
         let m = each_of (in_steps_reference r) (in_steps_exprs more) h in
         stepped charge (λ u. st) (referred (function_of word) (of_reference r) (programs.of_values more) ops)
-        ∙ behind_it charge (λ u. referring (function_of word) (evaluated i r) (values i [] more)) ops st _ (λ u.
+        ∙ behind_it charge (λ u. referring x.account (function_of word) (evaluated i r) (values i [] more)) ops st _ (λ u.
         referred_carried (evaluated i r) (values i [] more) (of_reference r) (programs.of_values more)
         (λ rest below. reference_carried r rest below m.0) (λ rest below. values_carried more [] rest below m.1) (function_of word) ops st)
     primary_carried (extrinsic e xs) ops st h =

@@ -69,7 +69,7 @@ module _ (a : Text) (d : Depth) (find : Calls → Depth → ReferenceTree → Ex
     primary_same (select word choices) h = λ j. charge >> choices_same choices h j
     primary_same (refer word r more) h =
         let n = neither (has_call_reference r) (has_call_exprs more) h in
-        λ j. charge >> referring (function_of word) (reference_same r n.0 j) (values_same [] more n.1 j)
+        λ j. charge >> referring a (function_of word) (reference_same r n.0 j) (values_same [] more n.1 j)
     primary_same (extrinsic e xs) h = absurd (let clash : true ≡ false = h in cc)
 
     pub reference_same : (r : ReferenceTree) → has_call_reference r ≡ false → Same (λ i. evaluated i r)

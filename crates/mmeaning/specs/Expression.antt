@@ -143,7 +143,7 @@ abbrev mutual
     xs ← values i [] args
     call_value word xs
   primary_value i (select word choices) = charge >> chosen i choices
-  primary_value i (refer word r more) = charge >> referring (function_of word) (evaluated i r) (values i [] more)
+  primary_value i (refer word r more) = charge >> referring i.account (function_of word) (evaluated i r) (values i [] more)
   primary_value i (extrinsic e xs) = charge >> i.calls i.depth e (cond (is_bare xs) (give []) (all_handed i [] xs))
 
   -- what a reference has to evaluate; it costs nothing by itself

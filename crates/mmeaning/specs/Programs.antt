@@ -14,13 +14,13 @@ use Rattle.mgrammar.specs.Grammar.{local, global, naked, indirect, extended, Exp
 use Rattle.mgrammar.specs.Grammar.{EntryTree, ActualTree, value_actual, indirect_actual, ActualsTree, no_actuals, actuals, DestinationTree}
 use Rattle.mgrammar.specs.Grammar.{ArgTree, assign, formats, coded, shown, kill_one, kill_others, new_one, new_others, tested, loop, do_one, go_to, executed}
 use Rattle.mgrammar.specs.Grammar.{locked, hang_for, returned, indirect_args}
-use Rattle.mgrammar.specs.Functions.{data_function, get_function, order_function, FunctionTree, of_variable, function_of}
+use Rattle.mgrammar.specs.Functions.{data_function, get_function, name_function, order_function, FunctionTree, of_variable, function_of}
 use Rattle.mgrammar.specs.CallsIn.{has_call, has_call_operand, has_call_primary}
 use Rattle.mgrammar.specs.ProgramsIn.{in_steps, in_steps_optional, in_steps_arg}
 use Rattle.mmeaning.specs.Operators.{as_number, as_truth, unaries, binary, raising}
-use Rattle.mmeaning.specs.Functions.{whole_text, call_value}
+use Rattle.mmeaning.specs.Functions.{whole_text, whole_at, call_value}
 use Rattle.mmeaning.specs.Variables.{Evaluated, of_local, of_global, of_naked, Place, reading, ordering, resolve, read_at, read_or, status_at, next_at}
-use Rattle.mmeaning.specs.Variables.{data_number, direction_of}
+use Rattle.mmeaning.specs.Variables.{data_number, direction_of, named}
 use Rattle.mmeaning.specs.Expression.{Inside, inside, is_bare, linked_by, named_by, matches_text, tail_value, operand_value}
 use Rattle.mmeaning.specs.Parameters.{bare_list, handed}
 use Rattle.mmeaning.specs.Levels.{leaves}
@@ -46,8 +46,8 @@ pub data Item : Type 0 where
 -- primary costs; signs, operators, and a pattern that a text is; what brings together values, and what actuals hand over; the call of a
 -- function; a condition, without which the argument ends; and formats of WRITE. What makes a reference of the values of its subscripts, or
 -- of the text of an `@` and the subscripts after that, which have no call; its value, and whether it has one; its checks, where more is
--- evaluated before its place is asked; and what is then asked of that. In $SELECT, what passes steps by: those of a value whose condition is
--- false, and those of the choices after the one that is taken. And a code.
+-- evaluated before its place is asked; what is then asked of that; and its name, which needs no check. In $SELECT, what passes steps by:
+-- those of a value whose condition is false, and those of the choices after the one that is taken. And a code.
 pub data Op : Type 0 where
   Operand : OperandTree → Op
   Tail : TailTree → Op
@@ -79,6 +79,7 @@ pub data Op : Type 0 where
   Get : Op
   Walk : Op
   Order : Op
+  Tell_name : Op
   Unless : ℕ → Op
   Pass : ℕ → Op
   Refuse : Code → Op
@@ -190,6 +191,9 @@ step x Walk (found r ∷ st) = do
 step x Order (some_values vs ∷ walked p ∷ st) = do
   v ← direction_of (slice_get vs 0) >>= (λ d. next_at d p)
   on_top st (one_value v)
+step x Tell_name (some_values vs ∷ found r ∷ st) = do
+  v ← whole_at 0 vs >>= (λ most. named x.account most r)
+  on_top st (one_value v)
 step x (Refuse c) st = fail c
 step x o st = fail Zsyntax
 
@@ -278,10 +282,11 @@ abbrev pub signed : List SignTree → List Op → List Op
 signed [] ops = ops
 signed (s ∷ ss) ops = Sign (s ∷ ss) ∷ ops
 
--- a function of the variable that the one part finds, and of the values of the other: the checks of the variable come between
+-- A function of the variable that the one part finds, and of the values of the other: the checks of the variable come between, if it has any.
 abbrev pub referred : Option FunctionTree → (List Op → List Op) → (List Op → List Op) → List Op → List Op
 referred (Some (of_variable data_function most)) first more ops = first (Data ∷ ops)
 referred (Some (of_variable get_function most)) first more ops = first (Resolve ∷ Values ∷ more (Get ∷ ops))
+referred (Some (of_variable name_function most)) first more ops = first (Values ∷ more (Tell_name ∷ ops))
 referred (Some (of_variable order_function most)) first more ops = first (Walk ∷ Values ∷ more (Order ∷ ops))
 referred f first more ops = Refuse Zsyntax ∷ ops
 

@@ -1,15 +1,15 @@
 -- SPDX-License-Identifier: Apache-2.0
 -- Variables: the checks of a reference, and what is asked of the place that it names.
 --
--- Restates "Local variable name lvn", "Global variable name gvn", "$DATA", "$GET", "$ORDER", "$IO", "$JOB", "$PRINCIPAL", "$QUIT", "$STORAGE", "$TEST", "$X" and
--- "$Y" of ISO/IEC 11756:1999, and what "LOCK" says of an nref. A reference is checked once all its subscripts are evaluated.
-use Rattle.std.specs.Prelude.{ℕ, ◌+◌, ◌*◌, pos, negsuc, Bool, true, false, cond, ◌&&◌, nat_le, nat_lt, List, [], ◌∷◌, ◌++◌, length, Option, Some, None}
+-- Restates "Local variable name lvn", "Global variable name gvn", "$DATA", "$GET", "$NAME", "$ORDER", "$IO", "$JOB", "$PRINCIPAL", "$QUIT", "$STORAGE",
+-- "$TEST", "$X" and "$Y" of ISO/IEC 11756:1999, and what "LOCK" says of an nref. A reference is checked once all its subscripts are evaluated.
+use Rattle.std.specs.Prelude.{ℕ, ◌+◌, ◌*◌, ℤ, pos, negsuc, Bool, true, false, cond, ◌&&◌, nat_le, nat_lt, List, [], ◌∷◌, ◌++◌, length, take, Option, Some, None}
 use Rattle.std.specs.Prelude.{unwrap_or, slice_get}
 use Rattle.std.specs.Ordering.{int_eq}
 use Rattle.mspec.specs.Access.{Mode, Read, Write}
 use Rattle.mspec.specs.LockConflict.{LockName}
-use Rattle.mspec.specs.Trees.{Direction, Forward, Backward, front}
-use Rattle.mspec.specs.TextFunctions.{max_text}
+use Rattle.mspec.specs.Trees.{Direction, Forward, Backward, front, text_eq}
+use Rattle.mspec.specs.TextFunctions.{max_text, made}
 use Rattle.mspec.specs.Scopes.{is_value, is_above, next_subscript, killed}
 use Rattle.mspec.specs.Subscripts.{is_account_name, are_subscripts, are_order_subscripts}
 use Rattle.mspec.specs.Interpretations.{truth_text}
@@ -19,8 +19,11 @@ use Rattle.mspec.specs.Act.{Text, Node, Act, ◌>>=◌, ◌>>◌, give, give_som
 use Rattle.mspec.specs.Act.{terminal_is, test_is, cursor_is, naked_is, set_naked}
 use Rattle.mgrammar.specs.Specials.{SpecialTree, test_special, io_special, job_special, principal_special, storage_special, column_special, row_special}
 use Rattle.mgrammar.specs.Specials.{quit_special}
-use Rattle.mgrammar.specs.Functions.{VariableFunctionTree, data_function, get_function, order_function, FunctionTree, of_values, of_variable, of_choices}
-use Rattle.mmeaning.specs.Functions.{whole_text, as_whole}
+use Rattle.mgrammar.specs.Functions.{VariableFunctionTree, data_function, get_function, name_function, order_function, FunctionTree, of_values, of_variable}
+use Rattle.mgrammar.specs.Functions.{of_choices}
+use Rattle.mgrammar.specs.NameValues.{subscripts_text, global_text}
+use Rattle.mmeaning.specs.Operators.{outcome}
+use Rattle.mmeaning.specs.Functions.{whole_text, as_whole, whole_at}
 
 -- ---- references
 
@@ -169,19 +172,52 @@ direction_of (Some x) = do
   n ← as_whole x
   cond (int_eq n (pos 1)) (give Forward) (cond (int_eq n (negsuc 0)) (give Backward) (fail Zarg))
 
--- A function of the variable that one act gives, and of what another gives: the checks of the variable come between.
-abbrev pub variable_function_value : VariableFunctionTree → Act Evaluated → Act (List Text) → Act Text
-variable_function_value data_function reference more = do
+-- the first subscripts, up to this many; all if nothing is said
+abbrev pub first_of : List Text → Option ℤ → Act (List Text)
+first_of xs None = give xs
+first_of xs (Some (pos n)) = give (take n xs)
+first_of xs (Some (negsuc n)) = fail Zarg
+
+-- a name, of what comes before its subscripts, and of the first of them
+abbrev pub name_with : Text → List Text → Option ℤ → Act Text
+name_with front subscripts most = do
+  xs ← first_of subscripts most
+  outcome (made (front ++ subscripts_text xs))
+
+-- the environment of a node's name: none if the node is of the line's own account
+abbrev pub environment_of : Text → Node → Option Text
+environment_of me n = cond (text_eq n.account me) None (Some n.account)
+
+abbrev pub node_named : Text → Option ℤ → Node → Act Text
+node_named me most n = name_with (global_text (environment_of me n) n.name) n.subscripts most
+
+-- $NAME: no check of the variable is made, and the node that was referred to last stays the same
+abbrev pub named : Text → Option ℤ → Evaluated → Act Text
+named me most (of_local name subscripts) = name_with name subscripts most
+named me most (of_global n) = node_named me most n
+named me most (of_naked xs) = do
+  n ← beside xs
+  node_named me most n
+
+-- A function of the variable that one act gives, and of what another gives, for a line of this account: the checks of the variable come
+-- between.
+abbrev pub variable_function_value : Text → VariableFunctionTree → Act Evaluated → Act (List Text) → Act Text
+variable_function_value me data_function reference more = do
   v ← reference
   p ← resolve reading v
   status ← status_at p
   give (whole_text (pos (data_number status)))
-variable_function_value get_function reference more = do
+variable_function_value me get_function reference more = do
   v ← reference
   p ← resolve reading v
   xs ← more
   read_or (unwrap_or (slice_get xs 0) []) p
-variable_function_value order_function reference more = do
+variable_function_value me name_function reference more = do
+  v ← reference
+  xs ← more
+  most ← whole_at 0 xs
+  named me most v
+variable_function_value me order_function reference more = do
   v ← reference
   p ← resolve ordering v
   xs ← more
@@ -189,11 +225,11 @@ variable_function_value order_function reference more = do
   next_at d p
 
 -- a word that names no function of a variable is in no tree of the grammar with a variable
-abbrev pub referring : Option FunctionTree → Act Evaluated → Act (List Text) → Act Text
-referring None reference more = fail Zsyntax
-referring (Some (of_values f least most)) reference more = fail Zsyntax
-referring (Some (of_variable f most)) reference more = variable_function_value f reference more
-referring (Some of_choices) reference more = fail Zsyntax
+abbrev pub referring : Text → Option FunctionTree → Act Evaluated → Act (List Text) → Act Text
+referring me None reference more = fail Zsyntax
+referring me (Some (of_values f least most)) reference more = fail Zsyntax
+referring me (Some (of_variable f most)) reference more = variable_function_value me f reference more
+referring me (Some of_choices) reference more = fail Zsyntax
 
 -- ---- special variables
 

@@ -33,6 +33,7 @@ pub use function_word::{ValueWord, VariableWord};
 pub use intrinsic::{Function, SpecialVariable, ValueFunction, VariableFunction};
 pub use letters::Letters;
 pub use literal::Literal;
+pub use pieces::{put_string, put_text};
 pub use since::{since_args, since_commands, since_reference, since_routine_line};
 pub use tree::{
     Actual, Alternative, Arg, Atom, Binary, Body, Called, Choice, Command, Destination, Entry,

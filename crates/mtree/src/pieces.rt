@@ -6,6 +6,11 @@ ghost use Rattle.mgrammar.specs.Grammar.{quoted, spell_string};
 use mnum::Bytes7;
 use std::alloc::AllocError;
 
+/// Appends a text.
+///
+/// # Errors
+///
+/// `AllocError` if it runs out of memory.
 pub fn put_text(out: &mut Bytes7, text: &Bytes7) -> Result<(), AllocError>
     ensures { OnOk result (out.new ≡ out.old ++ text.now) }
 {
@@ -36,6 +41,11 @@ fn put_quoted(out: &mut Bytes7, text: &Bytes7) -> Result<(), AllocError>
     Ok(())
 }
 
+/// Appends a text as a string: in quotes, with each quote doubled.
+///
+/// # Errors
+///
+/// `AllocError` if it runs out of memory; a first part of the string may then be there.
 pub fn put_string(out: &mut Bytes7, text: &Bytes7) -> Result<(), AllocError>
     ensures { OnOk result (out.new ≡ out.old ++ spell_string text.now) }
 {

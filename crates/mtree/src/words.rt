@@ -128,6 +128,8 @@ pub(crate) fn function_row(word: &[u8]) -> Option<(Function, u32)>
         Some((values(ValueFunction::Justify, 2, Some(3)), 0))
     } else if is_either(word, b"l", b"length") {
         Some((values(ValueFunction::Length, 1, Some(2)), 0))
+    } else if is_either(word, b"na", b"name") {
+        Some((variable(VariableFunction::Name, 1), 1))
     } else if is_either(word, b"o", b"order") {
         Some((variable(VariableFunction::Order, 1), 0))
     } else if is_either(word, b"p", b"piece") {

@@ -89,6 +89,9 @@ returns-in-Walk g c = rw c.in-Walk.is (within_any c.walk_step.ensures)
 pub returns-in-Order : goal.returns-in-Order
 returns-in-Order g c = rw c.in-Order.is (within_any c.order_step.ensures)
 
+pub returns-in-TellName : goal.returns-in-TellName
+returns-in-TellName g c = rw c.in-TellName.is (within_any c.tell_name_step.ensures)
+
 pub returns-in-Local : goal.returns-in-Local
 returns-in-Local g c = rw c.in-Local.is (within_any (does_yielded c.local_step.ensures))
 

@@ -12,7 +12,7 @@ use Rattle.meval.proofs.EvalLaws.{evaluated, gives_own, node_of, own_failed, own
 use Rattle.meval.proofs.EvalLaws.{variable_is, node_is, local_is, global_is, naked_is, indirect_is, extended_is, extrinsic_is, refer_is, referring_is}
 use Rattle.meval.proofs.EvalLaws.{bracket_is, call_is, select_is, apply_is, matches_indirect_is, matches_is, matches_not_indirect_is, matches_not_is, raise_is}
 use Rattle.meval.proofs.EvalLaws.{charge_failed, uncalled, from_tail, from_end, next_value, value_failed, values_end, next_choice, is_chosen, not_chosen}
-use Rattle.meval.proofs.EvalLaws.{none_chosen}
+use Rattle.meval.proofs.EvalLaws.{none_chosen, name_behind, named_as, named_local, named_stopped, whole_at}
 use Rattle.std.proofs.Common.{Ok}
 use Rattle.std.specs.Prelude.{not}
 use Rattle.mspec.specs.Interpretations.{truth_text}
@@ -345,6 +345,11 @@ pub fast_referring-returns-in-Get : goal.fast_referring-returns-in-Get
 fast_referring-returns-in-Get g t c =
     rw c.in-Get.is (evaluates_then (get_act _) (node_evaluated c.args.name.now (expr_tree c.args.subscript.now) _ c.in_ok-eval_into.ensures.does) c.fast_get.ensures)
 
+pub fast_referring-returns-in-Name : goal.fast_referring-returns-in-Name
+fast_referring-returns-in-Name g t c =
+    let node = node_evaluated c.args.name.now (expr_tree c.args.subscript.now) _ c.in_ok-eval_into.ensures.does in
+    rw c.in-Name.is (evaluates_then (name_behind _) node c.fast_name.ensures)
+
 pub fast_referring-returns : goal.fast_referring-returns
 fast_referring-returns g t c =
     rw c.in-Order.is (evaluates_then (order_behind _) (node_evaluated c.args.name.now (expr_tree c.args.subscript.now) _ c.in_ok-eval_into.ensures.does) c.fast_order.ensures)
@@ -371,6 +376,12 @@ pub referring-returns-in-Get : goal.referring-returns-in-Get
 referring-returns-in-Get g t c =
     let is = rw c.in-Get.is at c.function-function.ensures in
     let k = rw c.deref-in-Get.ensures.value at c.get_of.ensures in
+    rw is.1 k
+
+pub referring-returns-in-Name : goal.referring-returns-in-Name
+referring-returns-in-Name g t c =
+    let is = rw c.in-Name.is at c.function-function.ensures in
+    let k = rw c.deref-in-Name.ensures.value at c.name_of.ensures in
     rw is.1 k
 
 pub referring-returns-in-Order : goal.referring-returns-in-Order
@@ -406,6 +417,42 @@ pub get_of-returns : goal.get_of-returns
 get_of-returns g t c =
     evaluates_regrouped (λ i. evaluated i (reference_tree c.args.reference.now)) (λ i. resolve reading) (get_from (exprs_of (map expr_tree c.args.more.now)))
     (evaluates_then (get_from (exprs_of (map expr_tree c.args.more.now))) c.in_ok-place.ensures.does (evaluates_then _ c.in_ok-more.ensures c.read_or.ensures))
+
+pub most-returns-in_err-values : goal.most-returns-in_err-values
+most-returns-in_err-values g t c = evaluates_stopped (λ i xs. whole_at 0 xs) c.in_err-values.ensures c.from_residual.ensures
+
+pub most-returns : goal.most-returns
+most-returns g t c =
+    let told = rw c.as_slice.ensures at c.whole_at.ensures.whole in
+    evaluates_then (λ i xs. whole_at 0 xs) c.in_ok-values.ensures (evaluates_yielded told)
+
+pub fast_name-returns-in_err-most : goal.fast_name-returns-in_err-most
+fast_name-returns-in_err-most g t c = named_stopped _ (of_local c.args.name.now (c.args.subscript.now ∷ [])) c.in_err-most.ensures c.from_residual.ensures
+
+pub fast_name-returns-in_err-front : goal.fast_name-returns-in_err-front
+fast_name-returns-in_err-front g t c =
+    named_as _ (of_local c.args.name.now (c.args.subscript.now ∷ [])) c.in_ok-most.most c.in_ok-most.ensures
+    (evaluates_wanting _ _ _ c.from_residual-in_err-front.ensures)
+
+pub fast_name-returns : goal.fast_name-returns
+fast_name-returns g t c =
+    let named = rw (c.in_ok-front.ensures, c.as_bytes7.ensures.text, c.from_ref.ensures.value) at c.name_text.ensures in
+    named_as _ (of_local c.args.name.now (c.args.subscript.now ∷ [])) c.in_ok-most.most c.in_ok-most.ensures
+    (named_local c.args.name.now (c.args.subscript.now ∷ []) c.in_ok-most.most named)
+
+pub name_of-returns-in_err-pending : goal.name_of-returns-in_err-pending
+name_of-returns-in_err-pending g t c =
+    evaluates_stopped (name_behind (exprs_of (map expr_tree c.args.more.now))) c.in_err-pending.ensures c.from_residual.ensures
+
+pub name_of-returns-in_err-most : goal.name_of-returns-in_err-most
+name_of-returns-in_err-most g t c =
+    evaluates_then (name_behind _) c.in_ok-pending.ensures
+    (named_stopped _ (pending_view c.in_ok-pending.pending) c.in_err-most.ensures c.from_residual-in_err-most.ensures)
+
+pub name_of-returns : goal.name_of-returns
+name_of-returns g t c =
+    evaluates_then (name_behind _) c.in_ok-pending.ensures
+    (named_as _ (pending_view c.in_ok-pending.pending) c.in_ok-most.most c.in_ok-most.ensures c.named_pending.ensures)
 
 pub direction-returns-in_err-values : goal.direction-returns-in_err-values
 direction-returns-in_err-values g t c = evaluates_stopped (λ i xs. direction_of (slice_get xs 0)) c.in_err-values.ensures c.from_residual.ensures

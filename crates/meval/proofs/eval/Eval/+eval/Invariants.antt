@@ -77,6 +77,9 @@ decreases-extended g l = 16 * l.self.now.steps + 6
 abbrev pub decreases-direction : goal.decreases-direction
 decreases-direction g l = 16 * l.self.now.steps + 6
 
+abbrev pub decreases-most : goal.decreases-most
+decreases-most g l = 16 * l.self.now.steps + 6
+
 abbrev pub decreases-evaluated : goal.decreases-evaluated
 decreases-evaluated g l = 16 * l.self.now.steps + 7
 
@@ -91,6 +94,9 @@ decreases-fast_get g l = 16 * l.self.now.steps + 6
 
 abbrev pub decreases-fast_order : goal.decreases-fast_order
 decreases-fast_order g l = 16 * l.self.now.steps + 7
+
+abbrev pub decreases-fast_name : goal.decreases-fast_name
+decreases-fast_name g l = 16 * l.self.now.steps + 7
 
 abbrev pub decreases-fast_own : goal.decreases-fast_own
 decreases-fast_own g l = 16 * l.self.now.steps + 6
@@ -109,6 +115,9 @@ decreases-get_of g l = 16 * l.self.now.steps + 9
 
 abbrev pub decreases-order_of : goal.decreases-order_of
 decreases-order_of g l = 16 * l.self.now.steps + 8
+
+abbrev pub decreases-name_of : goal.decreases-name_of
+decreases-name_of g l = 16 * l.self.now.steps + 8
 
 abbrev pub decreases-variable : goal.decreases-variable
 decreases-variable g l = 16 * l.self.now.steps + 10

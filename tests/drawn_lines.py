@@ -83,6 +83,7 @@ class Draw:
             lambda: joined(["$J(", self.expression(depth), self.drawn.choice([",1", ",5", ",I"]), self.drawn.choice([",0)", ",2)", ",I)"])]),
             lambda: joined([self.drawn.choice(['$QL("A("_', '$QL("^A(1,"_', "$qlength("]), self.expression(depth), self.drawn.choice(['_")")', "_1)", ")"])]),
             lambda: joined(['$QS("^|""E""|A("_', self.expression(depth), self.drawn.choice(['_")",0)', '_",2)",1)', '_")",-1)', '_")",I)'])]),
+            lambda: joined([self.drawn.choice(["$NA(A(", "$NAME(^A(1,", "$na(^("]), self.expression(depth), self.drawn.choice(["))", "),0)", "),1)", "),I)"])]),
             lambda: joined([self.drawn.choice(["$RE(", "$REVERSE(", "$re("]), self.expression(depth), ")"]),
         ])()
 

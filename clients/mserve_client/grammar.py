@@ -49,8 +49,8 @@ TARGETS = {"P PIECE": (1, 2)}
 TARGETS_SINCE = {1: {"P PIECE": (1, 3), "E EXTRACT": (0, 2)}}
 # A line that a language takes, and none before it.
 NEW_LINES = {1: "W $RE(1)"}
-# The functions of a variable: how many values at most after it.
-OF_VARIABLE = {"D DATA": 0, "G GET": 1, "O ORDER": 1}
+# The functions of a variable: how many values at most after it; and those that a later language has.
+OF_VARIABLE, OF_VARIABLE_SINCE = {"D DATA": 0, "G GET": 1, "O ORDER": 1}, {1: {"NA NAME": 1}}
 
 
 def text(pattern: str, wanted: str = "") -> Step:
@@ -180,6 +180,14 @@ def of_values(language: int) -> dict[str, tuple[int, int]]:
     return found
 
 
+def of_variable(language: int) -> dict[str, int]:
+    """The functions of a variable that a language has."""
+    found = dict(OF_VARIABLE)
+    for since, more in OF_VARIABLE_SINCE.items():
+        found.update(more if since <= language else {})
+    return found
+
+
 def specials(language: int) -> list[str]:
     """The special variables that a language has."""
     return [*SPECIALS, *[words for since, more in SPECIALS_SINCE.items() if since <= language for words in more]]
@@ -266,7 +274,7 @@ def of_kind(language: int, kind: str) -> dict[str, Step]:
                 *[text(rf"\${either(words)}(?![A-Za-z(])", "operand") for words in specials(language)],
                 *[function(words, *values(*counts, kind)) for words, counts in of_values(language).items()],
                 *[function(words, inner(f"{kind}variable"), *([perhaps(all_of(text(",", "more"), value))] if most else []))
-                  for words, most in OF_VARIABLE.items()],
+                  for words, most in of_variable(language).items()],
                 function("S SELECT", listed(all_of(value, text(":", "colon"), value))), *called(language, kind))}
 
 

@@ -32,6 +32,7 @@ FUNCTIONS = {
     "$GET": "$G(variable[,default]) the text, or the default if there is none",
     "$JUSTIFY": "$J(text,width)         the text after spaces; of language 1 $J(number,width,places) too",
     "$LENGTH": "$L(text[,delimiter])   how many characters, or pieces",
+    "$NAME": "$NA(variable[,count]) its name as a text, with as many subscripts as are said; of language 1",
     "$ORDER": "$O(variable[,-1])      the next subscript at the last place, or the one before; \"\" begins and ends",
     "$PIECE": "$P(text,delimiter[,from[,to]])  pieces between delimiters; SET of several needs language 1",
     "$QLENGTH": "$QL(name)              how many subscripts the name of a node has; of language 1",

@@ -1,12 +1,13 @@
 -- SPDX-License-Identifier: Apache-2.0
 -- How many steps a part of a tree has, by the search for a step that is past it.
-use Rattle.std.proofs.Common.{◌≡◌, ◌+◌, ◌-◌, ◌≤◌, ◌<◌, ℕ, zero, suc, List, [], ◌∷◌, ◌++◌, length, Option, Some, None, refl, sym, ap, ◌∙◌, arith, length-append}
+use Rattle.std.proofs.Common.{◌≡◌, ◌+◌, ◌-◌, ◌^◌, ◌≤◌, ◌<◌, ℕ, zero, suc, List, [], ◌∷◌, ◌++◌, length, Option, Some, None}
+use Rattle.std.proofs.Common.{refl, sym, ap, ◌∙◌, arith, length-append}
 use Rattle.std.specs.Prelude.{slice_get}
 use Rattle.std.proofs.lemmas.Option.{slice_get_within}
 use Rattle.mgrammar.specs.Grammar.{ExprTree, ChoicesTree}
 use Rattle.mmeaning.specs.Programs.{Op, Spend, of_value, of_choices}
 use Rattle.mmeaning.proofs.ProgramParts.{Behind, value_behind, choices_behind}
-use Rattle.mprogram.specs.Found.{FoundTree, past, found_before, in_value, in_choices}
+use Rattle.mprogram.specs.Found.{FoundTree, step, past, found_before, in_value, in_choices}
 use Rattle.mprogram.proofs.Finding.{Finds, value_finds, choices_find}
 
 -- this many steps, whatever they are
@@ -46,12 +47,26 @@ counted f p finds behind at left is =
     let other = length-append (f []) (several left) in
     omega (arith, several_long left, several_long (suc left))
 
--- the others
-pub others_counted : (at count left : ℕ) → at ≡ count + left → at - left ≡ count
-others_counted at count left is = omega arith
+-- a part in which a step is found there has more
+longer : (f : List Op → List Op) (p : ℕ → FoundTree) → Finds f p → (at : ℕ) (o : Op) → p at ≡ step o → at < length (f [])
+longer f p finds at o is = slice_get_within _ at o (finds at [] ∙ ap (λ r. found_before r []) is)
+
+-- the others, which are no more than that
+pub others_counted : (at count left : ℕ) → at ≡ count + left → at < 2 ^ 64 → (count < 2 ^ 64) × (at - left ≡ count)
+others_counted at count left is small = (omega (arith, is, small), omega (arith, is))
+
+-- more than the machine's greatest number
+pub too_many : (at count : ℕ) → at < count → 2 ^ 64 ≤ at + 1 → ¬ (count < 2 ^ 64)
+too_many at count more great fits = omega (arith, more, great, fits)
 
 pub value_counted : (e : ExprTree) (at left : ℕ) → in_value e at ≡ past left → at ≡ length (of_value e []) + left
 value_counted e = counted (of_value e) (in_value e) (value_finds e) (value_behind e)
 
 pub choices_counted : (s : ChoicesTree) (at left : ℕ) → in_choices s at ≡ past left → at ≡ length (of_choices s []) + left
 choices_counted s = counted (of_choices s) (in_choices s) (choices_find s) (choices_behind s)
+
+pub value_longer : (e : ExprTree) (at : ℕ) (o : Op) → in_value e at ≡ step o → at < length (of_value e [])
+value_longer e = longer (of_value e) (in_value e) (value_finds e)
+
+pub choices_longer : (s : ChoicesTree) (at : ℕ) (o : Op) → in_choices s at ≡ step o → at < length (of_choices s [])
+choices_longer s = longer (of_choices s) (in_choices s) (choices_find s)

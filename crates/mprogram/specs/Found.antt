@@ -1,19 +1,19 @@
 -- SPDX-License-Identifier: Apache-2.0
 -- The step at a number, looked for in a tree: what comes there in a part of it, and else how many steps are left to pass after the part.
 -- Each definition follows that of the part's steps: `in_value` is of `of_value`.
-use Rattle.std.specs.Prelude.{ℕ, suc, ◌-◌, ◌==◌, cond, List, [], ◌∷◌, length, slice_get, Option, Some, None}
+use Rattle.std.specs.Prelude.{ℕ, suc, ◌-◌, ◌^◌, ◌<◌, ◌==◌, cond, List, [], ◌∷◌, length, slice_get, Option, Some, None, SomeIff}
 use Rattle.mspec.specs.Code.{M4, Zsyntax}
 use Rattle.mgrammar.specs.Grammar.{SignTree, ExprTree, expr, TailsTree, no_tails, tail, TailTree, apply, matches, matches_not, raise, matches_indirect}
 use Rattle.mgrammar.specs.Grammar.{matches_not_indirect, OperandTree, operand, PrimaryTree, number, text, special, reference, bracket, call, select, refer}
 use Rattle.mgrammar.specs.Grammar.{extrinsic, ReferenceTree, local, global, naked, indirect, extended, ExprsTree, no_exprs, exprs, ChoicesTree}
 use Rattle.mgrammar.specs.Grammar.{no_choices, choice, ActualTree, missing_actual, value_actual, name_actual, indirect_actual, ActualsTree}
 use Rattle.mgrammar.specs.Grammar.{no_actuals, actuals, ArgTree, assign, formats, coded, shown, tested, do_one, go_to, executed, hang_for, returned}
-use Rattle.mgrammar.specs.Functions.{data_function, get_function, order_function, FunctionTree, of_variable, function_of}
+use Rattle.mgrammar.specs.Functions.{data_function, get_function, name_function, order_function, FunctionTree, of_variable, function_of}
 use Rattle.mgrammar.specs.CallsIn.{has_call, has_call_operand, has_call_primary}
 use Rattle.mmeaning.specs.Expression.{is_bare}
 use Rattle.mmeaning.specs.Programs.{Op, Operand, Tail, Spend, Sign, Join, Raise, Match, Match_not, Values, Add, Function, Begin, Actual, Hand, Hand_name}
 use Rattle.mmeaning.specs.Programs.{Call, Where, Formats, Prepare, Local, Global, Naked, Extended, Named, Read, Data, Resolve, Get, Walk, Order, Unless, Pass}
-use Rattle.mmeaning.specs.Programs.{Refuse, of_value, of_choices}
+use Rattle.mmeaning.specs.Programs.{Tell_name, Refuse, of_value, of_choices}
 use Rattle.mprogram.specs.Wholes.{WholeTree, of_argument, of_condition}
 
 pub data FoundTree : Type 0 where
@@ -41,6 +41,8 @@ abbrev pub in_referred : Option FunctionTree → (ℕ → FoundTree) → (ℕ �
 in_referred (Some (of_variable data_function most)) first more at = found_then (first at) (single Data)
 in_referred (Some (of_variable get_function most)) first more at =
     found_then (first at) (λ left. found_then (both Resolve Values left) (λ left. found_then (more left) (single Get)))
+in_referred (Some (of_variable name_function most)) first more at =
+    found_then (first at) (λ left. found_then (single Values left) (λ left. found_then (more left) (single Tell_name)))
 in_referred (Some (of_variable order_function most)) first more at =
     found_then (first at) (λ left. found_then (both Walk Values left) (λ left. found_then (more left) (single Order)))
 in_referred f first more at = single (Refuse Zsyntax) at
@@ -145,3 +147,9 @@ in_whole (of_condition e) at = in_value e at
 abbrev pub found_before : FoundTree → List Op → Option Op
 found_before (step o) rest = Some o
 found_before (past left) rest = slice_get rest left
+
+-- ---- counted
+
+-- this number, and none if the machine's numbers do not go so far
+abbrev pub IsCount : Option ℕ → ℕ → Type 0
+IsCount r count = SomeIff r (count < 2 ^ 64) count

@@ -53,6 +53,7 @@ op_view op.Resolve = programs.Resolve
 op_view op.Get = programs.Get
 op_view op.Walk = programs.Walk
 op_view op.Order = programs.Order
+op_view op.TellName = programs.Tell_name
 op_view (op.Unless v) = passing_value (expr_tree v.now)
 op_view (op.Pass rest) = passing_choices (choices_of (map choice_tree rest.now))
 op_view op.NoChoice = programs.Refuse M4

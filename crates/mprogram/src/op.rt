@@ -77,6 +77,8 @@ pub enum Op<'t> {
     Walk,
     /// $ORDER of the place below the values on top.
     Order,
+    /// $NAME of the reference below the values on top.
+    TellName,
     /// Passes by the steps of this value of $SELECT and the one after them, if the value on top is false.
     Unless(&'t Expr),
     /// Passes by the steps of these choices of $SELECT.

@@ -208,7 +208,7 @@ fn in_node<'t>(name: &'t Name, subscript: &'t Expr, at: usize) -> Found<'t>
     }
 }
 
-// Of subscripts, and then what makes a reference of them.
+// Of subscripts or of other values, and then what is made of them.
 #[cycle(steps)]
 fn in_subscripts<'t>(subscripts: &'t [Expr], op: Op<'t>, at: usize) -> Found<'t>
     ensures { found_view result ≡ found_then (single programs.Values at)
@@ -292,7 +292,7 @@ fn in_referring<'t>(referring: &'t Referring, at: usize) -> Found<'t>
     }
 }
 
-// Of the variable, its checks, and the values after it.
+// Of the variable, its checks if it has any, and the values after it.
 #[cycle(steps)]
 fn in_referred<'t>(referring: &'t Referring, at: usize) -> Found<'t>
     ensures { found_view result ≡ in_referred (function_of (out-Referring referring.now).word) (in_reference (reference_tree
@@ -301,6 +301,7 @@ fn in_referred<'t>(referring: &'t Referring, at: usize) -> Found<'t>
     match referring.word.function() {
         VariableFunction::Data => reference_then(&referring.reference, Op::Data, at),
         VariableFunction::Get => in_checked(referring, Op::Resolve, Op::Get, at),
+        VariableFunction::Name => in_unchecked(referring, Op::TellName, at),
         VariableFunction::Order => in_checked(referring, Op::Walk, Op::Order, at),
     }
 }
@@ -318,6 +319,19 @@ fn in_checked<'t>(referring: &'t Referring, check: Op<'t>, ask: Op<'t>, at: usiz
             Found::Op(op) => Found::Op(op),
             Found::Past(behind) => values_then(&referring.more, ask, behind),
         },
+    }
+}
+
+// Of the variable, the values after it, and what is asked then.
+#[cycle(steps)]
+fn in_unchecked<'t>(referring: &'t Referring, ask: Op<'t>, at: usize) -> Found<'t>
+    ensures { found_view result ≡ found_then (in_reference (reference_tree (out-Referring referring.now).reference) at)
+        (λ left. found_then (single programs.Values left)
+        (λ left. found_then (in_values (exprs_of (map expr_tree (out-Referring referring.now).more.items)) left) (single (op_view ask.entry)))) }
+{
+    match in_reference(&referring.reference, at) {
+        Found::Op(op) => Found::Op(op),
+        Found::Past(left) => in_subscripts(&referring.more, ask, left),
     }
 }
 

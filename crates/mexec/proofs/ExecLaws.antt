@@ -18,6 +18,8 @@ pub use Rattle.mmeaning.proofs.Uncalled.{neither}
 pub use Rattle.mexec.proofs.ConditionRuns.{argument_there, argument_whole, condition_runs, condition_there}
 pub use Rattle.mexec.specs.Arguments.{program_started, progress_at}
 pub use Rattle.mexec.proofs.Sizes.{size_push, lists_weigh}
+pub use Rattle.mexec.proofs.RareFrames.{rare_left}
+pub use Rattle.mexec.proofs.Rooms.{pause_fits, entrance_fits, falls_one_more, room_made, plain_room, bare_room, begun_room}
 pub use Rattle.mexec.proofs.Calls.{one_more, further_then, further_stopped}
 pub use Rattle.mexec.proofs.Calls.{at_as, at_depth, at_failed, at_gives, at_stopped, at_then, at_wanting, goes_here, goes_on, frame_below, frame_top, runs_as}
 pub use Rattle.mexec.proofs.Calls.{runs_completion, runs_done, runs_spent, runs_stopped, runs_then, runs_wanting, runs_within, within_entered, within_listing}

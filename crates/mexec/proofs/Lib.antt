@@ -12,6 +12,8 @@ pub mod ProgramRuns
 pub mod LevelRuns
 pub mod ArgumentRuns
 pub mod FrontRuns
+pub mod RareFrames
+pub mod Rooms
 pub mod Texts
 pub mod PlayedTexts
 pub mod ConditionRuns

@@ -27,7 +27,7 @@ use Rattle.mcommand.specs.Does.{DoesWithin}
 use Rattle.mmeaning.specs.Yields.{Yields}
 use Rattle.mmeaning.proofs.Yieldings.{yields_gives, yields_wanting}
 use Rattle.moperator.specs.Codes.{fault_of}
-use Rattle.mexec.specs.Programs.{calls_with, chosen_from, pause_of, pauses, ends, ends_with}
+use Rattle.mexec.specs.Programs.{calls_with, chosen_from, pause_of, pauses, ends, ends_with, IsNumber}
 use Rattle.mexec.specs.declared.frames.Position as positions
 use Rattle.mexec.specs.declared.programs.Pause as the_pause
 use Rattle.mexec.specs.declared.programs.Pause.TheVariants as pause
@@ -86,15 +86,19 @@ no_call o entries values choices = refl
 
 -- ---- how far a jump goes
 
-pub past_yields : (at n : ℕ) (st : List Item) (r : Result ℕ Code) → IfOk r (λ past. past ≡ at + n) → IfErr r (λ c. c ≡ code.Zmem)
+-- after a number of steps, and one more
+pub number_further : (at count n last : ℕ) (r : Result ℕ Code) → last ≡ at + count → count ≡ n → IsNumber r (last + 1) → IsNumber r (at + suc n)
+number_further at count n last r there same is = let to : last + 1 ≡ at + suc n = omega (arith, there, same) in subst (IsNumber r) to is
+
+pub past_yields : (at n : ℕ) (st : List Item) (r : Result ℕ Code) → IsNumber r (at + n) → IfErr r (λ c. c ≡ code.Zmem)
     → Yields {A = ℕ × List Item} fault_of (give (at + n, st)) (λ (next : ℕ). (next, st)) r
 past_yields at n st (Ok to) is wants =
-    let same : ◌≡◌ {A = ℕ × List Item} (to, st) (at + n, st) = (λ i. (is i, st)) in
+    let same : ◌≡◌ {A = ℕ × List Item} (to, st) (at + n, st) = (λ i. (is.1 i, st)) in
     yields_gives {A = ℕ × List Item} (at + n, st) (λ (next : ℕ). (next, st)) to same
 past_yields at n st (Err c) is wants = yields_wanting {A = ℕ × List Item} (give (at + n, st)) (λ (next : ℕ). (next, st)) code.Zmem (Err c) refl (refl, wants)
 
-pub past_on : (at n : ℕ) (r : Result ℕ Code) → IfOk r (λ past. past ≡ at + n) → IfOk r (λ past. at ≤ past)
-past_on at n (Ok to) is = omega (arith, is)
+pub past_on : (at n : ℕ) (r : Result ℕ Code) → IsNumber r (at + n) → IfOk r (λ past. at ≤ past)
+past_on at n (Ok to) is = omega (arith, is.1)
 past_on at n (Err c) is = tt
 
 -- ---- acts

@@ -1,6 +1,6 @@
 -- SPDX-License-Identifier: Apache-2.0
 -- Why the loop over frames ends. It is kept apart from Frames, because what a scratch keeps names Frames.
-use Rattle.std.specs.Prelude.{ℕ, ◌≤◌, ◌+◌, ◌*◌, List, [], ◌∷◌, Result, IfOk}
+use Rattle.std.specs.Prelude.{ℕ, ◌≤◌, ◌+◌, ◌*◌, List, [], ◌∷◌, Result, Bool, true, false, IfOk}
 use Rattle.mcommand.specs.declared.parts.Parts.{Parts}
 use Rattle.mexec.specs.declared.frames.Frame.{Frame}
 use Rattle.mexec.specs.declared.frames.Frame.TheVariants as frame
@@ -10,6 +10,13 @@ use Rattle.mexec.specs.declared.scratch.Scratch.{Scratch}
 abbrev pub weight : Frame → ℕ
 weight (frame.Program s) = 3
 weight f = 1
+
+-- whether a frame is of a kind that few lines need
+abbrev pub is_rare : Frame → Bool
+is_rare (frame.Continuation r) = false
+is_rare (frame.ForLoop t) = false
+is_rare (frame.Level p c) = false
+is_rare f = true
 
 abbrev pub size : List Frame → ℕ
 size [] = 0

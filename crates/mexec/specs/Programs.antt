@@ -1,6 +1,6 @@
 -- SPDX-License-Identifier: Apache-2.0
 -- Programs as the code carries them out: what they come to, and what a command does in the end.
-use Rattle.std.specs.Prelude.{ℕ, ◌+◌, List, Result, Ok, Err, cond, map, drop}
+use Rattle.std.specs.Prelude.{ℕ, ◌+◌, ◌^◌, ◌<◌, List, Result, Ok, Err, OkIff, cond, map, drop}
 use Rattle.mspec.specs.Act.{Text, Act, ◌>>=◌, ◌>>◌, give, write}
 use Rattle.mmeaning.specs.Operators.{as_number, as_truth}
 use Rattle.mmeaning.specs.LineMeaning as meaning
@@ -29,6 +29,13 @@ pause_of w (pause.Calls c) = call_of w c
 pause_of w (pause.Enters e is_listed bs) = enters (entry_tree e.now) is_listed (map binding_of bs.items)
 pause_of w (pause.Executes v) = executes v
 
+-- how many frames a pause may put, and one more, beyond three for each step that it spends: a text puts two, and spends none
+abbrev pub room_for : the_pause.Pause → ℕ
+room_for (pause.Over s) = 3
+room_for (pause.Calls c) = 0
+room_for (pause.Enters e is_listed bs) = 0
+room_for (pause.Executes v) = 3
+
 -- a completion as such
 abbrev pub pauses : Result Completion Code → Result the_pause.Pause Code
 pauses (Ok s) = Ok (pause.Over s)
@@ -39,6 +46,10 @@ abbrev pub calls_with : WholeTree → EntryTree → ℕ → List Item → Act Pa
 calls_with w e at st = do
   taken ← handing_on_top st
   give (calls e taken.0.0 taken.0.1 (drop at (steps_of w)) taken.1)
+
+-- the number of a step, and a code if the machine's numbers do not go so far
+abbrev pub IsNumber : Result ℕ Code → ℕ → Type 0
+IsNumber r at = OkIff r (at < 2 ^ 64) at
 
 -- where a program goes on after the condition of a choice, which is on top: here, or this many steps further if it is false
 abbrev pub chosen_from : ℕ → ℕ → List Item → Act (ℕ × List Item)

@@ -1,22 +1,24 @@
 // SPDX-License-Identifier: Apache-2.0
 // The arguments of a command, one after another.
-ghost use Rattle.std.specs.Prelude.{◌≡◌, ◌-◌, ℕ, suc, List, Some, false, true, map, drop, slice_get, IfOk};
+ghost use Rattle.std.specs.Prelude.{◌≡◌, ◌≤◌, ◌<◌, ◌+◌, ◌-◌, ◌*◌, ℕ, suc, List, Some, false, true, map, drop, slice_get, IfErr, IfOk};
 ghost use Rattle.std.specs.List.{list_all, list_any};
 ghost use Rattle.mgrammar.specs.CallsIn.{has_call, has_call_arg as the_has_call_arg, has_call_optional};
 ghost use Rattle.mgrammar.specs.ProgramsIn.{in_steps_arg};
 ghost use Rattle.mmeaning.specs.LineMeaning as meaning;
 ghost use Rattle.mexec.specs.Words.{DoesAt, arg_tree, condition_tree, context, depth_of, entry_tree, expr_tree, inside};
-ghost use Rattle.mexec.specs.Falls.{Falls};
+ghost use Rattle.mexec.specs.Falls.{size, Falls};
 ghost use Rattle.mexec.specs.Frames.{RunsWithin, completion_of, went, source_args, source_position, position_of, stack};
 ghost use Rattle.mexec.specs.Progress.{IfStops, ends};
 ghost use Rattle.mexec.specs.Fronts.{args_started, begun_of};
-ghost use Rattle.mexec.specs.Arguments.{IsReady, started, started_plainly, start_of, where_applies, entrance_of, entered_then};
+ghost use Rattle.mexec.specs.Arguments.{HasRoom, IsReady, room, started, started_plainly, start_of, where_applies, entrance_of, entered_then};
+ghost use Rattle.mexec.specs.Programs.{room_for};
+ghost use Rattle.moperator.specs.declared.code.Code.TheVariants.{Zmem};
 
 use crate::completion::{Completion, Progress, over, went_on, where_true};
 use crate::entering::{doing, executing};
 use crate::frames::Position;
 use crate::indirection::giving;
-use crate::programs::{Pause, begun, resume_first};
+use crate::programs::{Pause, begun, resume};
 use crate::scratch::Scratch;
 use crate::source::{Place, Source};
 use mcommand::Parts;
@@ -178,6 +180,32 @@ fn calls_in_argument(arg: &Arg, may_call: bool) -> bool
     if may_call { has_call_arg(arg) } else { false }
 }
 
+// That a step was spent: these are left of as many as there were. Else it is out of memory.
+fn one_spent(left: u32, before: u32) -> Result<(), Code>
+    ensures spent { IfOk result (λ _. left < before) }
+    ensures wants { IfErr result (λ code. code ≡ Zmem) }
+{
+    if left < before {
+        Ok(())
+    } else {
+        Err(Code::Zmem)
+    }
+}
+
+// That a program which comes to a text has spent a step, as each has: the first step of an expression spends one.
+fn spent_before(pause: &Pause, left: u32, before: u32) -> Result<(), Code>
+    requires { left ≤ before }
+    ensures room { IfOk result (λ _. 6 * left + room_for pause.now ≤ 6 * before) }
+    ensures wants { IfErr result (λ code. code ≡ Zmem) }
+{
+    match pause {
+        Pause::Over(_) => one_spent(left, before),
+        Pause::Calls(_) => Ok(()),
+        Pause::Enters(_, _, _) => Ok(()),
+        Pause::Executes(_) => one_spent(left, before),
+    }
+}
+
 // What an argument in which functions are called does, up to where its program opens a level. One text more may be entered in it, and in
 // each argument, than there are steps: the command's own is spent. Kept out of line, since it is rare.
 #[inline(never)]
@@ -190,13 +218,16 @@ fn program_begun<'t, S: NodeStore>(
     requires calls { the_has_call_arg (arg_tree arg.now) ≡ true }
     requires stepped { in_steps_arg (arg_tree arg.now) ≡ true }
     ensures enters { (args : List Arg) (at : ℕ) → slice_get args (at - 1) ≡ Some arg.now → IfOk result (λ progress. IfStops progress (IsReady args at)) }
+    ensures room { IfOk result (λ progress. IfStops progress (HasRoom parts.old parts.new)) }
     ensures does { DoesAt S.NodeStore (λ a n. started (context a (suc n) (position_of position.now)) (arg_tree arg.now)) start_of parts.old result parts.new }
 {
+    let steps = parts.eval.steps;
     let whole = Whole::Argument(arg);
     let pause = begun(alloc, parts, position, whole, 0, Vec::new(alloc))?;
     match pause {
         Pause::Over(completion) => Ok(Progress::Over(completion)),
         other => {
+            spent_before(&other, parts.eval.steps, steps)?;
             let boxed = Box::new(alloc, Paused { arg, pause: other })?;
             Ok(Progress::Stops(Entrance::Paused(boxed)))
         }
@@ -215,6 +246,7 @@ fn argument_begun<'t, S: NodeStore>(
     requires plain { may_call ≡ false → the_has_call_arg (arg_tree arg.now) ≡ false }
     requires stepped { in_steps_arg (arg_tree arg.now) ≡ true }
     ensures enters { (args : List Arg) (at : ℕ) → slice_get args (at - 1) ≡ Some arg.now → IfOk result (λ progress. IfStops progress (IsReady args at)) }
+    ensures room { IfOk result (λ progress. IfStops progress (HasRoom parts.old parts.new)) }
     ensures does { DoesAt S.NodeStore (λ a n. started (context a (suc n) (position_of position.now)) (arg_tree arg.now)) start_of parts.old result parts.new }
 {
     if calls_in_argument(arg, may_call) {
@@ -225,8 +257,9 @@ fn argument_begun<'t, S: NodeStore>(
 }
 
 // The arguments from one on, as long as each goes on with the next: what the last of them left, and the place after it. Functions may be
-// called in them, or not.
-pub(crate) fn arguments_begun<'t, S: NodeStore>(
+// called in them, or not: each caller says which, so that a compiled loop has no test of it.
+#[inline(always)]
+fn arguments_in_turn<'t, S: NodeStore>(
     alloc: Global,
     parts: &mut Parts<S>,
     position: &Position,
@@ -237,7 +270,9 @@ pub(crate) fn arguments_begun<'t, S: NodeStore>(
     requires plain { may_call ≡ false → list_any the_has_call_arg (map arg_tree args.now) ≡ false }
     requires stepped { list_all in_steps_arg (map arg_tree args.now) ≡ true }
     ensures enters { IfOk result (λ begun. IfStops begun.0 (IsReady args.now begun.1)) }
-    ensures does { DoesAt S.NodeStore (λ a n. args_started (context a (suc n) (position_of position.now)) (map arg_tree (drop from args.now))) (begun_of args.now) parts.old result parts.new }
+    ensures room { IfOk result (λ begun. IfStops begun.0 (HasRoom parts.old parts.new)) }
+    ensures does { DoesAt S.NodeStore (λ a n. args_started (context a (suc n) (position_of position.now)) (map arg_tree (drop from args.now)))
+        (begun_of args.now) parts.old result parts.new }
 {
     let mut at = from;
     while at < args.len() {
@@ -252,6 +287,49 @@ pub(crate) fn arguments_begun<'t, S: NodeStore>(
     Ok((Progress::Over(Completion::GoOn), at))
 }
 
+// The same, where functions may be called. Kept out of line, since it is rare.
+#[inline(never)]
+fn arguments_calling<'t, S: NodeStore>(
+    alloc: Global,
+    parts: &mut Parts<S>,
+    position: &Position,
+    args: &'t [Arg],
+    from: usize,
+) -> Result<(Progress<Entrance<'t>>, usize), Code>
+    requires stepped { list_all in_steps_arg (map arg_tree args.now) ≡ true }
+    ensures enters { IfOk result (λ begun. IfStops begun.0 (IsReady args.now begun.1)) }
+    ensures room { IfOk result (λ begun. IfStops begun.0 (HasRoom parts.old parts.new)) }
+    ensures does { DoesAt S.NodeStore (λ a n. args_started (context a (suc n) (position_of position.now)) (map arg_tree (drop from args.now)))
+        (begun_of args.now) parts.old result parts.new }
+{
+    arguments_in_turn(alloc, parts, position, args, from, true)
+}
+
+// The arguments from one on, as long as each goes on with the next: what the last of them left, and the place after it. Functions may be
+// called in them, or not.
+#[inline(always)]
+pub(crate) fn arguments_begun<'t, S: NodeStore>(
+    alloc: Global,
+    parts: &mut Parts<S>,
+    position: &Position,
+    args: &'t [Arg],
+    from: usize,
+    may_call: bool,
+) -> Result<(Progress<Entrance<'t>>, usize), Code>
+    requires plain { may_call ≡ false → list_any the_has_call_arg (map arg_tree args.now) ≡ false }
+    requires stepped { list_all in_steps_arg (map arg_tree args.now) ≡ true }
+    ensures enters { IfOk result (λ begun. IfStops begun.0 (IsReady args.now begun.1)) }
+    ensures room { IfOk result (λ begun. IfStops begun.0 (HasRoom parts.old parts.new)) }
+    ensures does { DoesAt S.NodeStore (λ a n. args_started (context a (suc n) (position_of position.now)) (map arg_tree (drop from args.now)))
+        (begun_of args.now) parts.old result parts.new }
+{
+    if may_call {
+        arguments_calling(alloc, parts, position, args, from)
+    } else {
+        arguments_in_turn(alloc, parts, position, args, from, false)
+    }
+}
+
 // What an argument enters, before the arguments from one on: these stay on the frames.
 pub(crate) fn enter_argument<S: NodeStore>(
     alloc: Global,
@@ -262,7 +340,7 @@ pub(crate) fn enter_argument<S: NodeStore>(
     scratch: &mut Scratch,
 ) -> Result<Completion, Code>
     requires { IsReady (source_args source) argument entrance }
-    ensures falls { Falls parts.old scratch.old result parts.new scratch.new }
+    ensures falls { IfOk result (λ _. 6 * parts.new.eval.steps + size scratch.new.frames.items ≤ 6 * parts.old.eval.steps + size scratch.old.frames.items + room entrance.entry) }
     ensures does { RunsWithin S.NodeStore (λ a n. entered_then (context a n (position_of (source_position source.entry))) (entrance_of entrance.entry) (map arg_tree (drop argument (source_args source.entry)))) (stack scratch.old.frames.items) parts.old result (stack scratch.new.frames.items) parts.new }
 {
     source.leave(argument, scratch)?;
@@ -276,7 +354,7 @@ pub(crate) fn enter_argument<S: NodeStore>(
         Entrance::Paused(paused) => {
             let place = Place::Argument(source, argument.saturating_sub(1));
             let Paused { arg: _, pause } = Box::into_inner(paused);
-            resume_first(alloc, parts, place, pause, scratch)
+            resume(alloc, parts, place, pause, scratch)
         }
     }
 }

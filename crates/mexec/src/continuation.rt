@@ -7,7 +7,7 @@ ghost use Rattle.mmeaning.specs.LineMeaning as meaning;
 ghost use Rattle.mmeaning.specs.LineMeaning.{context};
 ghost use Rattle.mexec.specs.Falls.{size, Falls};
 ghost use Rattle.mexec.specs.Frames.{Runs, RunsWithin, args_before, command_in, rest_tree, resting, spaced_before, stack, position_of};
-ghost use Rattle.mexec.specs.Fronts.{StopsBefore, StopsIn, resumed, stop_left, stop_of};
+ghost use Rattle.mexec.specs.Fronts.{StopsBefore, StopsIn, resumed, stop_left, stop_of, stop_room};
 
 use crate::arguments::enter_argument;
 use crate::completion::{Completion, Progress};
@@ -85,7 +85,7 @@ fn stopped_at<S: NodeStore>(
 ) -> Result<Completion, Code>
     requires { StopsBefore (spaced_before behind.now.line.value behind.now.at) stop }
     ensures falls { IfOk result (λ _. 6 * parts.new.eval.steps + size scratch.new.frames.items ≤ 6 * parts.old.eval.steps + size scratch.old.frames.items + 3) }
-    ensures within { StopsIn (args_before behind.now.line.value behind.now.at) stop.entry → Falls parts.old scratch.old result parts.new scratch.new }
+    ensures within { StopsIn (args_before behind.now.line.value behind.now.at) stop.entry → IfOk result (λ _. 6 * parts.new.eval.steps + size scratch.new.frames.items ≤ 6 * parts.old.eval.steps + size scratch.old.frames.items + stop_room stop.entry) }
     ensures does { RunsWithin S.NodeStore (λ a n. stop_left (context a n (position_of behind.now.position.value)) (rest_tree behind.now) (stop_of (args_before behind.now.line.value behind.now.at) stop.entry)) (stack scratch.old.frames.items) parts.old result (stack scratch.new.frames.items) parts.new }
 {
     match stop {
@@ -167,6 +167,7 @@ pub(crate) fn held<S: NodeStore>(
 }
 
 // The commands of the rest of a line, up to where one needs frames: what is then left of the line stays on them.
+#[inline(always)]
 pub(crate) fn next_command<S: NodeStore>(
     alloc: Global,
     parts: &mut Parts<S>,

@@ -187,7 +187,7 @@ fn leave_text(
         next: None,
         dots: 0,
     };
-    let inner = Rc::new(alloc, Position { depth, level })?;
+    let inner = scratch.shared(alloc, Position { depth, level })?;
     leave_commands(inner, Closing::Leaves, line, scratch)
 }
 
@@ -228,7 +228,8 @@ pub(crate) fn executing_value<S: NodeStore>(
     enter_text(alloc, parts, depth, position, &text, scratch)
 }
 
-// XECUTE: the value of an expression as a text.
+// XECUTE: the value of an expression as a text. Kept out of line, so that a DO needs no room for what this gives.
+#[inline(never)]
 pub(crate) fn executing<S: NodeStore>(
     alloc: Global,
     parts: &mut Parts<S>,

@@ -11,7 +11,7 @@ ghost use Rattle.mexec.specs.Loops.{spaced_before};
 ghost use Rattle.mexec.specs.Uncalled.{IsPlayed, has_call_command, in_steps_command};
 ghost use Rattle.mexec.specs.Fronts as fronts;
 ghost use Rattle.mexec.specs.Progress.{IfStops};
-ghost use Rattle.mexec.specs.Fronts.{StopsAt, StopsBefore, StopsIn, command_started, effect_started, front_of, outcome_of, stops_at, word_started};
+ghost use Rattle.mexec.specs.Fronts.{StopHasRoom, StopsAt, StopsBefore, StopsIn, command_started, effect_started, front_of, outcome_of, stops_at, word_started};
 
 use crate::arguments::{Entrance, arguments_begun};
 use crate::completion::{Completion, Progress, over, went_on, where_true};
@@ -99,6 +99,7 @@ pub(crate) fn effect<'t, S: NodeStore>(
     requires plain { may_call ≡ false → list_any has_call_arg (map arg_tree args.now) ≡ false }
     requires stepped { list_all in_steps_arg (map arg_tree args.now) ≡ true }
     ensures stops { IfOk result (λ outcome. IfStops outcome (StopsIn args.now)) }
+    ensures room { IfOk result (λ outcome. IfStops outcome (StopHasRoom parts.old parts.new)) }
     ensures does { DoesAt S.NodeStore (λ a n. effect_started (context a (suc n) (position_of position.now)) (keyword_tree keyword) (map arg_tree args.now)) (outcome_of args.now) parts.old result parts.new }
 {
     match args.first() {
@@ -158,20 +159,24 @@ fn command<'t, S: NodeStore>(
     }
 }
 
-// The commands of a line from one on, as long as each goes on with the next: where the last of them stops, and the place after it.
-pub(crate) fn front<'t, S: NodeStore>(
+// The commands of a line from one on, as long as each goes on with the next: where the last of them stops, and the place after it. Functions
+// may be called in them, or not: each caller says which, so that a compiled loop has no test of it.
+#[inline(always)]
+fn commands_in_turn<'t, S: NodeStore>(
     alloc: Global,
     parts: &mut Parts<S>,
     position: &Position,
     line: &'t Line,
     from: usize,
+    may_call: bool,
 ) -> Result<(Progress<Stop<'t>>, usize), Code>
-    requires { IsPlayed line.now }
+    requires played { IsPlayed line.now }
+    requires plain { may_call ≡ false → line.now.since ≡ 0 }
     ensures spent { IfOk result (λ x. IfStops x.0 (λ _. parts.new.eval.steps < parts.old.eval.steps)) }
     ensures stops { IfOk result (λ x. IfStops x.0 (StopsBefore (spaced_before line.now x.1))) }
-    ensures does { DoesAt S.NodeStore (λ a n. fronts.front (context a n (position_of position.now)) (commands_from line.now from)) (front_of line.now) parts.old result parts.new }
+    ensures does { DoesAt S.NodeStore (λ a n. fronts.front (context a n (position_of position.now)) (commands_from line.now from))
+        (front_of line.now) parts.old result parts.new }
 {
-    let may_call = line.since > 0;
     let mut at = from;
     while at < line.commands.len() {
         parts.eval.charge()?;
@@ -184,4 +189,44 @@ pub(crate) fn front<'t, S: NodeStore>(
         }
     }
     Ok((Progress::Over(Completion::GoOn), at))
+}
+
+// The same, where functions may be called. Kept out of line, since it is rare.
+#[inline(never)]
+fn commands_calling<'t, S: NodeStore>(
+    alloc: Global,
+    parts: &mut Parts<S>,
+    position: &Position,
+    line: &'t Line,
+    from: usize,
+) -> Result<(Progress<Stop<'t>>, usize), Code>
+    requires { IsPlayed line.now }
+    ensures spent { IfOk result (λ x. IfStops x.0 (λ _. parts.new.eval.steps < parts.old.eval.steps)) }
+    ensures stops { IfOk result (λ x. IfStops x.0 (StopsBefore (spaced_before line.now x.1))) }
+    ensures does { DoesAt S.NodeStore (λ a n. fronts.front (context a n (position_of position.now)) (commands_from line.now from))
+        (front_of line.now) parts.old result parts.new }
+{
+    commands_in_turn(alloc, parts, position, line, from, true)
+}
+
+// The commands of a line from one on, as long as each goes on with the next: where the last of them stops, and the place after it.
+pub(crate) fn front<'t, S: NodeStore>(
+    alloc: Global,
+    parts: &mut Parts<S>,
+    position: &Position,
+    line: &'t Line,
+    from: usize,
+) -> Result<(Progress<Stop<'t>>, usize), Code>
+    requires { IsPlayed line.now }
+    ensures spent { IfOk result (λ x. IfStops x.0 (λ _. parts.new.eval.steps < parts.old.eval.steps)) }
+    ensures stops { IfOk result (λ x. IfStops x.0 (StopsBefore (spaced_before line.now x.1))) }
+    ensures does { DoesAt S.NodeStore (λ a n. fronts.front (context a n (position_of position.now)) (commands_from line.now from))
+        (front_of line.now) parts.old result parts.new }
+{
+    let may_call = line.since > 0;
+    if may_call {
+        commands_calling(alloc, parts, position, line, from)
+    } else {
+        commands_in_turn(alloc, parts, position, line, from, false)
+    }
 }

@@ -69,7 +69,8 @@ fn leave_given(
 }
 
 // The arguments that the value of an operand gives, for a command with this word. They are on the frames, and are an indirection
-// until the last of them is done.
+// until the last of them is done. Kept out of line, so that a DO needs no room for what this gives.
+#[inline(never)]
 pub(crate) fn giving<S: NodeStore>(
     alloc: Global,
     parts: &mut Parts<S>,

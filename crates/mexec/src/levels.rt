@@ -154,6 +154,7 @@ pub(crate) fn leave_commands(
 }
 
 // Leaves what comes after a label on the frames, on top of its level, with another line coming next.
+#[inline(always)]
 fn enter_body(
     alloc: Global,
     position: Position,
@@ -168,7 +169,7 @@ fn enter_body(
 {
     let mut there = position;
     there.level.next = Some(next);
-    let there = Rc::new(alloc, there)?;
+    let there = scratch.shared(alloc, there)?;
     match body {
         Body::Short(_) => {
             scratch.frames.push(Frame::Level(there, closing))?;

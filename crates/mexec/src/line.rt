@@ -1,9 +1,9 @@
 // SPDX-License-Identifier: Apache-2.0
 // A line, from its first command to its end.
-ghost use Rattle.std.specs.Prelude.{◌≡◌, ◌≤◌, ◌+◌, ◌*◌, [], ◌∷◌, IfOk, OnOk};
+ghost use Rattle.std.specs.Prelude.{◌≡◌, ◌≤◌, ◌+◌, ◌*◌, [], ◌∷◌, true, IfOk, OnOk};
 ghost use Rattle.mexec.specs.Words.{DoesAt, Levels, commands_of, frame, line_tree, stays};
 ghost use Rattle.mmeaning.specs.LineMeaning as meaning;
-ghost use Rattle.mexec.specs.Falls.{size, weight};
+ghost use Rattle.mexec.specs.Falls.{is_rare, size, weight};
 ghost use Rattle.mexec.specs.Uncalled.{IsPlayed};
 ghost use Rattle.mmeaning.specs.Frames.{Fits};
 ghost use Rattle.mexec.specs.Frames.{RunsIf, view, stack, completion_of, position_of};
@@ -24,22 +24,23 @@ use mtree::Line;
 use std::alloc::{AllocError, Global};
 use std::rc::Rc;
 
-// What the top frame does with a completion.
-fn run_frame<S: NodeStore>(
+// What the top frame does with a completion, if it is of a kind that few lines need. Kept out of line, so that the others need no room for
+// what these give.
+#[inline(never)]
+fn run_rare_frame<S: NodeStore>(
     alloc: Global,
     parts: &mut Parts<S>,
     top: Frame,
     completion: Completion,
     scratch: &mut Scratch,
 ) -> Result<Completion, Code>
-    ensures falls { IfOk result (λ _. 6 * parts.new.eval.steps + size scratch.new.frames.items + 1 ≤ 6 * parts.old.eval.steps + size scratch.old.frames.items + weight top) }
-    ensures does { RunsIf (Fits (view top)) S.NodeStore (λ a n. frame a n (view top) (completion_of completion)) (stack scratch.old.frames.items) parts.old result (stack scratch.new.frames.items) parts.new }
+    requires { is_rare top ≡ true }
+    ensures falls { IfOk result (λ _. 6 * parts.new.eval.steps + size scratch.new.frames.items + 1
+        ≤ 6 * parts.old.eval.steps + size scratch.old.frames.items + weight top) }
+    ensures does { RunsIf (Fits (view top)) S.NodeStore (λ a n. frame a n (view top) (completion_of completion))
+        (stack scratch.old.frames.items) parts.old result (stack scratch.new.frames.items) parts.new }
 {
     match top {
-        Frame::Continuation(rest) => match completion {
-            Completion::GoOn => next_command(alloc, parts, rest, scratch),
-            other => Ok(other),
-        },
         Frame::PendingArguments(list) => match completion {
             Completion::GoOn => {
                 let source = Source::Line(&list.behind);
@@ -51,15 +52,42 @@ fn run_frame<S: NodeStore>(
             Completion::GoOn => arguments(alloc, parts, Source::Text(&given), argument, scratch),
             other => Ok(other),
         },
-        Frame::ForLoop(turns) => after_turn(alloc, parts, turns, completion, scratch),
-        Frame::Level(position, closing) => {
-            after_level(alloc, parts, &position, closing, completion, scratch)
-        }
         Frame::Program(suspended) => after_call(alloc, parts, suspended, completion, scratch),
         Frame::Condition(behind) => match completion {
             Completion::GoOn => held(alloc, parts, &behind, scratch),
             _ => Ok(Completion::GoOn),
         },
+        Frame::Continuation(_) => unreachable!(),
+        Frame::ForLoop(_) => unreachable!(),
+        Frame::Level(_, _) => unreachable!(),
+    }
+}
+
+// What the top frame does with a completion.
+fn run_frame<S: NodeStore>(
+    alloc: Global,
+    parts: &mut Parts<S>,
+    top: Frame,
+    completion: Completion,
+    scratch: &mut Scratch,
+) -> Result<Completion, Code>
+    ensures falls { IfOk result (λ _. 6 * parts.new.eval.steps + size scratch.new.frames.items + 1
+        ≤ 6 * parts.old.eval.steps + size scratch.old.frames.items + weight top) }
+    ensures does { RunsIf (Fits (view top)) S.NodeStore (λ a n. frame a n (view top) (completion_of completion))
+        (stack scratch.old.frames.items) parts.old result (stack scratch.new.frames.items) parts.new }
+{
+    match top {
+        Frame::Continuation(rest) => match completion {
+            Completion::GoOn => next_command(alloc, parts, rest, scratch),
+            other => Ok(other),
+        },
+        Frame::ForLoop(turns) => after_turn(alloc, parts, turns, completion, scratch),
+        Frame::Level(position, closing) => {
+            let done = after_level(alloc, parts, &position, closing, completion, scratch);
+            scratch.keep(position);
+            done
+        }
+        rare => run_rare_frame(alloc, parts, rare, completion, scratch),
     }
 }
 

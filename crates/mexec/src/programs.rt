@@ -1,7 +1,7 @@
 // SPDX-License-Identifier: Apache-2.0
 // Programs: an argument, or a condition, in which functions are called, a step at a time. Where a function's level opens, what is left of
 // the program stays on the frames.
-ghost use Rattle.std.specs.Prelude.{◌≡◌, ◌≤◌, ◌+◌, suc, [], Some, IfErr, IfOk, is_some, length, map, drop, true};
+ghost use Rattle.std.specs.Prelude.{◌≡◌, ◌≤◌, ◌+◌, ◌*◌, suc, [], Some, IfErr, IfOk, is_some, length, map, drop, true};
 ghost use Rattle.mmeaning.specs.Frames.{frame, Programs, resumed};
 ghost use Rattle.mmeaning.specs.LineMeaning as meaning;
 ghost use Rattle.mmeaning.specs.LineMeaning.{context};
@@ -18,10 +18,10 @@ ghost use Rattle.mprogram.specs.Wholes.{WholeTree, steps_of, ending_of as the_en
 ghost use Rattle.mprogram.specs.Views.{ending_view, whole_view};
 ghost use Rattle.mcommand.specs.Does.{DoesAt};
 ghost use Rattle.mcommand.specs.Steps.{items_view};
-ghost use Rattle.mexec.specs.Falls.{FallsByTwo, FallsFurther};
+ghost use Rattle.mexec.specs.Falls.{size, FallsByTwo, FallsFurther};
 ghost use Rattle.mexec.specs.Frames.{RunsIf, RunsWithin, completion_of, holder_position, position_of, stack, view};
 ghost use Rattle.mexec.specs.Places.{place_position, whole_at};
-ghost use Rattle.mexec.specs.Programs.{call_of, calls_with, chosen_from, ends, ends_with, pause_of, pauses};
+ghost use Rattle.mexec.specs.Programs.{call_of, calls_with, chosen_from, ends, ends_with, pause_of, pauses, room_for, IsNumber};
 ghost use Rattle.mexec.specs.Wholes.{ending_within, steps_within, whole_of};
 
 use crate::arguments::leads_to;
@@ -164,10 +164,10 @@ fn ended<'t, S: NodeStore>(
     }
 }
 
-// The number of the step after this one. No tree has as many steps as a number can count; that one would be out of memory.
+// The number of the step after this one; `Zmem` if the machine's numbers do not go so far, as they do for each tree.
 #[inline(always)]
 fn after_step(at: usize) -> Result<usize, Code>
-    ensures next { IfOk result (λ next. next ≡ at + 1) }
+    ensures next { IsNumber result (at + 1) }
     ensures wants { IfErr result (λ code. code ≡ Zmem) }
 {
     match at.checked_add(1) {
@@ -176,9 +176,9 @@ fn after_step(at: usize) -> Result<usize, Code>
     }
 }
 
-// The number of the step that comes after those of a value of $SELECT and one more.
+// The number of the step that comes after those of a value of $SELECT and one more; `Zmem` as above.
 fn past_value(at: usize, value: &Expr) -> Result<usize, Code>
-    ensures past { IfOk result (λ past. past ≡ at + suc (length (of_value (expr_tree value.now) []))) }
+    ensures past { IsNumber result (at + suc (length (of_value (expr_tree value.now) []))) }
     ensures wants { IfErr result (λ code. code ≡ Zmem) }
 {
     let Some(count) = steps_in_value(value) else {
@@ -190,9 +190,9 @@ fn past_value(at: usize, value: &Expr) -> Result<usize, Code>
     }
 }
 
-// The number of the step that comes after those of choices of $SELECT.
+// The number of the step that comes after those of choices of $SELECT; `Zmem` as above.
 fn past_choices(at: usize, choices: &[Choice]) -> Result<usize, Code>
-    ensures past { IfOk result (λ past. past ≡ at + length (of_choices (choices_of (map choice_tree choices.now)) [])) }
+    ensures past { IsNumber result (at + length (of_choices (choices_of (map choice_tree choices.now)) [])) }
     ensures wants { IfErr result (λ code. code ≡ Zmem) }
 {
     let Some(count) = steps_in_choices(choices) else {
@@ -301,8 +301,9 @@ fn entering_lines<S: NodeStore>(
     entering(alloc, parts, position, opening, scratch)
 }
 
-// What a program leads to where it opens a level.
-fn resume<S: NodeStore>(
+// What a program leads to where it opens a level. Kept out of line, since it is rare.
+#[inline(never)]
+pub(crate) fn resume<S: NodeStore>(
     alloc: Global,
     parts: &mut Parts<S>,
     place: Place,
@@ -310,7 +311,7 @@ fn resume<S: NodeStore>(
     scratch: &mut Scratch,
 ) -> Result<Completion, Code>
     requires { is_some (whole_at place) ≡ true }
-    ensures falls { FallsByTwo parts.old scratch.old result parts.new scratch.new }
+    ensures falls { IfOk result (λ _. 6 * parts.new.eval.steps + size scratch.new.frames.items + 1 ≤ 6 * parts.old.eval.steps + size scratch.old.frames.items + room_for pause.entry) }
     ensures does { (w : WholeTree) → whole_at place.entry ≡ Some w → RunsWithin S.NodeStore (λ a n. resumed a n (position_of (place_position place.entry)) (the_ending_of w) (pause_of w pause.entry)) (stack scratch.old.frames.items) parts.old result (stack scratch.new.frames.items) parts.new }
 {
     match pause {
@@ -328,35 +329,6 @@ fn resume<S: NodeStore>(
         Pause::Executes(value) => {
             executing_value(alloc, parts, place.position(), value, scratch)
         }
-    }
-}
-
-// What a program leads to where it first opens a level. No text is executed there: a function was called before that, and it opened one.
-#[inline(never)]
-pub(crate) fn resume_first<S: NodeStore>(
-    alloc: Global,
-    parts: &mut Parts<S>,
-    place: Place,
-    pause: Pause,
-    scratch: &mut Scratch,
-) -> Result<Completion, Code>
-    requires { is_some (whole_at place) ≡ true }
-    ensures falls { FallsFurther parts.old scratch.old result parts.new scratch.new }
-    ensures does { (w : WholeTree) → whole_at place.entry ≡ Some w → RunsWithin S.NodeStore (λ a n. resumed a n (position_of (place_position place.entry)) (the_ending_of w) (pause_of w pause.entry)) (stack scratch.old.frames.items) parts.old result (stack scratch.new.frames.items) parts.new }
-{
-    match pause {
-        Pause::Over(_) => Err(Code::Zmem),
-        Pause::Calls(call) => calling(alloc, parts, place, call, scratch),
-        Pause::Enters(entry, is_listed, bindings) => entering_lines(
-            alloc,
-            parts,
-            place.position(),
-            entry,
-            is_listed,
-            bindings,
-            scratch,
-        ),
-        Pause::Executes(_) => Err(Code::Zmem),
     }
 }
 

@@ -1,5 +1,5 @@
 -- SPDX-License-Identifier: Apache-2.0
-use Rattle.mexec.proofs.ExecLaws.{suc, sym, context, arg_tree, position_of, at_as, one_more, started_without}
+use Rattle.mexec.proofs.ExecLaws.{suc, sym, context, arg_tree, position_of, at_as, one_more, started_without, plain_room}
 use Rattle.mexec.specs.Arguments.{started_plainly}
 use Rattle.mexec.proofs.arguments.argument_begun.Goals as goal
 
@@ -17,3 +17,6 @@ returns-else-calls_in_argument-clause-does g c =
 
 pub returns-else-calls_in_argument-clause-enters : goal.returns-else-calls_in_argument-clause-enters
 returns-else-calls_in_argument-clause-enters g c = λ args at there. c.argument.ensures.enters args at
+
+pub returns-else-calls_in_argument-clause-room : goal.returns-else-calls_in_argument-clause-room
+returns-else-calls_in_argument-clause-room g c = plain_room _ _ c.argument.ensures.does.keeps.eval.fewer c.argument.result c.argument.ensures.enters

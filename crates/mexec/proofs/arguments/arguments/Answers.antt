@@ -1,7 +1,7 @@
 -- SPDX-License-Identifier: Apache-2.0
 use Rattle.mexec.proofs.ExecLaws.{map, drop, context, arg_tree, source_args, source_position}
 use Rattle.mexec.proofs.ExecLaws.{position_of, args_started, args_left, further_then, further_stopped, runs_as}
-use Rattle.mexec.proofs.ExecLaws.{runs_completion, arguments_is, rest_stepped, source_stepped, source_uncalled, arith}
+use Rattle.mexec.proofs.ExecLaws.{runs_completion, arguments_is, rest_stepped, source_stepped, source_uncalled, arith, falls_within}
 use Rattle.std.proofs.lemmas.Bool.{ltb-false}
 use Rattle.mgrammar.specs.ProgramsIn.{in_steps_arg}
 use Rattle.mexec.proofs.arguments.arguments.Goals as goal
@@ -44,3 +44,8 @@ arguments_begun-requires-clause-stepped g c = rw c.all.ensures (source_stepped c
 
 pub enter_argument-requires : goal.enter_argument-requires
 enter_argument-requires g c = rw (c.all.ensures, c.in-Stops.is) at c.in_ok-begun.ensures.enters
+
+pub returns-in-Stops-clause-falls : goal.returns-in-Stops-clause-falls
+returns-in-Stops-clause-falls g c =
+    let room = rw c.in-Stops.is at c.in_ok-begun.ensures.room in
+    falls_within _ _ _ c.enter_argument.result (omega (arith, room)) c.enter_argument.ensures.falls

@@ -1,6 +1,6 @@
 -- SPDX-License-Identifier: Apache-2.0
 use Rattle.mexec.proofs.ExecLaws.{map, drop, arg_tree, source_args, source_position, position_of, ◌-◌, sym, runs_wanting, runs_within, within_listing}
-use Rattle.mexec.proofs.ExecLaws.{argument_there, argument_whole}
+use Rattle.mexec.proofs.ExecLaws.{argument_there, argument_whole, arith, falls_one_more}
 use Rattle.mexec.proofs.arguments.enter_argument.Goals as goal
 
 pub returns-in_err-leave-clause-does : goal.returns-in_err-leave-clause-does
@@ -33,8 +33,8 @@ executing-requires g c = rw c.in-Text.is at c.requires
 pub giving-requires : goal.giving-requires
 giving-requires g c = rw c.in-Indirect.is at c.requires
 
-pub resume_first-requires : goal.resume_first-requires
-resume_first-requires g c =
+pub resume-requires : goal.resume-requires
+resume-requires g c =
     let ready = rw c.in-Paused.is at c.requires in
     rw c.saturating_sub.ensures (argument_there (source_args c.args.source) (c.args.argument - 1) _ ready)
 
@@ -43,5 +43,26 @@ returns-in-Paused-clause-does g c =
     let s = c.args.source in
     let ready = rw (c.in-Paused.is, sym c.saturating_sub.ensures) at c.requires in
     let whole = argument_whole (source_args s) c.saturating_sub.result _ ready in
-    let does = rw (c.in_ok-leave.ensures.frames, c.into_inner-pause.ensures) at (c.resume_first.ensures.does _ whole) in
+    let does = rw (c.in_ok-leave.ensures.frames, c.into_inner-pause.ensures) at (c.resume.ensures.does _ whole) in
     rw c.in-Paused.is (within_listing (position_of (source_position s)) (map arg_tree (drop c.args.argument (source_args s))) does)
+
+pub returns-in-Lines-clause-falls : goal.returns-in-Lines-clause-falls
+returns-in-Lines-clause-falls g c =
+    let most = c.in_ok-leave.ensures.most in
+    rw c.in-Lines.is (falls_one_more _ _ _ c.doing.result (omega (arith, most)) c.doing.ensures.falls)
+
+pub returns-in-Text-clause-falls : goal.returns-in-Text-clause-falls
+returns-in-Text-clause-falls g c =
+    let most = c.in_ok-leave.ensures.most in
+    rw c.in-Text.is (falls_one_more _ _ _ c.executing.result (omega (arith, most)) c.executing.ensures.falls)
+
+pub returns-in-Indirect-clause-falls : goal.returns-in-Indirect-clause-falls
+returns-in-Indirect-clause-falls g c =
+    let most = c.in_ok-leave.ensures.most in
+    rw c.in-Indirect.is (falls_one_more _ _ _ c.giving.result (omega (arith, most)) c.giving.ensures.falls)
+
+pub returns-in-Paused-clause-falls : goal.returns-in-Paused-clause-falls
+returns-in-Paused-clause-falls g c =
+    let most = c.in_ok-leave.ensures.most in
+    let falls = rw c.into_inner-pause.ensures at c.resume.ensures.falls in
+    rw c.in-Paused.is (falls_one_more _ _ _ c.resume.result (omega (arith, most)) falls)

@@ -53,9 +53,9 @@ pub returns-in-Stops-clause-falls : goal.returns-in-Stops-clause-falls
 returns-in-Stops-clause-falls g c =
     let behind = c.args.behind.now in
     let there = command_there (spaced_before behind.line.value behind.at) c.args.command.now c.requires in
-    let fewer = c.in_ok-outcome.ensures.does.keeps.eval.fewer in
+    let room = rw c.in-Stops.is at c.in_ok-outcome.ensures.room in
     let stops = rw (c.deref-2.ensures.value, c.in-Stops.is) at c.in_ok-outcome.ensures.stops in
-    falls_within _ _ _ c.stopped_at.result (omega (arith, fewer)) (c.stopped_at.ensures.within (rw there.1 stops))
+    falls_within _ _ _ c.stopped_at.result (omega (arith, room)) (c.stopped_at.ensures.within (rw there.1 stops))
 
 pub returns-in-Stops-clause-does : goal.returns-in-Stops-clause-does
 returns-in-Stops-clause-does g c =

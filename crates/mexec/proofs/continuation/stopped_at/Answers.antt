@@ -1,5 +1,6 @@
 -- SPDX-License-Identifier: Apache-2.0
-use Rattle.mexec.proofs.ExecLaws.{runs_wanting, runs_within, argument_before, condition_stop, loop_stop, turns_stop, ap, sym, ◌∙◌}
+use Rattle.mexec.proofs.ExecLaws.{runs_wanting, runs_within, argument_before, condition_stop, loop_stop, turns_stop}
+use Rattle.mexec.proofs.ExecLaws.{ap, sym, ◌∙◌, arith, entrance_fits, falls_within}
 use Rattle.mexec.specs.Frames.{spaced_before}
 use Rattle.mexec.proofs.continuation.stopped_at.Goals as goal
 
@@ -56,3 +57,20 @@ returns-in-Condition-clause-does g c =
 
 pub returns-in-Condition-clause-within : goal.returns-in-Condition-clause-within
 returns-in-Condition-clause-within g c = λ h. absurd (rw c.in-Condition.is at h)
+
+pub returns-in-Argument-clause-falls : goal.returns-in-Argument-clause-falls
+returns-in-Argument-clause-falls g c =
+    let fits = entrance_fits c.in-Argument.entrance in
+    falls_within _ _ _ c.enter_argument.result (omega (arith, fits)) c.enter_argument.ensures.falls
+
+pub returns-in-Argument-clause-within : goal.returns-in-Argument-clause-within
+returns-in-Argument-clause-within g c = λ h. rw c.in-Argument.is c.enter_argument.ensures.falls
+
+pub returns-in_ok-copy-in-Loop-clause-within : goal.returns-in_ok-copy-in-Loop-clause-within
+returns-in_ok-copy-in-Loop-clause-within g c = λ h. rw c.in-Loop.is (falls_within _ _ _ c.next_parameter.result (omega arith) c.next_parameter.ensures.falls)
+
+pub returns-in-Turns-clause-within : goal.returns-in-Turns-clause-within
+returns-in-Turns-clause-within g c = λ h. rw c.in-Turns.is (falls_within _ _ _ c.forever.result (omega arith) c.forever.ensures.falls)
+
+pub returns-in-Block-clause-within : goal.returns-in-Block-clause-within
+returns-in-Block-clause-within g c = λ h. rw c.in-Block.is (falls_within _ _ _ c.doing_block.result (omega arith) c.doing_block.ensures.falls)

@@ -17,14 +17,14 @@ loop-op-preserved g c =
       depth = c.in_ok-goes_on-in_default-op.ensures.depth ∙ c.loop-op.invariant.depth;
       leads = λ r q k.
           c.loop-op.invariant.leads r q
-          (step_goes_on (whole_view c.args.whole) c.args.position.now c.loop-op.at (op_view c.in-Some.op) (items_view c.loop-op.stack.items) _ (sym there) quiet c.loop-op.invariant.depth does (rw c.in_ok-next.ensures.next at k));
+          (step_goes_on (whole_view c.args.whole) c.args.position.now c.loop-op.at (op_view c.in-Some.op) (items_view c.loop-op.stack.items) _ (sym there) quiet c.loop-op.invariant.depth does (rw c.in_ok-next.ensures.next.1 at k));
     }
 
 pub loop-op-smaller : goal.loop-op-smaller
 loop-op-smaller g c =
     let there = rw c.in-Some.is at c.op_at.ensures in
     let less = within_list _ c.loop-op.at _ (sym there) in
-    let next = c.in_ok-next.ensures.next in
+    let next = c.in_ok-next.ensures.next.1 in
     omega (arith, less, next)
 
 pub returns-in_err-goes_on-in_default-op : goal.returns-in_err-goes_on-in_default-op
@@ -45,7 +45,7 @@ returns-then-not-goes_on g c =
 pub returns-in-Call : goal.returns-in-Call
 returns-in-Call g c =
     let there = rw (c.in-Some.is, c.in-Call.is) at c.op_at.ensures in
-    let called = rw c.in_ok-next.ensures.next at (c.called.ensures (whole_view c.args.whole)) in
+    let called = rw c.in_ok-next.ensures.next.1 at (c.called.ensures (whole_view c.args.whole)) in
     c.loop-op.invariant.leads _ _ (comes_to_call (whole_view c.args.whole) c.args.position.now c.loop-op.at _ (items_view c.loop-op.stack.items) (sym there) (at_yielded called))
 
 pub returns-in_err-next : goal.returns-in_err-next
@@ -62,7 +62,7 @@ pub loop-op-preserved-in-Unless : goal.loop-op-preserved-in-Unless
 loop-op-preserved-in-Unless g c =
     let w = whole_view c.args.whole in
     let there = rw (c.in-Some.is, c.in-Unless.is) at c.op_at.ensures in
-    let chosen = rw c.in_ok-next.ensures.next at c.in_ok-at-in-Unless.ensures.does in
+    let chosen = rw c.in_ok-next.ensures.next.1 at c.in_ok-at-in-Unless.ensures.does in
     record {
       depth = c.loop-op.invariant.depth;
       leads = λ r q k.
@@ -73,7 +73,7 @@ pub loop-op-smaller-in-Unless : goal.loop-op-smaller-in-Unless
 loop-op-smaller-in-Unless g c =
     let there = rw (c.in-Some.is, c.in-Unless.is) at c.op_at.ensures in
     let less = within_list _ c.loop-op.at _ (sym there) in
-    let next = c.in_ok-next.ensures.next in
+    let next = c.in_ok-next.ensures.next.1 in
     let on = c.in_ok-at-in-Unless.ensures.on in
     omega (arith, less, next, on)
 
@@ -81,7 +81,7 @@ pub returns-in_err-at-in-Unless : goal.returns-in_err-at-in-Unless
 returns-in_err-at-in-Unless g c =
     let w = whole_view c.args.whole in
     let there = rw (c.in-Some.is, c.in-Unless.is) at c.op_at.ensures in
-    let stopped = rw c.in_ok-next.ensures.next at c.in_err-at-in-Unless.ensures.does in
+    let stopped = rw c.in_ok-next.ensures.next.1 at c.in_err-at-in-Unless.ensures.does in
     c.loop-op.invariant.leads _ _
     (choice_stopped w c.args.position.now c.loop-op.at _ (items_view c.loop-op.stack.items) (sym there) _ stopped c.from_residual-in_err-at-in-Unless.ensures)
 
@@ -94,15 +94,15 @@ loop-op-preserved-in-Pass g c =
       leads = λ r q k.
           c.loop-op.invariant.leads r q
           (passes_by w c.args.position.now c.loop-op.at _ (items_view c.loop-op.stack.items) (sym there)
-          (rw (c.in_ok-at-in-Pass.ensures.past, c.in_ok-next.ensures.next) at k));
+          (rw (c.in_ok-at-in-Pass.ensures.past.1, c.in_ok-next.ensures.next.1) at k));
     }
 
 pub loop-op-smaller-in-Pass : goal.loop-op-smaller-in-Pass
 loop-op-smaller-in-Pass g c =
     let there = rw (c.in-Some.is, c.in-Pass.is) at c.op_at.ensures in
     let less = within_list _ c.loop-op.at _ (sym there) in
-    let next = c.in_ok-next.ensures.next in
-    let past = c.in_ok-at-in-Pass.ensures.past in
+    let next = c.in_ok-next.ensures.next.1 in
+    let past = c.in_ok-at-in-Pass.ensures.past.1 in
     omega (arith, less, next, past)
 
 pub returns-in_err-at-in-Pass : goal.returns-in_err-at-in-Pass

@@ -1,5 +1,5 @@
 -- SPDX-License-Identifier: Apache-2.0
-use Rattle.mexec.proofs.ExecLaws.{◌≡◌, sym, drop, true, position_of, context, runs_as, further_then, further_stopped}
+use Rattle.mexec.proofs.ExecLaws.{◌≡◌, sym, arith, drop, true, pause_fits, falls_one_more, position_of, context, runs_as, further_then, further_stopped}
 use Rattle.std.specs.Prelude.{false}
 use Rattle.mmeaning.specs.Frames.{resumed}
 use Rattle.mmeaning.specs.Programs.{begun}
@@ -31,6 +31,12 @@ returns-clause-does g c =
     (runs_as (λ a n. programs_pause a n p (drop c.args.from (steps_of w)) (ending_of w) (items_view c.args.items.items))
     (further_then (λ a n. begun (context a n p) (drop c.args.from (steps_of w)) (ending_of w) (items_view c.args.items.items))
     (λ a n. resumed a n p (ending_of w)) does (c.resume.ensures.does w (sym whole))))
+
+pub returns-clause-falls : goal.returns-clause-falls
+returns-clause-falls g c =
+    let fewer = c.in_ok-pause.ensures.keeps.eval.fewer in
+    let fits = pause_fits c.in_ok-pause.pause in
+    falls_one_more _ _ _ c.resume.result (omega (arith, fewer, fits)) c.resume.ensures.falls
 
 pub returns-in_default-clause-does : goal.returns-in_default-clause-does
 returns-in_default-clause-does g c =

@@ -2,7 +2,7 @@
 use Rattle.mexec.proofs.ExecWords.{◌≤◌, ◌-◌, ℕ, length, Result, context, Code, Parts, DoesAt, commands_from, position_of, front, front_of}
 use Rattle.mexec.specs.declared.completion.Progress.{Progress}
 use Rattle.mexec.specs.declared.front.Stop.{Stop}
-use Rattle.mexec.proofs.front.front.Given as goal
+use Rattle.mexec.proofs.front.commands_in_turn.Given as goal
 
 abbrev pub invariant-loop-at : goal.invariant-loop-at
 invariant-loop-at g l = record {

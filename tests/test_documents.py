@@ -56,6 +56,7 @@ RULES: list[tuple[Callable[[Page], None], str, str, str]] = [
     (documents.check_cells, "docs/SOME.md", table("a | b", "x | y | z"), table("a | b", "x \\| y | z")),
     (documents.check_lines, "docs/SOME.md", f"a {'x' * LONGEST_LINE}", f"a {'x' * (LONGEST_LINE - 2)}\n\n```\n{'a ' * LONGEST_LINE}\n```"),
     (documents.check_lines, "README.md", "a\n" * 151, "a\n" * 150),
+    (documents.check_lines, "docs/SOME.md", f"{'<' * 7} HEAD", f"{'=' * 7}\n<<a>>"),
     (documents.check_phrases, "docs/SOME.md", f"It is done {AGAIN}.", f"`{AGAIN}`\n\n    it is done {AGAIN}"),
     (documents.check_order, "docs/GLOSSARY.md", table("Word here | Means", "`b` | x", "A | y"), table("Word here | Means", "A | y", "`b` | x")),
     (documents.check_premises, "README.md", "That accounts are\nisolated is proved.",

@@ -24,6 +24,8 @@ PHRASE = re.compile(r"\b(?:" + "|".join(PHRASES) + r")\b", re.IGNORECASE)
 SPAN = re.compile(r"`([^`\n]+)`")
 PATH = re.compile(r"^[\w./*-]+\.(?:rt|antt|edit|py|c|h|md|txt|toml|service|bash|1)$|^(?:[A-Za-z][\w.-]*/)+[\w.-]*$")
 NAME = re.compile(r"^[A-Za-z_]\w*(?:::[A-Za-z_]\w*)*(?:\(\))?$")
+# What git puts around the two sides of a conflict.
+MERGE_MARKS = ("<" * 7 + " ", ">" * 7 + " ")
 # `<!-- gate_times.py -->` and `<!-- end -->`: what is between is written by that script.
 MARK = re.compile(r"^<!-- (end|\w+\.py) -->$")
 LINK = re.compile(r"\[[^\]]*\]\(([^)\s]+)\)")
@@ -250,9 +252,11 @@ def check_cells(page: Page) -> None:
 # ---- wording
 
 def check_lines(page: Page) -> None:
-    """No line of prose is too long that a person wrote; on the front page no line at all. Two pages have a length."""
+    """No line of prose is too long that a person wrote; on the front page no line at all. Two pages have a length. No merge is unfinished."""
     front = page.path == "README.md"
     for number, line in enumerate(page.lines, 1):
+        if line.startswith(MERGE_MARKS):
+            fault(page, number, f"a merge that was not finished: {line}")
         prose = number not in page.fenced | page.made and not line.startswith("|")
         if (front or prose) and len(line) > LONGEST_LINE and " " in line.strip()[:LONGEST_LINE]:
             fault(page, number, f"a line of {len(line)} characters")

@@ -17,7 +17,6 @@ import random
 import shutil
 import signal
 import statistics
-import subprocess
 import sys
 import tempfile
 import time
@@ -27,8 +26,8 @@ from pathlib import Path
 sys.path[:0] = [str(Path(__file__).resolve().parent / folder) for folder in ("tests", "tests/steps", ".", "../clients", "../tools")]
 
 from database import IN_MEMORY, Cluster  # noqa: E402
-from front import FRONT, Patience, Person, Record, tool, until  # noqa: E402
-from measured import memory, processor_time, started_by  # noqa: E402
+from front import Patience, Person, Record, tool, until  # noqa: E402
+from measured import memory, processor_time, revision, started_by  # noqa: E402
 from running import require_program  # noqa: E402
 from test_replay import backup  # noqa: E402
 from test_restarts import Counting  # noqa: E402
@@ -224,11 +223,6 @@ def living(pids: list[int]) -> list[int]:
 def files(pids: list[int]) -> int:
     """How many files these processes have open."""
     return sum(len(list(Path(f"/proc/{pid}/fd").iterdir())) for pid in pids)
-
-
-def revision() -> str:
-    """The revision of these sources, if that is known."""
-    return subprocess.run(["git", "-C", FRONT, "describe", "--always", "--dirty"], capture_output=True, text=True).stdout.strip()
 
 
 async def run(options: argparse.Namespace, kept: Kept) -> None:

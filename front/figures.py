@@ -34,13 +34,13 @@ APART = Path(f"/dev/shm/mfront-figures-{os.getpid()}")
 TEST = [PYTHON, "-m", "pytest", "-q", "-s", "-c", str(HERE / "pytest.ini"), "--rootdir", str(HERE.parent), "-p", "no:cacheprovider"]
 # Of a line that is for the table: what was done, and how long it took.
 FIGURE = re.compile(r"\.*(without service after a kill|\d+ leaders killed[^:;]*|\d+ islands moved|a machine with \d+ islands killed and started"
-                    r"|served again|nobody served|\d+ lines of a million steps beside \d+ lines|\w+ journal, store in \w+)"
+                    r"|served again|nobody served|\d+ islands of one gate|\d+ lines of a million steps beside \d+ lines|\w+ journal, store in \w+)"
                     r"[^:]*?(?:;[^:]*)?:? ?(.*?)(?:; processor time.*)?$")
 # Seconds for all, and for those of failures alone.
 ALL, ALL_FAILURES = 900, 600
 # What is without service, and for how long, in this order.
-FAILURES = ("time without service", "a leader that is stopped", "a database that is lost", "leaders killed", "a heavy account beside another",
-            "few machines with many users")
+FAILURES = ("time without service", "a gate that is restarted", "a leader that is stopped", "a database that is lost", "leaders killed",
+            "a heavy account beside another", "few machines with many users")
 
 
 @dataclass(frozen=True, slots=True)
@@ -58,7 +58,8 @@ def measurements(short: bool) -> list[Measurement]:
     # Of leaders ten times as many are killed as `count` says.
     many, one, count, killed = ("2", "1", "1", "2") if short else ("8", "4", "4", "20")
     islands, seconds, moved, trial = ("6", "3", "1", "1") if short else ("100", "20", "5", "25")
-    replayed, grouped = ("500", "5") if short else ("10000", "100")
+    # Six times as many islands are at a gate that is restarted.
+    replayed, grouped, restarted = ("500", "5", "1") if short else ("10000", "100", "6")
     # Tests that kill processes, and no machine: their files need no disk.
     apart = ("--basetemp", str(APART))
     return [
@@ -69,6 +70,7 @@ def measurements(short: bool) -> list[Measurement]:
                     (PYTHON, machines, "--islands", "3", "--accounts", grouped, "--seconds", seconds, "--moved", "1"), 120),
         Measurement("time without service", (PYTHON, rates, "--kinds", "--killed", killed), 120),
         Measurement("a leader that is stopped", (*TEST, *apart, str(HERE / "tests" / "test_standby.py"), "-k", "once_the_leader_is_stopped"), 60),
+        Measurement("a gate that is restarted", (*TEST, *apart, str(HERE / "tests" / "test_fork_server.py"), "-k", "little", "--count", restarted), 60),
         Measurement("leaders killed", (*TEST, *apart, str(HERE / "tests" / "test_standby.py"), "-k", "leaders_that_are_killed", "--count", count), 300),
         Measurement("a database that is lost",
                     (*TEST, *apart, str(HERE / "tests" / "test_table.py"), "-k", "goes_on_soon or that_is_away and not minute"), 120),

@@ -26,7 +26,7 @@ from machines import HOSTS, Gate, Program, certificates, islands, ports  # noqa:
 from mserve_front.islands import LOOK  # noqa: E402
 from mserve_front.journal_table import connected  # noqa: E402
 from mserve_front.placement import Machine, Placement  # noqa: E402
-from measured import memory, processor_time, started_by  # noqa: E402
+from measured import fronts_of, memory, processor_time, started_by  # noqa: E402
 from running import require_program  # noqa: E402
 
 # Seconds that a user rests between two lines while their island moves.
@@ -113,8 +113,9 @@ class Trial:
     def processes(self) -> dict[str, list[int]]:
         """All processes, by their kind."""
         gates = [gate.process.pid for gate in self.gates]
-        fronts, heads = started_by(gates), [database.head for database in self.databases]
-        return {"gates": gates, "fronts": fronts, "servers": started_by(fronts), "databases": heads + started_by(heads), "users": [os.getpid()]}
+        fronts, heads = fronts_of(*gates), [database.head for database in self.databases]
+        return {"gates": [*gates, *started_by(gates)], "fronts": fronts, "servers": started_by(fronts), "databases": heads + started_by(heads),
+                "users": [os.getpid()]}
 
     async def served(self) -> None:
         """Waits until the front of each island serves."""

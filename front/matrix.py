@@ -7,6 +7,7 @@ from __future__ import annotations
 
 import argparse
 import asyncio
+import functools
 import json
 import os
 import random
@@ -15,15 +16,17 @@ import sys
 import tempfile
 import time
 import traceback
-from collections.abc import Iterator
+from collections.abc import Callable, Iterator
 from dataclasses import dataclass
 from datetime import UTC, datetime
 from pathlib import Path
+from typing import TypeVar
 
 sys.path[:0] = [str(Path(__file__).resolve().parent / folder) for folder in ("tests", "tests/steps", ".", "../clients", "../tools")]
 
 from database import IN_MEMORY, Cluster  # noqa: E402
 from front import Patience  # noqa: E402
+from measured import revision  # noqa: E402
 from running import require_program  # noqa: E402
 from troubled_gates import Alone, Gates  # noqa: E402
 from troubled_pair import Pair  # noqa: E402
@@ -38,6 +41,8 @@ OVER_DATABASE = ("database", "gates")
 ALL = sum(map(len, COMBINATIONS.values()))
 # Seconds for which users rest before each line: a standby that begins with the journal runs all that they sent.
 REST = 0.05
+
+Made = TypeVar("Made")
 
 
 @dataclass(frozen=True, slots=True)
@@ -58,13 +63,24 @@ def parts(wanted: int, size: int) -> Iterator[Part]:
                 yield Part(f"{kind} {start}", kind, chosen[start:start + size])
 
 
+async def begun(make: Callable[[], Made], end: Callable[[Made], object]) -> Made:
+    """What is made in a thread. If the part is ended meanwhile, so is that: what runs would stay."""
+    making = asyncio.ensure_future(asyncio.to_thread(make))
+    try:
+        return await asyncio.shield(making)
+    except asyncio.CancelledError:
+        end(await making)
+        raise
+
+
 async def ran(part: Part) -> dict[str, object]:
     """Runs a part, and gives what it came to."""
-    cluster = await asyncio.to_thread(Cluster) if part.kind in OVER_DATABASE else None
+    cluster = await begun(Cluster, Cluster.remove) if part.kind in OVER_DATABASE else None
     try:
         with tempfile.TemporaryDirectory(dir=IN_MEMORY, prefix="matrix-") as folder:
             async with asyncio.timeout(LONGEST * Patience.seconds):
-                troubled = await asyncio.to_thread(MADE[part.kind], Path(folder), *([] if cluster is None else [cluster]))
+                make = functools.partial(MADE[part.kind], Path(folder), *([] if cluster is None else [cluster]))
+                troubled = await begun(make, MADE[part.kind].stop)
                 counting = await tried(troubled, part.chosen, random.Random(part.name), REST)
         return {"tried": len(part.chosen), "fired": sum(troubled.fired.values()), "answered": counting.answered}
     finally:
@@ -74,13 +90,13 @@ async def ran(part: Part) -> dict[str, object]:
 
 def noted(part: Part) -> dict[str, object]:
     """What a part came to, or how it failed."""
-    began = time.monotonic()
+    began, sources = time.monotonic(), revision()
     try:
         found = asyncio.run(ran(part))
     except Exception as error:
         traceback.print_exc()
         found = {"failed": f"{type(error).__name__}: {error}"[:2000]}
-    return {"part": part.name, "time": f"{datetime.now(UTC):%Y-%m-%d %H:%M}", **found, "seconds": round(time.monotonic() - began),
+    return {"part": part.name, "time": f"{datetime.now(UTC):%Y-%m-%d %H:%M}", "revision": sources, **found, "seconds": round(time.monotonic() - began),
             "load": round(os.getloadavg()[0], 1)}
 
 

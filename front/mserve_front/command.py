@@ -8,7 +8,7 @@ import getpass
 import os
 import sys
 import time
-from collections.abc import Callable, Mapping
+from collections.abc import Callable, Mapping, Sequence
 from pathlib import Path
 from typing import TypeAlias
 
@@ -323,9 +323,9 @@ def known(users: dict[str, User], path: Path, name: str) -> User:
     return users[name]
 
 
-def main() -> int:
-    """The status of the command."""
-    options = words().parse_args(namespace=argparse.Namespace(config=Path(DEFAULT), act=serve, follow=False))
+def main(given: Sequence[str] | None = None) -> int:
+    """The status of the command, with the words that it was given."""
+    options = words().parse_args(given, namespace=argparse.Namespace(config=Path(DEFAULT), act=serve, follow=False))
     try:
         options.act(options)
         return 0

@@ -54,6 +54,11 @@ def begin(parent: int, there: _socket.socket, count: int) -> None:
     enclose()
     own = [_socket.socket(_socket.AF_INET, _socket.SOCK_STREAM) for _ in range(count)]
     there.sendmsg([b"."], [(_socket.SOL_SOCKET, _socket.SCM_RIGHTS, struct.pack(f"{count}i", *(one.fileno() for one in own)))])
+    end_with(parent)
+
+
+def end_with(parent: int) -> None:
+    """Has this process, a child, end when the parent does, however that ends. Raises OSError if it has ended."""
     checked(_libc.prctl(PR_SET_PDEATHSIG, SIGKILL, 0, 0, 0))
     if os.getppid() != parent:
         raise OSError(errno.ESRCH, "the parent has ended")

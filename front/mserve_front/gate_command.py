@@ -5,6 +5,7 @@ from __future__ import annotations
 import argparse
 import asyncio
 import contextlib
+import errno
 import resource
 import signal
 import ssl
@@ -16,11 +17,12 @@ from typing import TYPE_CHECKING
 
 from mserve_client import ClientError
 
-from . import ending
+from . import ending, fork_server
 from .certificates import expires
 from .control import ControlError
 from .doors import Doors, spare_memory, strict
 from .ending import FAILED, USAGE
+from .fork_server import ForkServer
 from .gate import Gate
 from .init import make_islands, write_machine
 from .islands import Home, Islands
@@ -35,8 +37,8 @@ if TYPE_CHECKING:
     from .gate_page import GatePage
 
 DEFAULT = "/etc/mserve/machine.toml"
-STATUSES = "Status: 0 all went well; 2 the words or the settings are wrong, or the placement refuses it; 3 a port is taken, or the database is away; " \
-           "130 an interrupt."
+STATUSES = "Status: 0 all went well; 2 the words or the settings are wrong, or the placement refuses it; 3 a port is taken, or the database is away, " \
+           "or what starts the fronts has ended; 130 an interrupt."
 TABLES = ("machine", "listen", "peers", "admin", "audit", "limits")
 # Addresses that are all of a machine's, and none at which another one finds it.
 EVERYWHERE = ("0.0.0.0", "::")
@@ -186,18 +188,29 @@ def load(context: ssl.SSLContext, certificate: Path, key: Path, authority: Path 
 def serve(options: argparse.Namespace) -> None:
     """Serves until it is stopped."""
     take_slices(SHORT)
-    ending.run(_serve(lambda: settings_of(options)))
+    # Before anything is read.
+    starts = fork_server.begin()
+    ending.run(_serve(lambda: settings_of(options), starts))
 
 
-async def _serve(read: Callable[[], tuple[Home, Doorway]]) -> None:
+async def _serve(read: Callable[[], tuple[Home, Doorway]], starts: ForkServer) -> None:
     """Serves by the settings that are read, and read again at a reload."""
+    over = asyncio.create_task(starts.over())
+    try:
+        await _served(read, starts, over)
+    finally:
+        await given_up([over])
+        await starts.end()
+
+
+async def _served(read: Callable[[], tuple[Home, Doorway]], starts: ForkServer, over: asyncio.Task[None]) -> None:
     home, doorway = read()
     take_files()
     stopping = asyncio.Event()
     for number in (signal.SIGTERM, signal.SIGINT):
         ending.hear(number, stopping.set)
     shown = contexts(doorway)
-    islands = Islands(home, placed_of(home))
+    islands = Islands(home, placed_of(home), starts)
     gate, page = Gate(home.machine.name, islands, shown.outward), page_of(home, doorway, islands, shown)
     if not await begun(islands, home, stopping):
         return
@@ -221,7 +234,7 @@ async def _serve(read: Callable[[], tuple[Home, Doorway]]) -> None:
         if page is not None:
             await page.begin()
         tell(f"{home.machine.name}: serving at https://{doorway.host}:{doorway.port}/, lines at port {doorway.lines_port}")
-        await stopping.wait()
+        await stopped(stopping, over)
     finally:
         outside.close()
         between.close()
@@ -229,6 +242,15 @@ async def _serve(read: Callable[[], tuple[Home, Doorway]]) -> None:
             await page.end()
         await given_up(keeping)
         await islands.end()
+
+
+async def stopped(stopping: asyncio.Event, over: asyncio.Task[None]) -> None:
+    """Waits for a stop. Raises OSError if the process that starts fronts, and with it all of them, has ended: only a new gate can begin another one."""
+    stop = asyncio.create_task(stopping.wait())
+    await asyncio.wait([stop, over], return_when=asyncio.FIRST_COMPLETED)
+    if not stop.done():
+        stop.cancel()
+        raise OSError(errno.ECHILD, "the process that starts the fronts has ended")
 
 
 async def given_up(tasks: list[asyncio.Task[None]]) -> None:

@@ -8,10 +8,8 @@ import asyncio
 import contextlib
 import json
 import os
-import shutil
 import signal
 import socket
-import sys
 import time
 from dataclasses import asdict, dataclass, field
 from pathlib import Path
@@ -20,10 +18,11 @@ from .connection import HOST
 from .control import ControlError, asked
 from .doors import held
 from .folders import write_whole
+from .fork_server import ForkServer, Forked, Wanted
 from .placement import FRONT, HERE, LEFT, MOVING, READY, TAKING, Island, Machine, Placed
 from .places import first_of
 from .preamble import new_secret
-from .server import Condition, tell, tied
+from .server import Condition, tell
 from .settings import JournalSettings, Limits
 from .standing import place_of, read_standing
 from .users import BadUsers, Users, load, save
@@ -36,7 +35,6 @@ LONGEST = 30.0
 ANSWER, ENDING, SETTLED = 5.0, 20.0, 10.0
 # Lines that a standby lags at most when the front of the machine before is ended.
 NEAR = 200
-COMMAND = Path(__file__).resolve().parent.parent / "mfront"
 
 
 @dataclass(frozen=True, slots=True)
@@ -65,7 +63,7 @@ class IslandFront:
     follows: bool
     settings: str
     pause: float = PAUSE
-    process: asyncio.subprocess.Process | None = None
+    process: Forked | None = None
     began: float = field(default_factory=time.monotonic)
     told: str = ""
     # Whether it is to open its audit log again, and waits for that.
@@ -74,7 +72,7 @@ class IslandFront:
     @property
     def runs(self) -> bool:
         """Whether its process is there."""
-        return self.process is not None and self.process.returncode is None
+        return self.process is not None and not self.process.over
 
     def port(self, kind: str) -> int:
         """The port of a kind."""
@@ -90,7 +88,7 @@ class Islands:
     """Keeps the fronts of this machine as the placement says. `placed` and `machines` are what it said last; `of_account` has the island of an account,
     and `of_token` the user of a token's hash."""
 
-    def __init__(self, home: Home, placement: Placed) -> None:
+    def __init__(self, home: Home, placement: Placed, fork_server: ForkServer) -> None:
         self._home = home
         self._placement = placement
         self._fronts: dict[str, IslandFront] = {}
@@ -99,6 +97,7 @@ class Islands:
         self._fault = Condition("the islands stay as they are: {}", "the placement can be read again")
         self._of_users = Condition("the users stay as they were: {}", "the users can be read again")
         self._reopening: set[asyncio.Task[None]] = set()
+        self._fork_server = fork_server
         # What this machine's gate and its fronts have in common, and nobody else.
         self.secret = new_secret()
         self.placed: dict[str, Island] = {}
@@ -225,8 +224,8 @@ class Islands:
             await asyncio.to_thread(self._put_aside, island.name)
         # Apart: a disk takes its time, and users of other islands go on.
         path = await asyncio.to_thread(self._written, island, front)
-        words = [*tied(shutil.which("setpriv")), sys.executable, str(COMMAND), "--config", str(path), *(["--follow"] if follows else [])]
-        front.process = await asyncio.create_subprocess_exec(*words, stdin=asyncio.subprocess.DEVNULL, start_new_session=True)
+        words = [*(["--follow"] if follows else []), "--config", str(path)]
+        front.process = await self._fork_server.front(Wanted(f"mfront {island.name}", words, self._home.database is not None))
 
     def _put_aside(self, name: str) -> None:
         """Puts the store of an island aside that is to stand by, if it cannot begin with that. Raises `LogFault`."""
@@ -240,12 +239,12 @@ class Islands:
         front = self._fronts.pop(name, None)
         if front is None:
             return
-        if front.process is not None and front.process.returncode is None:
+        if front.process is not None and front.runs:
             front.process.send_signal(how)
             try:
                 await asyncio.wait_for(front.process.wait(), ENDING)
             except TimeoutError:
-                front.process.kill()
+                front.process.send_signal(signal.SIGKILL)
                 await front.process.wait()
         front.close()
 

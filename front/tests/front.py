@@ -259,7 +259,17 @@ class Person:
     async def comes_in(self, what: str) -> None:
         """Signs on as soon as what it waits for is given back, and opens the WebSocket."""
         await until(self.signs_on, what)
-        await self.connect()
+        await until(self._connects, what)
+
+    async def _connects(self) -> bool:
+        """Whether the WebSocket opens by now: a gate that does not reach the island within seconds has its users try again."""
+        try:
+            await self.connect()
+        except aiohttp.WSServerHandshakeError as error:
+            if error.status != 503:
+                raise
+            return False
+        return True
 
     async def sign_off(self) -> int:
         """The status of a sign-off."""

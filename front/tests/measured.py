@@ -1,9 +1,10 @@
 # SPDX-License-Identifier: Apache-2.0
-"""Processes that are measured: who started whom, the processor time that they took, and the memory that they have."""
+"""What is measured: processes, who started whom, the processor time that they took, and the memory that they have; and of which sources that is."""
 from __future__ import annotations
 
 import ctypes
 import os
+import subprocess
 from collections.abc import Iterable
 from pathlib import Path
 
@@ -32,6 +33,11 @@ def started_by(parents: Iterable[int]) -> list[int]:
     return found
 
 
+def fronts_of(*gates: int) -> list[int]:
+    """The fronts of gates: each gate has a process that starts them."""
+    return started_by(started_by(gates))
+
+
 def processor_time(pids: Iterable[int]) -> float:
     """Seconds that these processes took, and those of their children that have ended."""
     return sum(int(ticks) for pid in pids for ticks in _fields(pid)[11:15]) / TICKS
@@ -54,3 +60,9 @@ def slices(pid: int) -> set[int]:
         assert ctypes.CDLL(None).syscall(SLICE_OF[os.uname().machine], int(thread), found, ATTRIBUTES.size, 0) == 0
         lengths.add(ATTRIBUTES.unpack(found.raw)[5])
     return lengths
+
+
+def revision() -> str:
+    """The revision of these sources, if that is known."""
+    place = Path(__file__).resolve().parent
+    return subprocess.run(["git", "-C", place, "describe", "--always", "--dirty"], capture_output=True, text=True).stdout.strip()

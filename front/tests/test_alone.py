@@ -18,7 +18,7 @@ from typing import Any
 import pytest
 from front import FRONT, PASSWORD, Front, Patience, Person, Ran, at_rest, in_loop, mjournal, toml, tool, until
 from machines import Gate, Program
-from measured import slices, started_by
+from measured import fronts_of, slices, started_by
 from mserve_client.settings_file import Account, Grant, Settings
 from mserve_front.settings import read_settings, read_toml
 from mserve_front.slices import SHORT
@@ -176,7 +176,7 @@ async def test_an_operator_sees_all_islands_and_has_logs_opened_anew(alone: Path
         await own_password(gate, tmp_path)
         await reloaded(gate, lisa, certificate)
         # A front that does not answer is an alarm, and holds nothing else of the page up.
-        [front, *_] = fronts = started_by([gate.process.pid])
+        [front, *_] = fronts = fronts_of(gate.process.pid)
         assert len(fronts) == 3
         os.kill(front, signal.SIGSTOP)
         try:
@@ -258,7 +258,7 @@ async def reloaded(gate: Alone, lisa: Program, certificate: tuple[Path, Path]) -
 
 def let_on_soon(gate: Alone) -> None:
     """The gate and the fronts have short slices of a processor in all their threads, where the system has such a thing, and servers have the system's."""
-    fronts = started_by([gate.process.pid])
+    fronts = fronts_of(gate.process.pid)
     servers, own = started_by(fronts), slices(os.getpid())
     assert len(fronts) == len(servers) == 3
     assert [slices(pid) for pid in (gate.process.pid, *fronts)] == [own & {0} or {SHORT}] * 4

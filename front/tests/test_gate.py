@@ -202,7 +202,7 @@ async def test_users_who_change_hold_no_connection_up(tmp_path: Path, monkeypatc
     monkeypatch.setattr(os, "fsync", synced)
     monkeypatch.setattr(islands_module, "save", full)
     write_users(tmp_path / "users.json", {"ada": "A", "ben": "B"})
-    islands = Islands(Home(machine, folder, tmp_path / "users.json", None, "mserve", ()), LocalPlacement(folder, machine))
+    islands = Islands(Home(machine, folder, tmp_path / "users.json", None, "mserve", ()), LocalPlacement(folder, machine), None)
     for name in "AB":
         (folder / name).mkdir(parents=True)
         islands.placed[name] = Island(name, "one", None, HERE, (name,), "")

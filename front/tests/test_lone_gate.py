@@ -15,7 +15,8 @@ from types import SimpleNamespace
 import pytest
 from front import COMMAND, PASSWORD, SETTINGS, Patience, in_loop, toml, until, write_users
 from machines import Gate, Program
-from measured import started_by
+from measured import fronts_of
+from mserve_front import fork_server
 from mserve_front.gate_command import _serve, settings_of
 from mserve_front.islands import Home, IslandFront, Islands
 from mserve_front.journal import LogFault
@@ -74,7 +75,7 @@ async def test_signals_up_to_the_end_leave_the_status(gate: Gate, number: signal
 async def test_what_an_operator_breaks_holds_no_island_up(gate: Gate) -> None:
     """A placement that is gone ends nobody, and users come and go meanwhile. While the users' file cannot be read a front that ends is started again, with
     the users of before."""
-    [front] = started_by([gate.process.pid])
+    [front] = fronts_of(gate.process.pid)
     users, placement = gate.folder / "users.json", gate.folder / "islands" / "placement.json"
     placement.rename(placement.with_suffix(".away"))
     await until(lambda: "placement.json: it is gone" in gate.told(), "a placement that is missed")
@@ -82,7 +83,7 @@ async def test_what_an_operator_breaks_holds_no_island_up(gate: Gate) -> None:
     await until(lambda: list(load(gate.folder / "islands" / ISLAND / "users.json")) == ["ben"], "the users of now")
     users.write_text("broken")
     await until(lambda: "the users stay as they were: " in gate.told(), "users who are missed")
-    assert started_by([gate.process.pid]) == [front]
+    assert fronts_of(gate.process.pid) == [front]
     placement.with_suffix(".away").rename(placement)
     await until(lambda: "the placement can be read again" in gate.told(), "a placement that is back")
     os.kill(front, signal.SIGKILL)
@@ -112,7 +113,7 @@ async def test_a_customer_who_leaves_and_comes_back(gate: Gate) -> None:
     await ada.signed_on()
     assert await ada.told("S ^X=42") == ""
     assert gate.does("remove", ISLAND)[0] == 0
-    await until(lambda: not started_by([gate.process.pid]), "the end of the island's front")
+    await until(lambda: not fronts_of(gate.process.pid), "the end of the island's front")
     standing = read_standing(gate.folder / "islands" / ISLAND / "store")
     assert standing is not None and standing.number is not None, gate.told()
     assert "error" in await ada.sign_on() and ISLAND not in gate.does("list")[1]
@@ -132,7 +133,7 @@ async def test_an_island_that_is_removed_ends_alone(tmp_path: Path) -> None:
         return 0
     for name, settings in ((ISLAND, SETTINGS.read_text()), ("NEW", NEW)):
         islands._placement.put(name, settings, "one")
-        process = SimpleNamespace(returncode=None, send_signal=lambda number, name=name: sent.append((name, number)), wait=ended)
+        process = SimpleNamespace(over=False, send_signal=lambda number, name=name: sent.append((name, number)), wait=ended)
         islands._fronts[name] = IslandFront(name, {}, False, settings, process=process)
     await islands._look()
     assert sent == []
@@ -165,7 +166,7 @@ async def test_a_gate_has_the_limits_of_its_settings(certificate: tuple[Path, Pa
     config, tables, told = tmp_path / "machine.toml", tables_of(certificate), []
     config.write_text(toml(tables | {"limits": {"unsigned_of_address": 2, "sign_on": 600}}))
     before = {number: signal.getsignal(number) for number in (signal.SIGTERM, signal.SIGINT, signal.SIGHUP)}
-    served = asyncio.create_task(_serve(lambda: settings_of(argparse.Namespace(config=config))))
+    served = asyncio.create_task(_serve(lambda: settings_of(argparse.Namespace(config=config)), fork_server.begin()))
 
     async def tells(text: str) -> None:
         def heard() -> bool:
@@ -193,7 +194,7 @@ async def test_a_gate_has_the_limits_of_its_settings(certificate: tuple[Path, Pa
 
 def islands_of(folder: Path) -> Islands:
     """The islands of a machine that is alone, in a folder."""
-    return Islands(Home(MACHINE, folder, folder / "users.json", None, "mserve", ()), LocalPlacement(folder, MACHINE))
+    return Islands(Home(MACHINE, folder, folder / "users.json", None, "mserve", ()), LocalPlacement(folder, MACHINE), None)
 
 
 @in_loop()
@@ -203,11 +204,11 @@ async def test_a_front_that_ends_during_a_reload_is_no_fault(tmp_path: Path, mon
     def gone(number: int) -> None:
         raise ProcessLookupError
     islands = islands_of(tmp_path)
-    process, written = SimpleNamespace(returncode=None, send_signal=gone), []
+    process, written = SimpleNamespace(over=False, send_signal=gone), []
 
     def ends(front: IslandFront) -> None:
         written.append(front)
-        process.returncode = 1
+        process.over = True
     monkeypatch.setattr(islands, "_write_front", ends)
     islands._fronts[ISLAND] = IslandFront(ISLAND, {}, False, "", process=process, began=time.monotonic() - 9.8)
     for _ in range(3):

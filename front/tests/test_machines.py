@@ -22,7 +22,7 @@ from machines import HOSTS, Gate, Program, certificates, islands, ports
 from mserve_front.gate_command import settings_of
 from mserve_front.placement import BadPlacement, Island, Placement
 from mserve_front.settings import BadSettings
-from measured import started_by
+from measured import fronts_of, started_by
 from running import PROGRAM
 
 # Islands, unless more are asked for (--count), and accounts of each: `--count 25` makes 300 accounts in 100 islands.
@@ -188,7 +188,7 @@ async def test_an_island_that_had_trouble_is_taken_over(host: Callable[..., Gate
     await workers.worked()
     for number in range(2 * count):
         here, there = ("one", "two") if number % 2 == 0 else ("two", "one")
-        [front] = started_by([gates[here].process.pid])
+        [front] = fronts_of(gates[here].process.pid)
         if what == "front":
             os.kill(front, signal.SIGTERM)
         else:

@@ -12,7 +12,7 @@ from pathlib import Path
 from database import Cluster
 from front import FRONT, SETTINGS, USERS, Person, write_users
 from machines import HOSTS, Gate, certificates, ports
-from measured import started_by
+from measured import fronts_of, started_by
 from mserve_front.placement import Placement
 from running import PROGRAM
 from troubles import Troubled, catching_up
@@ -46,7 +46,7 @@ class Gated(Troubled):
 
     def kill_server(self) -> None:
         with contextlib.suppress(OSError):
-            for pid in started_by(started_by([self.gates[self.here].process.pid])):
+            for pid in started_by(fronts_of(self.gates[self.here].process.pid)):
                 os.kill(pid, signal.SIGKILL)
 
     async def serves(self) -> None:
@@ -126,13 +126,19 @@ class Gates(Gated):
     def __init__(self, folder: Path, cluster: Cluster) -> None:
         super().__init__(folder, cluster)
         shared = ports()
-        self.gates = {name: Gate(folder, name, cluster.place, shared, folder / "authority", self.environment(folder / name)) for name in HOSTS}
-        self.there, self.users = "two", "three"
-        placement = Placement(cluster.place)
-        placement.put(ISLAND, SETTINGS.read_text(), self.here)
-        placement.close()
+        self.gates, self.there, self.users = {}, "two", "three"
         self.acts = {"go on": self.goes_on, "gone": self.is_gone, "in order": self.in_order, "move": self.moves}
-        asyncio.run(self.serves())
+        try:
+            for name in HOSTS:
+                self.gates[name] = Gate(folder, name, cluster.place, shared, folder / "authority", self.environment(folder / name))
+            placement = Placement(cluster.place)
+            placement.put(ISLAND, SETTINGS.read_text(), self.here)
+            placement.close()
+            asyncio.run(self.serves())
+        except BaseException:
+            # Nobody else knows of them yet.
+            self.stop()
+            raise
 
     @property
     def journal(self) -> list[str]:

@@ -25,7 +25,12 @@ class Pair(Troubled):
         super().__init__(folder, cluster)
         # Where a journal is long, a new standby begins with a snapshot.
         self.long = False
-        self.leader, self.second = self._front("one"), self._front("two", "--follow")
+        self.leader = self._front("one")
+        try:
+            self.second = self._front("two", "--follow")
+        except BaseException:
+            self.leader.stop()
+            raise
         self.acts = {"go on": self.goes_on, "promote": self.promotes, "gone": self.is_gone, "in order": self.in_order, "move": self.moves}
 
     @property

@@ -51,12 +51,22 @@ def of_machine() -> list[int]:
     return found
 
 
+def above() -> list[int]:
+    """The processes above this one, the first of them first: each ends with the one above it."""
+    found = [os.getppid()]
+    while found[-1] > 1:
+        found.append(int(Path(f"/proc/{found[-1]}/stat").read_text().rpartition(")")[2].split()[1]))
+    return found[::-1]
+
+
 def kill_machine() -> None:
-    """Ends all other processes of this one's machine. They are stopped first: none sees another one end. The eldest is last, since this process may end
-    with it, and one that is stopped would stay."""
+    """Ends all other processes of this one's machine. They are stopped first: none sees another one end. Those above this one are last, and of them the
+    first one first, with which this process ends: one that is stopped would stay."""
     found = of_machine()
     signalled(found, signal.SIGSTOP)
-    signalled(sorted({*found, *of_machine()}, reverse=True), signal.SIGKILL)
+    all_of_it, ways = {*found, *of_machine()}, above()
+    signalled(all_of_it.difference(ways), signal.SIGKILL)
+    signalled((pid for pid in ways if pid in all_of_it), signal.SIGKILL)
 
 
 def signalled(pids: Iterable[int], number: signal.Signals) -> None:

@@ -18,6 +18,8 @@ PYTHON = "/usr/bin/python3"
 PASSWORD = "correct horse battery"
 # Seconds for what is to be there, however busy the machine is; and for which a root is there at most.
 PATIENCE, LONGEST = 120, 1200
+# What systemd empties as it starts.
+EMPTIED = ("/tmp", "/var/tmp")
 # The devices that a system has in a root whose first process is systemd, with their numbers.
 DEVICES = {"null": "1 3", "zero": "1 5", "full": "1 7", "random": "1 8", "urandom": "1 9", "tty": "5 0"}
 
@@ -135,6 +137,8 @@ class Booted(Root):
     def __init__(self, folder: Path) -> None:
         self._group: Path | None = None
         self._first: subprocess.Popen[bytes] | None = None
+        if any(TOP.is_relative_to(place) for place in EMPTIED):
+            missed(f"{TOP}: systemd empties {' and '.join(EMPTIED)} as it starts: put the tree elsewhere")
         super().__init__(folder)
         try:
             self._group = group_of_its_own()

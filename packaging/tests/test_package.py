@@ -216,6 +216,7 @@ def used(root: Root) -> None:
     assert root.run("mserve-settings /etc/mserve/settings.toml --store /var/lib/mserve/none").startswith("/etc/mserve/settings.toml: good: 1 account")
     for name in ("mshell", "mroutine", "mglobal", "misland", "mfront", "mjournal", "mbackup", "mgate"):
         assert f"usage: {name}" in root.run(f"{name} --help")
+    assert root.run("find /usr/share/mserve -name '*.pyc' | wc -l") == root.run("find /usr/share/mserve -name '*.py' | wc -l") != "0\n"
     assert root.run("mislands </etc/mserve/settings.toml") == "OFFICE\n"
     assert root.run("misland list /etc/mserve/settings.toml").startswith("OFFICE: 1 account, ")
     assert "OFFICE" in root.run("mfront user list")

@@ -24,6 +24,8 @@ PHRASE = re.compile(r"\b(?:" + "|".join(PHRASES) + r")\b", re.IGNORECASE)
 SPAN = re.compile(r"`([^`\n]+)`")
 PATH = re.compile(r"^[\w./*-]+\.(?:rt|antt|edit|py|c|h|md|txt|toml|service|bash|1)$|^(?:[A-Za-z][\w.-]*/)+[\w.-]*$")
 NAME = re.compile(r"^[A-Za-z_]\w*(?:::[A-Za-z_]\w*)*(?:\(\))?$")
+# A test, with its file.
+TEST = re.compile(r"`((?:[a-z]+/)*)(test_\w+\.py)::(\w+)`")
 # What git puts around the two sides of a conflict.
 MERGE_MARKS = ("<" * 7 + " ", ">" * 7 + " ")
 # `<!-- gate_times.py -->` and `<!-- end -->`: what is between is written by that script.
@@ -103,6 +105,12 @@ def pages() -> list[Page]:
     return [page_of(path) for path in sorted(found) if os.path.exists(os.path.join(TOP, path))]
 
 
+def drafts() -> list[Page]:
+    """The pages of work that is under way, if there are any."""
+    folder = os.path.join(TOP, "wip")
+    return [page_of(f"wip/{name}") for name in sorted(os.listdir(folder)) if name.endswith(".md")] if os.path.isdir(folder) else []
+
+
 def tree() -> dict[str, list[str]]:
     """The paths of all files of the tree, by their last names; what is built and what git keeps are not of it."""
     found: dict[str, list[str]] = {}
@@ -167,6 +175,15 @@ def check_names(page: Page, files: dict[str, list[str]], words: set[str]) -> Non
         elif page.path not in TABLES_OF_EDITS and NAME.match(span) and ("_" in span or "::" in span or re.search(r"[a-z][A-Z]", span)):
             if not words | FOREIGN >= set(span.removesuffix("()").split("::")):
                 fault(page, number, f"no name `{span}`")
+
+
+def check_tests(page: Page) -> None:
+    """Each test that is named with its file is there; without a folder the file is one of the front's."""
+    for number, line in enumerate(page.lines, 1):
+        for folder, path, name in TEST.findall(line):
+            place = (folder or "front/tests/") + path
+            if not os.path.exists(os.path.join(TOP, place)) or not re.search(rf"^ *(?:async )?def {name}\(", read(place), re.MULTILINE):
+                fault(page, number, f"no test `{place}::{name}`")
 
 
 def check_section(page: Page, number: int, told: str, head: str) -> None:
@@ -434,6 +451,8 @@ def main() -> int:
         check_order(page)
         if page.path not in OF_PROOFS and not page.path.startswith("crates/"):
             check_premises(page)
+    for page in [*found, *drafts()]:
+        check_tests(page)
     check_crates({page.path: page for page in found})
     check_manual()
     check_completion()

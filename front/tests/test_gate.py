@@ -17,13 +17,14 @@ from front import PASSWORD, Front, Patience, in_loop, until, write_users
 from mserve_front import islands as islands_module
 from mserve_front.certificates import expires
 from mserve_front.doors import Doors
-from mserve_front.gate import Gate
+from mserve_front.gate import AWAY, Gate
 from mserve_front.gate_command import Doorway, Peers, contexts
 from mserve_front.gate_page import GatePage
 from mserve_front.islands import Home, IslandFront, Islands
 from mserve_front.placement import HERE, Island, LocalPlacement, Machine
 from mserve_front.preamble import new_secret, preamble, told_by
 from mserve_front.settings import Limits
+from mserve_front.users import token_hash
 from running import free_port
 
 SECRET = "s" * 43
@@ -62,18 +63,21 @@ class Running:
         self._server = await asyncio.start_server(self.inner.serve, "127.0.0.1", 0)
         port = self._server.sockets[0].getsockname()[1]
         island = SimpleNamespace(name="island0", machine="one")
-        islands = SimpleNamespace(users={}, of_account={}, of_token={}, placed={"island0": island}, machines={}, secret=SECRET, port=lambda name, kind: port)
-        gate, self._doors, self.port = Gate("one", islands, ssl.create_default_context()), Doors(self._limits, None, {}), free_port()
+        self.islands = SimpleNamespace(users={}, of_account={}, of_token={}, placed={"island0": island}, machines={}, secret=SECRET,
+                                       port=lambda name, kind: port if name == "island0" else None)
+        gate, self._doors = Gate("one", self.islands, ssl.create_default_context()), Doors(self._limits, None, {})
+        self.port, self.lines_port = free_port(), free_port()
         self._doors.listen("127.0.0.1", self.port, gate.door(gate.serve_http, False))
+        self._doors.listen("127.0.0.1", self.lines_port, gate.door(gate.serve_lines, False))
         return self
 
     async def __aexit__(self, *error: object) -> None:
         self._doors.close()
         self._server.close()
 
-    async def asks(self, *parts: bytes, address: str = "127.0.0.1") -> bytes:
-        """What comes back for bytes that are sent with a moment between them."""
-        reader, writer = await asyncio.open_connection("127.0.0.1", self.port, local_addr=(address, 0))
+    async def asks(self, *parts: bytes, address: str = "127.0.0.1", lines: bool = False) -> bytes:
+        """What comes back for bytes that are sent with a moment between them, at the port of HTTP or at that of lines."""
+        reader, writer = await asyncio.open_connection("127.0.0.1", self.lines_port if lines else self.port, local_addr=(address, 0))
         try:
             for part in parts:
                 writer.write(part)
@@ -133,6 +137,26 @@ async def test_known_paths_alone_are_carried(target: str, status: int) -> None:
         assert answer.startswith(f"HTTP/1.1 {status}".encode()) and b"island0" not in answer
         # A path of the page stays one: the front has files of one folder alone.
         assert all(b"GET /metrics" not in got for got in gate.inner.connections)
+
+
+@pytest.mark.parametrize(("machine", "state"), [("one", "it has no port yet"), ("two", "its machine is not there"), ("three", "nobody knows its machine")])
+@in_loop()
+async def test_a_refusal_does_not_say_which_island_is_away(machine: str, state: str) -> None:
+    """Whose customer a user is would be told to everybody who knows a name, whatever keeps the island away."""
+    async with Running(OK) as gate:
+        gate.islands.placed["secret1"] = SimpleNamespace(name="secret1", machine=machine)
+        gate.islands.machines["two"] = Machine("two", "127.0.0.1", free_port())
+        gate.islands.users["ada"] = SimpleNamespace(account="SECRET")
+        gate.islands.of_account["SECRET"] = "secret1"
+        gate.islands.of_token[token_hash("mft_x")] = "ada"
+        sign_on = json.dumps({"user": "ada", "password": "x"}).encode()
+        for request in (b"POST /signon HTTP/1.1\r\nHost: x\r\nContent-Length: %d\r\n\r\n%b" % (len(sign_on), sign_on),
+                        b"POST /line HTTP/1.1\r\nHost: x\r\nAuthorization: Bearer mft_x\r\nContent-Length: 2\r\n\r\n{}",
+                        b"GET /session HTTP/1.1\r\nHost: x\r\nCookie: __Host-mfront=secret1.x\r\n\r\n"):
+            answer = await gate.asks(request)
+            assert answer.startswith(b"HTTP/1.1 503") and answer.endswith(json.dumps({"error": AWAY}).encode()) and b"secret" not in answer.lower(), state
+        assert await gate.asks(b"ada x\n", lines=True) == json.dumps({"error": AWAY}).encode() + b"\n"
+        assert not gate.inner.connections
 
 
 @in_loop()

@@ -44,26 +44,30 @@ class Audit:
             os.close(self._descriptor)
             self._descriptor = -1
 
-    def note(self, event: str, **what: object) -> None:
-        """Writes a record. Raises `NoAudit` if that fails, or if earlier ones still wait."""
-        if self._path is not None:
-            self.check()
-            self._write(_record(event, packed(what)))
+    def note(self, event: str, **what: object) -> int:
+        """Writes a record, and gives its bytes. Raises `NoAudit` if that fails, or if earlier ones still wait."""
+        if self._path is None:
+            return 0
+        self.check()
+        data = _record(event, packed(what))
+        self._write(data)
+        return len(data)
 
-    def note_later(self, event: str, **what: object) -> None:
-        """Writes a record of what has happened; if that fails, once it can be written."""
-        self.note_packed(event, packed(what))
+    def note_later(self, event: str, **what: object) -> int:
+        """Writes a record of what has happened, and gives its bytes; if that fails, it is written once it can be."""
+        return self.note_packed(event, packed(what))
 
-    def note_packed(self, event: str, what: str) -> None:
+    def note_packed(self, event: str, what: str) -> int:
         """The same, of what was packed before."""
         if self._path is None:
-            return
+            return 0
         data = _record(event, what)
         if not self._kept:
             with contextlib.suppress(NoAudit):
                 self._write(data)
-                return
+                return len(data)
         self._kept.append(data)
+        return len(data)
 
     @property
     def waiting(self) -> int:

@@ -7,24 +7,28 @@ import contextlib
 import json
 import os
 import time
+from bisect import bisect_left
 from collections import Counter, defaultdict
 from collections.abc import Mapping, Sequence
 from pathlib import Path
 
 from .libraries import REPLACED, of_libraries
-from .metrics import SPAN, family
+from .metrics import SPAN, family, histogram
 
 # The note that `mbackup verify` leaves beside the snapshots.
 VERIFIED = "verified.json"
+# The bounds of waits that are counted for each account, in seconds: few, since there may be thousands of accounts.
+STEPS = (0.005, 0.02, 0.1, 0.5, 2.5)
 
 
 class ByAccount:
-    """How long lines of each account waited, from when they came to when their reply was handed out."""
+    """How long lines of each account waited, from when they came to when their reply was handed out, and what they took of the journal."""
 
     def __init__(self, terminals: Mapping[str, Sequence[int]]) -> None:
         self.know(terminals)
-        self._count: Counter[str] = Counter()
+        self._below: defaultdict[str, list[int]] = defaultdict(lambda: [0] * (len(STEPS) + 1))
         self._waited: defaultdict[str, float] = defaultdict(float)
+        self._bytes: Counter[str] = Counter()
         self._longest: tuple[dict[str, float], dict[str, float]] = ({}, {})
         self._span = time.monotonic()
 
@@ -32,23 +36,30 @@ class ByAccount:
         """Which terminals each account has, from now on."""
         self._of = {terminal: account for account, some in terminals.items() for terminal in some}
 
-    def handed(self, terminal: int, since: float) -> None:
-        """Notes a reply that is handed out."""
+    def handed(self, terminal: int, since: float, size: int) -> None:
+        """Notes a reply that is handed out, of a line that came then; they took so many bytes of the journal."""
         now, account = time.monotonic(), self._of.get(terminal, "")
-        self._count[account] += 1
-        self._waited[account] += now - since
+        waited = now - since
+        self._below[account][bisect_left(STEPS, waited)] += 1
+        self._waited[account] += waited
+        self._bytes[account] += size
         self._turn(now)
         latest = self._longest[0]
-        latest[account] = max(latest.get(account, 0.0), now - since)
+        latest[account] = max(latest.get(account, 0.0), waited)
 
     def text(self) -> list[str]:
         """The figures."""
         self._turn(time.monotonic())
         latest, before = self._longest
         longest = {account: max(latest.get(account, 0.0), before.get(account, 0.0)) for account in latest.keys() | before.keys()}
-        return [*family("mfront_account_lines_total", "counter", "Lines with a reply that was handed out, by account.", _labelled(self._count)),
+        count = {account: sum(below) for account, below in self._below.items()}
+        return [*family("mfront_account_lines_total", "counter", "Lines with a reply that was handed out, by account.", _labelled(count)),
                 *family("mfront_account_wait_seconds_total", "counter", "Seconds that these lines waited.", _labelled(self._waited)),
-                *family("mfront_account_longest_wait_seconds", "gauge", "The longest of these waits in the last minute or two.", _labelled(longest))]
+                *family("mfront_account_longest_wait_seconds", "gauge", "The longest of these waits in the last minute or two.", _labelled(longest)),
+                *histogram("mfront_account_reply_seconds", "How long lines of an account waited for their replies.", STEPS,
+                           {f'account="{account}"': (below, self._waited[account]) for account, below in sorted(self._below.items())}),
+                *family("mfront_account_journal_bytes_total", "counter", "Bytes of the journal that these lines and their replies took.",
+                        _labelled(self._bytes))]
 
     def _turn(self, now: float) -> None:
         if now - self._span > SPAN:

@@ -19,7 +19,7 @@ from .faults import Causes, HeldBack, NoJournal
 from .history import CUT_SHORT
 from .lines import HALT, Line
 from .metrics import Metrics
-from .records import BeginRecord, Flush, LineRecord, Record, ReplyRecord, RowsRecord, StoreAtStart
+from .records import BeginRecord, Flush, LineRecord, Record, ReplyRecord, RowsRecord, StoreAtStart, size_of
 
 # Seconds between two attempts to write again, and those after which a reply that cannot be noted is given up.
 RETRY, HELD = 1.0, 30.0
@@ -183,7 +183,7 @@ class Journal:
         # Since when it cannot be written.
         self.faulty = 0.0
         self.witness: Witness | None = None
-        self.handed: Callable[[int, float], None] | None = None
+        self.handed: Callable[[int, float, int], None] | None = None
         self.taken: asyncio.Future[str] = asyncio.get_running_loop().create_future()
 
     async def take(self, force: bool = False) -> None:
@@ -359,7 +359,8 @@ class Journal:
                 self.open.discard(entry.asked.terminal)
             entry.hand()
             if self.handed is not None:
-                self.handed(entry.asked.terminal, entry.asked.since)
+                asked = entry.asked
+                self.handed(asked.terminal, asked.since, size_of(asked.user, asked.line.data, entry.code))
         else:
             if isinstance(entry, _Start):
                 self._begun(entry)

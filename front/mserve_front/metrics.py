@@ -4,7 +4,7 @@ from __future__ import annotations
 
 import time
 from collections import Counter
-from collections.abc import Callable, Mapping
+from collections.abc import Callable, Mapping, Sequence
 
 BUCKETS = (0.001, 0.0025, 0.005, 0.01, 0.025, 0.05, 0.1, 0.25, 0.5, 1.0, 2.5, 5.0, 10.0)
 # The longest wait is that of the last one to two spans of this many seconds.
@@ -74,7 +74,7 @@ class Metrics:
         lines += family("mfront_audit_faults_total", "counter", "Records that could not be written to the audit log.", {"": self.audit_faults})
         if journal is not None:
             lines += self._journal(*journal)
-        return "\n".join([*lines, *(line for tell in self.more for line in tell()), *self._histogram()]) + "\n"
+        return "\n".join([*lines, *(line for tell in self.more for line in tell()), *histogram("mfront_wait_seconds", "How long a reply was waited for.", BUCKETS, {"": (self._below, self._waited)})]) + "\n"
 
     def _journal(self, last: int, up: bool) -> list[str]:
         lines = family("mfront_journal_up", "gauge", "1 if the journal can be written.", {"": int(up)})
@@ -84,20 +84,25 @@ class Metrics:
         lines += family("mfront_journal_flush_seconds_total", "counter", "Seconds that flushes of the journal took.", {"": self._flushing})
         return lines + family("mfront_journal_faults_total", "counter", "Flushes of the journal that failed.", {"": self.journal_faults})
 
-    def _histogram(self) -> list[str]:
-        name = "mfront_wait_seconds"
-        lines = [f"# HELP {name} How long a reply was waited for.", f"# TYPE {name} histogram"]
-        total = 0
-        for most, count in zip([*map(str, BUCKETS), "+Inf"], self._below, strict=True):
-            total += count
-            lines.append(f'{name}_bucket{{le="{most}"}} {total}')
-        return [*lines, f"{name}_sum {self._waited:.6f}", f"{name}_count {total}"]
-
 
 def family(name: str, kind: str, about: str, values: Mapping[str, float]) -> list[str]:
     """The lines of a figure, one for each of its labels."""
     lines = [f"# HELP {name} {about}", f"# TYPE {name} {kind}"]
     return lines + [f"{name}{{{labels}}} {_figure(value)}" if labels else f"{name} {_figure(value)}" for labels, value in values.items()]
+
+
+def histogram(name: str, about: str, bounds: Sequence[float], values: Mapping[str, tuple[Sequence[int], float]]) -> list[str]:
+    """The lines of a histogram, those of each of its labels: how many values were up to each bound and not the one before, how many were above all bounds;
+    and the sum of all."""
+    lines = [f"# HELP {name} {about}", f"# TYPE {name} histogram"]
+    for labels, (counts, total) in values.items():
+        count, before = 0, f"{labels}," if labels else ""
+        for bound, more in zip([*map(str, bounds), "+Inf"], counts, strict=True):
+            count += more
+            lines.append(f'{name}_bucket{{{before}le="{bound}"}} {count}')
+        shown = f"{{{labels}}}" if labels else ""
+        lines += [f"{name}_sum{shown} {total:.6f}", f"{name}_count{shown} {count}"]
+    return lines
 
 
 def _figure(value: float) -> str:

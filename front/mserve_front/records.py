@@ -69,6 +69,11 @@ class ReplyRecord:
         return b"R" + _REPLY.pack(self.number, self.digest) + self.code.encode("latin1")
 
 
+def size_of(user: str, text: bytes, code: str) -> int:
+    """The bytes that the records of a line and of its reply take in flushes."""
+    return 2 * (_LENGTH.size + 1) + _LINE.size + len(user.encode()) + len(text) + _REPLY.size + len(code)
+
+
 @dataclass(frozen=True, slots=True)
 class StartRecord:
     """A start of version 1, which is read and no longer written: all sessions began again before the line of this number. Of the lines before it that have

@@ -8,6 +8,7 @@ import asyncio
 import json
 import secrets
 import time
+from collections import Counter
 from collections.abc import Coroutine, Iterator, Mapping, Sequence
 from dataclasses import dataclass, field
 from pathlib import Path
@@ -129,6 +130,8 @@ class Sessions:
         self._register = register
         self._tasks: set[asyncio.Task[None]] = set()
         self._of_key: dict[str, Session] = {}
+        # Bytes of the audit log that each account took.
+        self._noted: Counter[str] = Counter()
         self._stopping = False
         self._cheap = Pace(SPARED)
         self.unread = Unread()
@@ -161,9 +164,14 @@ class Sessions:
         return self._audit.waiting
 
     def _by_account(self) -> list[str]:
-        """The figure of what each account has used of the server."""
+        """Figures of what each account has used of the server and of the audit log, and how many are signed on."""
         used = {f'account="{account}"': taken for account, (_, taken) in sorted(self.server.shares.used().items())}
-        return family("mfront_account_server_seconds_total", "counter", "Seconds that the server took for lines, by account.", used)
+        signed_on = Counter(session.account for session in self)
+        noted = {f'account="{account}"': size for account, size in sorted(self._noted.items())}
+        return [*family("mfront_account_server_seconds_total", "counter", "Seconds that the server took for lines, by account.", used),
+                *family("mfront_account_signed_on", "gauge", "Sessions that are signed on, by account.",
+                        {f'account="{account}"': signed_on[account] for account in sorted({*self._noted, *signed_on})}),
+                *family("mfront_account_audit_bytes_total", "counter", "Bytes of the audit log that sessions and lines of an account took.", noted)]
 
     def journal_figures(self) -> tuple[int, bool] | None:
         """The journal's last line, and whether it can be written; None without a journal."""
@@ -295,7 +303,7 @@ class Sessions:
             return
         told = "null" if code == "none" else json.dumps(code)
         text = f", {packed({'text': data.decode('latin1')})}" if self._settings.texts else ""
-        self._audit.note_packed("line", f'{session.packed}, "code": {told}{text}')
+        self._noted[session.account] += self._audit.note_packed("line", f'{session.packed}, "code": {told}{text}')
 
     def _count_refused(self, session: Session) -> None:
         """Notes how many lines were refused since the last such record."""
@@ -304,10 +312,10 @@ class Sessions:
             session.refused, session.counted = 0, time.monotonic()
 
     def _note(self, event: str, session: Session, **what: object) -> None:
-        self._audit.note(event, **session.record, **what)
+        self._noted[session.account] += self._audit.note(event, **session.record, **what)
 
     def _note_later(self, event: str, session: Session, **what: object) -> None:
-        self._audit.note_later(event, **session.record, **what)
+        self._noted[session.account] += self._audit.note_later(event, **session.record, **what)
 
     async def restarted(self) -> None:
         """Tells all that the server was started again: their variables and locks are gone."""

@@ -13,19 +13,23 @@ import ssl
 import stat
 import subprocess
 import time
+from collections import Counter
 from collections.abc import Callable
 from pathlib import Path
 from typing import Any
 
 import aiohttp
 import pytest
-from front import FRONT, Front, at_rest, in_loop, small_disk, until
+from front import FRONT, Front, Patience, at_rest, in_loop, small_disk, until
 from mserve_front import certificates, figures, standbys
 from mserve_front.admin import ALARMS, alarms_of
 from mserve_front.control import asked
+from mserve_front.figures import STEPS as BOUNDS
 from mserve_front.gate_page import UNANSWERED, together
+from mserve_front.journal_file import FileReader
 from mserve_front.libraries import FIGURE
 from mserve_front.places import last_line
+from mserve_front.records import LineRecord, ReplyRecord
 from mserve_front.settings import JournalSettings
 from mserve_front.standbys import SAYS, Behind, Said
 from standing_by import caught_up, leading, promoted, standby
@@ -112,6 +116,39 @@ async def test_each_figure_of_alarms_and_pictures_is_one_that_the_front_has(star
     assert f"`ISLAND: {UNANSWERED}`" in runbook
     for name in {*NAMES.findall(rules), *NAMES.findall(" ".join(shown)), *(alarm.figure for alarm in ALARMS if alarm.figure.startswith("mfront"))}:
         assert name in known, name
+
+
+@in_loop()
+async def test_figures_of_each_account(start) -> None:
+    """How long its lines wait, so that a percentile can be watched, and what they take of the disk: each byte of the audit log is somebody's, and each of the
+    journal but for the heads of its flushes and for starts."""
+    front: Front = start(store="store", journal={"folder": "journal"})
+    async with front.person("ada") as ada, front.person("ben"), front.person("cleo") as cleo:
+        for number in range(20):
+            await ada.line(f"S ^X({number})={number}")
+        await ada.line("W 1/0")
+        await cleo.line("W 1")
+        async with ada.http.get("/metrics") as response:
+            lines = (await response.text()).splitlines()
+        figures = {name: float(value) for name, _, value in (line.rpartition(" ") for line in lines if not line.startswith("#"))}
+        noted, kept = Counter[str](), Counter[str]()
+        for text in (front.folder / "audit.log").read_text().splitlines(keepends=True):
+            noted[json.loads(text)["account"]] += len(text)
+        accounts: dict[int, str] = {}
+        for record in (record for flush in FileReader(front.folder / "journal").more() for record in flush.records):
+            if isinstance(record, LineRecord):
+                accounts[record.number] = "LAB" if record.terminal > 1000 else "CLINIC"
+            if isinstance(record, LineRecord | ReplyRecord):
+                kept[accounts[record.number]] += 4 + len(record.packed())
+    for account, count, signed_on in (("CLINIC", 21, 2), ("LAB", 1, 1)):
+        label = f'account="{account}"'
+        assert figures[f"mfront_account_signed_on{{{label}}}"] == signed_on
+        assert figures[f"mfront_account_audit_bytes_total{{{label}}}"] == noted[account]
+        assert figures[f"mfront_account_journal_bytes_total{{{label}}}"] == kept[account]
+        below = [figures[f'mfront_account_reply_seconds_bucket{{{label},le="{bound}"}}'] for bound in (*BOUNDS, "+Inf")]
+        assert below == sorted(below) and below[-1] == figures[f"mfront_account_reply_seconds_count{{{label}}}"] == count
+        assert figures[f"mfront_account_lines_total{{{label}}}"] == count
+        assert 0 < figures[f"mfront_account_reply_seconds_sum{{{label}}}"] < count * Patience.seconds
 
 
 @pytest.mark.parametrize(("host", "status"), [("localhost", 200), ("127.0.0.1:9100", 200), ("evil.example", 421), ("127.0.0.1.evil.example:9100", 421)])

@@ -69,7 +69,7 @@ def measurements(short: bool) -> list[Measurement]:
         Measurement("few machines with many users",
                     (PYTHON, machines, "--islands", "3", "--accounts", grouped, "--seconds", seconds, "--moved", "1"), 120),
         Measurement("time without service", (PYTHON, rates, "--kinds", "--killed", killed), 120),
-        Measurement("a leader that is stopped", (*TEST, *apart, str(HERE / "tests" / "test_standby.py"), "-k", "once_the_leader_is_stopped"), 60),
+        Measurement("a leader that is stopped", (*TEST, *apart, str(HERE / "tests" / "test_standby.py"), "-k", "hand_over_is_short"), 60),
         Measurement("a gate that is restarted", (*TEST, *apart, str(HERE / "tests" / "test_fork_server.py"), "-k", "little", "--count", restarted), 60),
         Measurement("leaders killed", (*TEST, *apart, str(HERE / "tests" / "test_standby.py"), "-k", "leaders_that_are_killed", "--count", count), 300),
         Measurement("a database that is lost",

@@ -187,14 +187,14 @@ def change(options: argparse.Namespace) -> None:
 
 def promote(options: argparse.Namespace) -> None:
     """Has a standby serve."""
-    found = _promoted(control_of(options), options.force, time.monotonic() + options.wait)
+    found = promoted_once_free(control_of(options), options.force, time.monotonic() + options.wait)
     unsent = found["not run"]
     for text in found["lost"]:
         print(f"lost: {text}")
     print(f"promoted after line {found['line']}, in {found['seconds']} s" + (f"; not run: {', '.join(map(str, unsent))}" if unsent else ""))
 
 
-def _promoted(control: Path, force: bool, until: float) -> Answered:
+def promoted_once_free(control: Path, force: bool, until: float) -> Answered:
     """The answer of a standby that is promoted; while another front has the journal it is asked again, up to a moment. Raises `ControlError`."""
     while True:
         try:

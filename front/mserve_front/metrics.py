@@ -74,7 +74,9 @@ class Metrics:
         lines += family("mfront_audit_faults_total", "counter", "Records that could not be written to the audit log.", {"": self.audit_faults})
         if journal is not None:
             lines += self._journal(*journal)
-        return "\n".join([*lines, *(line for tell in self.more for line in tell()), *histogram("mfront_wait_seconds", "How long a reply was waited for.", BUCKETS, {"": (self._below, self._waited)})]) + "\n"
+        lines += [line for tell in self.more for line in tell()]
+        lines += histogram("mfront_wait_seconds", "How long a reply was waited for.", BUCKETS, {"": (self._below, self._waited)})
+        return "\n".join(lines) + "\n"
 
     def _journal(self, last: int, up: bool) -> list[str]:
         lines = family("mfront_journal_up", "gauge", "1 if the journal can be written.", {"": int(up)})

@@ -231,11 +231,14 @@ class Person:
         self._count = 0
 
     async def __aenter__(self) -> Person:
-        status, self.record = await self.sign_on()
-        if status != 200:
+        try:
+            status, self.record = await self.sign_on()
+            if status != 200:
+                raise AssertionError(self.record)
+            await self.connect()
+        except BaseException:
             await self.http.close()
-            raise AssertionError(self.record)
-        await self.connect()
+            raise
         return self
 
     async def __aexit__(self, *error: object) -> None:

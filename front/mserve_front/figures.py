@@ -9,7 +9,7 @@ import os
 import time
 from bisect import bisect_left
 from collections import Counter, defaultdict
-from collections.abc import Mapping, Sequence
+from collections.abc import Callable, Mapping, Sequence
 from pathlib import Path
 
 from .libraries import REPLACED, of_libraries
@@ -26,6 +26,8 @@ class ByAccount:
 
     def __init__(self, terminals: Mapping[str, Sequence[int]]) -> None:
         self.know(terminals)
+        # Called with an account, and the bytes of the journal that it took.
+        self.took: Callable[[str, int], None] = lambda account, size: None
         self._below: defaultdict[str, list[int]] = defaultdict(lambda: [0] * (len(STEPS) + 1))
         self._waited: defaultdict[str, float] = defaultdict(float)
         self._bytes: Counter[str] = Counter()
@@ -43,6 +45,7 @@ class ByAccount:
         self._below[account][bisect_left(STEPS, waited)] += 1
         self._waited[account] += waited
         self._bytes[account] += size
+        self.took(account, size)
         self._turn(now)
         latest = self._longest[0]
         latest[account] = max(latest.get(account, 0.0), waited)

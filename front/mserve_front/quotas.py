@@ -1,8 +1,9 @@
 # SPDX-License-Identifier: Apache-2.0
-"""What each account takes of the store and of the server's memory. One that is over a quota hears so, and has one line a second; others are not met by it.
+"""What each account takes of the store, of the server's memory and of the journal. One that is over a quota hears so, and has one line a second; others are
+not met by it.
 
-The server counts neither, so both are seen from beside it. Rows are counted in the store's file, which lacks what the store's log has. Memory
-is what the server grew by while an account had nearly all of its time; what grew while several did is charged to nobody."""
+The server counts neither rows nor memory, so both are seen from beside it. Rows are counted in the store's file, which lacks what the store's log has.
+Memory is what the server grew by while an account had nearly all of its time; what grew while several did is charged to nobody."""
 from __future__ import annotations
 
 import asyncio
@@ -10,7 +11,7 @@ import contextlib
 import os
 import sqlite3
 import time
-from collections import Counter
+from collections import Counter, deque
 from collections.abc import Callable, Iterable, Mapping
 from pathlib import Path
 from urllib.parse import quote
@@ -18,9 +19,13 @@ from urllib.parse import quote
 from mserve_client import keys
 
 from .metrics import family
+from .settings import Limits
 
-# What the quotas are of, as limits.rows and limits.memory name them.
-ROWS, MEMORY = "rows", "memory"
+# What the quotas are of, as their keys in [limits] name them; and how each is said in words.
+ROWS, MEMORY, JOURNAL = "rows", "memory", "journal"
+WORDS = {ROWS: "rows", MEMORY: "bytes of memory", JOURNAL: "bytes of the journal in 24 hours"}
+# Seconds of an hour, and how many of them are a day.
+HOUR, HOURS = 3600.0, 24
 # Seconds between two lines of an account that is over a quota.
 PAUSE = 1.0
 # Seconds between two counts of rows; and how many times as long as a count took there is none. A file that was written so short a time ago, in
@@ -92,12 +97,34 @@ class Memory:
             del self.grown[account]
 
 
+class Day:
+    """What each account took in the last day, to the hour."""
+
+    def __init__(self) -> None:
+        self.taken: Counter[str] = Counter()
+        self._hours: deque[Counter[str]] = deque([Counter()])
+        self._began = time.monotonic()
+
+    def add(self, account: str, more: int) -> None:
+        """Notes what an account takes."""
+        self.taken[account] += more
+        self._hours[-1][account] += more
+
+    def look(self) -> None:
+        """Leaves out what is a day old."""
+        while time.monotonic() - self._began >= HOUR:
+            self._began += HOUR
+            self._hours.append(Counter())
+            if len(self._hours) > HOURS:
+                self.taken -= self._hours.popleft()
+
+
 class Quotas:
     """The quotas of all accounts, which are the same."""
 
-    def __init__(self, most_rows: int, most_memory: int, memory: Memory, used: Used, told: Callable[[str, Over], None]) -> None:
+    def __init__(self, limits: Limits, memory: Memory, used: Used, told: Callable[[str, Over], None]) -> None:
         """`told` is called with an account, and what it is over, each time that this is another."""
-        self.limit(most_rows, most_memory)
+        self.limit(limits)
         self._used, self._told = used, told
         self._next: dict[str, float] = {}
         # Of each account, how many lines it had had at its last count that succeeded, and the stamp of the file at its last count.
@@ -106,12 +133,13 @@ class Quotas:
         self._due = 0.0
         self._freed: dict[str, asyncio.Event] = {}
         self.memory = memory
+        self.day = Day()
         self.rows: dict[str, int] = {}
         self.over: dict[str, Over] = {}
 
-    def limit(self, rows: int, memory: int) -> None:
+    def limit(self, limits: Limits) -> None:
         """What an account may have, from the next look on."""
-        self._most = {ROWS: rows, MEMORY: memory}
+        self._most = {ROWS: limits.rows, MEMORY: limits.memory, JOURNAL: limits.journal}
 
     async def count(self, store: Path) -> None:
         """Counts rows, if it is time, of the accounts that had lines since they were counted, if the file was written since then."""
@@ -130,8 +158,9 @@ class Quotas:
 
     def look(self) -> None:
         """Finds who is over a quota, and tells those for whom that is new, or no more."""
-        found = {ROWS: self.rows, MEMORY: self.memory.grown}
-        for account in {*self.rows, *self.memory.grown, *self.over}:
+        self.day.look()
+        found = {ROWS: self.rows, MEMORY: self.memory.grown, JOURNAL: self.day.taken}
+        for account in {*self.rows, *self.memory.grown, *self.day.taken, *self.over}:
             over = {what: (have[account], self._most[what]) for what, have in found.items() if have.get(account, 0) > self._most[what]}
             before = self.over.pop(account, {})
             if over:
@@ -171,7 +200,7 @@ class Quotas:
 
 def in_words(over: Over) -> str:
     """What each reply says of it to the account."""
-    parts = [f"{used:,} {'rows' if what == ROWS else 'bytes of memory'} of {most:,}" for what, (used, most) in over.items()]
+    parts = [f"{used:,} {WORDS[what]} of {most:,}" for what, (used, most) in over.items()]
     return f"the account is over its quota ({', '.join(parts)}): it has one line a second"
 
 

@@ -70,6 +70,7 @@ class Service:
         self._server = Server(settings, self.metrics, journal)
         self._sessions = Sessions(settings, self._server, self.metrics, self._audit, self._register, journal)
         if self._keeper is not None:
+            self._keeper.accounts.took = self._sessions.quotas.day.add
             self._keeper.answer("change", Changes(settings, self._server, (self._sessions, self._keeper.accounts)).take)
         self._admin = Admin(settings, self._server, self._sessions, self.metrics, self._keeper.behind if self._keeper else list)
         self._stopping = promoted.stopping if promoted else asyncio.Event()

@@ -140,7 +140,7 @@ class Sessions:
         self._terminals = Terminals(settings.terminals, self.server, journal)
         metrics.more.append(self._by_account)
         used = self.server.shares.used
-        self.quotas = Quotas(settings.limits.rows, settings.limits.memory, Memory(used, lambda: size_of(self.server.pid)), used, self._over_quota)
+        self.quotas = Quotas(settings.limits, Memory(used, lambda: size_of(self.server.pid)), used, self._over_quota)
         self.server.shares.slow = self.quotas.memory.look
         metrics.more.append(self.quotas.text)
 
@@ -152,7 +152,7 @@ class Sessions:
     def limit(self, limits: Limits) -> None:
         """Takes other limits, for all who are signed on too."""
         self._settings.limits.take(limits, AT_A_START)
-        self.quotas.limit(limits.rows, limits.memory)
+        self.quotas.limit(limits)
 
     def __iter__(self) -> Iterator[Session]:
         """The sessions as they stand: they may be ended meanwhile."""

@@ -16,6 +16,10 @@ class BadSettings(Exception):
     """A file cannot be used; the text says which file, which key, and what is wanted there."""
 
 
+# The most that a quota may be, which is none.
+NO_BOUND = 1 << 48
+
+
 @dataclass(slots=True)
 class Limits:
     """Times in seconds, sizes in bytes, and counts. A reload changes them in place, so that all who have them see it."""
@@ -35,6 +39,7 @@ class Limits:
     sessions_of_user: int = 4
     rows: int = 10_000_000
     memory: int = 1_000_000_000
+    journal: int = NO_BOUND
 
     def take(self, other: Limits, but: Container[str] = ()) -> None:
         """Takes the values of others, but for some."""
@@ -201,7 +206,7 @@ _LIMITS = {
     "idle": (1, 86_400), "absent": (1, 86_400), "longest": (10, 604_800), "token_idle": (1, 86_400), "sign_on": (1, 600), "slow": (1, 600),
     "heartbeat": (1, 600), "body": (4096, 1 << 24), "reply": (4096, 1 << 28), "connections": (1, 100_000), "connections_of_address": (1, 100_000),
     "unsigned_of_address": (1, 100_000),
-    "sessions_of_user": (1, 9999), "rows": (1, 1 << 48), "memory": (1_000_000, 1 << 48),
+    "sessions_of_user": (1, 9999), "rows": (1, NO_BOUND), "memory": (1_000_000, NO_BOUND), "journal": (1, NO_BOUND),
 }
 
 

@@ -12,7 +12,8 @@ from pathlib import Path
 import pytest
 from front import PASSWORD, Front, Person, in_loop, small_disk, toml, until
 from mserve_front import quotas as quotas_module
-from mserve_front.quotas import PAUSE, Memory, Quotas
+from mserve_front.quotas import HOUR, PAUSE, Day, Memory, Quotas
+from mserve_front.settings import Limits
 from test_programs import Program, new_token, posted
 
 # A line that fills some 20 MB of variables, and one that stores a hundred rows of several pages each: the store's log is copied after a thousand.
@@ -88,6 +89,39 @@ async def test_an_account_over_its_quota_of_memory_is_slowed_until_its_sessions_
 
 
 @in_loop()
+async def test_an_account_over_its_quota_of_the_journal_is_slowed(start) -> None:
+    """It fills the disk that all need no faster than by a line a second. A reload gives it more."""
+    front: Front = start(store="store", journal={"folder": "journal"}, limits={"journal": 5000})
+    async with front.person("ada") as ada, front.person("cleo") as cleo:
+        assert " bytes of the journal in 24 hours of 5,000): it has one line a second" in (await fills(ada, "S ^X=1"))["quota"]
+        await others_go_on(ada, cleo)
+        async with cleo.http.get("/metrics") as response:
+            assert 'mfront_account_over_quota{account="CLINIC",what="journal"} 1\n' in await response.text()
+        await reloads(front, {"limits": {"journal": 10 ** 12}}, "reloaded: limits")
+
+        async def is_free() -> bool:
+            return "quota" not in await ada.line("W 1")
+        await until(is_free, "an account within its quota")
+        assert [list(event["over"]) for event in ada.events] == [["journal"], []]
+
+
+def test_what_is_a_day_old_does_not_count(monkeypatch: pytest.MonkeyPatch) -> None:
+    now = [1000.0]
+    monkeypatch.setattr(quotas_module.time, "monotonic", lambda: now[0])
+    day = Day()
+    for hour in range(30):
+        day.look()
+        day.add("A", 1 << hour)
+        now[0] += HOUR
+    # That of the hour that began now, and of the 23 before it.
+    day.look()
+    assert day.taken == {"A": sum(1 << hour for hour in range(7, 30))}
+    now[0] += 23 * HOUR
+    day.look()
+    assert not day.taken["A"] and len(day._hours) == 24
+
+
+@in_loop()
 async def test_limits_are_raised_while_users_work(start) -> None:
     """By a reload: who is signed on stays so and keeps variables, and hears that the account is within its quota. What else has changed in the settings is
     named. Settings that are wrong leave the limits as they were, and the audit log is opened again all the same."""
@@ -143,7 +177,7 @@ async def test_who_waits_for_a_turn_goes_on_once_the_account_is_within_its_quota
     for ends in (lambda quotas: quotas.memory.keep([]) or quotas.look(), Quotas.end):
         told: list[tuple[str, bool]] = []
         memory = Memory(dict, lambda: 0)
-        quotas = Quotas(10, 100, memory, dict, lambda account, over: told.append((account, bool(over))))
+        quotas = Quotas(Limits(rows=10, memory=100), memory, dict, lambda account, over: told.append((account, bool(over))))
         memory.grown["A"] = 101
         quotas.look()
         quotas.look()
@@ -242,7 +276,7 @@ async def test_rows_are_counted_once_for_each_time_that_the_store_is_written(tmp
         store.write_text("x")
         os.utime(store, (time.time() - ago,) * 2)
     monkeypatch.setattr(quotas_module, "rows_of", rows_of)
-    quotas = Quotas(10, 100, Memory(dict, lambda: 0), lambda: lines, lambda account, over: None)
+    quotas = Quotas(Limits(rows=10, memory=100), Memory(dict, lambda: 0), lambda: lines, lambda account, over: None)
 
     async def counts() -> list[str]:
         counted.clear()

@@ -28,6 +28,8 @@ from mserve_front.users import token_hash
 from running import free_port
 
 SECRET = "s" * 43
+# Seconds for which a front that refuses waits for what a gate carries on; and between the parts of what a user sends.
+CARRIED_SOON, BETWEEN = 1.0, 0.2
 HANDSHAKE = (b"GET /ws HTTP/1.1\r\nHost: x\r\nConnection: keep-alive, Upgrade\r\nUpgrade: websocket\r\nSec-WebSocket-Version: 13\r\n"
              b"Sec-WebSocket-Key: dGhlIHNhbXBsZSBub25jZQ==\r\nX-Mgate-From: 9.9.9.9\r\nX-MGATE-Secret: x\r\nX-Forwarded-For: 9.9.9.9\r\n\r\n")
 
@@ -48,7 +50,11 @@ class Inner:
             if not before and b"\r\n\r\n" in got:
                 writer.write(self.answer)
                 if b" 101 " not in self.answer:
-                    await asyncio.sleep(0.3)
+                    # What is carried on all the same comes soon.
+                    with contextlib.suppress(TimeoutError):
+                        async with asyncio.timeout(CARRIED_SOON):
+                            while data := await reader.read(1000):
+                                got += data
                     break
         writer.close()
 
@@ -81,7 +87,7 @@ class Running:
         try:
             for part in parts:
                 writer.write(part)
-                await asyncio.sleep(0.2)
+                await asyncio.sleep(BETWEEN)
             async with asyncio.timeout(Patience.seconds):
                 return await reader.read(2000)
         finally:

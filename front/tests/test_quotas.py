@@ -33,15 +33,15 @@ async def fills(person: Person, line: str) -> dict[str, object]:
     return found[-1]
 
 
-async def others_go_on(slow: Person, other: Person) -> None:
-    """One line a second of an account that is over its quota, and any number of another one's."""
+async def others_go_on(slow: Person, other: Person, most: int = 1 << 30) -> None:
+    """One line a second of an account that is over its quota, and any number of another one's, up to what is given."""
     async def lines() -> float:
         began = time.monotonic()
         for _ in range(4):
             assert "quota" in await slow.line("W 1")
         return time.monotonic() - began
     slowed, count = asyncio.create_task(lines()), 0
-    while not slowed.done():
+    while not slowed.done() and count < most:
         assert await other.line(f"W {count}") == {"output": [], "rest": str(count), "code": None}
         count += 1
     assert await slowed > 2.5 * PAUSE and count > 8 and not other.events
@@ -94,7 +94,8 @@ async def test_an_account_over_its_quota_of_the_journal_is_slowed(start) -> None
     front: Front = start(store="store", journal={"folder": "journal"}, limits={"journal": 5000})
     async with front.person("ada") as ada, front.person("cleo") as cleo:
         assert " bytes of the journal in 24 hours of 5,000): it has one line a second" in (await fills(ada, "S ^X=1"))["quota"]
-        await others_go_on(ada, cleo)
+        # They take some sixty bytes each: with ninety of them the other account would be over its quota too.
+        await others_go_on(ada, cleo, 30)
         async with cleo.http.get("/metrics") as response:
             assert 'mfront_account_over_quota{account="CLINIC",what="journal"} 1\n' in await response.text()
         await reloads(front, {"limits": {"journal": 10 ** 12}}, "reloaded: limits")

@@ -175,9 +175,15 @@ async def test_figures_of_an_island_go_to_its_front_with_the_token() -> None:
 
 @in_loop()
 async def test_idle_connections_of_an_address_keep_nobody_else_out() -> None:
+    """Neither who comes later, nor who came first and has sent nothing yet: its own bound makes room for that address, and not what all may have."""
+    request = b"GET / HTTP/1.1\r\nHost: x\r\n\r\n"
     async with Running(OK, Limits(connections=40, unsigned_of_address=20)) as gate:
+        reader, writer = await asyncio.open_connection("127.0.0.1", gate.port, local_addr=("127.0.0.3", 0))
         idle = [await asyncio.open_connection("127.0.0.1", gate.port) for _ in range(60)]
-        assert (await gate.asks(b"GET / HTTP/1.1\r\nHost: x\r\n\r\n", address="127.0.0.2")).startswith(b"HTTP/1.1 200")
+        assert (await gate.asks(request, address="127.0.0.2")).startswith(b"HTTP/1.1 200")
+        writer.write(request)
+        assert (await reader.read(1000)).startswith(b"HTTP/1.1 200")
+        writer.close()
         for _, writer in idle:
             writer.close()
 

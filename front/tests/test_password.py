@@ -71,8 +71,8 @@ async def test_a_password_in_the_place_of_a_name_is_not_in_the_audit_log(start) 
     assert [record["user"] for record in front.audit() if record["event"] == "refused"] == [None]
 
 
-@pytest.mark.parametrize("password", ["aaaaaaaaaaaa", "123456789012", "987654321098", "abcdefghijkl", "ababababababab", "kzkzkzkzkzkz", "ada.lovelace1", "password1234",
-                                      "qwertyuiop12", "", "x" * 2000, "mservemserve"])
+@pytest.mark.parametrize("password", ["aaaaaaaaaaaa", "123456789012", "987654321098", "abcdefghijkl", "ababababababab", "kzkzkzkzkzkz", "ada.lovelace1",
+                                      "password1234", "qwertyuiop12", "", "x" * 2000, "mservemserve"])
 def test_passwords_that_are_not_taken(password: str) -> None:
     assert fault_of(password, "ada.lovelace")
 

@@ -99,6 +99,30 @@ def test_who_waits_comes_before_an_account_that_used_the_server_for_long() -> No
     assert shares.used() == {"A0": (1, 60.0)} | {"A1": (0, 0.0)}
 
 
+def test_who_had_nothing_to_say_has_saved_nothing_up(clock: list[float]) -> None:
+    """An account that comes after another one has had the server for ten seconds gets half of it from then on, and not all for ten seconds."""
+    owners = accounts([16, 16])
+    shares, used, flying = Shares(owners), Counter(), deque()
+
+    def runs(lines: int) -> None:
+        for _ in range(lines):
+            while len(flying) < WINDOW and (asked := shares.next()):
+                flying.append(asked)
+            asked = flying.popleft()
+            clock[0] += 0.01
+            used[owners[asked.terminal]] += 1
+            shares.answered(asked, 0.01)
+            shares.add(Asked(asked.terminal))
+    for terminal in range(1, 17):
+        shares.add(Asked(terminal))
+    runs(1000)
+    used.clear()
+    for terminal in range(17, 33):
+        shares.add(Asked(terminal))
+    runs(200)
+    assert used["A0"] + used["A1"] == 200 and abs(used["A0"] - used["A1"]) <= ACCOUNT_WINDOW, used
+
+
 def test_a_terminal_that_is_another_accounts_is_charged_to_that_one() -> None:
     """From when the server is started again by the new settings: then no line waits."""
     shares = Shares({1: "A", 2: "B"})

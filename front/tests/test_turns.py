@@ -10,10 +10,12 @@ import signal
 import subprocess
 import time
 from itertools import pairwise
+from types import SimpleNamespace
 
 import pytest
 from front import SETTINGS, Front, busy, in_loop, until
 from mserve_client import BadReply, Reply
+from mserve_front import turns as turns_module
 from mserve_front.lines import Line
 from mserve_front.replies import Answer, ReplyReader
 from mserve_front.turns import WINDOW, FairConnection, Lost, Unsent
@@ -88,7 +90,9 @@ async def test_drawn_orders_are_fair() -> None:
 
 
 @in_loop()
-async def test_lines_on_their_way_are_lost_and_others_unsent() -> None:
+async def test_lines_on_their_way_are_lost_and_others_unsent(monkeypatch: pytest.MonkeyPatch) -> None:
+    # Nothing is sent after a line that takes long. On a busy machine this test itself may take as long, so no time passes in it.
+    monkeypatch.setattr(turns_module, "time", SimpleNamespace(monotonic=lambda: 1000.0))
     made = turns()
     peer = Peer(made)
     lines = [made.ask(terminal, Line(b"x")) for terminal in range(1, WINDOW + 11)] + [made.ask(1, Line(b"y"))]

@@ -168,6 +168,7 @@ record Languages : Type 0 where
   arguments : AreOfOne has_line (
       codes "W $QL(A)" ∷ codes "W $qlength(A)" ∷ codes "W $QS(A,1)" ∷ codes "W $QSUBSCRIPT(A,-1)" ∷
       codes "W $NA(A)" ∷ codes "W $name(^A(1),2)" ∷ codes "W $NA(^(1),A)" ∷
+      codes "W $Q(A)" ∷ codes "W $query(^A(1),-1)" ∷ codes "W $Q(^(\"\"),A)" ∷
       codes "S A=$RE(A)" ∷ codes "S A($RE(A))=1" ∷ codes "S $P(A,$RE(A))=1" ∷ codes "S $P(A,1,$RE(A))=1" ∷ codes "S (A,B($RE(A)))=1" ∷ codes "K A($RE(A))" ∷
       codes "I $RE(A)" ∷ codes "F I=$RE(A)" ∷ codes "F I=1:$RE(A)" ∷ codes "F I=1:1:$RE(A)" ∷ codes "D A:$RE(A)" ∷ codes "G A:$RE(A)" ∷ codes "X $RE(A)" ∷
       codes "X A:$RE(A)" ∷ codes "L A($RE(A))" ∷ codes "L (A,B($RE(A)))" ∷ codes "L A:$RE(A)" ∷ codes "Q:$RE(A)" ∷ codes "S @$RE(A)" ∷

@@ -26,6 +26,7 @@ pub data VariableFunctionTree : Type 0 where
   get_function : VariableFunctionTree
   name_function : VariableFunctionTree
   order_function : VariableFunctionTree
+  query_function : VariableFunctionTree
 
 -- what stands in the brackets: from this many values to that many, or without a bound; a variable, and up to this many values after it; or choices
 pub data FunctionTree : Type 0 where
@@ -56,6 +57,7 @@ function_rows =
     ∷ row (codes "na") (codes "name") (of_variable name_function 1) 1
     ∷ row (codes "o") (codes "order") (of_variable order_function 1) 0
     ∷ row (codes "p") (codes "piece") (of_values piece_function 2 (Some 4)) 0
+    ∷ row (codes "q") (codes "query") (of_variable query_function 1) 1
     ∷ row (codes "ql") (codes "qlength") (of_values name_length_function 1 (Some 1)) 1
     ∷ row (codes "qs") (codes "qsubscript") (of_values name_subscript_function 2 (Some 2)) 1
     ∷ row (codes "re") (codes "reverse") (of_values reverse_function 1 (Some 1)) 1

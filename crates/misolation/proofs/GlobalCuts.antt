@@ -2,8 +2,9 @@
 -- What globals answer, over the cut to a set of accounts that has the account asked about.
 use Rattle.misolation.proofs.IsolationWords.{◌≡◌, ◌&&◌, true, map, sym, ap, ◌∙◌, is_some, and_parts, bytes_decides, get, retain_keys, keys, entries, list_any}
 use Rattle.misolation.proofs.IsolationWords.{filter, Text, Node, significant_digits, node_cmp_total, node_cmp_exact, Accounts, text_eq, is_below, Direction}
-use Rattle.misolation.proofs.IsolationWords.{neighbour, children_in, front, last, Globals, is_beside, subscripts_under, status, order_at, routines_of}
-use Rattle.misolation.proofs.IsolationWords.{is_line_of, lines_of}
+use Rattle.misolation.proofs.IsolationWords.{neighbour, following, children_in, front, last, Globals, is_beside, subscripts_under, status, order_at}
+use Rattle.misolation.proofs.IsolationWords.{following_at}
+use Rattle.misolation.proofs.IsolationWords.{routines_of, is_line_of, lines_of}
 use Rattle.misolation.proofs.CutMaps.{get_kept, keys_cut, entries_cut, filter_absorbed}
 
 module _ (s : Accounts) where
@@ -27,6 +28,9 @@ module _ (s : Accounts) where
 
   pub order_cut : (g : Globals) (direction : Direction) (n : Node) → s n.account ≡ true → order_at (cut g) direction n ≡ order_at g direction n
   order_cut g direction n m = ap (λ lists. neighbour direction (last n.subscripts) (children_in lists (front n.subscripts))) (subscripts_cut g n m)
+
+  pub following_cut : (g : Globals) (direction : Direction) (n : Node) → s n.account ≡ true → following_at (cut g) direction n ≡ following_at g direction n
+  following_cut g direction n m = ap (following direction n.subscripts) (subscripts_cut g n m)
 
   pub lines_cut : (g : Globals) (account name : Text) → s account ≡ true → lines_of (cut g) account name ≡ lines_of g account name
   lines_cut g account name m =

@@ -25,13 +25,15 @@ pub use Rattle.mspec.proofs.NodeOrders.{node_cmp_exact, node_cmp_total}
 pub use Rattle.mspec.specs.Access.{Account, Grant, Mode, Read, Settings, Write, allows, lets, may}
 pub use Rattle.mspec.specs.Act.{Outcome, State}
 pub use Rattle.mspec.specs.Flow.{IsIsland, Reaches, carries, itself, through}
-pub use Rattle.mspec.specs.Globals.{Globals, is_beside, is_line_of, is_node_within, lines_of, order_at, routines_of, status, subscripts_under, without_subtree}
+pub use Rattle.mspec.specs.Globals.{Globals, following_at, is_beside, is_line_of, is_node_within, lines_of, order_at, routines_of, status, subscripts_under}
+pub use Rattle.mspec.specs.Globals.{without_subtree}
 pub use Rattle.mspec.specs.LockConflict.{Held, LockName, Locks, count, counted, given_back, has_conflict, held, held_cmp, is_conflict, is_within, max_count}
 pub use Rattle.mspec.specs.LockConflict.{one_more, released, taken}
 pub use Rattle.mspec.specs.Node.{Node, Text}
 pub use Rattle.mspec.specs.Number.{significant_digits}
-pub use Rattle.mspec.specs.Plan.{Ask, Done, Give_back, Kill, May, Neighbour, Op, Ops, Plan, Put, Release, Routine, Status, Take, Value, cut_short, perform}
-pub use Rattle.mspec.specs.Trees.{Direction, children_in, front, is_below, last, neighbour, text_eq}
+pub use Rattle.mspec.specs.Plan.{Ask, Done, Following, Give_back, Kill, May, Neighbour, Op, Ops, Plan, Put, Release, Routine, Status, Take, Value, cut_short}
+pub use Rattle.mspec.specs.Plan.{perform}
+pub use Rattle.mspec.specs.Trees.{Direction, children_in, following, front, is_below, last, neighbour, text_eq}
 unfoldable pub use Rattle.mgrammar.specs.Languages.{line_in}
 pub use Rattle.mmeaning.proofs.Histories.{history_is_normal, normal_never_fails, normal_transitions_are_history}
 pub use Rattle.mmeaning.specs.History.{History, NoneFailed, answered, opening, replies, world_after}

@@ -2,7 +2,8 @@
 -- The two laws, operation by operation.
 use Rattle.misolation.proofs.IsolationWords.{◌≡◌, Bool, true, false, not, List, [], Option, Some, None, refl, sym, ap, ◌∙◌, bytes_decides, and_parts}
 use Rattle.misolation.proofs.IsolationWords.{retain_keys, list_all, routines_of, Node, text_eq, significant_digits, Read, Write, Settings, LockName, Locks}
-use Rattle.misolation.proofs.IsolationWords.{taken, given_back, released, Op, May, Value, Status, Neighbour, Routine, Put, Kill, Take, Give_back, Release}
+use Rattle.misolation.proofs.IsolationWords.{taken, given_back, released, Op, May, Value, Status, Neighbour, Following, Routine, Put, Kill, Take, Give_back}
+use Rattle.misolation.proofs.IsolationWords.{Release}
 use Rattle.misolation.proofs.IsolationWords.{cut_drops, node_cmp_total, node_cmp_exact, by_test, Accounts, IsClosed, is_member, is_inside, cut_settings}
 use Rattle.misolation.proofs.IsolationWords.{cut_locks, cut_shared, IsFit, AreFit, option_map, is_node_within, Shared, guarded, may_call, may_read, may_write}
 use Rattle.misolation.proofs.IsolationWords.{may_lock, took, Actor, ops_of, cut_ops, InsideOperations, OutsideOperations}
@@ -10,7 +11,7 @@ use Rattle.misolation.proofs.CutMaps.{cut_cut, cut_absorbs, cut_insert}
 use Rattle.misolation.proofs.Access.{giver_inside, written_outside, may_cut, lock_cut}
 use Rattle.misolation.proofs.FittingLocks.{taken_fits, given_back_fits, released_fits}
 use Rattle.misolation.proofs.LockCuts.{taken_cut, given_back_cut, released_cut, taken_outside, given_back_outside, released_outside}
-use Rattle.misolation.proofs.GlobalCuts.{value_cut, status_cut, order_cut, lines_cut}
+use Rattle.misolation.proofs.GlobalCuts.{value_cut, status_cut, order_cut, following_cut, lines_cut}
 
 -- ---- fitting locks
 
@@ -27,6 +28,7 @@ operation_fits b (May owner name mode) w fit = fit
 operation_fits b (Value n) w fit = guarded_fits b.settings (may_read b.settings b.account.name n) _ w _ fit (λ _. fit)
 operation_fits b (Status n) w fit = guarded_fits b.settings (may_read b.settings b.account.name n) _ w _ fit (λ _. fit)
 operation_fits b (Neighbour direction n) w fit = guarded_fits b.settings (may_read b.settings b.account.name n) _ w _ fit (λ _. fit)
+operation_fits b (Following direction n) w fit = guarded_fits b.settings (may_read b.settings b.account.name n) _ w _ fit (λ _. fit)
 operation_fits b (Routine None name) w fit = fit
 operation_fits b (Routine (Some owner) name) w fit = guarded_fits b.settings (may_call b.settings b.account.name owner) _ w _ fit (λ _. fit)
 operation_fits b (Put n t) w fit = guarded_fits b.settings (may_write b.settings b.account.name n) _ w _ fit (λ _. fit)
@@ -79,6 +81,12 @@ module _ (s : Accounts) (b : Actor) (closed : IsClosed b.settings s) where
   alike_operation m (Neighbour direction n) w fit =
       alike_guarded _ _ None w _ _ (may_cut s b.settings closed b.account.name n.account n.name Read m)
       (λ y. record { answer = order_cut s w.globals direction n (giver_inside s b.settings closed b.account.name n.account n.name Read m y); shared = refl })
+  alike_operation m (Following direction n) w fit =
+      alike_guarded _ _ None w _ _ (may_cut s b.settings closed b.account.name n.account n.name Read m)
+      (λ y. record {
+        answer = following_cut s w.globals direction n (giver_inside s b.settings closed b.account.name n.account n.name Read m y);
+        shared = refl;
+      })
   alike_operation m (Routine None name) w fit = record { answer = lines_cut s w.globals b.account.name name m; shared = refl }
   alike_operation m (Routine (Some owner) name) w fit =
       let of_owner = routines_of owner in
@@ -154,6 +162,7 @@ module _ (s : Accounts) (b : Actor) (closed : IsClosed b.settings s) where
   left_operation m (Value n) w = left_guarded (may_read b.settings b.account.name n) _ w _ (λ _. refl)
   left_operation m (Status n) w = left_guarded (may_read b.settings b.account.name n) _ w _ (λ _. refl)
   left_operation m (Neighbour direction n) w = left_guarded (may_read b.settings b.account.name n) _ w _ (λ _. refl)
+  left_operation m (Following direction n) w = left_guarded (may_read b.settings b.account.name n) _ w _ (λ _. refl)
   left_operation m (Routine None name) w = refl
   left_operation m (Routine (Some owner) name) w = left_guarded (may_call b.settings b.account.name owner) _ w _ (λ _. refl)
   left_operation m (Put n t) w = left_guarded (may_write b.settings b.account.name n) _ w _ (λ y i. record {

@@ -2,9 +2,11 @@
 -- What a normal transition cannot tell apart.
 use Rattle.misolation.proofs.IsolationWords.{◌≡◌, ℕ, Bool, true, false, cond, List, [], ◌∷◌, Option, Some, None, refl, sym, ap, ◌∙◌, subst, get, insert, remove}
 use Rattle.misolation.proofs.IsolationWords.{get-insert, get-remove, nat_cmp, eq_by_cmp, list_all, nat_cmp_total, Text, text_eq, Account, Settings, Read, Write}
-use Rattle.misolation.proofs.IsolationWords.{LockName, taken, Op, May, Value, Status, Neighbour, Routine, Put, Kill, Take, Give_back, Release, Ops, perform}
+use Rattle.misolation.proofs.IsolationWords.{LockName, taken, Op, May, Value, Status, Neighbour, Following, Routine, Put, Kill, Take, Give_back, Release, Ops}
+use Rattle.misolation.proofs.IsolationWords.{perform}
 use Rattle.misolation.proofs.IsolationWords.{State, Outcome, line_in, Completion, Shared, act, guarded, may_lock, took, answered, world_after, status, order_at}
-use Rattle.misolation.proofs.IsolationWords.{lines_of, routines_of, without_subtree, Session, session_or_new, World, Event, Reply, Ending, Finished, Halted}
+use Rattle.misolation.proofs.IsolationWords.{following_at, lines_of, routines_of, without_subtree, Session, session_or_new, World, Event, Reply, Ending}
+use Rattle.misolation.proofs.IsolationWords.{Finished, Halted}
 use Rattle.misolation.proofs.IsolationWords.{Faulted, kept, plan_of, reply_of, state_of, settled, ended, is_too_long, is_ascii, at_tree, checked, at_account}
 use Rattle.misolation.proofs.IsolationWords.{normal, AlikeSettings, AlikeWorlds, AlikeTransitions, TransitionsByAllowed, TransitionsBySessions}
 
@@ -19,6 +21,8 @@ module _ (one two : Settings) (alike : AlikeSettings one two) where
   same_operation terminal me (Value n) w = ap (λ b. guarded b None w (get w.globals n, w)) (alike.allowed me n.account n.name Read)
   same_operation terminal me (Status n) w = ap (λ b. guarded b (false, false) w (status w.globals n, w)) (alike.allowed me n.account n.name Read)
   same_operation terminal me (Neighbour direction n) w = ap (λ b. guarded b None w (order_at w.globals direction n, w)) (alike.allowed me n.account n.name Read)
+  same_operation terminal me (Following direction n) w =
+      ap (λ b. guarded b None w (following_at w.globals direction n, w)) (alike.allowed me n.account n.name Read)
   same_operation terminal me (Routine None name) w = refl
   same_operation terminal me (Routine (Some owner) name) w = ap (λ b. guarded b [] w (lines_of w.globals owner name, w)) (alike.allowed me owner (routines_of owner).name Read)
   same_operation terminal me (Put n t) w = ap (λ b. guarded b tt w (tt, record w { globals = insert w.globals n t })) (alike.allowed me n.account n.name Write)

@@ -4,7 +4,8 @@ use Rattle.misolation.proofs.IsolationWords.{◌≡◌, ℕ, zero, suc, Bool, tr
 use Rattle.misolation.proofs.IsolationWords.{not, ◌||◌, if◌then◌else◌, get, insert, list_all, Text, Node, Account, Settings, State, Outcome, Locks, taken}
 use Rattle.misolation.proofs.IsolationWords.{line_in, Completion, session_or_new, World, Event, Reply, Ending, Halted, reply_of, state_of, settled, plan_of}
 use Rattle.misolation.proofs.IsolationWords.{is_too_long, is_ascii, checked, at_account, FailedTransition, is_failure, TransitionBy, append-nil, Globals}
-use Rattle.misolation.proofs.IsolationWords.{without_subtree, Op, Value, Status, Neighbour, Routine, Put, Kill, Take, Plan, Done, Ask, Ops, perform, cut_short}
+use Rattle.misolation.proofs.IsolationWords.{without_subtree, Op, Value, Status, Neighbour, Following, Routine, Put, Kill, Take, Plan, Done, Ask, Ops, perform}
+use Rattle.misolation.proofs.IsolationWords.{cut_short}
 use Rattle.misolation.proofs.IsolationWords.{Shared, act, guarded, may_call, may_read, may_write, may_lock, took, Exchange, exchanges, GlobalWrite, Puts, Kills}
 use Rattle.misolation.proofs.IsolationWords.{written_by, written, write_of, writes, line_writes, writes_by, TransitionWrites, TransitionsWrite}
 
@@ -41,6 +42,7 @@ module _ (settings : Settings) (terminal : ℕ) (me : Text) where
   operation_writes (Value n) w = kept_by (may_read settings me n) _ w _ refl
   operation_writes (Status n) w = kept_by (may_read settings me n) _ w _ refl
   operation_writes (Neighbour direction n) w = kept_by (may_read settings me n) _ w _ refl
+  operation_writes (Following direction n) w = kept_by (may_read settings me n) _ w _ refl
   operation_writes (Routine None name) w = refl
   operation_writes (Routine (Some owner) name) w = kept_by (may_call settings me owner) _ w _ refl
   operation_writes (Put n t) w = put_by (may_write settings me n) n t w

@@ -6,7 +6,7 @@ use Rattle.std.specs.FinMap.{insert}
 use Rattle.mspec.specs.Node.{Text, Node}
 use Rattle.mspec.specs.Globals.{Globals, without_subtree}
 use Rattle.mspec.specs.Access.{Settings}
-use Rattle.mspec.specs.Plan.{Op, May, Value, Status, Neighbour, Routine, Put, Kill, Take, Give_back, Release}
+use Rattle.mspec.specs.Plan.{Op, May, Value, Status, Neighbour, Following, Routine, Put, Kill, Take, Give_back, Release}
 use Rattle.mmeaning.specs.Shared.{may_write}
 use Rattle.misolation.specs.PlanLaws.{Exchange}
 
@@ -31,6 +31,7 @@ write_of settings me (May owner name mode) = []
 write_of settings me (Value n) = []
 write_of settings me (Status n) = []
 write_of settings me (Neighbour direction n) = []
+write_of settings me (Following direction n) = []
 write_of settings me (Routine owner name) = []
 write_of settings me (Put n t) = if may_write settings me n then Puts n t ∷ [] else []
 write_of settings me (Kill n) = if may_write settings me n then Kills n ∷ [] else []

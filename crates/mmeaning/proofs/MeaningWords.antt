@@ -27,7 +27,8 @@ pub use Rattle.mspec.specs.NodeOrder.{node_cmp}
 unfoldable pub use Rattle.mspec.specs.NodeOrder.{canonical_value}
 pub use Rattle.mspec.specs.Number.{significant_digits}
 unfoldable pub use Rattle.mspec.specs.NumberText.{size_text}
-pub use Rattle.mspec.specs.Plan.{Answer, Ask, Done, Give_back, Kill, May, Neighbour, Op, Ops, Plan, Put, Release, Routine, Status, Take, Value, cut_short}
+pub use Rattle.mspec.specs.Plan.{Answer, Ask, Done, Following, Give_back, Kill, May, Neighbour, Op, Ops, Plan, Put, Release, Routine, Status, Take, Value}
+pub use Rattle.mspec.specs.Plan.{cut_short}
 pub use Rattle.mspec.specs.Plan.{perform, then_plan}
 pub use Rattle.mspec.specs.Scopes.{Scope, bottom}
 unfoldable pub use Rattle.mgrammar.proofs.Computing.{reads_in}

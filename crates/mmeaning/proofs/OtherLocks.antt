@@ -1,7 +1,7 @@
 -- SPDX-License-Identifier: Apache-2.0
 -- No operation changes the locks of another terminal.
 use Rattle.mmeaning.proofs.MeaningWords.{◌≡◌, ℕ, Bool, true, false, List, Option, Some, None, refl, ◌∙◌, LockName, Locks, taken, released, Completion, list_all}
-use Rattle.mmeaning.proofs.MeaningWords.{Op, May, Value, Status, Neighbour, Routine, Put, Kill, Take, Give_back, Release, Plan, Text, Outcome, keeps}
+use Rattle.mmeaning.proofs.MeaningWords.{Op, May, Value, Status, Neighbour, Following, Routine, Put, Kill, Take, Give_back, Release, Plan, Text, Outcome, keeps}
 use Rattle.mmeaning.proofs.MeaningWords.{keeps_short, Settings, Shared, act, guarded, may_call, may_read, may_write, may_lock, took, PlanKeepsOthersLocks}
 use Rattle.mspec.specs.LockLaws as laws
 use Rattle.mspec.proofs.LockFacts.{others_keep_locks}
@@ -23,6 +23,7 @@ module _ (settings : Settings) (terminal : ℕ) (me : Text) where
   by_operation (Value n) w = by_guard (may_read settings me n) _ w _ refl
   by_operation (Status n) w = by_guard (may_read settings me n) _ w _ refl
   by_operation (Neighbour direction n) w = by_guard (may_read settings me n) _ w _ refl
+  by_operation (Following direction n) w = by_guard (may_read settings me n) _ w _ refl
   by_operation (Routine None name) w = refl
   by_operation (Routine (Some owner) name) w = by_guard (may_call settings me owner) _ w _ refl
   by_operation (Put n t) w = by_guard (may_write settings me n) _ w _ refl

@@ -3,12 +3,12 @@
 use Rattle.mmeaning.proofs.MeaningWords.{◌≡◌, ℕ, suc, true, List, [], ◌∷◌, Option, Some, None, refl, rules, map, codes, option_map, Done, Gives, Text, State}
 use Rattle.mmeaning.proofs.MeaningWords.{PrimaryTree, reference, number, text, apply, join, multiply, minus, one, variable, at_label, no_exprs, exprs}
 use Rattle.mmeaning.proofs.MeaningWords.{set_argument, write_argument, do_argument, xecute_argument, args_in, reads_in, Position, context}
-use Rattle.mgrammar.specs.Grammar.{FormTree, add, value_actual, name_actual, missing_actual, quit_argument}
+use Rattle.mgrammar.specs.Grammar.{FormTree, operand, add, value_actual, name_actual, missing_actual, quit_argument}
 use Rattle.mspec.specs.Code.{M4}
 use Rattle.mgrammar.proofs.ShortTrees.{plain, named, the_one}
 use Rattle.mmeaning.specs.Programs.{one_value, Op, Operand, Tail, Spend, Sign, Join, Match_not, Values, Add, Function, Begin, Actual, Hand, Call, Where}
 use Rattle.mmeaning.specs.Programs.{Prepare, Local, Global, Naked, Extended, Named, Read, Data, Resolve, Get, Walk, Order, Unless, Pass, Refuse, Ending, Assign}
-use Rattle.mmeaning.specs.Programs.{Tell_name, Show}
+use Rattle.mmeaning.specs.Programs.{Tell_name, Seek, Query, Show}
 use Rattle.mmeaning.specs.Programs.{Run}
 use Rattle.mmeaning.specs.Programs.{Return, Enter, Program, calls, begun, program_of}
 
@@ -68,6 +68,9 @@ record Programs : Type 0 where
       ≡ one_of (Spend ∷ Values ∷ called (codes "F") (Add ∷ Local (codes "A") ∷ Data ∷ [])) Return
   next : programs quit_argument (codes "$O(A($$F))")
       ≡ one_of (Spend ∷ Values ∷ called (codes "F") (Add ∷ Local (codes "A") ∷ Walk ∷ Values ∷ Order ∷ [])) Return
+  followed : programs quit_argument (codes "$Q(A($$F),-1)")
+      ≡ one_of (Spend ∷ Values ∷ called (codes "F") (Add ∷ Local (codes "A") ∷ Seek ∷ Values ∷ Operand (operand (minus ∷ []) (number (codes "1"))) ∷ Add
+      ∷ Query ∷ [])) Return
   -- $NAME has no check between
   node_name : programs quit_argument (codes "$NA(A($$F))")
       ≡ one_of (Spend ∷ Values ∷ called (codes "F") (Add ∷ Local (codes "A") ∷ Values ∷ Tell_name ∷ [])) Return

@@ -8,12 +8,12 @@ use Rattle.mgrammar.specs.Grammar.{SignTree, special, call, select, extrinsic, T
 use Rattle.mgrammar.specs.Grammar.{matches_not_indirect, ChoicesTree, no_choices, choice, ActualTree, missing_actual, value_actual, name_actual}
 use Rattle.mgrammar.specs.Grammar.{indirect_actual, actuals}
 use Rattle.mgrammar.specs.Functions as functions
-use Rattle.mgrammar.specs.Functions.{data_function, get_function, name_function, order_function, FunctionTree, of_variable, function_of}
+use Rattle.mgrammar.specs.Functions.{data_function, get_function, name_function, order_function, query_function, FunctionTree, of_variable, function_of}
 use Rattle.mgrammar.specs.CallsIn.{has_call, has_call_operand, has_call_primary}
 use Rattle.mmeaning.specs.Expression.{is_bare}
 use Rattle.mmeaning.specs.Programs.{Op, Tail, Operand, Join, Raise, Match, Match_not, Values, Add, Function, Begin, Actual, Hand, Hand_name, Call, Local}
 use Rattle.mmeaning.specs.Programs.{Global, Naked, Extended, Named, Read, Data, Resolve, Get, Walk, Order, Unless, Pass, signed, referred, of_value, of_tails}
-use Rattle.mmeaning.specs.Programs.{Tell_name, of_tail}
+use Rattle.mmeaning.specs.Programs.{Tell_name, Seek, Query, of_tail}
 use Rattle.mmeaning.specs.Programs.{of_operand, of_primary, of_reference, of_values, of_choices, of_actual, of_actuals}
 
 -- before whatever comes after it
@@ -59,6 +59,9 @@ referred_behind (Some (of_variable name_function most)) first more one next =
 referred_behind (Some (of_variable order_function most)) first more one next =
     then_behind first (λ ops. Walk ∷ Values ∷ more (Order ∷ ops)) one
     (then_behind (λ ops. Walk ∷ Values ∷ ops) (λ ops. more (Order ∷ ops)) (λ ops rest. refl) (before_behind more Order next))
+referred_behind (Some (of_variable query_function most)) first more one next =
+    then_behind first (λ ops. Seek ∷ Values ∷ more (Query ∷ ops)) one
+    (then_behind (λ ops. Seek ∷ Values ∷ ops) (λ ops. more (Query ∷ ops)) (λ ops rest. refl) (before_behind more Query next))
 referred_behind (Some functions.of_choices) first more one next = single_behind _
 
 mutual

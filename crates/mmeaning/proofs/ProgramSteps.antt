@@ -11,20 +11,21 @@ use Rattle.mspec.specs.Interpretations.{truth_text}
 use Rattle.mgrammar.specs.Grammar.{SignTree, special, call, select, extrinsic, TailsTree, TailTree, matches, matches_not, raise, matches_indirect}
 use Rattle.mgrammar.specs.Grammar.{matches_not_indirect, ChoicesTree, no_choices, choice, ActualTree, missing_actual, value_actual, name_actual}
 use Rattle.mgrammar.specs.Grammar.{indirect_actual, actuals}
-use Rattle.mgrammar.specs.Functions.{data_function, get_function, name_function, order_function, FunctionTree, of_values, of_variable, of_choices, function_of}
+use Rattle.mgrammar.specs.Functions.{data_function, get_function, name_function, order_function, query_function, FunctionTree, of_values, of_variable}
+use Rattle.mgrammar.specs.Functions.{of_choices, function_of}
 use Rattle.mgrammar.specs.CallsIn.{has_call, has_call_operand, has_call_primary, has_call_tail, has_call_actual, has_call_exprs}
 use Rattle.mgrammar.specs.ProgramsIn.{in_steps, in_steps_tails, in_steps_tail, in_steps_operand, in_steps_primary, in_steps_reference, in_steps_exprs}
 use Rattle.mgrammar.specs.ProgramsIn.{in_steps_choices, in_steps_actual, in_steps_actuals}
 use Rattle.mmeaning.specs.Operators.{as_truth, unaries, binary, raising}
 use Rattle.mmeaning.specs.Functions.{whole_at, call_value}
-use Rattle.mmeaning.specs.Variables.{reading, ordering, resolve, read_at, read_or, next_at, direction_of, named, referring}
+use Rattle.mmeaning.specs.Variables.{reading, ordering, querying, resolve, read_at, read_or, next_at, query_at, direction_of, named, referring}
 use Rattle.mmeaning.specs.Expression.{is_bare, linked_by, named_by, matches_text, tails_value, tail_value, operand_value, primary_value, values, chosen, handed}
 use Rattle.mmeaning.specs.Expression.{all_handed, handed_over}
 use Rattle.mmeaning.specs.LineMeaning.{inside_of, answer, answering}
 use Rattle.mmeaning.specs.Programs as programs
 use Rattle.mmeaning.specs.Programs.{Item, one_value, some_values, found, placed, walked, handing, Op, Operand, Tail, Join, Raise, Match, Match_not, Values, Add}
 use Rattle.mmeaning.specs.Programs.{Function, Begin, Actual, Hand, Hand_name, Call, Local, Global, Naked, Extended, Named, Read, Data, Resolve, Get, Walk}
-use Rattle.mmeaning.specs.Programs.{Order, Tell_name}
+use Rattle.mmeaning.specs.Programs.{Order, Tell_name, Seek, Query, sought}
 use Rattle.mmeaning.specs.Programs.{Unless, Pass}
 use Rattle.mmeaning.specs.Programs.{Ending, plain, data_at, going_on, carried_past, carried, signed, referred, of_value, of_tails, of_tail, of_operand}
 use Rattle.mmeaning.specs.Programs.{of_primary}
@@ -141,6 +142,19 @@ module _ (x : Context) (k : Ending) where
         (λ xs. carried x (Order ∷ ops) k (some_values xs ∷ walked p ∷ st)) (λ xs.
         stepped (direction_of (slice_get xs 0) >>= (λ d. next_at d p)) (λ w. one_value w ∷ st) ops))
 
+    query_carried : (v : Evaluated) (ops : List Op) (st : List Item)
+        → Same (carried x (Seek ∷ Values ∷ of_more (Query ∷ ops)) k (found v ∷ st))
+        ((resolve querying v >>= (λ p. more >>= (λ xs. direction_of (slice_get xs 0) >>= (λ d. query_at x.account d p))))
+        >>= (λ w. carried x ops k (one_value w ∷ st)))
+    query_carried v ops st =
+        stepped (resolve querying v) (λ p. sought p ∷ st) (Values ∷ of_more (Query ∷ ops))
+        ∙ behind_it (resolve querying v) (λ p. more >>= (λ xs. direction_of (slice_get xs 0) >>= (λ d. query_at x.account d p))) ops st
+        (λ p. carried x (Values ∷ of_more (Query ∷ ops)) k (sought p ∷ st)) (λ p.
+        values_there (Query ∷ ops) (sought p ∷ st)
+        ∙ behind_it more (λ xs. direction_of (slice_get xs 0) >>= (λ d. query_at x.account d p)) ops st
+        (λ xs. carried x (Query ∷ ops) k (some_values xs ∷ sought p ∷ st)) (λ xs.
+        stepped (direction_of (slice_get xs 0) >>= (λ d. query_at x.account d p)) (λ w. one_value w ∷ st) ops))
+
     name_carried : (v : Evaluated) (ops : List Op) (st : List Item)
         → Same (carried x (Values ∷ of_more (Tell_name ∷ ops)) k (found v ∷ st))
         ((more >>= (λ xs. whole_at 0 xs >>= (λ most. named x.account most v))) >>= (λ w. carried x ops k (one_value w ∷ st)))
@@ -168,6 +182,10 @@ module _ (x : Context) (k : Ending) where
         found_there (Walk ∷ Values ∷ of_more (Order ∷ ops)) st
         ∙ behind_it variable (λ v. resolve ordering v >>= (λ p. more >>= (λ xs. direction_of (slice_get xs 0) >>= (λ d. next_at d p)))) ops st _
         (λ v. order_carried v ops st)
+    referred_carried (Some (of_variable query_function most)) ops st =
+        found_there (Seek ∷ Values ∷ of_more (Query ∷ ops)) st
+        ∙ behind_it variable (λ v. resolve querying v >>= (λ p. more >>= (λ xs. direction_of (slice_get xs 0) >>= (λ d. query_at x.account d p)))) ops st _
+        (λ v. query_carried v ops st)
     referred_carried (Some of_choices) ops st = refl
 
   -- ---- $SELECT

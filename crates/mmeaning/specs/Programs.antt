@@ -14,13 +14,13 @@ use Rattle.mgrammar.specs.Grammar.{local, global, naked, indirect, extended, Exp
 use Rattle.mgrammar.specs.Grammar.{EntryTree, ActualTree, value_actual, indirect_actual, ActualsTree, no_actuals, actuals, DestinationTree}
 use Rattle.mgrammar.specs.Grammar.{ArgTree, assign, formats, coded, shown, kill_one, kill_others, new_one, new_others, tested, loop, do_one, go_to, executed}
 use Rattle.mgrammar.specs.Grammar.{locked, hang_for, returned, indirect_args}
-use Rattle.mgrammar.specs.Functions.{data_function, get_function, name_function, order_function, FunctionTree, of_variable, function_of}
+use Rattle.mgrammar.specs.Functions.{data_function, get_function, name_function, order_function, query_function, FunctionTree, of_variable, function_of}
 use Rattle.mgrammar.specs.CallsIn.{has_call, has_call_operand, has_call_primary}
 use Rattle.mgrammar.specs.ProgramsIn.{in_steps, in_steps_optional, in_steps_arg}
 use Rattle.mmeaning.specs.Operators.{as_number, as_truth, unaries, binary, raising}
 use Rattle.mmeaning.specs.Functions.{whole_text, whole_at, call_value}
 use Rattle.mmeaning.specs.Variables.{Evaluated, of_local, of_global, of_naked, Place, reading, ordering, resolve, read_at, read_or, status_at, next_at}
-use Rattle.mmeaning.specs.Variables.{data_number, direction_of, named}
+use Rattle.mmeaning.specs.Variables.{data_number, direction_of, named, querying, query_at}
 use Rattle.mmeaning.specs.Expression.{Inside, inside, is_bare, linked_by, named_by, matches_text, tail_value, operand_value}
 use Rattle.mmeaning.specs.Parameters.{bare_list, handed}
 use Rattle.mmeaning.specs.Levels.{leaves}
@@ -30,13 +30,14 @@ use Rattle.mmeaning.specs.LineMeaning.{truth_tested, where_true, entering, answe
 -- ---- the stack
 
 -- a value; the values of arguments or of subscripts so far; a reference, and the place that it names, once that is checked for a read, or
--- for $ORDER; the targets of SET; and what the actuals so far hand over, with what $TEST was before them
+-- for $ORDER or for $QUERY; the targets of SET; and what the actuals so far hand over, with what $TEST was before them
 pub data Item : Type 0 where
   one_value : Text → Item
   some_values : List Text → Item
   found : Evaluated → Item
   placed : Place → Item
   walked : Place → Item
+  sought : Place → Item
   made : List Prepared → Item
   handing : Bool → List Binding → Item
 
@@ -80,6 +81,8 @@ pub data Op : Type 0 where
   Walk : Op
   Order : Op
   Tell_name : Op
+  Seek : Op
+  Query : Op
   Unless : ℕ → Op
   Pass : ℕ → Op
   Refuse : Code → Op
@@ -194,6 +197,12 @@ step x Order (some_values vs ∷ walked p ∷ st) = do
 step x Tell_name (some_values vs ∷ found r ∷ st) = do
   v ← whole_at 0 vs >>= (λ most. named x.account most r)
   on_top st (one_value v)
+step x Seek (found r ∷ st) = do
+  p ← resolve querying r
+  on_top st (sought p)
+step x Query (some_values vs ∷ sought p ∷ st) = do
+  v ← direction_of (slice_get vs 0) >>= (λ d. query_at x.account d p)
+  on_top st (one_value v)
 step x (Refuse c) st = fail c
 step x o st = fail Zsyntax
 
@@ -288,6 +297,7 @@ referred (Some (of_variable data_function most)) first more ops = first (Data �
 referred (Some (of_variable get_function most)) first more ops = first (Resolve ∷ Values ∷ more (Get ∷ ops))
 referred (Some (of_variable name_function most)) first more ops = first (Values ∷ more (Tell_name ∷ ops))
 referred (Some (of_variable order_function most)) first more ops = first (Walk ∷ Values ∷ more (Order ∷ ops))
+referred (Some (of_variable query_function most)) first more ops = first (Seek ∷ Values ∷ more (Query ∷ ops))
 referred f first more ops = Refuse Zsyntax ∷ ops
 
 -- each before the steps that come after it

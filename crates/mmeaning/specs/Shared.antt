@@ -5,10 +5,10 @@ use Rattle.std.specs.List.{list_all}
 use Rattle.std.specs.FinMap.{get, insert}
 use Rattle.mspec.specs.Node.{Text, Node}
 use Rattle.mspec.specs.Trees.{text_eq}
-use Rattle.mspec.specs.Globals.{Globals, status, order_at, lines_of, routines_of, without_subtree}
+use Rattle.mspec.specs.Globals.{Globals, status, order_at, following_at, lines_of, routines_of, without_subtree}
 use Rattle.mspec.specs.LockConflict.{LockName, Locks, taken, given_back, released}
 use Rattle.mspec.specs.Access.{Settings, Read, Write, may}
-use Rattle.mspec.specs.Plan.{May, Value, Status, Neighbour, Routine, Put, Kill, Take, Give_back, Release, Ops}
+use Rattle.mspec.specs.Plan.{May, Value, Status, Neighbour, Following, Routine, Put, Kill, Take, Give_back, Release, Ops}
 
 pub record Shared : Type 0 where
   pub globals : Globals
@@ -48,6 +48,7 @@ act settings terminal me (May owner name mode) w = (may settings me owner name m
 act settings terminal me (Value n) w = guarded (may_read settings me n) None w (get w.globals n, w)
 act settings terminal me (Status n) w = guarded (may_read settings me n) (false, false) w (status w.globals n, w)
 act settings terminal me (Neighbour direction n) w = guarded (may_read settings me n) None w (order_at w.globals direction n, w)
+act settings terminal me (Following direction n) w = guarded (may_read settings me n) None w (following_at w.globals direction n, w)
 act settings terminal me (Routine None name) w = (lines_of w.globals me name, w)
 act settings terminal me (Routine (Some owner) name) w = guarded (may_call settings me owner) [] w (lines_of w.globals owner name, w)
 act settings terminal me (Put n t) w = guarded (may_write settings me n) tt w (tt, record w { globals = insert w.globals n t })

@@ -1,8 +1,8 @@
 -- SPDX-License-Identifier: Apache-2.0
 -- Variables: the checks of a reference, and what is asked of the place that it names.
 --
--- Restates "Local variable name lvn", "Global variable name gvn", "$DATA", "$GET", "$NAME", "$ORDER", "$IO", "$JOB", "$PRINCIPAL", "$QUIT", "$STORAGE",
--- "$TEST", "$X" and "$Y" of ISO/IEC 11756:1999, and what "LOCK" says of an nref. A reference is checked once all its subscripts are evaluated.
+-- Restates "Local variable name lvn", "Global variable name gvn", "$DATA", "$GET", "$NAME", "$ORDER", "$QUERY", "$IO", "$JOB", "$PRINCIPAL", "$QUIT",
+-- "$STORAGE", "$TEST", "$X" and "$Y" of ISO/IEC 11756:1999, and what "LOCK" says of an nref. A reference is checked once all its subscripts are evaluated.
 use Rattle.std.specs.Prelude.{ℕ, ◌+◌, ◌*◌, ℤ, pos, negsuc, Bool, true, false, cond, ◌&&◌, nat_le, nat_lt, List, [], ◌∷◌, ◌++◌, length, take, Option, Some, None}
 use Rattle.std.specs.Prelude.{unwrap_or, slice_get}
 use Rattle.std.specs.Ordering.{int_eq}
@@ -10,17 +10,17 @@ use Rattle.mspec.specs.Access.{Mode, Read, Write}
 use Rattle.mspec.specs.LockConflict.{LockName}
 use Rattle.mspec.specs.Trees.{Direction, Forward, Backward, front, text_eq}
 use Rattle.mspec.specs.TextFunctions.{max_text, made}
-use Rattle.mspec.specs.Scopes.{is_value, is_above, next_subscript, killed}
+use Rattle.mspec.specs.Scopes.{is_value, is_above, next_subscript, next_node, killed}
 use Rattle.mspec.specs.Subscripts.{is_account_name, are_subscripts, are_order_subscripts}
 use Rattle.mspec.specs.Interpretations.{truth_text}
 use Rattle.mspec.specs.Code.{M1, M7, Zarg, Zgrant, Zlong, Zsub, Zsyntax}
-use Rattle.mspec.specs.Plan.{May, Value, Status, Neighbour, Put, Kill}
+use Rattle.mspec.specs.Plan.{May, Value, Status, Neighbour, Following, Put, Kill}
 use Rattle.mspec.specs.Act.{Text, Node, Act, ◌>>=◌, ◌>>◌, give, give_some, fail, unless, ask, get_local, set_local, with_locals, of_locals, value_of}
 use Rattle.mspec.specs.Act.{terminal_is, test_is, cursor_is, naked_is, set_naked}
 use Rattle.mgrammar.specs.Specials.{SpecialTree, test_special, io_special, job_special, principal_special, storage_special, column_special, row_special}
 use Rattle.mgrammar.specs.Specials.{quit_special}
 use Rattle.mgrammar.specs.Functions.{VariableFunctionTree, data_function, get_function, name_function, order_function, FunctionTree, of_values, of_variable}
-use Rattle.mgrammar.specs.Functions.{of_choices}
+use Rattle.mgrammar.specs.Functions.{query_function, of_choices}
 use Rattle.mgrammar.specs.NameValues.{subscripts_text, global_text}
 use Rattle.mmeaning.specs.Operators.{outcome}
 use Rattle.mmeaning.specs.Functions.{whole_text, as_whole, whole_at}
@@ -54,15 +54,17 @@ pub data Place : Type 0 where
 pub data Use : Type 0 where
   reading : Use
   ordering : Use
+  querying : Use
   writing : Use
 
 -- what an account has to be allowed to do for that
 abbrev pub mode_of : Use → Mode
 mode_of reading = Read
 mode_of ordering = Read
+mode_of querying = Read
 mode_of writing = Write
 
--- $ORDER takes an empty last subscript; if there is none at all it is refused with a code of its own
+-- $ORDER and $QUERY take an empty last subscript; if there is none at all $ORDER is refused with a code of its own
 abbrev pub may_be_ordered : List Text → Bool
 may_be_ordered [] = true
 may_be_ordered (x ∷ xs) = are_order_subscripts (x ∷ xs)
@@ -75,6 +77,7 @@ some_subscript (x ∷ xs) = give tt
 abbrev pub checked : Use → List Text → Act (Unit {0})
 checked reading xs = unless Zsub (are_subscripts xs)
 checked ordering xs = unless Zsub (may_be_ordered xs) >> some_subscript xs
+checked querying xs = unless Zsub (may_be_ordered xs)
 checked writing xs = unless Zsub (are_subscripts xs)
 
 -- the node whose subscripts are those of the last one, with these in the place of its last subscript, which it must have
@@ -165,7 +168,7 @@ next_at d (at_node n) = do
 abbrev pub data_number : Bool × Bool → ℕ
 data_number status = cond status.0 1 0 + 10 * cond status.1 1 0
 
--- $ORDER: 1 is forward, as it is if nothing is said, and -1 is backward
+-- $ORDER and $QUERY: 1 is forward, as it is if nothing is said, and -1 is backward
 abbrev pub direction_of : Option Text → Act Direction
 direction_of None = give Forward
 direction_of (Some x) = do
@@ -199,6 +202,19 @@ named me most (of_naked xs) = do
   n ← beside xs
   node_named me most n
 
+-- $QUERY: the name of the next node in a direction that has a text; the empty text if there is none
+abbrev pub found_named : Text → Option (List Text) → Act Text
+found_named front None = give []
+found_named front (Some xs) = name_with front xs None
+
+abbrev pub query_at : Text → Direction → Place → Act Text
+query_at me d (at_local name xs) = do
+  found ← of_locals (λ l. next_node l d name xs)
+  found_named name found
+query_at me d (at_node n) = do
+  found ← ask (Following d n)
+  found_named (global_text (environment_of me n) n.name) found
+
 -- A function of the variable that one act gives, and of what another gives, for a line of this account: the checks of the variable come
 -- between.
 abbrev pub variable_function_value : Text → VariableFunctionTree → Act Evaluated → Act (List Text) → Act Text
@@ -223,6 +239,12 @@ variable_function_value me order_function reference more = do
   xs ← more
   d ← direction_of (slice_get xs 0)
   next_at d p
+variable_function_value me query_function reference more = do
+  v ← reference
+  p ← resolve querying v
+  xs ← more
+  d ← direction_of (slice_get xs 0)
+  query_at me d p
 
 -- a word that names no function of a variable is in no tree of the grammar with a variable
 abbrev pub referring : Text → Option FunctionTree → Act Evaluated → Act (List Text) → Act Text

@@ -37,5 +37,6 @@ pub mod NumberExamples
 pub mod FormatExamples
 pub mod LockFacts
 pub mod GlobalExamples
+pub mod QueryExamples
 pub mod ListPlaces
 pub mod SubscriptTests

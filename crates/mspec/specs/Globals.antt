@@ -12,7 +12,7 @@ use Rattle.mspec.specs.Node.{Text, Node}
 use Rattle.mspec.specs.Number.{significant_digits}
 use Rattle.mspec.specs.NodeOrder.{node_cmp, canonical_value}
 use Rattle.mspec.specs.KeyBytes.{key_bytes}
-use Rattle.mspec.specs.Trees.{text_eq, is_within, is_below, Direction, neighbour, children_in, front, last}
+use Rattle.mspec.specs.Trees.{text_eq, is_within, is_below, Direction, neighbour, following, children_in, front, last}
 
 abbrev pub Globals : Type 0
 Globals = FinMap (node_cmp significant_digits) Text
@@ -42,6 +42,10 @@ status g n = (is_some (get g n), list_any (is_below n.subscripts) (subscripts_un
 -- $ORDER: the subscript next to the last one in a direction, among those below which there is a text
 abbrev pub order_at : Globals → Direction → Node → Option Text
 order_at g direction n = neighbour direction (last n.subscripts) (children_in (subscripts_under g n) (front n.subscripts))
+
+-- $QUERY: the next node of a global in a direction that has a text, by its subscripts
+abbrev pub following_at : Globals → Direction → Node → Option (List Text)
+following_at g direction n = following direction n.subscripts (subscripts_under g n)
 
 -- ---- routines
 

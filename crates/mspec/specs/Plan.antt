@@ -17,6 +17,7 @@ pub data Op : Type 0 where
   Value : Node → Op
   Status : Node → Op
   Neighbour : Direction → Node → Op
+  Following : Direction → Node → Op
   Routine : (owner : Option Text) → (name : Text) → Op
   Put : Node → Text → Op
   Kill : Node → Op
@@ -24,13 +25,14 @@ pub data Op : Type 0 where
   Give_back : LockName → Op
   Release : Op
 
--- what each answers: whether it is allowed; a text; whether there is a text and whether one below it; a subscript; the lines;
+-- what each answers: whether it is allowed; a text; whether there is a text and whether one below it; a subscript; subscripts; the lines;
 -- whether the names were taken
 abbrev pub Answer : Op → Type 0
 Answer (May owner name mode) = Bool
 Answer (Value node) = Option Text
 Answer (Status node) = Bool × Bool
 Answer (Neighbour direction node) = Option Text
+Answer (Following direction node) = Option (List Text)
 Answer (Routine owner name) = List Text
 Answer (Put node text) = Unit {0}
 Answer (Kill node) = Unit {0}

@@ -13,7 +13,7 @@ use Rattle.std.specs.Ordering.{nat_cmp}
 use Rattle.std.specs.Cmp.Lexicographic.{slice_cmp}
 use Rattle.std.specs.FinMap.{FinMap, get, insert, retain_keys, empty, keys}
 use Rattle.mspec.specs.Node.{Text}
-use Rattle.mspec.specs.Trees.{Tree, text_eq, without, has_value, has_descendants, Direction, order_of, front, last}
+use Rattle.mspec.specs.Trees.{Tree, text_eq, without, has_value, has_descendants, Direction, order_of, following, front, last}
 
 -- the names that NEW gave it, the names that it lacks if it has all but some, the trees of variables by their names, and its
 -- links: a name, and the name that the scopes below have in its place
@@ -78,6 +78,9 @@ is_above scopes n xs = has_descendants (tree_of scopes n) xs
 
 abbrev pub next_subscript : Scopes → Direction → Text → List Text → Option Text
 next_subscript scopes direction n xs = order_of (tree_of scopes n) direction (front xs) (last xs)
+
+abbrev pub next_node : Scopes → Direction → Text → List Text → Option (List Text)
+next_node scopes direction n xs = following direction xs (keys (tree_of scopes n))
 
 abbrev pub set_in : Text → List Text → Text → Scope → Scope
 set_in n xs x s = with_tree n (insert (tree_in s n) xs x) s

@@ -1,7 +1,7 @@
 -- SPDX-License-Identifier: Apache-2.0
 -- The tree of a variable: the texts at its nodes, by their subscripts.
 --
--- Restates what "Local variable handling", "$DATA", "$ORDER" and "KILL" of ISO/IEC 11756:1999 say of one variable. Its own
+-- Restates what "Local variable handling", "$DATA", "$ORDER", "$QUERY" and "KILL" of ISO/IEC 11756:1999 say of one variable. Its own
 -- text lies where there are no subscripts.
 use Rattle.std.specs.Prelude.{◌-◌, ◌<◌, ◌≤◌, Bool, true, false, not, ◌&&◌, ◌||◌, nat_lt, nat_eq, List, [], ◌∷◌, length, take, slice_get, slice_index_or, Option}
 use Rattle.std.specs.Prelude.{None, is_some, if◌then◌else◌, reverse}
@@ -84,9 +84,36 @@ front xs = take (length xs - 1) xs
 abbrev pub last : List Text → Text
 last xs = slice_index_or xs (length xs - 1) []
 
+-- ---- $QUERY
+
+abbrev pub comes_before : List Text → List Text → Bool
+comes_before xs ys = is_lt (subscripts_cmp significant_digits xs ys)
+
+-- whether the last subscript is empty: it comes before all that it may stand for, and backward after all
+abbrev pub ends_empty : List Text → Bool
+ends_empty [] = false
+ends_empty (x ∷ xs) = is_empty (last (x ∷ xs))
+
+-- the node from which a walk forward goes on: the one above, if the last subscript is empty
+abbrev pub without_empty : List Text → List Text
+without_empty xs = if ends_empty xs then front xs else xs
+
+-- whether a walk backward from xs comes to ys
+abbrev pub is_passed : List Text → List Text → Bool
+is_passed xs ys = if ends_empty xs then is_within (front xs) ys || comes_before ys (front xs) else comes_before ys xs
+
+-- the first of these nodes in a direction from xs; they come in their order, in which a node is before those below it
+abbrev pub following : Direction → List Text → List (List Text) → Option (List Text)
+following Forward xs nodes = find (λ ys. comes_before xs ys) nodes
+following Backward xs nodes = find (λ ys. is_passed xs ys) (reverse nodes)
+
 -- the subscripts with which $ORDER may be asked: those of a node, except that the last may be empty
 pub record AreOrderSubscripts (xs : List Text) : Type 0 where
   pub some : 0 < length xs
   pub few : length xs ≤ max_subscripts
   pub before : AreSubscripts (front xs)
   pub short : length (last xs) ≤ max_subscript
+
+-- those with which $QUERY may be asked: none, or those of $ORDER
+abbrev pub AreQuerySubscripts : List Text → Type 0
+AreQuerySubscripts xs = 0 < length xs → AreOrderSubscripts xs

@@ -50,14 +50,14 @@ module _ (n m : Node) (some_n : NoneEmpty n.subscripts) (some_m : NoneEmpty m.su
 from_one : (s : Text) (o : Option ℤ) (x : List ℕ) → is_le (slice_cmp nat_cmp (1 ∷ []) (subscript_by s o ++ x)) ≡ true
 from_one s o x = grind arith
 
-before_three : (s : Text) (o : Option ℤ) (x : List ℕ) → is_lt (slice_cmp nat_cmp (subscript_by s o ++ x) (3 ∷ [])) ≡ true
+pub before_three : (s : Text) (o : Option ℤ) (x : List ℕ) → is_lt (slice_cmp nat_cmp (subscript_by s o ++ x) (3 ∷ [])) ≡ true
 before_three s o x = grind arith
 
 three_last : (more : List Text) → slice_cmp nat_cmp (3 ∷ []) (bytes more) ≡ Greater
 three_last [] = refl
 three_last (c ∷ more) = grind arith
 
-both : (a b : Bool) → a ≡ true → b ≡ true → (a && b) ≡ true
+pub both : (a b : Bool) → a ≡ true → b ≡ true → (a && b) ≡ true
 both a b h e = grind arith
 
 one_side : (a b : Bool) → a ≡ true → (a && b) ≡ b

@@ -12,11 +12,11 @@ key = key_bytes significant_digits
 
 -- ---- the first of many that passes a test
 
-found_map : {A B : Type 0} (f : A → B) (p : B → Bool) (xs : List A) → find p (map f xs) ≡ option_map f (find (λ x. p (f x)) xs)
+pub found_map : {A B : Type 0} (f : A → B) (p : B → Bool) (xs : List A) → find p (map f xs) ≡ option_map f (find (λ x. p (f x)) xs)
 found_map f p [] = refl
 found_map f p (x ∷ xs) = grind (arith, found_map f p xs)
 
-found_alike : {A : Type 0} (P : A → Type 0) (p q : A → Bool) → ((x : A) → P x → p x ≡ q x) → (xs : List A) → All P xs → find p xs ≡ find q xs
+pub found_alike : {A : Type 0} (P : A → Type 0) (p q : A → Bool) → ((x : A) → P x → p x ≡ q x) → (xs : List A) → All P xs → find p xs ≡ find q xs
 found_alike P p q alike [] all = refl
 found_alike P p q alike (x ∷ xs) all = grind (arith, alike x (All-head P x xs all), found_alike P p q alike xs (All-tail P x xs all))
 
@@ -24,7 +24,7 @@ found_any : {A : Type 0} (p : A → Bool) (xs : List A) → is_some (find p xs) 
 found_any p [] = refl
 found_any p (x ∷ xs) = grind (arith, found_any p xs)
 
-found_one : {A : Type 0} (P : A → Type 0) (p : A → Bool) (xs : List A) → All P xs → (x : A) → find p xs ≡ Some x → P x × (p x ≡ true)
+pub found_one : {A : Type 0} (P : A → Type 0) (p : A → Bool) (xs : List A) → All P xs → (x : A) → find p xs ≡ Some x → P x × (p x ≡ true)
 found_one P p [] all x e = absurd (cc)
 found_one P p (y ∷ ys) all x e = here (p y) refl e (found_one P p ys (All-tail P y ys all) x)
   where
@@ -35,7 +35,7 @@ all_reversed : {A : Type 0} (P : A → Type 0) (xs : List A) → All P xs → Al
 all_reversed P [] all = All-nil P
 all_reversed P (x ∷ xs) all = subst (All P) (sym (reverse-append (x ∷ []) xs)) (All-push P (reverse xs) x (all_reversed P xs (All-tail P x xs all)) (All-head P x xs all))
 
-map_reversed : {A B : Type 0} (f : A → B) (xs : List A) → reverse (map f xs) ≡ map f (reverse xs)
+pub map_reversed : {A B : Type 0} (f : A → B) (xs : List A) → reverse (map f xs) ≡ map f (reverse xs)
 map_reversed f [] = refl
 map_reversed f (x ∷ xs) =
     reverse-append (f x ∷ []) (map f xs) ∙ ap (λ l. l ++ f x ∷ []) (map_reversed f xs) ∙ sym (map-append f (reverse xs) (x ∷ []))
@@ -54,11 +54,12 @@ abbrev pub in_turn : Direction → List Node → List Node
 in_turn Forward ks = ks
 in_turn Backward ks = reverse ks
 
-nearest_is : (d : Direction) (g : Globals) (low high : List ℕ) → nearest_key d g low high ≡ option_map key (find (λ m. is_between low high (key m)) (in_turn d (keys g)))
+pub nearest_is : (d : Direction) (g : Globals) (low high : List ℕ) → nearest_key d g low high ≡ option_map key
+    (find (λ m. is_between low high (key m)) (in_turn d (keys g)))
 nearest_is Forward g low high = found_map key (is_between low high) (keys g)
 nearest_is Backward g low high = ap (find (is_between low high)) (map_reversed key (keys g)) ∙ found_map key (is_between low high) (reverse (keys g))
 
-stored_in_turn : (d : Direction) (ks : List Node) → All IsStored ks → All IsStored (in_turn d ks)
+pub stored_in_turn : (d : Direction) (ks : List Node) → All IsStored ks → All IsStored (in_turn d ks)
 stored_in_turn Forward ks all = all
 stored_in_turn Backward ks all = all_reversed IsStored ks all
 

@@ -31,7 +31,7 @@ pub fn status<S: NodeStore>(store: &mut S, alloc: Global, key: &NodeKey) -> Resu
 }
 
 // The first key within bounds, or the last.
-fn nearest<S: NodeStore>(
+pub(crate) fn nearest<S: NodeStore>(
     store: &mut S,
     low: &[u8],
     high: &[u8],

@@ -11,5 +11,6 @@ pub mod SubsKeys
 pub mod KeyWalks
 pub mod NodeFronts
 pub mod Children
+pub mod Searches
 pub mod NumericValues
 pub mod Heads

@@ -224,7 +224,7 @@ fn read_subscript(
 }
 
 // The subscripts that the bytes are.
-fn read_subs(alloc: Global, bytes: &[u8], kept: u32) -> Result<Option<Subs>, AllocError>
+pub(crate) fn read_subs(alloc: Global, bytes: &[u8], kept: u32) -> Result<Option<Subs>, AllocError>
     requires some_kept { 0 < kept }
     requires kept_at_most { kept ≤ 18 }
     ensures { IfOk result (λ found. MatchOption found

@@ -197,6 +197,19 @@ impl NodeKey {
         Ok(bytes)
     }
 
+    /// The first bytes that come after the key, in this key's memory.
+    ///
+    /// # Errors
+    ///
+    /// `AllocError` if it runs out of memory.
+    pub fn into_behind(self) -> Result<Vec<u8>, AllocError>
+        ensures { IfOk result (λ low. low.items ≡ key_bytes significant_digits self ++ 0 ∷ []) }
+    {
+        let mut bytes = self.into_bytes();
+        bytes.push(0)?;
+        Ok(bytes)
+    }
+
     /// The bytes of the key, in its own memory. Takes no memory.
     pub fn into_bytes(self) -> Vec<u8>
         ensures { result.items ≡ key_bytes significant_digits self }

@@ -30,4 +30,4 @@ pub use order::compare;
 pub use place::{collate, is_numeric};
 pub use subs::{Subs, order_values_ok, subs_ok, values_ok};
 pub use subs_key::SubsKey;
-pub use walk::{Data, Direction, front, last};
+pub use walk::{Data, Direction, ends_empty, front, last, without_empty};

@@ -1,6 +1,6 @@
 // SPDX-License-Identifier: Apache-2.0
 // Lists of subscripts.
-ghost use Rattle.std.specs.Prelude.{◌≡◌, ◌↔◌, ◌<◌, ◌≤◌, IsTrue, length};
+ghost use Rattle.std.specs.Prelude.{◌≡◌, ◌↔◌, ◌<◌, ◌≤◌, [], IsTrue, length};
 ghost use Rattle.mspec.specs.Limits.{max_subscript};
 ghost use Rattle.mspec.specs.KeyBytes.{IsSubscript, AreSubscripts};
 ghost use Rattle.mspec.specs.Trees.{AreOrderSubscripts};
@@ -9,6 +9,7 @@ use crate::walk::{front, last};
 use mnum::Bytes7;
 use mspec::limits::{MAX_SUBSCRIPT, MAX_SUBSCRIPTS};
 use mvalue::{Kind, Value};
+use std::alloc::Global;
 use std::marker::Model;
 
 /// The subscripts of a node. Contracts see them as a list of texts.
@@ -26,6 +27,15 @@ impl Model for Subs {
 }
 
 impl Subs {
+    /// No subscripts, as a variable itself has them. Takes no memory.
+    pub fn none(alloc: Global) -> Subs
+        ensures { result ≡ [] }
+    {
+        Subs {
+            texts: Vec::new(alloc),
+        }
+    }
+
     /// The subscripts, first to last. Takes no memory.
     pub fn as_slice(&self) -> &[Bytes7]
         ensures { result.now ≡ self.now }

@@ -13,10 +13,11 @@ ghost use Rattle.mspec.specs.Number.{significant_digits};
 ghost use Rattle.mspec.specs.Trees.{is_within, child_of};
 ghost use Rattle.mspec.proofs.NodeOrders.{subscripts_cmp_total};
 
-use crate::decoding::behind;
+use crate::decoding::{DIGITS, behind, read_subs};
 use crate::encoding::{push_values, values_room};
 use crate::head::Head;
 use crate::order::compare;
+use crate::subs::Subs;
 use crate::values::first_value;
 use mvalue::Value;
 use std::alloc::{AllocError, Global};
@@ -112,6 +113,22 @@ impl SubsKey {
         ensures { IfOk result (λ key. key ≡ self.now) }
     {
         Ok(SubsKey::of_bytes(self.bytes.clone()?))
+    }
+
+    /// The subscripts of the list as texts.
+    ///
+    /// # Errors
+    ///
+    /// `AllocError` if it runs out of memory.
+    pub fn subs(&self, alloc: Global) -> Result<Subs, AllocError>
+        requires { AreSubs self.now }
+        ensures { IfOk result (λ subs. subs ≡ self.now) }
+    {
+        let read = read_subs(alloc, self.as_bytes(), DIGITS)?;
+        match read {
+            Some(subs) => Ok(subs),
+            None => unreachable!(),
+        }
     }
 
     /// Whether the list begins with another one. Takes no memory.

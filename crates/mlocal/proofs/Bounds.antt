@@ -18,7 +18,7 @@ R = subscripts_cmp significant_digits
 
 -- ---- what two bounds begin with alike
 
-not_same : (x y : Text) (o : Ordering) → C x y ≡ o → (o ≡ Equal → ⊥) → text_eq x y ≡ false
+pub not_same : (x y : Text) (o : Ordering) → C x y ≡ o → (o ≡ Equal → ⊥) → text_eq x y ≡ false
 not_same x y o e other = false_from_ne_true (text_eq x y) (λ t. other (sym e ∙ ap (C x) (sym ((bytes_decides x y).0 t)) ∙ tied_itself (text_cmp_total significant_digits) x))
 
 -- by a test that says where a range starts: it passes what is less, and not what is greater

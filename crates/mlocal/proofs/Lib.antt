@@ -9,8 +9,9 @@ pub mod Bounds
 pub mod Walks
 pub mod Own
 pub mod Steps
+pub mod Searches
 pub mod Removals
 pub mod Bare
 pub mod Tables
-pub mod Unscoped
+pub mod Free
 pub mod LocalLaws

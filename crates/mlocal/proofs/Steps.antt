@@ -20,10 +20,10 @@ any-reverse p [] = refl
 any-reverse p (x ∷ xs) = ap (list_any p) (reverse-append (x ∷ []) xs) ∙ list_any-append p (reverse xs) (x ∷ []) ∙ ap (λ b. b || (p x || false)) (any-reverse p xs) ∙ or_swap (p x) (list_any p xs)
 
 module _ (t : Tree) (o : Option Text) (m : BTreeMap (List Text) Text) (is : with_own o (map_of (λ x. x) m) ≡ t) (ordered : IsOrdered (subscripts_cmp significant_digits) m) (all : All AreSomeSubs (tree.keys m)) where
-  same_keys : own_keys o ++ tree.keys m ≡ map.keys t
+  pub same_keys : own_keys o ++ tree.keys m ≡ map.keys t
   same_keys = sym (keys_with_own o m ordered all) ∙ ap map.keys is
 
-  subs : All AreSubs (tree.keys m)
+  pub subs : All AreSubs (tree.keys m)
   subs = subs_each (tree.keys m) all
 
   module _ (q p : List Text → Bool) (none : p [] ≡ false) (alike : (k : List Text) → AreSubs k → q k ≡ p k) where

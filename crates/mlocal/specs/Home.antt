@@ -1,14 +1,30 @@
 -- SPDX-License-Identifier: Apache-2.0
 -- Scopes in a list, bottom first.
-use Rattle.std.specs.Prelude.{◌≡◌, ℕ, ◌+◌, ◌<◌, ◌≤◌, true, List, [], ◌∷◌, drop, length, slice_index_or, Option, Some, None, ⊤}
+use Rattle.std.specs.Prelude.{◌≡◌, ℕ, ◌+◌, ◌-◌, ◌*◌, ◌%◌, ◌<◌, ◌≤◌, true, List, [], ◌∷◌, drop, length, slice_index, slice_index_or, Option, Some, None, ⊤}
 use Rattle.mlocal.specs.declared.level.UnlinkedHome.{UnlinkedHome}
 use Rattle.mlocal.specs.declared.level.UnlinkedHome.TheVariants.{Below, At, ByLink}
 use Rattle.mspec.specs.Node.{Text}
-use Rattle.mspec.specs.Scopes.{Scope, entered, has, emptied, known_below, stays}
+use Rattle.mspec.specs.Scopes.{Scope, has, emptied, known_below, passed, stays}
 
--- from this place on, which may be the end, the scopes have no name and no link
-abbrev pub AreBare : ℕ → List Scope → Type 0
-AreBare place xs = (place ≤ length xs) × ((k : ℕ) (d : Scope) → place ≤ k → k < length xs → slice_index_or xs k d ≡ entered)
+-- the slot of a name, by its first and last character and its length
+abbrev pub slot : Text → ℕ
+slot n = ((slice_index n 0 + 4 * slice_index n (length n - 1)) + length n) % 64
+
+-- the place of a name's slot
+abbrev pub place_at : List ℕ → Text → ℕ
+place_at places n = slice_index places (slot n)
+
+-- from this place on each scope passes a name on as it is
+abbrev pub IsFree : ℕ → List Scope → Text → Type 0
+IsFree place xs n = (k : ℕ) (d : Scope) → place ≤ k → k < length xs → passed (slice_index_or xs k d) n ≡ Some n
+
+-- from the places of their slots on all names
+abbrev pub AreFree : List ℕ → List Scope → Type 0
+AreFree places xs = (n : Text) → IsFree (place_at places n) xs n
+
+-- places that were raised to this one, but for the names that this holds of
+abbrev pub IsRaised : (Text → Type 0) → ℕ → List ℕ → List ℕ → Type 0
+IsRaised Q place old new = (n : Text) → place_at new n < place → (place_at new n ≡ place_at old n) × Q n
 
 -- the place of the scope that a name's variable belongs to, none below all of these, and the name that it has there
 abbrev pub IsHome : Text → List Scope → Option ℕ → Text → Type 0

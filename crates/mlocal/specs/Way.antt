@@ -1,6 +1,6 @@
 -- SPDX-License-Identifier: Apache-2.0
 -- The keys between two bounds.
-use Rattle.std.specs.Prelude.{Bool, List}
+use Rattle.std.specs.Prelude.{Bool, List, if◌then◌else◌}
 use Rattle.std.specs.List.{list_any}
 use Rattle.std.specs.Ordering.{is_eq}
 use Rattle.std.specs.BTreeMap.Range.{range_contains}
@@ -8,7 +8,8 @@ use Rattle.std.specs.declared.ops.Bound.TheVariants.{Included, Excluded, Unbound
 use Rattle.mspec.specs.Node.{Text}
 use Rattle.mspec.specs.NodeOrder.{subscripts_cmp}
 use Rattle.mspec.specs.Number.{significant_digits}
-use Rattle.mspec.specs.Trees.{child_of}
+use Rattle.mspec.specs.Trees.{child_of, ends_empty, front}
+use Rattle.mkey.specs.SubsKey.{behind_below}
 pub use Rattle.mkey.specs.Under.{passes}
 
 -- whether a key comes after `low`
@@ -30,3 +31,7 @@ is_one_of found xs = list_any (λ k. is_eq (subscripts_cmp significant_digits k 
 -- whether the subscript that follows xs passes a test
 abbrev pub has_child : (Text → Bool) → List Text → List Text → Bool
 has_child p xs ys = passes p (child_of xs ys)
+
+-- before which the keys are to which a walk backward from xs comes, if xs has some
+abbrev pub passed_end : List Text → List Text
+passed_end xs = if ends_empty xs then behind_below (front xs) else xs

@@ -1,17 +1,18 @@
 // SPDX-License-Identifier: Apache-2.0
 // The scope of a level.
-ghost use Rattle.std.specs.Prelude.{◌≡◌, ◌≢◌, [], IfOk, OnOk, OnErr, ◌==◌, length, option_map, unwrap_or};
+ghost use Rattle.std.specs.Prelude.{◌≡◌, ◌≢◌, ◌-◌, ◌≤◌, [], IfOk, IfSome, OnOk, OnErr, Some, ◌==◌, length, option_map, unwrap_or};
 ghost use Rattle.std.specs.FinMap.{get, insert};
 ghost use Rattle.std.specs.List.{list_any};
 ghost use Rattle.std.specs.Map.{lookup};
 ghost use Rattle.mkey.specs.Front.{AreSubs};
 ghost use Rattle.mkey.specs.SubsKey.{behind_below};
-ghost use Rattle.mspec.specs.Scopes.{entered, has, tree_in, with_tree, hide, hide_others, kill_in, emptied, leads_to, ways, stays, formals};
+ghost use Rattle.mspec.specs.Scopes.{entered, has, tree_in, with_tree, hide, hide_others, kill_in, emptied, leads_to, passed, ways, stays, formals};
 ghost use Rattle.mspec.specs.Trees.{text_eq};
 ghost use Rattle.mlocal.specs.Bindings.{bindings_of};
-ghost use Rattle.mlocal.specs.Home.{AreBare, IsHome, IsUnlinkedHome};
+ghost use Rattle.mlocal.specs.Home.{AreFree, IsFree, IsHome, IsRaised, IsUnlinkedHome};
 
 use crate::binding::Binding;
+use crate::places::{Places, slot_of};
 use crate::scope::Scope;
 use mkey::SubsKey;
 use mnum::Name;
@@ -89,6 +90,15 @@ impl Level {
         match &self.scope {
             None => true,
             Some(scope) => scope.is_unlinked(),
+        }
+    }
+
+    // Raises the places of its names, and of those of its links, to this one.
+    pub(crate) fn raise(&self, places: &mut Places, place: usize)
+        ensures { IsRaised (λ n. passed self.now n ≡ Some n) place places.old places.new }
+    {
+        if let Some(scope) = &self.scope {
+            scope.raise(places, place);
         }
     }
 
@@ -220,23 +230,46 @@ fn boxed(alloc: Global) -> Result<Box<Scope>, AllocError>
     Ok(Box::new(alloc, Scope::new(alloc))?)
 }
 
+// Raises the places of the names of the level on top, and of those of its links, to the end.
+pub(crate) fn raise_top(levels: &[Level], places: &mut Places)
+    ensures { IsRaised (IsFree (length levels.now - 1) levels.now) (length levels.now) places.old places.new }
+{
+    match levels.last() {
+        None => {}
+        Some(top) => top.raise(places, levels.len()),
+    }
+}
+
+// From which place on no level has this name; from the end on, if nothing is known of them.
+#[inline(always)]
+fn start_of(levels: &[Level], places: Option<&Places>, name: &Name) -> usize
+    requires { IfSome places (λ p. AreFree p.now levels.now) }
+    ensures within { result ≤ length levels.now }
+    ensures free { IsFree result levels.now name.now }
+{
+    match places {
+        None => levels.len(),
+        Some(known) => known[slot_of(name)].min(levels.len()),
+    }
+}
+
 // Where a name's variable is, as far as that shows without links.
 pub(crate) enum UnlinkedHome {
     // below all of the levels
     Below,
     // at the level of this place
     At(usize),
-    // a level above it has links: only `home` knows
+    // a level above it that may have the name has links: only `home` knows
     ByLink,
 }
 
-// Where a name's variable is if no level above it has links, as nearly all have none: each level then costs what it would if there were
-// no links at all, and those from `scoped` on, which have no names, cost nothing.
-pub(crate) fn unlinked_home(levels: &[Level], scoped: usize, name: &Name) -> UnlinkedHome
-    requires { AreBare scoped levels.now }
+// Where a name's variable is if no level above it that may have the name has links, as nearly all have none: levels that have no name with
+// the same slot cost nothing.
+pub(crate) fn unlinked_home(levels: &[Level], places: &Places, name: &Name) -> UnlinkedHome
+    requires { AreFree places.now levels.now }
     ensures { IsUnlinkedHome name.now levels.now result }
 {
-    let mut place = scoped;
+    let mut place = start_of(levels, Some(places), name);
     while place > 0 {
         place -= 1;
         if levels[place].has(name) {
@@ -250,12 +283,17 @@ pub(crate) fn unlinked_home(levels: &[Level], scoped: usize, name: &Name) -> Unl
 }
 
 // Where a name's variable is: the place of its level, or none below all of these, and the name that it has there, if that is another
-// one.
-pub(crate) fn home<'a>(levels: &'a [Level], name: &Name) -> (Option<usize>, Option<&'a Name>)
+// one. A link goes on where levels may have its name.
+pub(crate) fn home<'a>(
+    levels: &'a [Level],
+    places: Option<&Places>,
+    name: &Name,
+) -> (Option<usize>, Option<&'a Name>)
+    requires { IfSome places (λ p. AreFree p.now levels.now) }
     ensures { IsHome name.now levels.now result.0 (unwrap_or (option_map (λ other. other.now) result.1) name.now) }
 {
     let mut other = None;
-    let mut place = levels.len();
+    let mut place = start_of(levels, places, name);
     while place > 0 {
         place -= 1;
         let known = known_as(name, other);
@@ -264,6 +302,7 @@ pub(crate) fn home<'a>(levels: &'a [Level], name: &Name) -> (Option<usize>, Opti
         }
         if let Some(below) = levels[place].link(known) {
             other = Some(below);
+            place = place.min(start_of(levels, places, below));
         }
     }
     (None, other)
@@ -285,7 +324,7 @@ pub(crate) fn known_as<'a>(name: &'a Name, other: Option<&'a Name>) -> &'a Name
 pub(crate) fn leads_to(above: &[Level], target: &Name, name: &Name) -> bool
     ensures { result ≡ leads_to target.now above.now name.now }
 {
-    let found = home(above, name);
+    let found = home(above, None, name);
     found.0.is_none() && target == known_as(name, found.1)
 }
 

@@ -4,6 +4,7 @@
 
 mod binding;
 mod level;
+mod places;
 mod scope;
 mod scopes;
 mod subtree;

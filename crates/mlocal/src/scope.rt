@@ -1,21 +1,25 @@
 // SPDX-License-Identifier: Apache-2.0
 // One scope.
-ghost use Rattle.std.specs.Prelude.{◌≡◌, [], IfOk, OnOk, OnErr, ◌==◌, length, option_map, not};
+ghost use Rattle.std.specs.Prelude.{◌≡◌, [], IfOk, OnOk, OnErr, Some, ◌==◌, length, option_map, not};
 ghost use Rattle.std.specs.FinMap.{get, insert};
 ghost use Rattle.std.specs.List.{filter, list_any};
 ghost use Rattle.std.specs.Map.{lookup};
 ghost use Rattle.mkey.specs.Front.{AreSubs};
 ghost use Rattle.mkey.specs.SubsKey.{behind_below};
-ghost use Rattle.mspec.specs.Scopes.{entered, bottom, has, tree_in, with_tree, is_among, hide, hide_others, kill_in, emptied, leads_to, stays, bind, formals};
+ghost use Rattle.mspec.specs.Scopes.{entered, bottom, has, tree_in, with_tree, is_among, hide, hide_others, kill_in, emptied, leads_to, passed, stays};
+ghost use Rattle.mspec.specs.Scopes.{bind, formals};
 ghost use Rattle.mspec.specs.KeyBytes.{AreSubscripts};
-ghost use Rattle.mspec.specs.Trees.{has_value, has_descendants, order_of, front, last, text_eq, AreOrderSubscripts};
+ghost use Rattle.std.specs.FinMap.{keys};
+ghost use Rattle.mspec.specs.Trees.{has_value, has_descendants, order_of, following, front, last, text_eq, AreOrderSubscripts, AreQuerySubscripts};
 ghost use Rattle.mlocal.specs.Bindings.{binding_of, bindings_of};
+ghost use Rattle.mlocal.specs.Home.{IsRaised};
 ghost use Rattle.mkey.specs.Way.{way};
 
 use crate::binding::Binding;
 use crate::level::{Level, leads_to};
+use crate::places::{Places, raise_all, raise_links, raise_names};
 use crate::table::Table;
-use mkey::{Data, Direction, SubsKey};
+use mkey::{Data, Direction, Subs, SubsKey};
 use mnum::Name;
 use mvalue::Value;
 use std::alloc::{AllocError, Global};
@@ -122,6 +126,18 @@ impl Scope {
         self.links.is_empty()
     }
 
+    // Raises the places of its names, and of those of its links, to this one.
+    pub(crate) fn raise(&self, places: &mut Places, place: usize)
+        ensures { IsRaised (λ n. passed self.now n ≡ Some n) place places.old places.new }
+    {
+        if self.others.is_some() {
+            raise_all(places, place);
+            return;
+        }
+        raise_names(places, place, self.names.as_slice());
+        raise_links(places, place, self.links.as_slice());
+    }
+
     // Whether the name of a link leads to the variable of this name below these levels.
     pub(crate) fn links_to(&self, above: &[Level], name: &Name) -> bool
         ensures { result ≡ list_any (λ link. leads_to name.now above.now link.0) self.now.links }
@@ -185,6 +201,23 @@ impl Scope {
         match self.trees.get(name) {
             None => Ok(None),
             Some(variable) => variable.order(alloc, subs, direction),
+        }
+    }
+
+    // The subscripts of the first node after these that has a text, or of the last before them.
+    pub(crate) fn following(
+        &self,
+        alloc: Global,
+        name: &Name,
+        subs: &[Value],
+        direction: Direction,
+    ) -> Result<Option<Subs>, AllocError>
+        requires { AreQuerySubscripts subs.now }
+        ensures { IfOk result (λ found. found ≡ following (way direction) subs.now (keys (tree_in self.now name.now))) }
+    {
+        match self.trees.get(name) {
+            None => Ok(None),
+            Some(variable) => variable.following(alloc, subs, direction),
         }
     }
 
@@ -262,8 +295,8 @@ impl Scope {
     {
         match binding {
             Binding::Valued(value) => {
-                self.names.push(name.copy()?)?;
                 self.trees.set_own(alloc, &name, value)?;
+                self.names.push(name)?;
             }
             Binding::Linked(other) => self.links.push((name, other))?,
             Binding::Unset => self.names.push(name)?,

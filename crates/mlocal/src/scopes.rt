@@ -1,19 +1,21 @@
 // SPDX-License-Identifier: Apache-2.0
 //! The local variables of a session as a stack of scopes.
 ghost use Rattle.std.specs.Prelude.{◌≡◌, IfOk, OnOk, OnErr, [], ◌∷◌, ◌<◌, ◌+◌, length, drop, option_map, unwrap_or};
-ghost use Rattle.mlocal.specs.Home.{IsHome, killed_up};
+ghost use Rattle.mlocal.specs.Home.{AreFree, IsHome, killed_up};
 ghost use Rattle.mkey.specs.Way.{way};
 ghost use Rattle.mkey.specs.Front.{AreSubs};
 ghost use Rattle.mspec.specs.KeyBytes.{AreSubscripts};
 ghost use Rattle.mlocal.specs.Bindings.{bindings_of};
 ghost use Rattle.mspec.specs.Scopes.{bottom, value_at, is_value, is_above, next_subscript, tree_in, tree_of, assigned, killed, killed_except, newed};
 ghost use Rattle.mspec.specs.Scopes.{newed_except, with_level, bound, without_level, outermost};
-ghost use Rattle.mspec.specs.Trees.{AreOrderSubscripts};
+ghost use Rattle.mspec.specs.Scopes.{next_node};
+ghost use Rattle.mspec.specs.Trees.{AreOrderSubscripts, AreQuerySubscripts};
 
 use crate::binding::Binding;
-use crate::level::{Level, UnlinkedHome, home, known_as, unlinked_home};
+use crate::level::{Level, UnlinkedHome, home, known_as, raise_top, unlinked_home};
+use crate::places::{Places, SLOTS};
 use crate::scope::Scope;
-use mkey::{Data, Direction, SubsKey};
+use mkey::{Data, Direction, Subs, SubsKey};
 use mnum::Name;
 use mvalue::Value;
 use std::alloc::{AllocError, Global};
@@ -26,8 +28,8 @@ pub struct Locals {
     bottom: Scope,
     // the scopes of the levels, the outermost first
     levels: Vec<Level>,
-    // from this place on no level has a name: there lookups begin
-    scoped: usize,
+    // where lookups begin: from the place of a name's slot on no level has a name with that slot, or a link of one
+    places: Places,
 }
 
 // Written out, so that dropping it is one call, which is proved once.
@@ -37,7 +39,7 @@ impl Drop for Locals {
             alloc: _,
             bottom: _,
             levels: _,
-            scoped: _,
+            places: _,
         } = self;
     }
 }
@@ -45,7 +47,7 @@ impl Drop for Locals {
 impl Model for Locals {
     ghost use Rattle.std.specs.Coded.{coded_list};
     ghost use Rattle.std.specs.Prelude.{reverse, ◌≡◌, ◌++◌, ◌∷◌, [], Some};
-    ghost use Rattle.mlocal.specs.Home.{AreBare};
+    ghost use Rattle.mlocal.specs.Home.{AreFree};
     ghost use Rattle.mlocal.specs.ScopeCode.{scope_code};
     ghost use Rattle.mspec.specs.Scopes.{Scopes};
 
@@ -56,7 +58,7 @@ impl Model for Locals {
     ghost view = { λ l. reverse l.levels.items ++ l.bottom ∷ [] };
 
     // the scope at the bottom has every name
-    ghost invariant = { λ l. (l.bottom.others ≡ Some []) × AreBare l.scoped l.levels.items };
+    ghost invariant = { λ l. (l.bottom.others ≡ Some []) × AreFree l.places l.levels.items };
 }
 
 impl Locals {
@@ -68,7 +70,7 @@ impl Locals {
             alloc,
             bottom: Scope::bottom(alloc),
             levels: Vec::new(alloc),
-            scoped: 0,
+            places: [0; SLOTS],
         }
     }
 
@@ -96,7 +98,7 @@ impl Locals {
     {
         let level = Level::bound(self.alloc, bindings)?;
         self.levels.push(level)?;
-        self.scoped = self.levels.len();
+        raise_top(self.levels.as_slice(), &mut self.places);
         Ok(())
     }
 
@@ -105,7 +107,6 @@ impl Locals {
         ensures { self.new ≡ without_level self.old }
     {
         let _closed = self.levels.pop();
-        self.scoped = self.scoped.min(self.levels.len());
     }
 
     /// Closes all levels, so that the scope at the bottom is left. Takes no memory.
@@ -114,7 +115,6 @@ impl Locals {
         ensures { self.new ≡ outermost self.old }
     {
         self.levels.clear();
-        self.scoped = 0;
     }
 
     /// The value of a variable without subscripts, if it has one. A number that was assigned is still a number. Takes no memory.
@@ -175,6 +175,25 @@ impl Locals {
         found.0.order(self.alloc, found.1, subs, direction)
     }
 
+    /// The subscripts of the first node after these of the name's variable that has a text, or of the last before them. An empty last
+    /// subscript is before all that it may stand for, and backward after all at or below the node above it.
+    ///
+    /// # Errors
+    ///
+    /// `AllocError` if it runs out of memory.
+    pub fn following(
+        &self,
+        name: &Name,
+        subs: &[Value],
+        direction: Direction,
+    ) -> Result<Option<Subs>, AllocError>
+        requires { AreQuerySubscripts subs.now }
+        ensures { IfOk result (λ found. found ≡ next_node self.now (way direction) name.now subs.now) }
+    {
+        let found = self.scope_of(name);
+        found.0.following(self.alloc, found.1, subs, direction)
+    }
+
     /// Gives a node a value, in place of the one that it has.
     ///
     /// # Errors
@@ -189,7 +208,7 @@ impl Locals {
             return self.set_own(name, value);
         }
         let key = SubsKey::build(self.alloc, subs)?;
-        match unlinked_home(self.levels.as_slice(), self.scoped, name) {
+        match unlinked_home(self.levels.as_slice(), &self.places, name) {
             UnlinkedHome::Below => self.bottom.set(self.alloc, name, key, value),
             UnlinkedHome::At(place) => self.levels[place].set(self.alloc, name, key, value),
             UnlinkedHome::ByLink => self.set_by_link(name, key, value),
@@ -203,7 +222,7 @@ impl Locals {
         ensures ok { OnOk result (self.new ≡ assigned self.old name.now key value) }
         ensures err { OnErr result (self.new ≡ self.old) }
     {
-        let found = home_to_change(self.levels.as_slice(), name)?;
+        let found = home_to_change(self.levels.as_slice(), &self.places, name)?;
         let known = known_name(name, &found.1);
         match found.0 {
             None => self.bottom.set(self.alloc, known, key, value),
@@ -222,7 +241,7 @@ impl Locals {
         ensures ok { OnOk result (self.new ≡ assigned self.old name.now [] value) }
         ensures err { OnErr result (self.new ≡ self.old) }
     {
-        match unlinked_home(self.levels.as_slice(), self.scoped, name) {
+        match unlinked_home(self.levels.as_slice(), &self.places, name) {
             UnlinkedHome::Below => self.bottom.set_own(self.alloc, name, value),
             UnlinkedHome::At(place) => self.levels[place].set_own(self.alloc, name, value),
             UnlinkedHome::ByLink => self.set_own_by_link(name, value),
@@ -235,7 +254,7 @@ impl Locals {
         ensures ok { OnOk result (self.new ≡ assigned self.old name.now [] value) }
         ensures err { OnErr result (self.new ≡ self.old) }
     {
-        let found = home_to_change(self.levels.as_slice(), name)?;
+        let found = home_to_change(self.levels.as_slice(), &self.places, name)?;
         let known = known_name(name, &found.1);
         match found.0 {
             None => self.bottom.set_own(self.alloc, known, value),
@@ -255,7 +274,7 @@ impl Locals {
     {
         let key = SubsKey::build(self.alloc, subs)?;
         let end = SubsKey::behind_below(self.alloc, subs)?;
-        let found = home_to_change(self.levels.as_slice(), name)?;
+        let found = home_to_change(self.levels.as_slice(), &self.places, name)?;
         let known = known_name(name, &found.1);
         match found.0 {
             None => self.bottom.kill(self.alloc, known, &key, &end),
@@ -269,7 +288,6 @@ impl Locals {
     {
         self.bottom.keep_spared(names, self.levels.as_slice());
         spare(&mut self.levels, names);
-        self.scoped = self.levels.len();
     }
 
     /// Gives the top scope these names, as variables without a text, until its level ends.
@@ -285,8 +303,9 @@ impl Locals {
         if count == 0 {
             return self.bottom.hide(self.alloc, names);
         }
-        self.scoped = count;
-        self.levels[count - 1].hide(self.alloc, names)
+        let changed = self.levels[count - 1].hide(self.alloc, names);
+        raise_top(self.levels.as_slice(), &mut self.places);
+        changed
     }
 
     /// Gives the top scope all names but these, and those of these that it had, until its level ends. The variables of the
@@ -304,15 +323,16 @@ impl Locals {
             self.bottom.hide_others(names);
             return Ok(());
         }
-        self.scoped = count;
-        self.levels[count - 1].hide_others(self.alloc, names)
+        let changed = self.levels[count - 1].hide_others(self.alloc, names);
+        raise_top(self.levels.as_slice(), &mut self.places);
+        changed
     }
 
     // The scope that a name's variable belongs to, to read from, and the name that it has there.
     fn scope_of<'a: 'b, 'b>(&'a self, name: &'b Name) -> (&'a Scope, &'b Name)
         ensures { tree_in result.0.now result.1.now ≡ tree_of self.now name.now }
     {
-        match unlinked_home(self.levels.as_slice(), self.scoped, name) {
+        match unlinked_home(self.levels.as_slice(), &self.places, name) {
             UnlinkedHome::Below => (&self.bottom, name),
             UnlinkedHome::At(place) => (self.levels[place].scope(), name),
             UnlinkedHome::ByLink => self.scope_by_link(name),
@@ -324,7 +344,7 @@ impl Locals {
     fn scope_by_link<'a: 'b, 'b>(&'a self, name: &'b Name) -> (&'a Scope, &'b Name)
         ensures { tree_in result.0.now result.1.now ≡ tree_of self.now name.now }
     {
-        let found = home(self.levels.as_slice(), name);
+        let found = home(self.levels.as_slice(), Some(&self.places), name);
         let known = known_as(name, found.1);
         match found.0 {
             None => (&self.bottom, known),
@@ -355,11 +375,13 @@ fn levels_above(levels: &Vec<Level>, place: usize) -> &[Level]
 // Where a name's variable is, to change it: as `home` says, with a copy of the other name.
 fn home_to_change(
     levels: &[Level],
+    places: &Places,
     name: &Name,
 ) -> Result<(Option<usize>, Option<Name>), AllocError>
+    requires { AreFree places.now levels.now }
     ensures { IfOk result (λ found. IsHome name.now levels.now found.0 (unwrap_or found.1 name.now)) }
 {
-    let found = home(levels, name);
+    let found = home(levels, Some(places), name);
     match found.1 {
         None => Ok((found.0, None)),
         Some(other) => Ok((found.0, Some(other.copy()?))),

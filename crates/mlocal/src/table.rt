@@ -1,6 +1,6 @@
 // SPDX-License-Identifier: Apache-2.0
 // The variables of a scope by their names.
-ghost use Rattle.std.specs.Prelude.{◌≡◌, ◌<◌, [], not, nat_eq, None, MatchOption, OnOk, OnErr, option_map};
+ghost use Rattle.std.specs.Prelude.{◌≡◌, [], not, nat_eq, None, MatchOption, OnOk, OnErr, option_map};
 ghost use Rattle.std.specs.Cmp.Lexicographic.{pointwise};
 ghost use Rattle.std.specs.FinMap.{get, insert, retain_keys, empty};
 ghost use Rattle.indexmap.specs.IndexMap.{get as find, IsUnique};
@@ -10,6 +10,7 @@ ghost use Rattle.mlocal.specs.Table.{tree_at, kill_at, StandsAt};
 ghost use Rattle.mspec.specs.Scopes.{is_among, stays};
 
 use crate::level::{Level, stays};
+use crate::places::{SLOTS, slot_of};
 use crate::scope::is_among;
 use crate::variable::Variable;
 use indexmap::IndexMap;
@@ -19,15 +20,12 @@ use mvalue::Value;
 use std::alloc::{AllocError, Global};
 use std::marker::Model;
 
-// How many places there are for hints.
-const PLACES: usize = 64;
-
 // The variables of a scope by their names. Contracts see it as the finite map from names to trees.
 pub(crate) struct Table {
     variables: IndexMap<Name, Variable>,
-    // by the place of a name: the index in the map of the name with that place that was set last, or moved by a KILL. It is looked at
+    // by the slot of a name: the index in the map of the name with that slot that was set last, or moved by a KILL. It is looked at
     // first, and passed over if another name is there, or none
-    hints: [u16; PLACES],
+    hints: [u16; SLOTS],
 }
 
 // Written out, so that dropping it is one call, which is proved once.
@@ -63,7 +61,7 @@ impl Table {
     {
         Table {
             variables: IndexMap::new(alloc),
-            hints: [0; PLACES],
+            hints: [0; SLOTS],
         }
     }
 
@@ -72,7 +70,7 @@ impl Table {
     pub(crate) fn get(&self, name: &Name) -> Option<&Variable>
         ensures { option_map (λ variable. variable.now) result ≡ get self.now name.now }
     {
-        match index_of(&self.variables, self.hints[place_of(name)], name) {
+        match index_of(&self.variables, self.hints[slot_of(name)], name) {
             None => None,
             Some(index) => Some(&self.variables[index]),
         }
@@ -90,10 +88,10 @@ impl Table {
         ensures ok { OnOk result (self.new ≡ insert self.old name.now (insert (tree_at self.old name.now) key value)) }
         ensures err { OnErr result (self.new ≡ self.old) }
     {
-        let place = place_of(name);
-        match index_of(&self.variables, self.hints[place], name) {
+        let slot = slot_of(name);
+        match index_of(&self.variables, self.hints[slot], name) {
             Some(index) => {
-                self.hints[place] = hint_of(index);
+                self.hints[slot] = hint_of(index);
                 self.variables[index].set(key, value)
             }
             None => {
@@ -114,10 +112,10 @@ impl Table {
         ensures ok { OnOk result (self.new ≡ insert self.old name.now (insert (tree_at self.old name.now) [] value)) }
         ensures err { OnErr result (self.new ≡ self.old) }
     {
-        let place = place_of(name);
-        match index_of(&self.variables, self.hints[place], name) {
+        let slot = slot_of(name);
+        match index_of(&self.variables, self.hints[slot], name) {
             Some(index) => {
-                self.hints[place] = hint_of(index);
+                self.hints[slot] = hint_of(index);
                 self.variables[index].set_own(value);
                 Ok(())
             }
@@ -136,7 +134,7 @@ impl Table {
         ensures err { OnErr result (self.new ≡ self.old) }
     {
         let (index, _) = self.variables.insert_full(name.copy()?, variable)?;
-        self.hints[place_of(name)] = hint_of(index);
+        self.hints[slot_of(name)] = hint_of(index);
         Ok(())
     }
 
@@ -153,7 +151,7 @@ impl Table {
         ensures ok { OnOk result (self.new ≡ kill_at name.now key.now (get self.old name.now) self.old) }
         ensures err { OnErr result (self.new ≡ self.old) }
     {
-        let Some(index) = index_of(&self.variables, self.hints[place_of(name)], name) else {
+        let Some(index) = index_of(&self.variables, self.hints[slot_of(name)], name) else {
             return Ok(());
         };
         let variable = &mut self.variables[index];
@@ -170,8 +168,8 @@ impl Table {
         ensures { self.new ≡ self.old }
     {
         if let Some((name, _)) = self.variables.get_index(index) {
-            let place = place_of(name);
-            self.hints[place] = hint_of(index);
+            let slot = slot_of(name);
+            self.hints[slot] = hint_of(index);
         }
     }
 
@@ -207,17 +205,6 @@ impl Table {
             { is_among(name, names) },
         );
     }
-}
-
-// The place of a name's hint. Any would do; names of one letter have places of their own.
-fn place_of(name: &Name) -> usize
-    ensures { result < PLACES }
-{
-    let bytes = name.as_bytes();
-    let count = bytes.len();
-    let first = usize::from(bytes[0]);
-    let last = usize::from(bytes[count - 1]);
-    (first + 4 * last + count) % PLACES
 }
 
 // The hint that a name is at this index. If there is no hint for the index, any other will do.

@@ -10,17 +10,17 @@ ghost use Rattle.mkey.specs.Front.{AreSubs};
 ghost use Rattle.mkey.specs.SubsKey.{behind_below};
 ghost use Rattle.mlocal.specs.Own.{with_own, AreSomeSubs};
 ghost use Rattle.mkey.specs.Way.{way};
-ghost use Rattle.mlocal.specs.Way.{is_behind, is_between, has_child};
+ghost use Rattle.mlocal.specs.Way.{is_behind, is_between, has_child, passed_end};
 ghost use Rattle.mspec.specs.KeyBytes.{AreSubscripts};
 ghost use Rattle.mspec.specs.Maps.{map_of};
 ghost use Rattle.mspec.specs.NodeOrder.{subscripts_cmp};
 ghost use Rattle.mspec.specs.Number.{significant_digits};
 ghost use Rattle.mspec.specs.Scopes.{is_bare};
 ghost use Rattle.mspec.specs.Trees.{Tree, without, is_within, child_of, has_value, has_descendants, Forward, order_of, is_before, is_empty, front, last};
-ghost use Rattle.mspec.specs.Trees.{AreOrderSubscripts};
+ghost use Rattle.mspec.specs.Trees.{AreOrderSubscripts, AreQuerySubscripts, Backward, following};
 
 use crate::subtree::{keys_from, remove_all};
-use mkey::{Data, Direction, SubsKey, front, last};
+use mkey::{Data, Direction, Subs, SubsKey, ends_empty, front, last, without_empty};
 use mvalue::Value;
 use std::alloc::{AllocError, Global};
 use std::collections::BTreeMap;
@@ -203,6 +203,74 @@ impl Variable {
         }
         let end = SubsKey::build(alloc, subs)?;
         Ok(last_between(&self.values, above, &end))
+    }
+
+    // The subscripts of the first node after these that has a text, or of the last before them.
+    pub(crate) fn following(
+        &self,
+        alloc: Global,
+        subs: &[Value],
+        direction: Direction,
+    ) -> Result<Option<Subs>, AllocError>
+        requires { AreQuerySubscripts subs.now }
+        ensures { IfOk result (λ found. found ≡ following (way direction) subs.now (nodes_of self.now)) }
+    {
+        match direction {
+            Direction::Forward => self.first_after(alloc, subs),
+            Direction::Backward => self.last_before(alloc, subs),
+        }
+    }
+
+    // Those of the first node after these.
+    fn first_after(&self, alloc: Global, subs: &[Value]) -> Result<Option<Subs>, AllocError>
+        requires { AreQuerySubscripts subs.now }
+        ensures { IfOk result (λ found. found ≡ following Forward subs.now (nodes_of self.now)) }
+    {
+        let low = SubsKey::build(alloc, without_empty(subs))?;
+        let Some(key) = first_behind(&self.values, &low) else {
+            return Ok(None);
+        };
+        let found = key.subs(alloc)?;
+        Ok(Some(found))
+    }
+
+    // Those of the variable itself, if it has a text of its own: none.
+    fn own_subs(&self, alloc: Global) -> Option<Subs>
+        ensures { result ≡ option_map (λ _. []) (get self.now []) }
+    {
+        match self.own() {
+            None => None,
+            Some(_) => Some(Subs::none(alloc)),
+        }
+    }
+
+    // Those of the last node before these, or of the last of all at and below the node above if the last of these is empty.
+    fn last_before(&self, alloc: Global, subs: &[Value]) -> Result<Option<Subs>, AllocError>
+        requires { AreQuerySubscripts subs.now }
+        ensures { IfOk result (λ found. found ≡ following Backward subs.now (nodes_of self.now)) }
+    {
+        if subs.is_empty() {
+            return Ok(None);
+        }
+        let low = SubsKey::build(alloc, &[])?;
+        let high = passed_end(alloc, subs)?;
+        let Some(key) = last_between(&self.values, &low, &high) else {
+            return Ok(self.own_subs(alloc));
+        };
+        let found = key.subs(alloc)?;
+        Ok(Some(found))
+    }
+}
+
+// The bound before which the keys are to which a walk backward from these subscripts comes.
+fn passed_end(alloc: Global, subs: &[Value]) -> Result<SubsKey, AllocError>
+    requires subs { AreOrderSubscripts subs.now }
+    ensures { IfOk result (λ high. high ≡ passed_end subs.now) }
+{
+    if ends_empty(subs) {
+        SubsKey::behind_below(alloc, front(subs))
+    } else {
+        SubsKey::build(alloc, subs)
     }
 }
 

@@ -1,6 +1,7 @@
 -- SPDX-License-Identifier: Apache-2.0
 use Rattle.mlocal.proofs.LocalLaws.{[], ◌∷◌, ap, ◌∙◌, None, Some, unwrap_or, Text, Scope, kill_in, killed, OnOk-map, found-at, home-at, home-bottom}
 use Rattle.std.specs.FinMap.{get}
+use Rattle.mlocal.proofs.LocalLaws.{free_put, killed_passes}
 use Rattle.mlocal.proofs.scopes.Locals.kill.Goals as goal
 
 pub returns-in-None-clause-ok : goal.returns-in-None-clause-ok
@@ -25,3 +26,11 @@ returns-clause-ok c =
     OnOk-map c.kill-in-Some.result (λ e. home-at f n m l.levels.items (l.bottom ∷ []) c.in-Some.place c.index_mut.result.now c.kill-in-Some.new.self at
     (e ∙ ap (λ k. kill_in m k (get c.index_mut.result.now.trees m) c.index_mut.result.now) c.in_ok-key.ensures.key ∙ ap (f m) c.index_mut.ensures.value)
     ∙ ap (λ s. killed s n c.args.subs.now) c.self.view_is) c.kill-in-Some.ensures.ok
+
+pub invariant_of-self-in-Some : goal.invariant_of-self-in-Some
+invariant_of-self-in-Some c =
+    let l = c.self.inside in (
+      c.self.invariant.0,
+      free_put c.kill-in-Some.result l.places l.levels.items c.in-Some.place _ c.index_mut.result.now _
+          c.kill-in-Some.ensures.ok c.kill-in-Some.ensures.err (killed_passes _ _ _ _) c.index_mut.ensures.value c.self.invariant.1,
+    )

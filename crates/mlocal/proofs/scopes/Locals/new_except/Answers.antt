@@ -1,5 +1,6 @@
 -- SPDX-License-Identifier: Apache-2.0
-use Rattle.mlocal.proofs.LocalLaws.{◌≡◌, [], ◌∷◌, ◌+◌, ◌-◌, Some, length, ap, ◌∙◌, arith, hide_others, newed_except, common, top-at, none_common, OnOk-map}
+use Rattle.mlocal.proofs.LocalLaws.{◌≡◌, [], ◌∷◌, ◌+◌, ◌-◌, Some, length, ap, ◌∙◌, arith, hide_others, newed_except, common, top-at, IsFree, IsRaised, set}
+use Rattle.mlocal.proofs.LocalLaws.{set_top, subst, top_raised, none_common, OnOk-map}
 use Rattle.mlocal.proofs.scopes.Locals.new_except.Goals as goal
 
 pub invariant_of-self : goal.invariant_of-self
@@ -11,6 +12,17 @@ invariant_of-self c = (
 pub returns-clause-ok : goal.returns-clause-ok
 returns-clause-ok c =
     let at : c.len-count.result - 1 + 1 ≡ length c.self.inside.levels.items = omega arith in
-    OnOk-map c.hide_others-2.result (λ e. top-at (hide_others c.args.names.items) c.self.inside.levels.items (c.self.inside.bottom ∷ []) (c.len-count.result - 1) c.index_mut.result.now c.hide_others-2.new.self at
+    OnOk-map c.hide_others-changed.result (λ e. top-at (hide_others c.args.names.items) c.self.inside.levels.items (c.self.inside.bottom ∷ [])
+    (c.len-count.result - 1) c.index_mut.result.now c.hide_others-changed.new.self at
     (e ∙ ap (hide_others c.args.names.items) c.index_mut.ensures.value)
-    ∙ ap (newed_except c.args.names.items) c.self.view_is) c.hide_others-2.ensures.ok
+    ∙ ap (newed_except c.args.names.items) c.self.view_is) c.hide_others-changed.ensures.ok
+
+pub invariant_of-self-2 : goal.invariant_of-self-2
+invariant_of-self-2 c =
+    let l = c.self.inside in
+    let xs = l.levels.items in
+    let i = c.len-count.result - 1 in
+    let w = c.hide_others-changed.new.self in
+    let at : i + 1 ≡ length xs = omega arith in
+    let raised = subst (λ ts. IsRaised (IsFree (length ts - 1) ts) (length ts) l.places c.raise_top.new.places) c.as_slice.ensures.value c.raise_top.ensures in
+    (c.self.invariant.0, top_raised l.places c.raise_top.new.places xs (set xs i w) (set_top xs i w at) c.self.invariant.1 raised)

@@ -1,10 +1,22 @@
 -- SPDX-License-Identifier: Apache-2.0
-use Rattle.mlocal.proofs.LocalLaws.{◌≡◌, [], ◌∷◌, ◌+◌, ◌-◌, length, ap, ◌∙◌, arith, hide, newed, top-at, OnOk-map}
+use Rattle.mlocal.proofs.LocalLaws.{◌≡◌, [], ◌∷◌, ◌+◌, ◌-◌, length, ap, ◌∙◌, arith, hide, newed, top-at, IsFree, IsRaised, set, set_top, subst, top_raised}
+use Rattle.mlocal.proofs.LocalLaws.{OnOk-map}
 use Rattle.mlocal.proofs.scopes.Locals.new_vars.Goals as goal
 
 pub returns-clause-ok : goal.returns-clause-ok
 returns-clause-ok c =
     let at : c.len-count.result - 1 + 1 ≡ length c.self.inside.levels.items = omega arith in
-    OnOk-map c.hide-2.result (λ e. top-at (hide c.args.names.now) c.self.inside.levels.items (c.self.inside.bottom ∷ []) (c.len-count.result - 1) c.index_mut.result.now c.hide-2.new.self at
+    OnOk-map c.hide-changed.result (λ e. top-at (hide c.args.names.now) c.self.inside.levels.items (c.self.inside.bottom ∷ [])
+    (c.len-count.result - 1) c.index_mut.result.now c.hide-changed.new.self at
     (e ∙ ap (hide c.args.names.now) c.index_mut.ensures.value)
-    ∙ ap (newed c.args.names.now) c.self.view_is) c.hide-2.ensures.ok
+    ∙ ap (newed c.args.names.now) c.self.view_is) c.hide-changed.ensures.ok
+
+pub invariant_of-self-2 : goal.invariant_of-self-2
+invariant_of-self-2 c =
+    let l = c.self.inside in
+    let xs = l.levels.items in
+    let i = c.len-count.result - 1 in
+    let w = c.hide-changed.new.self in
+    let at : i + 1 ≡ length xs = omega arith in
+    let raised = subst (λ ts. IsRaised (IsFree (length ts - 1) ts) (length ts) l.places c.raise_top.new.places) c.as_slice.ensures.value c.raise_top.ensures in
+    (c.self.invariant.0, top_raised l.places c.raise_top.new.places xs (set xs i w) (set_top xs i w at) c.self.invariant.1 raised)

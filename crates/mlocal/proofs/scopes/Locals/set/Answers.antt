@@ -1,6 +1,7 @@
 -- SPDX-License-Identifier: Apache-2.0
 use Rattle.mlocal.proofs.LocalLaws.{[], ◌∷◌, ap, ◌∙◌, At, Below, Text, Scope, insert, set_in, with_tree, tree_in, assigned, OnOk-map, home-at, home-bottom}
 use Rattle.mlocal.proofs.LocalLaws.{unlinked-found}
+use Rattle.mlocal.proofs.LocalLaws.{free_put, refl}
 use Rattle.mlocal.proofs.scopes.Locals.set.Goals as goal
 
 pub returns-in-Below-clause-ok : goal.returns-in-Below-clause-ok
@@ -22,3 +23,11 @@ returns-in-At-clause-ok c =
     OnOk-map c.set-in-At.result (λ e. home-at f n n l.levels.items (l.bottom ∷ []) place c.index_mut.result.now c.set-in-At.new.self at
     (e ∙ ap (λ k. with_tree n (insert (tree_in c.index_mut.result.now n) k c.args.value) c.index_mut.result.now) c.in_ok-key.ensures.key ∙ ap (f n) c.index_mut.ensures.value)
     ∙ ap (λ s. assigned s n c.args.subs.now c.args.value) c.self.view_is) c.set-in-At.ensures.ok
+
+pub invariant_of-self-in-At : goal.invariant_of-self-in-At
+invariant_of-self-in-At c =
+    let l = c.self.inside in (
+      c.self.invariant.0,
+      free_put c.set-in-At.result l.places l.levels.items c.in-At.place _ c.index_mut.result.now _
+          c.set-in-At.ensures.ok c.set-in-At.ensures.err (λ n. refl) c.index_mut.ensures.value c.self.invariant.1,
+    )

@@ -1,5 +1,6 @@
 -- SPDX-License-Identifier: Apache-2.0
 use Rattle.mlocal.proofs.LocalLaws.{[], ◌∷◌, ap, ◌∙◌, None, Some, unwrap_or, Text, Scope, set_in, assigned, OnOk-map, found-at, home-at, home-bottom}
+use Rattle.mlocal.proofs.LocalLaws.{free_put, refl}
 use Rattle.mlocal.proofs.scopes.Locals.set_by_link.Goals as goal
 
 pub returns-in-None-clause-ok : goal.returns-in-None-clause-ok
@@ -24,3 +25,11 @@ returns-clause-ok c =
     OnOk-map c.set-in-Some.result (λ e. home-at f n m l.levels.items (l.bottom ∷ []) c.in-Some.place c.index_mut.result.now c.set-in-Some.new.self at
     (e ∙ ap (f m) c.index_mut.ensures.value)
     ∙ ap (λ s. assigned s n c.args.key c.args.value) c.self.view_is) c.set-in-Some.ensures.ok
+
+pub invariant_of-self-in-Some : goal.invariant_of-self-in-Some
+invariant_of-self-in-Some c =
+    let l = c.self.inside in (
+      c.self.invariant.0,
+      free_put c.set-in-Some.result l.places l.levels.items c.in-Some.place _ c.index_mut.result.now _
+          c.set-in-Some.ensures.ok c.set-in-Some.ensures.err (λ n. refl) c.index_mut.ensures.value c.self.invariant.1,
+    )

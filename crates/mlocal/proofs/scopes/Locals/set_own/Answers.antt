@@ -1,5 +1,6 @@
 -- SPDX-License-Identifier: Apache-2.0
 use Rattle.mlocal.proofs.LocalLaws.{[], ◌∷◌, ap, ◌∙◌, At, Below, Text, Scope, set_in, assigned, OnOk-map, home-at, home-bottom, unlinked-found}
+use Rattle.mlocal.proofs.LocalLaws.{free_put, refl}
 use Rattle.mlocal.proofs.scopes.Locals.set_own.Goals as goal
 
 pub returns-in-Below-clause-ok : goal.returns-in-Below-clause-ok
@@ -21,3 +22,11 @@ returns-in-At-clause-ok c =
     OnOk-map c.set_own-in-At.result (λ e. home-at f n n l.levels.items (l.bottom ∷ []) place c.index_mut.result.now c.set_own-in-At.new.self at
     (e ∙ ap (f n) c.index_mut.ensures.value)
     ∙ ap (λ s. assigned s n [] c.args.value) c.self.view_is) c.set_own-in-At.ensures.ok
+
+pub invariant_of-self-in-At : goal.invariant_of-self-in-At
+invariant_of-self-in-At c =
+    let l = c.self.inside in (
+      c.self.invariant.0,
+      free_put c.set_own-in-At.result l.places l.levels.items c.in-At.place _ c.index_mut.result.now _
+          c.set_own-in-At.ensures.ok c.set_own-in-At.ensures.err (λ n. refl) c.index_mut.ensures.value c.self.invariant.1,
+    )

@@ -1,0 +1,12 @@
+-- SPDX-License-Identifier: Apache-2.0
+use Rattle.mlocal.proofs.LocalLaws.{sym, ◌∙◌, all_raised, named_raised}
+use Rattle.mlocal.proofs.scope.Scope.raise.Goals as goal
+
+pub returns-then-is_some : goal.returns-then-is_some
+returns-then-is_some c = all_raised _ c.args.place _ _ c.raise_all.ensures
+
+pub returns : goal.returns
+returns c =
+    let s = c.self.inside in
+    named_raised (λ names. names.items) s.others s.names.items c.as_slice.result.now s.links.items c.as_slice-2.result.now s.trees _ c.args.place _ _ _
+    (sym c.is_some.ensures ∙ c.if-is_some.false) c.self.view_is c.as_slice.ensures.value c.as_slice-2.ensures.value c.raise_names.ensures c.raise_links.ensures

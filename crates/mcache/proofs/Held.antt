@@ -1,7 +1,11 @@
 -- SPDX-License-Identifier: Apache-2.0
 -- A tree that is kept beside the others.
-use Rattle.mcache.proofs.CacheWords.{◌≡◌, ◌<◌, ◌≤◌, ◌+◌, ◌∙◌, ℕ, List, length, Some, ap, sym, subst, inl, inr, arith, line_at, routine_line_at, Text, line_tree}
+use Rattle.mcache.proofs.CacheWords.{◌≡◌, ◌<◌, ◌≤◌, ◌+◌, ◌∙◌, ℕ, List, length, Option, Some, None, ap, sym, subst, inl, inr, arith, line_at, routine_line_at}
+use Rattle.mcache.proofs.CacheWords.{Text, line_tree}
 use Rattle.mcache.proofs.CacheWords.{routine_line_tree, IsKept, IsWithin, IsWithinOr, AreTrees, Entry}
+use Rattle.std.specs.Prelude.{IfSome}
+use Rattle.std.specs.declared.rc.Rc.{Rc}
+use Rattle.std.specs.declared.alloc.Global.{Global}
 use Rattle.mtree.specs.Tree.{IsCounted, IsBodyCounted}
 use Rattle.mtree.specs.declared.tree.Line.{Line}
 use Rattle.mtree.specs.declared.tree.RoutineLine.{RoutineLine}
@@ -17,6 +21,12 @@ module _ {n : ℕ} {lines : List (Entry Line)} {routine_lines : List (Entry Rout
     line_counted = were.line_counted;
     routine_line_counted = λ e c. were.routine_line_counted e (l e c);
   }
+
+  -- what is found has the tree of the text
+  pub trees_found : (found : Option (Rc RoutineLine Global)) → IfSome found (λ t. IsKept routine_lines text t.value)
+      → IfSome found (λ t. routine_line_at text ≡ Some (routine_line_tree t.value))
+  trees_found None h = h
+  trees_found (Some t) h = sym (ap routine_line_at h.2.0) ∙ were.routine_line h.0 h.1 ∙ ap (λ (x : RoutineLine). Some (routine_line_tree x)) h.2.1
 
   pub counted_routine_line : (tree : RoutineLine) → IsKept routine_lines text tree → IsBodyCounted tree.body
   counted_routine_line tree kept = subst (λ (t : RoutineLine). IsBodyCounted t.body) kept.2.1 (were.routine_line_counted kept.0 kept.1)

@@ -1,6 +1,6 @@
 // SPDX-License-Identifier: Apache-2.0
 // The cache of trees.
-ghost use Rattle.std.specs.Prelude.{◌≡◌, ◌↔◌, ◌+◌, ◌<◌, ◌≤◌, IsTrue, length, IfOk, Err, Some, None};
+ghost use Rattle.std.specs.Prelude.{◌≡◌, ◌↔◌, ◌+◌, ◌<◌, ◌≤◌, IsTrue, length, IfOk, IfSome, Err, Some, None};
 ghost use Rattle.mgrammar.specs.Reading.{line_at};
 ghost use Rattle.mgrammar.specs.RoutineLine.{routine_line_at};
 ghost use Rattle.mgrammar.specs.Languages.{line_in, routine_line_in};
@@ -155,6 +155,14 @@ impl Trees {
         make_room(&mut self.lines, &mut self.routine_lines, self.entries);
         keep(alloc, &mut self.routine_lines, text, &line);
         Ok(line)
+    }
+
+    /// The tree of a routine's line if it is kept, whatever language it needs. Takes no memory.
+    pub fn kept_routine_line(&mut self, text: &[u8]) -> Option<Rc<RoutineLine>>
+        ensures tree { IfSome result (λ line. routine_line_at text.now ≡ Some (routine_line_tree line.value)) }
+        ensures same { self.new ≡ self.old }
+    {
+        find(&mut self.routine_lines, text)
     }
 
     /// The tree of a line that is read in this language. A tree that is kept is found by its text, without a copy of either; trees of

@@ -18,5 +18,5 @@ pub use name_values::{NameValue, name_value};
 pub use numbers::number;
 pub use operator::{Operator, next_operator, signs};
 pub use patterns::pattern;
-pub use routine::{dots_of, formals_of, has_formal_list, label, label_of};
+pub use routine::{dots_of, formals_of, has_formal_list, label, label_of, may_have_formal_list};
 pub use runs::{Class, expect, name, name_bytes, past, run, text_after};

@@ -1,6 +1,6 @@
 // SPDX-License-Identifier: Apache-2.0
 // What a line of a routine begins with, its label, its formal list and its dots, found without reading what comes after them.
-ghost use Rattle.std.specs.Prelude.{◌≡◌, true, length, option_map, is_some, IfOk, IfSome};
+ghost use Rattle.std.specs.Prelude.{◌≡◌, ◌≤◌, None, true, false, length, option_map, is_some, IfOk, IfSome};
 ghost use Rattle.std.specs.List.{filter};
 ghost use Rattle.mspec.specs.Names.{IsName};
 ghost use Rattle.mgrammar.specs.ReadingWords.{run_of, past};
@@ -69,6 +69,26 @@ fn has_list(line: &[u8]) -> bool
         (None, _) => false,
         (Some(_), rest) => formal_list(rest).is_some(),
     }
+}
+
+// Whether a bracket comes after the label of a routine's line of any bytes.
+fn has_bracket(line: &[u8]) -> bool
+    ensures { result ≡ false → (formals_behind (label_at true line.now)).0 ≡ None }
+{
+    match label(true, line) {
+        (None, _) => false,
+        (Some(_), rest) => past(b'(', rest).is_some(),
+    }
+}
+
+/// Whether a routine's line of any bytes may have a formal list, in a language. It looks only at what the list would begin with, and takes
+/// no memory.
+#[tactic(auto, using(crate::proofs::WithoutFormals::no_formals))]
+pub fn may_have_formal_list(language: u32, line: &[u8]) -> bool
+    ensures lacks { result ≡ false → formals_of language line.now ≡ None }
+    ensures lists { result ≡ true → 1 ≤ language }
+{
+    has_formals(language) && has_bracket(line)
 }
 
 /// Whether a routine's line of any bytes has a formal list after its label, in a language. Takes no memory.

@@ -10,6 +10,7 @@ pub mod Indirections
 pub mod Locks
 pub mod LocalVariables
 pub mod NodeNames
+pub mod QueryRuns
 pub mod Chains
 pub mod PowerRuns
 pub mod EvalLaws

@@ -7,7 +7,9 @@ use Rattle.meval.proofs.EvalWords.{Place, ordering, of_local, at_local, checked,
 use Rattle.meval.proofs.EvalWords.{Code, Eval, Evaluates, direction_act, data_act, get_act, read_act, read_or, unwrap_or, order_from, order_behind, true, List}
 use Rattle.meval.proofs.EvalWords.{VariableFunctionTree, data_function, get_function, name_function, order_function, variable_function_value, name_behind, Text}
 use Rattle.meval.proofs.EvalWords.{ℤ, Option, whole_at, named, most_act}
+use Rattle.mgrammar.specs.Functions.{query_function}
 use Rattle.mspec.specs.Code as spec
+use Rattle.meval.specs.Queries.{query_behind}
 use Rattle.moperator.specs.declared.code.Code.TheVariants as code
 use Rattle.meval.proofs.Calls.{evaluates_then, evaluates_failed, evaluates_stopped, evaluates_gives, evaluates_yielded, evaluates_fails}
 use Rattle.meval.proofs.Asking.{passes}
@@ -65,6 +67,7 @@ module _ {S : Type 0} {g : Ghosts S} where
   function_failed get_function more d = evaluates_failed (get_act more) d
   function_failed name_function more d = evaluates_failed (name_behind more) d
   function_failed order_function more d = evaluates_failed (order_behind more) d
+  function_failed query_function more d = evaluates_failed (query_behind more) d
 
   -- once it is let through
   pub let_through : {e : Eval S} (name : Text) (xs : List Text) → are_subscripts xs ≡ true → Evaluates g (λ i. unless spec.Zsub (are_subscripts xs) >> give (at_local name xs)) (λ (p : Place). p) e (Ok (at_local name xs)) e

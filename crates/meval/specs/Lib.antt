@@ -5,6 +5,7 @@ pub mod Held
 pub mod Places
 pub mod Kept
 pub mod Acts
+pub mod Queries
 pub mod Evaluates
 pub mod AtHand
 pub mod Words

@@ -207,7 +207,7 @@ impl<'a, S: NodeStore> Eval<'a, S> {
     }
 
     // Whether the line's account may read where a walk is.
-    fn may_walk(&self, walk: &Walk) -> bool
+    pub(crate) fn may_walk(&self, walk: &Walk) -> bool
         ensures { result ≡ may_read_at (standing_of self.now) (walk_view walk.now) }
     {
         match walk {

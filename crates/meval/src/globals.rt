@@ -5,8 +5,8 @@ ghost use Rattle.mspec.specs.Access.{Read, Write};
 ghost use Rattle.mspec.specs.Act.{ask};
 ghost use Rattle.mspec.specs.KeyBytes.{IsAccountName};
 ghost use Rattle.mspec.specs.Names.{IsName};
-ghost use Rattle.mspec.specs.Plan.{Value, Status, Neighbour, Kill};
-ghost use Rattle.mspec.specs.Trees.{AreOrderSubscripts};
+ghost use Rattle.mspec.specs.Plan.{Value, Status, Neighbour, Following, Kill};
+ghost use Rattle.mspec.specs.Trees.{AreOrderSubscripts, AreQuerySubscripts};
 ghost use Rattle.mkey.specs.Way.{way};
 ghost use Rattle.mmeaning.specs.Variables.{at_node, put_at};
 ghost use Rattle.meval.specs.Evaluates.{Evaluates, standing_of};
@@ -14,8 +14,8 @@ ghost use Rattle.meval.specs.Places.{IsOpen, status_view};
 ghost use Rattle.meval.specs.Stores.{store_code};
 
 use crate::eval::Eval;
-use mglobal::{neighbour, status};
-use mkey::{Data, Direction, NodeKey};
+use mglobal::{following, neighbour, status};
+use mkey::{Data, Direction, NodeKey, Subs};
 use mnodes::{NodeStore, StoreFault};
 use mnum::Bytes7;
 use moperator::Code;
@@ -73,6 +73,28 @@ impl<'a, S: NodeStore> Eval<'a, S> {
     {
         match neighbour(self.store, alloc, account, name, subscripts, direction) {
             Ok(next) => Ok(next),
+            Err(fault) => Err(code_of(fault)),
+        }
+    }
+
+    // The subscripts of the node that follows the one of this account, global name and subscripts.
+    pub(crate) fn node_following(
+        &mut self,
+        alloc: Global,
+        account: &[u8],
+        name: &Bytes7,
+        subscripts: &[mvalue::Value],
+        direction: Direction,
+    ) -> Result<Option<Subs>, Code>
+        requires account { IsAccountName account.now }
+        requires name { IsName name.now }
+        requires subscripts { AreQuerySubscripts subscripts.now }
+        requires allowed { IsOpen (standing_of self.old) Read (at_node (record { account = account.now; name = name.now; subscripts = subscripts.now })) }
+        ensures { Evaluates S.NodeStore (λ i. ask (Following (way direction) (record { account = account.now; name = name.now; subscripts = subscripts.now })))
+            (λ found. found) self.old result self.new }
+    {
+        match following(self.store, alloc, account, name, subscripts, direction) {
+            Ok(found) => Ok(found),
             Err(fault) => Err(code_of(fault)),
         }
     }

@@ -17,7 +17,11 @@ use std::alloc::{AllocError, Global};
 
 impl<'a, S: NodeStore> Eval<'a, S> {
     // What the name of a node begins with: its environment is left out if it is the line's account.
-    fn front_of(&self, alloc: Global, node: &GlobalReference) -> Result<Bytes7, AllocError>
+    pub(crate) fn front_of(
+        &self,
+        alloc: Global,
+        node: &GlobalReference,
+    ) -> Result<Bytes7, AllocError>
         ensures { IfOk result (λ text. text ≡ global_text (variables.environment_of (standing_of self.now).account node.now) node.now.name) }
     {
         let name = node.name();

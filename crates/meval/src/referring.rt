@@ -1,5 +1,5 @@
 // SPDX-License-Identifier: Apache-2.0
-// $DATA, $GET, $NAME and $ORDER of a variable. Each of them has a function of its own: a function clears the stack space of all its cases at each call.
+// $DATA, $GET, $NAME and $ORDER of a variable, and $QUERY. Each has a function of its own: a function clears the stack space of all its cases at each call.
 ghost use Rattle.std.specs.Prelude.{[], map};
 ghost use Rattle.mgrammar.specs.Grammar.{exprs_of};
 ghost use Rattle.mgrammar.specs.Functions.{function_of};
@@ -37,6 +37,7 @@ impl<'a, S: NodeStore> Eval<'a, S> {
             VariableFunction::Get => self.get_of(alloc, &referring.reference, &referring.more),
             VariableFunction::Name => self.name_of(alloc, &referring.reference, &referring.more),
             VariableFunction::Order => self.order_of(alloc, &referring.reference, &referring.more),
+            VariableFunction::Query => self.query_of(alloc, &referring.reference, &referring.more),
         }
     }
 
@@ -110,7 +111,7 @@ impl<'a, S: NodeStore> Eval<'a, S> {
         self.next(alloc, &walk, direction)
     }
 
-    // The direction of $ORDER, by the first of the arguments after the variable.
+    // The direction of $ORDER or $QUERY, by the first of the arguments after the variable.
     #[cycle(eval)]
     pub(crate) fn direction(&mut self, alloc: Global, more: &[Expr]) -> Result<Direction, Code>
         ensures { Evaluates S.NodeStore (λ i. acts.direction_act i (exprs_of (map expr_tree more.now))) way self.old result self.new }

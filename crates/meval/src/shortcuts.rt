@@ -2,7 +2,7 @@
 // Shortcuts. Each function here does what the one that is named beside it does, but faster: delete any of them, and nothing changes but the
 // time. They are for what most lines refer to: a literal, a local variable without subscripts, and one with one subscript, whose shape the
 // tree has already; and for what most functions are called with. A value is lent where it stands, or put in a place of the caller's.
-ghost use Rattle.std.specs.Prelude.{◌≡◌, ◌≤◌, ◌<◌, [], ◌∷◌, length, map, slice_get, unwrap_or, IfOk, IfSome};
+ghost use Rattle.std.specs.Prelude.{◌≡◌, ◌<◌, [], ◌∷◌, length, map, slice_get, unwrap_or, IfOk, IfSome};
 ghost use Rattle.mgrammar.specs.Grammar as grammar;
 ghost use Rattle.mgrammar.specs.Grammar.{local, no_exprs, exprs, exprs_of};
 ghost use Rattle.mmeaning.specs.Expression as meaning;
@@ -15,7 +15,7 @@ ghost use Rattle.mspec.specs.Trees.{AreOrderSubscripts};
 ghost use Rattle.mkey.specs.Way.{way};
 ghost use Rattle.mtree.specs.Tree.{expr_tree, operand_tree};
 ghost use Rattle.mtree.specs.Functions.{variable_function_tree};
-ghost use Rattle.meval.specs.Evaluates.{Evaluates, KeepsEval, standing_of};
+ghost use Rattle.meval.specs.Evaluates.{Evaluates, standing_of};
 ghost use Rattle.meval.specs.Acts as acts;
 ghost use Rattle.meval.specs.Places.{IsOpen, pending_view, place_view};
 ghost use Rattle.meval.specs.AtHand.{at_hand_tree};
@@ -220,6 +220,7 @@ impl<'a, S: NodeStore> Eval<'a, S> {
             VariableFunction::Get => self.fast_get(alloc, name, &value, more),
             VariableFunction::Name => self.fast_name(alloc, name, &value, more),
             VariableFunction::Order => self.fast_order(alloc, name, &value, more),
+            VariableFunction::Query => self.fast_query(alloc, name, &value, more),
         }
     }
 

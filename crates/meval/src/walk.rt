@@ -1,5 +1,5 @@
 // SPDX-License-Identifier: Apache-2.0
-// Values as texts, as $DATA's number and as $ORDER's direction.
+// Values as texts, as $DATA's number and as the direction of $ORDER and $QUERY.
 ghost use Rattle.std.specs.Prelude.{◌≡◌, [], pos, slice_get, unwrap_or};
 ghost use Rattle.mmeaning.specs.Functions.{whole_text};
 ghost use Rattle.mmeaning.specs.Variables.{data_number, direction_of};
@@ -26,7 +26,7 @@ pub fn data_value(found: Data) -> Value
     }
 }
 
-// The direction of $ORDER, by the first of its arguments after the variable, if it has one.
+// The direction of $ORDER or $QUERY, by the first of its arguments after the variable, if it has one.
 pub fn direction(more: &[Value]) -> Result<Direction, Code>
     ensures { Yields fault_of (direction_of (slice_get more.now 0)) way result }
 {
@@ -50,7 +50,7 @@ pub fn first_or_empty(alloc: Global, values: Values) -> Value
     }
 }
 
-// What $ORDER gives: the subscript that was found, or the empty text.
+// What $ORDER gives: the subscript that was found, or the empty text. $QUERY gives that too if it finds nothing.
 pub fn next_value(alloc: Global, next: Option<Value>) -> Value
     ensures { result ≡ unwrap_or next [] }
 {

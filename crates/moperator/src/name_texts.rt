@@ -1,5 +1,5 @@
 // SPDX-License-Identifier: Apache-2.0
-// The texts of names, as $NAME gives them.
+// The texts of names, as $NAME and $QUERY give them.
 ghost use Rattle.std.specs.Prelude.{◌≡◌, ◌++◌, None, Some, IfOk, OnOk};
 ghost use Rattle.mgrammar.specs.NameValues.{subscript_text, more_subscripts, subscripts_text, global_text};
 ghost use Rattle.mmeaning.specs.Variables as meaning;
@@ -69,6 +69,29 @@ fn first_of(values: &[Value], most: Option<i64>) -> Result<&[Value], Code>
     Ok(&values[..values.len().min(most as usize)])
 }
 
+// Appends texts as subscripts with a comma before each, and the bracket after them.
+fn push_more_texts(out: &mut Bytes7, texts: &[Bytes7]) -> Result<(), AllocError>
+    ensures { OnOk result (out.new ≡ out.old ++ more_subscripts texts.now) }
+{
+    for text in texts {
+        out.push(b',')?;
+        push_text(out, text)?;
+    }
+    out.push(b')')
+}
+
+// Appends texts as subscripts in brackets, if there are any.
+fn push_texts(out: &mut Bytes7, texts: &[Bytes7]) -> Result<(), AllocError>
+    ensures { OnOk result (out.new ≡ out.old ++ subscripts_text texts.now) }
+{
+    let Some((first, more)) = texts.split_first() else {
+        return Ok(());
+    };
+    out.push(b'(')?;
+    push_text(out, first)?;
+    push_more_texts(out, more)
+}
+
 /// What the name of a global begins with, if it is of the account that the name is for: its name alone, without an environment.
 ///
 /// # Errors
@@ -113,6 +136,22 @@ pub fn name_text(
     let kept = first_of(values, most)?;
     let mut text = front;
     push_subscripts(alloc, &mut text, kept)?;
+    if text.as_bytes().len() > MAX_TEXT {
+        return Err(Code::Zlong);
+    }
+    Ok(Value::of_text(text))
+}
+
+/// The text of a name, of what comes before its subscripts, and of all these.
+///
+/// # Errors
+///
+/// `Zlong` if the text has more than 4,095 characters; `Zmem` if memory runs out.
+pub fn found_name(front: Bytes7, texts: &[Bytes7]) -> Result<Value, Code>
+    ensures { Yields fault_of (meaning.name_with front texts.now None) (λ value. value) result }
+{
+    let mut text = front;
+    push_texts(&mut text, texts)?;
     if text.as_bytes().len() > MAX_TEXT {
         return Err(Code::Zlong);
     }

@@ -10,13 +10,13 @@ use Rattle.mgrammar.specs.Grammar.{no_choices, choice, ActualTree, missing_actua
 use Rattle.mgrammar.specs.Grammar.{no_actuals, actuals, ArgTree, assign, formats, coded, shown, kill_one, kill_others, new_one, new_others, tested, loop}
 use Rattle.mgrammar.specs.Grammar.{do_one, go_to, executed, locked, hang_for, returned, indirect_args}
 use Rattle.mgrammar.specs.Functions as functions
-use Rattle.mgrammar.specs.Functions.{data_function, get_function, name_function, order_function, FunctionTree, of_variable, function_of}
+use Rattle.mgrammar.specs.Functions.{data_function, get_function, name_function, order_function, query_function, FunctionTree, of_variable, function_of}
 use Rattle.mgrammar.specs.CallsIn.{has_call, has_call_operand, has_call_primary}
 use Rattle.mmeaning.specs.Expression.{is_bare}
 use Rattle.mmeaning.specs.Programs as programs
 use Rattle.mmeaning.specs.Programs.{Op, Spend, Join, Raise, Match, Match_not, Values, Add, Function, Begin, Hand, Hand_name, Call, Where, Formats, Prepare}
-use Rattle.mmeaning.specs.Programs.{Local, Global, Naked, Extended, Named, Read, Data, Resolve, Get, Walk, Order, Tell_name, signed, referred, of_value}
-use Rattle.mmeaning.specs.Programs.{of_tails, of_tail, of_operand, of_primary, of_reference, of_values, of_choices, of_actual, of_actuals, of_list}
+use Rattle.mmeaning.specs.Programs.{Local, Global, Naked, Extended, Named, Read, Data, Resolve, Get, Walk, Order, Tell_name, Seek, Query, signed, referred}
+use Rattle.mmeaning.specs.Programs.{of_value, of_tails, of_tail, of_operand, of_primary, of_reference, of_values, of_choices, of_actual, of_actuals, of_list}
 use Rattle.mprogram.specs.Wholes.{WholeTree, of_argument, of_condition, steps_of, steps_of_argument}
 use Rattle.mprogram.specs.Found.{FoundTree, step, past, found_then, found_before, single, both, in_referred, passing_value, passing_choices, in_signs}
 use Rattle.mprogram.specs.Found.{in_value, in_tails, in_tail, in_operand, in_primary, in_reference, in_choices, in_values, in_actual, in_actuals}
@@ -91,6 +91,8 @@ referred_finds (Some (of_variable name_function most)) first more p q one other 
     (subscripts_find more q Tell_name other)
 referred_finds (Some (of_variable order_function most)) first more p q one other =
     apart_finds first more p q Walk Values Order one other
+referred_finds (Some (of_variable query_function most)) first more p q one other =
+    apart_finds first more p q Seek Values Query one other
 referred_finds (Some functions.of_choices) first more p q one other = single_finds _
 
 mutual

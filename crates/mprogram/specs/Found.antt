@@ -8,12 +8,12 @@ use Rattle.mgrammar.specs.Grammar.{matches_not_indirect, OperandTree, operand, P
 use Rattle.mgrammar.specs.Grammar.{extrinsic, ReferenceTree, local, global, naked, indirect, extended, ExprsTree, no_exprs, exprs, ChoicesTree}
 use Rattle.mgrammar.specs.Grammar.{no_choices, choice, ActualTree, missing_actual, value_actual, name_actual, indirect_actual, ActualsTree}
 use Rattle.mgrammar.specs.Grammar.{no_actuals, actuals, ArgTree, assign, formats, coded, shown, tested, do_one, go_to, executed, hang_for, returned}
-use Rattle.mgrammar.specs.Functions.{data_function, get_function, name_function, order_function, FunctionTree, of_variable, function_of}
+use Rattle.mgrammar.specs.Functions.{data_function, get_function, name_function, order_function, query_function, FunctionTree, of_variable, function_of}
 use Rattle.mgrammar.specs.CallsIn.{has_call, has_call_operand, has_call_primary}
 use Rattle.mmeaning.specs.Expression.{is_bare}
 use Rattle.mmeaning.specs.Programs.{Op, Operand, Tail, Spend, Sign, Join, Raise, Match, Match_not, Values, Add, Function, Begin, Actual, Hand, Hand_name}
 use Rattle.mmeaning.specs.Programs.{Call, Where, Formats, Prepare, Local, Global, Naked, Extended, Named, Read, Data, Resolve, Get, Walk, Order, Unless, Pass}
-use Rattle.mmeaning.specs.Programs.{Tell_name, Refuse, of_value, of_choices}
+use Rattle.mmeaning.specs.Programs.{Tell_name, Seek, Query, Refuse, of_value, of_choices}
 use Rattle.mprogram.specs.Wholes.{WholeTree, of_argument, of_condition}
 
 pub data FoundTree : Type 0 where
@@ -45,6 +45,8 @@ in_referred (Some (of_variable name_function most)) first more at =
     found_then (first at) (λ left. found_then (single Values left) (λ left. found_then (more left) (single Tell_name)))
 in_referred (Some (of_variable order_function most)) first more at =
     found_then (first at) (λ left. found_then (both Walk Values left) (λ left. found_then (more left) (single Order)))
+in_referred (Some (of_variable query_function most)) first more at =
+    found_then (first at) (λ left. found_then (both Seek Values left) (λ left. found_then (more left) (single Query)))
 in_referred f first more at = single (Refuse Zsyntax) at
 
 -- what passes the value of a choice by, and what passes choices by

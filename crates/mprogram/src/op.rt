@@ -79,6 +79,10 @@ pub enum Op<'t> {
     Order,
     /// $NAME of the reference below the values on top.
     TellName,
+    /// The place of the reference on top, by the checks of $QUERY.
+    Seek,
+    /// $QUERY of the place below the values on top.
+    Query,
     /// Passes by the steps of this value of $SELECT and the one after them, if the value on top is false.
     Unless(&'t Expr),
     /// Passes by the steps of these choices of $SELECT.

@@ -303,6 +303,7 @@ fn in_referred<'t>(referring: &'t Referring, at: usize) -> Found<'t>
         VariableFunction::Get => in_checked(referring, Op::Resolve, Op::Get, at),
         VariableFunction::Name => in_unchecked(referring, Op::TellName, at),
         VariableFunction::Order => in_checked(referring, Op::Walk, Op::Order, at),
+        VariableFunction::Query => in_checked(referring, Op::Seek, Op::Query, at),
     }
 }
 

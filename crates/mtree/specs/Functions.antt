@@ -5,7 +5,7 @@ use Rattle.mgrammar.specs.Functions.{ValueFunctionTree, ascii_function, char_fun
 use Rattle.mgrammar.specs.Functions.{justify_function, length_function, name_length_function, name_subscript_function, piece_function}
 use Rattle.mgrammar.specs.Functions.{reverse_function, translate_function}
 use Rattle.mgrammar.specs.Functions.{VariableFunctionTree, data_function, get_function, name_function, order_function, FunctionTree, of_values, of_variable}
-use Rattle.mgrammar.specs.Functions.{of_choices, function_of}
+use Rattle.mgrammar.specs.Functions.{query_function, of_choices, function_of}
 use Rattle.mtree.specs.declared.intrinsic.ValueFunction.{ValueFunction}
 use Rattle.mtree.specs.declared.intrinsic.ValueFunction.TheVariants as values
 use Rattle.mtree.specs.declared.intrinsic.VariableFunction.{VariableFunction}
@@ -32,6 +32,7 @@ variable_function_tree variable.Data = data_function
 variable_function_tree variable.Get = get_function
 variable_function_tree variable.Name = name_function
 variable_function_tree variable.Order = order_function
+variable_function_tree variable.Query = query_function
 
 abbrev pub function_tree : Function → FunctionTree
 function_tree (function.OfValues f least most) = of_values (value_function_tree f) least most

@@ -25,6 +25,7 @@ pub enum VariableFunction {
     Get,
     Name,
     Order,
+    Query,
 }
 
 /// What a function's word says: the function, and what its brackets hold.

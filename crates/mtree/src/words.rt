@@ -134,6 +134,8 @@ pub(crate) fn function_row(word: &[u8]) -> Option<(Function, u32)>
         Some((variable(VariableFunction::Order, 1), 0))
     } else if is_either(word, b"p", b"piece") {
         Some((values(ValueFunction::Piece, 2, Some(4)), 0))
+    } else if is_either(word, b"q", b"query") {
+        Some((variable(VariableFunction::Query, 1), 1))
     } else if is_either(word, b"ql", b"qlength") {
         Some((values(ValueFunction::NameLength, 1, Some(1)), 1))
     } else if is_either(word, b"qs", b"qsubscript") {

@@ -13,6 +13,8 @@ use Rattle.meval.proofs.EvalLaws.{variable_is, node_is, local_is, global_is, nak
 use Rattle.meval.proofs.EvalLaws.{bracket_is, call_is, select_is, apply_is, matches_indirect_is, matches_is, matches_not_indirect_is, matches_not_is, raise_is}
 use Rattle.meval.proofs.EvalLaws.{charge_failed, uncalled, from_tail, from_end, next_value, value_failed, values_end, next_choice, is_chosen, not_chosen}
 use Rattle.meval.proofs.EvalLaws.{none_chosen, name_behind, named_as, named_local, named_stopped, whole_at}
+use Rattle.meval.specs.Queries.{query_from, query_behind}
+use Rattle.meval.proofs.QueryRuns.{queried, query_stopped, search_refused, search_through}
 use Rattle.std.proofs.Common.{Ok}
 use Rattle.std.specs.Prelude.{not}
 use Rattle.mspec.specs.Interpretations.{truth_text}
@@ -350,9 +352,15 @@ fast_referring-returns-in-Name g t c =
     let node = node_evaluated c.args.name.now (expr_tree c.args.subscript.now) _ c.in_ok-eval_into.ensures.does in
     rw c.in-Name.is (evaluates_then (name_behind _) node c.fast_name.ensures)
 
+pub fast_referring-returns-in-Order : goal.fast_referring-returns-in-Order
+fast_referring-returns-in-Order g t c =
+    rw c.in-Order.is (evaluates_then (order_behind _) (node_evaluated c.args.name.now
+    (expr_tree c.args.subscript.now) _ c.in_ok-eval_into.ensures.does) c.fast_order.ensures)
+
 pub fast_referring-returns : goal.fast_referring-returns
 fast_referring-returns g t c =
-    rw c.in-Order.is (evaluates_then (order_behind _) (node_evaluated c.args.name.now (expr_tree c.args.subscript.now) _ c.in_ok-eval_into.ensures.does) c.fast_order.ensures)
+    let node = node_evaluated c.args.name.now (expr_tree c.args.subscript.now) _ c.in_ok-eval_into.ensures.does in
+    rw c.in-Query.is (evaluates_then (query_behind _) node c.fast_query.ensures)
 
 pub fast_get-returns-in_err-more : goal.fast_get-returns-in_err-more
 fast_get-returns-in_err-more g t c =
@@ -388,6 +396,12 @@ pub referring-returns-in-Order : goal.referring-returns-in-Order
 referring-returns-in-Order g t c =
     let is = rw c.in-Order.is at c.function-function.ensures in
     let k = rw c.deref-in-Order.ensures.value at c.order_of.ensures in
+    rw is.1 k
+
+pub referring-returns-in-Query : goal.referring-returns-in-Query
+referring-returns-in-Query g t c =
+    let is = rw c.in-Query.is at c.function-function.ensures in
+    let k = rw c.deref-in-Query.ensures.value at c.query_of.ensures in
     rw is.1 k
 
 pub data_of-returns-in_err-place : goal.data_of-returns-in_err-place
@@ -496,6 +510,47 @@ pub order_of-returns : goal.order_of-returns
 order_of-returns g t c =
     evaluates_then (order_behind _) c.in_ok-pending.ensures
     (evaluates_then (order_from _) c.in_ok-walk.ensures.does (ordered_next _ (walk_view c.in_ok-walk.walk) c.in_ok-direction.direction c.in_ok-direction.ensures c.next.ensures))
+
+pub fast_query-returns-in_err-check_search : goal.fast_query-returns-in_err-check_search
+fast_query-returns-in_err-check_search g t c =
+    let more = exprs_of (map expr_tree c.args.more.now) in
+    let name = c.args.name.now in
+    let refused = rw c.from_ref-subscripts.ensures.value at c.in_err-check_search.ensures.checked in
+    search_refused more name (c.args.subscript.now ∷ [])
+    (evaluates_stopped (λ i _. give (at_local name (c.args.subscript.now ∷ [])) >>= query_from more i) (evaluates_yielded refused) c.from_residual.ensures)
+
+pub fast_query-returns-in_err-direction : goal.fast_query-returns-in_err-direction
+fast_query-returns-in_err-direction g t c =
+    let passed = rw c.from_ref-subscripts.ensures.value at c.in_ok-check_search.ensures.checked in
+    evaluates_then (query_from _) (search_through c.args.name.now (c.args.subscript.now ∷ []) passed)
+    (query_stopped _ (at_local c.args.name.now (c.args.subscript.now ∷ [])) c.in_err-direction.ensures c.from_residual-in_err-direction.ensures)
+
+pub fast_query-returns : goal.fast_query-returns
+fast_query-returns g t c =
+    let passed = rw c.from_ref-subscripts.ensures.value at c.in_ok-check_search.ensures.checked in
+    let found = rw c.from_ref-subscripts.ensures.value at c.local_query.ensures in
+    evaluates_then (query_from _) (search_through c.args.name.now (c.args.subscript.now ∷ []) passed)
+    (queried _ (at_local c.args.name.now (c.args.subscript.now ∷ [])) c.in_ok-direction.direction c.in_ok-direction.ensures found)
+
+pub query_of-returns-in_err-pending : goal.query_of-returns-in_err-pending
+query_of-returns-in_err-pending g t c =
+    evaluates_stopped (query_behind (exprs_of (map expr_tree c.args.more.now))) c.in_err-pending.ensures c.from_residual.ensures
+
+pub query_of-returns-in_err-walk : goal.query_of-returns-in_err-walk
+query_of-returns-in_err-walk g t c =
+    evaluates_then (query_behind _) c.in_ok-pending.ensures (evaluates_stopped (query_from _) c.in_err-walk.ensures.does c.from_residual-in_err-walk.ensures)
+
+pub query_of-returns-in_err-direction : goal.query_of-returns-in_err-direction
+query_of-returns-in_err-direction g t c =
+    evaluates_then (query_behind _) c.in_ok-pending.ensures
+    (evaluates_then (query_from _) c.in_ok-walk.ensures.does
+    (query_stopped _ (walk_view c.in_ok-walk.walk) c.in_err-direction.ensures c.from_residual-in_err-direction.ensures))
+
+pub query_of-returns : goal.query_of-returns
+query_of-returns g t c =
+    evaluates_then (query_behind _) c.in_ok-pending.ensures
+    (evaluates_then (query_from _) c.in_ok-walk.ensures.does
+    (queried _ (walk_view c.in_ok-walk.walk) c.in_ok-direction.direction c.in_ok-direction.ensures c.query.ensures))
 
 -- ---- steps
 

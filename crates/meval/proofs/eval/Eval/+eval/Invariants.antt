@@ -116,6 +116,12 @@ decreases-get_of g l = 16 * l.self.now.steps + 9
 abbrev pub decreases-order_of : goal.decreases-order_of
 decreases-order_of g l = 16 * l.self.now.steps + 8
 
+abbrev pub decreases-fast_query : goal.decreases-fast_query
+decreases-fast_query g l = 16 * l.self.now.steps + 7
+
+abbrev pub decreases-query_of : goal.decreases-query_of
+decreases-query_of g l = 16 * l.self.now.steps + 8
+
 abbrev pub decreases-name_of : goal.decreases-name_of
 decreases-name_of g l = 16 * l.self.now.steps + 8
 

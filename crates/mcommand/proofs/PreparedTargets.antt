@@ -1,6 +1,6 @@
 -- SPDX-License-Identifier: Apache-2.0
 -- Targets that no tree need hold: the function that a word of theirs names, and the names that they own.
-use Rattle.mcommand.proofs.CommandWords.{◌≡◌, ◌++◌, Bool, true, false, List, [], ◌∷◌, map, Option, Some, None, refl, sym, ap, ◌∙◌, subst, Text, Act, Evaluated}
+use Rattle.mcommand.proofs.CommandWords.{◌≡◌, ◌++◌, Bool, true, false, List, [], ◌∷◌, map, Option, Some, refl, ap, ◌∙◌, subst, Text, Act, Evaluated}
 use Rattle.mcommand.proofs.CommandWords.{Prepared, prepared_view}
 use Rattle.std.specs.Prelude.{if◌then◌else◌, unwrap_or}
 use Rattle.mgrammar.specs.Grammar.{is_either}
@@ -34,7 +34,7 @@ found_row w [] t h e = absurd cc
 found_row w (r ∷ rs) t h e = picked (is_either r.short r.whole w) w r rs t h.0 (found_row w rs t h.1) e
 
 all_rows : AreAsRows function_rows
-all_rows = (refl, (refl, (tt, (refl, (refl, (refl, (tt, (refl, (refl, (tt, (tt, (refl, (refl, (refl, (refl, (tt, (refl, tt)))))))))))))))))
+all_rows = (refl, (refl, (tt, (refl, (refl, (refl, (tt, (refl, (refl, (tt, (tt, (refl, (tt, (refl, (refl, (refl, (tt, (refl, tt))))))))))))))))))
 
 named_row : (w : Text) (t : FunctionTree) → function_of w ≡ Some t → IsAsRow t
 unfolding function_of

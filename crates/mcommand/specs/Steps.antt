@@ -10,13 +10,14 @@ use Rattle.mgrammar.specs.Grammar.{SignTree, BinaryTree, ExprsTree}
 use Rattle.mmeaning.specs.Operators.{as_truth, unaries, binary, raising}
 use Rattle.mmeaning.specs.Functions.{whole_at, call_value}
 use Rattle.mmeaning.specs.Variables.{Evaluated, of_local, of_global, of_naked, Place, reading, ordering, resolve, read_at, read_or, next_at}
-use Rattle.mmeaning.specs.Variables.{direction_of, named}
+use Rattle.mmeaning.specs.Variables.{direction_of, named, querying, query_at}
 use Rattle.mmeaning.specs.Expression.{Inside, linked_by, named_by, matches_text, tail_value, operand_value}
 use Rattle.mmeaning.specs.Parameters.{handed}
 use Rattle.mmeaning.specs.LineMeaning.{Prepared, all_prepared, targets}
 use Rattle.mmeaning.specs.Programs.{Item, one_value, some_values, found, placed, walked, made, handing, data_at, on_top, Op, Operand, Tail, Spend, Sign}
 use Rattle.mmeaning.specs.Programs.{Join, Raise, Match, Match_not, Values, Add, Function, Begin, Actual, Hand, Hand_name, Call, Where, Formats, Prepare}
 use Rattle.mmeaning.specs.Programs.{Local, Global, Naked, Extended, Named, Read, Data, Resolve, Get, Walk, Order, Tell_name, Unless, Pass, Refuse}
+use Rattle.mmeaning.specs.Programs.{Seek, Query, sought}
 use Rattle.mlocal.specs.Bindings.{binding_of}
 use Rattle.meval.specs.Acts.{named_within}
 use Rattle.meval.specs.Kept.{readable_view}
@@ -33,6 +34,7 @@ item_view (item.Values vs) = some_values vs.items
 item_view (item.Found pending) = found (pending_view pending)
 item_view (item.Placed place) = placed (readable_view place)
 item_view (item.Walked walk) = walked walk
+item_view (item.Sought place) = sought place
 item_view (item.Made all) = made (map prepared_view all.items)
 item_view (item.Handing test bs) = handing test (map binding_of bs.items)
 
@@ -65,6 +67,10 @@ placed_on_top st = fail Zsyntax
 abbrev pub walked_on_top : List Item → Act (Place × List Item)
 walked_on_top (walked p ∷ st) = give (p, st)
 walked_on_top st = fail Zsyntax
+
+abbrev pub sought_on_top : List Item → Act (Place × List Item)
+sought_on_top (sought p ∷ st) = give (p, st)
+sought_on_top st = fail Zsyntax
 
 abbrev pub targets_on_top : List Item → Act (List Prepared × List Item)
 targets_on_top (made ps ∷ st) = give (ps, st)
@@ -241,6 +247,15 @@ step_in i Tell_name st = do
   r ← found_on_top vs.1
   v ← whole_at 0 vs.0 >>= (λ most. named i.account most r.0)
   on_top r.1 (one_value v)
+step_in i Seek st = do
+  r ← found_on_top st
+  p ← resolve querying r.0
+  on_top r.1 (sought p)
+step_in i Query st = do
+  vs ← values_on_top st
+  p ← sought_on_top vs.1
+  v ← direction_of (slice_get vs.0 0) >>= (λ d. query_at i.account d p.0)
+  on_top p.1 (one_value v)
 step_in i (Unless n) st = fail Zsyntax
 step_in i (Pass n) st = fail Zsyntax
 step_in i (Refuse c) st = fail c

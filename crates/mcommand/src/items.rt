@@ -9,10 +9,11 @@ ghost use Rattle.meval.specs.Places.{pending_view};
 ghost use Rattle.meval.specs.Kept.{readable_view};
 ghost use Rattle.mcommand.specs.Prepared.{prepared_view};
 ghost use Rattle.mcommand.specs.Steps.{item_view, items_view, value_on_top, values_on_top, found_on_top, placed_on_top, walked_on_top, targets_on_top};
+ghost use Rattle.mcommand.specs.Steps.{sought_on_top};
 ghost use Rattle.mcommand.specs.Steps.{handing_on_top, goes_with};
 
 use crate::set::Prepared;
-use meval::{Pending, Readable, Walkable};
+use meval::{Pending, Readable, Seekable, Walkable};
 use mlocal::Binding;
 use moperator::Code;
 use mvalue::Value;
@@ -30,6 +31,8 @@ pub enum Item {
     Placed(Readable),
     /// The place of a reference, which is checked for $ORDER.
     Walked(Walkable),
+    /// The place of a reference, which is checked for $QUERY.
+    Sought(Seekable),
     /// The targets of SET.
     Made(Vec<Prepared<'static>>),
     /// What `$TEST` was before the actuals, and what these hand over so far.
@@ -53,6 +56,7 @@ pub fn take_value(items: &mut Vec<Item>) -> Result<Value, Code>
         Item::Found(_) => Err(Code::Zsyntax),
         Item::Placed(_) => Err(Code::Zsyntax),
         Item::Walked(_) => Err(Code::Zsyntax),
+        Item::Sought(_) => Err(Code::Zsyntax),
         Item::Made(_) => Err(Code::Zsyntax),
         Item::Handing(_, _) => Err(Code::Zsyntax),
     }
@@ -75,6 +79,7 @@ pub fn take_values(items: &mut Vec<Item>) -> Result<Vec<Value>, Code>
         Item::Found(_) => Err(Code::Zsyntax),
         Item::Placed(_) => Err(Code::Zsyntax),
         Item::Walked(_) => Err(Code::Zsyntax),
+        Item::Sought(_) => Err(Code::Zsyntax),
         Item::Made(_) => Err(Code::Zsyntax),
         Item::Handing(_, _) => Err(Code::Zsyntax),
     }
@@ -93,6 +98,7 @@ pub(crate) fn take_found(items: &mut Vec<Item>) -> Result<Pending<'static>, Code
         Item::Found(pending) => Ok(pending),
         Item::Placed(_) => Err(Code::Zsyntax),
         Item::Walked(_) => Err(Code::Zsyntax),
+        Item::Sought(_) => Err(Code::Zsyntax),
         Item::Made(_) => Err(Code::Zsyntax),
         Item::Handing(_, _) => Err(Code::Zsyntax),
     }
@@ -111,6 +117,7 @@ pub(crate) fn take_placed(items: &mut Vec<Item>) -> Result<Readable, Code>
         Item::Found(_) => Err(Code::Zsyntax),
         Item::Placed(place) => Ok(place),
         Item::Walked(_) => Err(Code::Zsyntax),
+        Item::Sought(_) => Err(Code::Zsyntax),
         Item::Made(_) => Err(Code::Zsyntax),
         Item::Handing(_, _) => Err(Code::Zsyntax),
     }
@@ -129,6 +136,26 @@ pub(crate) fn take_walked(items: &mut Vec<Item>) -> Result<Walkable, Code>
         Item::Found(_) => Err(Code::Zsyntax),
         Item::Placed(_) => Err(Code::Zsyntax),
         Item::Walked(walk) => Ok(walk),
+        Item::Sought(_) => Err(Code::Zsyntax),
+        Item::Made(_) => Err(Code::Zsyntax),
+        Item::Handing(_, _) => Err(Code::Zsyntax),
+    }
+}
+
+// Takes the place on top that is checked for $QUERY; `Zsyntax` if there is none. Takes no memory.
+pub(crate) fn take_sought(items: &mut Vec<Item>) -> Result<Seekable, Code>
+    ensures { Yields fault_of (sought_on_top (items_view items.old.items)) (λ place. (place, items_view items.new.items)) result }
+{
+    let Some(item) = items.pop() else {
+        return Err(Code::Zsyntax);
+    };
+    match item {
+        Item::Value(_) => Err(Code::Zsyntax),
+        Item::Values(_) => Err(Code::Zsyntax),
+        Item::Found(_) => Err(Code::Zsyntax),
+        Item::Placed(_) => Err(Code::Zsyntax),
+        Item::Walked(_) => Err(Code::Zsyntax),
+        Item::Sought(place) => Ok(place),
         Item::Made(_) => Err(Code::Zsyntax),
         Item::Handing(_, _) => Err(Code::Zsyntax),
     }
@@ -151,6 +178,7 @@ pub fn take_targets(items: &mut Vec<Item>) -> Result<Vec<Prepared<'static>>, Cod
         Item::Found(_) => Err(Code::Zsyntax),
         Item::Placed(_) => Err(Code::Zsyntax),
         Item::Walked(_) => Err(Code::Zsyntax),
+        Item::Sought(_) => Err(Code::Zsyntax),
         Item::Made(all) => Ok(all),
         Item::Handing(_, _) => Err(Code::Zsyntax),
     }
@@ -174,6 +202,7 @@ pub fn take_handing(items: &mut Vec<Item>) -> Result<(bool, Vec<Binding>), Code>
         Item::Found(_) => Err(Code::Zsyntax),
         Item::Placed(_) => Err(Code::Zsyntax),
         Item::Walked(_) => Err(Code::Zsyntax),
+        Item::Sought(_) => Err(Code::Zsyntax),
         Item::Made(_) => Err(Code::Zsyntax),
         Item::Handing(test, bindings) => Ok((test, bindings)),
     }

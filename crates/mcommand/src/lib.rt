@@ -19,7 +19,7 @@ mod target;
 mod write;
 
 pub use for_parameter::Course;
-pub use formals::formals_for;
+pub use formals::{formals_for, formals_lent};
 pub use items::{Item, take_handing, take_targets, take_value, take_values};
 pub use parts::Parts;
 pub use set::Prepared;

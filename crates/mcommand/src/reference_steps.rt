@@ -9,7 +9,9 @@ ghost use Rattle.mtree.specs.Tree.{expr_tree};
 ghost use Rattle.mcommand.specs.Does.{Does};
 ghost use Rattle.mcommand.specs.Steps.{items_view, step_in, goes_with, local_step, naked_step, extended_step, named_step};
 
-use crate::items::{Item, put, take_found, take_placed, take_value, take_values, take_walked};
+use crate::items::{
+    Item, put, take_found, take_placed, take_sought, take_value, take_values, take_walked,
+};
 use crate::parts::Parts;
 use meval::{Pending, Values, VariableName, extended_found};
 use mnodes::NodeStore;
@@ -185,6 +187,27 @@ impl<'a, S: NodeStore> Parts<'a, S> {
         let values = take_values(items)?;
         let pending = take_found(items)?;
         let value = self.eval.name_found(alloc, pending, &values)?;
+        put(items, Item::Value(value))
+    }
+
+    // The place that $QUERY asks of, by its checks.
+    pub(crate) fn seek_step(&mut self, alloc: Global, items: &mut Vec<Item>) -> Result<bool, Code>
+        ensures { Does S.NodeStore (λ i. step_in i programs.Seek (items_view items.old.items))
+            (λ goes. goes_with goes (items_view items.new.items)) self.old result self.new }
+    {
+        let pending = take_found(items)?;
+        let place = self.eval.seekable(alloc, pending)?;
+        put(items, Item::Sought(place))
+    }
+
+    // What $QUERY gives of the place below the values on top.
+    pub(crate) fn query_step(&mut self, alloc: Global, items: &mut Vec<Item>) -> Result<bool, Code>
+        ensures { Does S.NodeStore (λ i. step_in i programs.Query (items_view items.old.items))
+            (λ goes. goes_with goes (items_view items.new.items)) self.old result self.new }
+    {
+        let values = take_values(items)?;
+        let place = take_sought(items)?;
+        let value = self.eval.query_at(alloc, &place, &values)?;
         put(items, Item::Value(value))
     }
 }

@@ -247,6 +247,8 @@ impl<'a, S: NodeStore> Parts<'a, S> {
             Op::Walk => self.walk_step(alloc, items),
             Op::Order => self.order_step(alloc, items),
             Op::TellName => self.tell_name_step(alloc, items),
+            Op::Seek => self.seek_step(alloc, items),
+            Op::Query => self.query_step(alloc, items),
         }
     }
 }

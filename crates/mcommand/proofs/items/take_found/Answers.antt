@@ -24,6 +24,9 @@ returns-in-Placed c = refused found_on_top _ _ _ _ _ c.pop.ensures.items c.in-So
 pub returns-in-Walked : goal.returns-in-Walked
 returns-in-Walked c = refused found_on_top _ _ _ _ _ c.pop.ensures.items c.in-Some.is c.in-Walked.is refl
 
+pub returns-in-Sought : goal.returns-in-Sought
+returns-in-Sought c = refused found_on_top _ _ _ _ _ c.pop.ensures.items c.in-Some.is c.in-Sought.is refl
+
 pub returns-in-Made : goal.returns-in-Made
 returns-in-Made c = refused found_on_top _ _ _ _ _ c.pop.ensures.items c.in-Some.is c.in-Made.is refl
 

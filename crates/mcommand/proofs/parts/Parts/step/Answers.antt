@@ -92,6 +92,12 @@ returns-in-Order g c = rw c.in-Order.is (within_any c.order_step.ensures)
 pub returns-in-TellName : goal.returns-in-TellName
 returns-in-TellName g c = rw c.in-TellName.is (within_any c.tell_name_step.ensures)
 
+pub returns-in-Seek : goal.returns-in-Seek
+returns-in-Seek g c = rw c.in-Seek.is (within_any c.seek_step.ensures)
+
+pub returns-in-Query : goal.returns-in-Query
+returns-in-Query g c = rw c.in-Query.is (within_any c.query_step.ensures)
+
 pub returns-in-Local : goal.returns-in-Local
 returns-in-Local g c = rw c.in-Local.is (within_any (does_yielded c.local_step.ensures))
 

@@ -17,4 +17,5 @@ pub mod Rooms
 pub mod Texts
 pub mod PlayedTexts
 pub mod ConditionRuns
+pub mod KeptFormals
 pub mod ExecLaws

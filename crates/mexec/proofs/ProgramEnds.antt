@@ -5,7 +5,7 @@ use Rattle.mspec.specs.Act.{write}
 use Rattle.mmeaning.specs.Operators.{as_number}
 use Rattle.mmeaning.specs.LineMeaning.{Completion, all_assigned, spaced_to, character_written, where_true}
 use Rattle.mmeaning.specs.Programs.{Item, one_value, some_values, found, placed, walked, made, handing, Ending, Assign, Show, Tab, Character, Test, Hold}
-use Rattle.mmeaning.specs.Programs.{Wait, Return, Run, Enter, Go}
+use Rattle.mmeaning.specs.Programs.{sought, Wait, Return, Run, Enter, Go}
 use Rattle.mmeaning.specs.Programs.{Pause, over, end_begun}
 use Rattle.mexec.specs.Programs.{ends}
 
@@ -25,12 +25,14 @@ module _ (x : Context) where
   ends_is Assign (one_value v ∷ found r ∷ st) = refl
   ends_is Assign (one_value v ∷ placed p ∷ st) = refl
   ends_is Assign (one_value v ∷ walked p ∷ st) = refl
+  ends_is Assign (one_value v ∷ sought p ∷ st) = refl
   ends_is Assign (one_value v ∷ made ps ∷ st) = goes_on (all_assigned v ps)
   ends_is Assign (one_value v ∷ handing b bs ∷ st) = refl
   ends_is Assign (some_values vs ∷ st) = refl
   ends_is Assign (found r ∷ st) = refl
   ends_is Assign (placed p ∷ st) = refl
   ends_is Assign (walked p ∷ st) = refl
+  ends_is Assign (sought p ∷ st) = refl
   ends_is Assign (made ps ∷ st) = refl
   ends_is Assign (handing b bs ∷ st) = refl
   ends_is Show [] = refl
@@ -39,6 +41,7 @@ module _ (x : Context) where
   ends_is Show (found r ∷ st) = refl
   ends_is Show (placed p ∷ st) = refl
   ends_is Show (walked p ∷ st) = refl
+  ends_is Show (sought p ∷ st) = refl
   ends_is Show (made ps ∷ st) = refl
   ends_is Show (handing b bs ∷ st) = refl
   ends_is Tab [] = refl
@@ -47,6 +50,7 @@ module _ (x : Context) where
   ends_is Tab (found r ∷ st) = refl
   ends_is Tab (placed p ∷ st) = refl
   ends_is Tab (walked p ∷ st) = refl
+  ends_is Tab (sought p ∷ st) = refl
   ends_is Tab (made ps ∷ st) = refl
   ends_is Tab (handing b bs ∷ st) = refl
   ends_is Character [] = refl
@@ -55,6 +59,7 @@ module _ (x : Context) where
   ends_is Character (found r ∷ st) = refl
   ends_is Character (placed p ∷ st) = refl
   ends_is Character (walked p ∷ st) = refl
+  ends_is Character (sought p ∷ st) = refl
   ends_is Character (made ps ∷ st) = refl
   ends_is Character (handing b bs ∷ st) = refl
   ends_is Test [] = refl
@@ -63,6 +68,7 @@ module _ (x : Context) where
   ends_is Test (found r ∷ st) = refl
   ends_is Test (placed p ∷ st) = refl
   ends_is Test (walked p ∷ st) = refl
+  ends_is Test (sought p ∷ st) = refl
   ends_is Test (made ps ∷ st) = refl
   ends_is Test (handing b bs ∷ st) = refl
   ends_is Hold [] = refl
@@ -71,6 +77,7 @@ module _ (x : Context) where
   ends_is Hold (found r ∷ st) = refl
   ends_is Hold (placed p ∷ st) = refl
   ends_is Hold (walked p ∷ st) = refl
+  ends_is Hold (sought p ∷ st) = refl
   ends_is Hold (made ps ∷ st) = refl
   ends_is Hold (handing b bs ∷ st) = refl
   ends_is Wait [] = refl
@@ -79,6 +86,7 @@ module _ (x : Context) where
   ends_is Wait (found r ∷ st) = refl
   ends_is Wait (placed p ∷ st) = refl
   ends_is Wait (walked p ∷ st) = refl
+  ends_is Wait (sought p ∷ st) = refl
   ends_is Wait (made ps ∷ st) = refl
   ends_is Wait (handing b bs ∷ st) = refl
   ends_is Return [] = refl
@@ -87,6 +95,7 @@ module _ (x : Context) where
   ends_is Return (found r ∷ st) = refl
   ends_is Return (placed p ∷ st) = refl
   ends_is Return (walked p ∷ st) = refl
+  ends_is Return (sought p ∷ st) = refl
   ends_is Return (made ps ∷ st) = refl
   ends_is Return (handing b bs ∷ st) = refl
   ends_is Run [] = refl
@@ -95,6 +104,7 @@ module _ (x : Context) where
   ends_is Run (found r ∷ st) = refl
   ends_is Run (placed p ∷ st) = refl
   ends_is Run (walked p ∷ st) = refl
+  ends_is Run (sought p ∷ st) = refl
   ends_is Run (made ps ∷ st) = refl
   ends_is Run (handing b bs ∷ st) = refl
   ends_is (Enter e is_listed) [] = refl
@@ -103,6 +113,7 @@ module _ (x : Context) where
   ends_is (Enter e is_listed) (found r ∷ st) = refl
   ends_is (Enter e is_listed) (placed p ∷ st) = refl
   ends_is (Enter e is_listed) (walked p ∷ st) = refl
+  ends_is (Enter e is_listed) (sought p ∷ st) = refl
   ends_is (Enter e is_listed) (made ps ∷ st) = refl
   ends_is (Enter e is_listed) (handing b bs ∷ st) = refl
   ends_is (Go e) st = refl

@@ -13,7 +13,7 @@ use Rattle.moperator.specs.declared.code.Code.TheVariants as code
 use Rattle.mmeaning.specs.LineMeaning.{where_true, truth_tested, returned_value}
 use Rattle.mmeaning.specs.Operators.{as_number}
 use Rattle.mmeaning.specs.Programs.{Item, one_value, some_values, found, placed, walked, made, handing, Op, Call, Unless, Pass, Ending, plain, step, Pause}
-use Rattle.mmeaning.specs.Programs.{over, calls, begun_on, begun_past, begun}
+use Rattle.mmeaning.specs.Programs.{sought, over, calls, begun_on, begun_past, begun}
 use Rattle.mprogram.specs.Views.{op_view, ending_view}
 use Rattle.mprogram.specs.Wholes.{WholeTree, steps_of, ending_of}
 use Rattle.mprogram.specs.declared.op.Ending as the_ending
@@ -128,6 +128,7 @@ module _ (x : Context) where
   call_begun e ops k (found r ∷ st) = refl
   call_begun e ops k (placed p ∷ st) = refl
   call_begun e ops k (walked p ∷ st) = refl
+  call_begun e ops k (sought p ∷ st) = refl
   call_begun e ops k (made ps ∷ st) = refl
   call_begun e ops k (handing b bs ∷ st) = refl
 
@@ -149,6 +150,7 @@ module _ (x : Context) where
   condition_begun n ops k (found r ∷ st) = refl
   condition_begun n ops k (placed p ∷ st) = refl
   condition_begun n ops k (walked p ∷ st) = refl
+  condition_begun n ops k (sought p ∷ st) = refl
   condition_begun n ops k (made ps ∷ st) = refl
   condition_begun n ops k (handing b bs ∷ st) = refl
 

@@ -10,7 +10,7 @@ ghost use Rattle.mexec.specs.Falls.{size, Falls};
 ghost use Rattle.mexec.specs.Frames.{RunsWithin, completion_of, went, source_args, source_position, position_of, stack};
 ghost use Rattle.mexec.specs.Progress.{IfStops, ends};
 ghost use Rattle.mexec.specs.Fronts.{args_started, begun_of};
-ghost use Rattle.mexec.specs.Arguments.{HasRoom, IsReady, room, started, started_plainly, start_of, where_applies, entrance_of, entered_then};
+ghost use Rattle.mexec.specs.Arguments.{HasRoom, IsReady, room, started, started_plainly, start_of, where_applies, entrance_of, entered, entered_then};
 ghost use Rattle.mexec.specs.Programs.{room_for};
 ghost use Rattle.moperator.specs.declared.code.Code.TheVariants.{Zmem};
 
@@ -330,6 +330,28 @@ pub(crate) fn arguments_begun<'t, S: NodeStore>(
     }
 }
 
+// What the program of the argument before one leads to. Kept out of line, so that a DO needs no room for what it has come to.
+#[inline(never)]
+fn resuming<S: NodeStore>(
+    alloc: Global,
+    parts: &mut Parts<S>,
+    paused: Box<Paused>,
+    source: Source,
+    argument: usize,
+    scratch: &mut Scratch,
+) -> Result<Completion, Code>
+    requires { slice_get (source_args source) (argument - 1) ≡ Some paused.value.arg.now }
+    ensures falls { IfOk result (λ _. 6 * parts.new.eval.steps + size scratch.new.frames.items + 1
+        ≤ 6 * parts.old.eval.steps + size scratch.old.frames.items + room_for paused.entry.value.pause) }
+    ensures does { RunsWithin S.NodeStore
+        (λ a n. entered (context a n (position_of (source_position source.entry))) (entrance_of (Entrance.Paused paused.entry)))
+        (stack scratch.old.frames.items) parts.old result (stack scratch.new.frames.items) parts.new }
+{
+    let place = Place::Argument(source, argument.saturating_sub(1));
+    let Paused { arg: _, pause } = Box::into_inner(paused);
+    resume(alloc, parts, place, pause, scratch)
+}
+
 // What an argument enters, before the arguments from one on: these stay on the frames.
 pub(crate) fn enter_argument<S: NodeStore>(
     alloc: Global,
@@ -351,11 +373,7 @@ pub(crate) fn enter_argument<S: NodeStore>(
         Entrance::Indirect(keyword, operand) => {
             giving(alloc, parts, position, keyword, operand, scratch)
         }
-        Entrance::Paused(paused) => {
-            let place = Place::Argument(source, argument.saturating_sub(1));
-            let Paused { arg: _, pause } = Box::into_inner(paused);
-            resume(alloc, parts, place, pause, scratch)
-        }
+        Entrance::Paused(paused) => resuming(alloc, parts, paused, source, argument, scratch),
     }
 }
 

@@ -3,13 +3,16 @@
 ghost use Rattle.std.specs.Prelude.{◌≡◌, ◌≤◌, ◌<◌, ◌+◌, ◌*◌, suc, false, ◌∷◌, length, map, option_map, IfOk, OnOk};
 ghost use Rattle.mspec.specs.Act.{with_locals};
 ghost use Rattle.mgrammar.specs.CallsIn.{has_call, has_call_actuals};
+ghost use Rattle.mgrammar.specs.RoutineLine.{formals_of};
 ghost use Rattle.mmeaning.specs.Levels.{a_level_free, leaves};
-ghost use Rattle.mmeaning.specs.Parameters.{with_formals};
+ghost use Rattle.mmeaning.specs.Parameters.{formals_for as meant_formals_for, with_formals};
 ghost use Rattle.mmeaning.specs.LineMeaning as meaning;
 ghost use Rattle.mmeaning.specs.LineMeaning.{context};
 ghost use Rattle.mmeaning.specs.Frames.{Rests, Levels};
 ghost use Rattle.mlocal.specs.Bindings.{binding_of, bindings_of};
 ghost use Rattle.mmeaning.specs.Programs.{listed};
+ghost use Rattle.mmeaning.specs.Yields.{Yields};
+ghost use Rattle.moperator.specs.Codes.{fault_of};
 ghost use Rattle.mtree.specs.Tree.{called_tree, entry_tree, expr_tree};
 ghost use Rattle.meval.specs.Evaluates.{depth_of};
 ghost use Rattle.mcommand.specs.Does.{DoesAt};
@@ -24,12 +27,14 @@ use crate::frames::{Closing, Level, Position};
 use crate::levels::{enter_line, leave_commands, lines_next, wants_value};
 use crate::reading_trees::read_line;
 use crate::scratch::Scratch;
-use mcommand::{Parts, Target, formals_for};
+use mcache::Trees;
+use mcommand::{Parts, Target, formals_for, formals_lent};
 use meval::Depth;
 use mlocal::Binding;
 use mnodes::NodeStore;
 use mnum::{Bytes7, Name};
 use moperator::Code;
+use mscan::may_have_formal_list;
 use mtree::{Called, Entry, Expr, Line};
 use mvalue::Value;
 use std::alloc::{AllocError, Global};
@@ -75,11 +80,54 @@ pub(crate) struct Opening<'t> {
     pub(crate) closing: Closing,
 }
 
+// The same as `formals_of_line`, for a line that may have a formal list. Kept out of line, so that a line without one is entered at once.
+#[inline(never)]
+fn formals_listed(
+    alloc: Global,
+    trees: &mut Trees,
+    language: u32,
+    is_listed: bool,
+    line: &[u8],
+    bindings: Vec<Binding>,
+) -> Result<Option<Vec<(Name, Binding)>>, Code>
+    requires { 1 ≤ language }
+    ensures { Yields fault_of (meant_formals_for (listed is_listed) (formals_of language line.now) (map binding_of bindings.items))
+        (option_map (λ formals. bindings_of formals.items)) result }
+{
+    match trees.kept_routine_line(line) {
+        None => formals_for(alloc, language, is_listed, line, bindings),
+        Some(tree) => formals_lent(alloc, is_listed, &tree.formals, bindings),
+    }
+}
+
+// The formal parameters of a line, each with what its actual hands over, as `formals_for` gives them: a tree that is kept has the formal list.
+#[inline(always)]
+fn formals_of_line(
+    alloc: Global,
+    trees: &mut Trees,
+    language: u32,
+    is_listed: bool,
+    line: &[u8],
+    bindings: Vec<Binding>,
+) -> Result<Option<Vec<(Name, Binding)>>, Code>
+    ensures { Yields fault_of (meant_formals_for (listed is_listed) (formals_of language line.now) (map binding_of bindings.items))
+        (option_map (λ formals. bindings_of formals.items)) result }
+{
+    if may_have_formal_list(language, line) {
+        formals_listed(alloc, trees, language, is_listed, line, bindings)
+    } else if is_listed {
+        Err(Code::M20)
+    } else {
+        Ok(None)
+    }
+}
+
 // The formal parameters of the line that a DO or a function names, for what its actuals hand over.
 #[inline(always)]
 fn formals_of_target<S: NodeStore>(
     alloc: Global,
     parts: &mut Parts<S>,
+    trees: &mut Trees,
     is_listed: bool,
     target: &Target,
     bindings: Vec<Binding>,
@@ -89,7 +137,7 @@ fn formals_of_target<S: NodeStore>(
 {
     let language = parts.eval.language();
     let line = target.copy[target.line].as_bytes();
-    formals_for(alloc, language, is_listed, line, bindings)
+    formals_of_line(alloc, trees, language, is_listed, line, bindings)
 }
 
 // The lines from the one that an entry names on, in a level of their own. The first of them is entered, which costs a step.
@@ -112,7 +160,8 @@ pub(crate) fn entering<S: NodeStore>(
     } = opening;
     let depth = one_deeper(parts, position.depth, wants_value(closing))?;
     let target = parts.target(alloc, &position.level.copy, 0, entry)?;
-    let formals = formals_of_target(alloc, parts, is_listed, &target, bindings)?;
+    let trees = &mut scratch.trees;
+    let formals = formals_of_target(alloc, parts, trees, is_listed, &target, bindings)?;
     open_with(parts, formals)?;
     let line = target.line;
     let level = Level {

@@ -1,6 +1,6 @@
 -- SPDX-License-Identifier: Apache-2.0
-use Rattle.mexec.proofs.ExecLaws.{map, drop, arg_tree, source_args, source_position, position_of, ◌-◌, sym, runs_wanting, runs_within, within_listing}
-use Rattle.mexec.proofs.ExecLaws.{argument_there, argument_whole, arith, falls_one_more}
+use Rattle.mexec.proofs.ExecLaws.{map, drop, arg_tree, source_args, source_position, position_of, runs_wanting, runs_within, within_listing}
+use Rattle.mexec.proofs.ExecLaws.{arith, falls_one_more}
 use Rattle.mexec.proofs.arguments.enter_argument.Goals as goal
 
 pub returns-in_err-leave-clause-does : goal.returns-in_err-leave-clause-does
@@ -33,17 +33,13 @@ executing-requires g c = rw c.in-Text.is at c.requires
 pub giving-requires : goal.giving-requires
 giving-requires g c = rw c.in-Indirect.is at c.requires
 
-pub resume-requires : goal.resume-requires
-resume-requires g c =
-    let ready = rw c.in-Paused.is at c.requires in
-    rw c.saturating_sub.ensures (argument_there (source_args c.args.source) (c.args.argument - 1) _ ready)
+pub resuming-requires : goal.resuming-requires
+resuming-requires g c = rw c.in-Paused.is at c.requires
 
 pub returns-in-Paused-clause-does : goal.returns-in-Paused-clause-does
 returns-in-Paused-clause-does g c =
     let s = c.args.source in
-    let ready = rw (c.in-Paused.is, sym c.saturating_sub.ensures) at c.requires in
-    let whole = argument_whole (source_args s) c.saturating_sub.result _ ready in
-    let does = rw (c.in_ok-leave.ensures.frames, c.into_inner-pause.ensures) at (c.resume.ensures.does _ whole) in
+    let does = rw c.in_ok-leave.ensures.frames at c.resuming.ensures.does in
     rw c.in-Paused.is (within_listing (position_of (source_position s)) (map arg_tree (drop c.args.argument (source_args s))) does)
 
 pub returns-in-Lines-clause-falls : goal.returns-in-Lines-clause-falls
@@ -64,5 +60,4 @@ returns-in-Indirect-clause-falls g c =
 pub returns-in-Paused-clause-falls : goal.returns-in-Paused-clause-falls
 returns-in-Paused-clause-falls g c =
     let most = c.in_ok-leave.ensures.most in
-    let falls = rw c.into_inner-pause.ensures at c.resume.ensures.falls in
-    rw c.in-Paused.is (falls_one_more _ _ _ c.resume.result (omega (arith, most)) falls)
+    rw c.in-Paused.is (falls_one_more _ _ _ c.resuming.result (omega (arith, most)) c.resuming.ensures.falls)

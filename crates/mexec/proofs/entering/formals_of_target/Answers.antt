@@ -13,6 +13,6 @@ returns g c =
     let xs = listed c.args.is_listed in
     let bs = map binding_of c.args.bindings.items in
     let there = slice_get_read lines _ t.line c.index.result.now refl c.requires (rw c.deref.ensures at c.index.ensures) in
-    let formals = rw (c.as_bytes-line.ensures.bytes, c.language-language.ensures.language) at c.formals_for.ensures in
+    let formals = rw (c.as_bytes-line.ensures.bytes, c.language-language.ensures.language) at c.formals_of_line.ensures in
     at_as (λ a n. λ i s. formals_for xs (formals_in s.given.language (slice_get lines t.line)) bs s)
     (at_in (λ l. formals_for xs (formals_in l (slice_get lines t.line)) bs) (at_yielded (rw there formals)))

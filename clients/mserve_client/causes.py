@@ -142,7 +142,7 @@ _VALUES = [
     _dollar(r"(?:T|TEXT)\(", "$TEXT", 'A routine\'s lines are a global: ^ROUTINE("R",1).', "W $T(A+1)"),
     _later(1, _dollar(r"(?:QL|QLENGTH|QS|QSUBSCRIPT)\(", "$QLENGTH or $QSUBSCRIPT", "keep subscripts in locals of their own.", "W $QL(X)")),
     _later(1, _dollar(r"(?:NA|NAME)\(", "$NAME", "build names by `_` and use them by @.", "S X=$NA(A(1))")),
-    _dollar(r"(?:Q|QUERY)\(", "$QUERY", "Walk level by level by $ORDER; build names by `_` and use them by @.", "S X=$Q(^A)"),
+    _later(1, _dollar(r"(?:Q|QUERY)\(", "$QUERY", "walk level by level by $ORDER; build names by `_` and use them by @.", "S X=$Q(^A)")),
     _dollar(r"(?:N|NEXT)\(", "$NEXT", 'Use $ORDER, which begins and ends with "".', "S X=$N(^A(-1))"),
     _later(1, _dollar(r"(?:FN|FNUMBER)\(", "$FNUMBER", "put the text together by $PIECE, $EXTRACT and $JUSTIFY.", 'W $FN(X,",")')),
     _dollar(r"(?:R|RANDOM)\(", "$RANDOM", "The server answers the same lines alike: the client sends random numbers.", "S X=$R(10)"),

@@ -50,7 +50,7 @@ TARGETS_SINCE = {1: {"P PIECE": (1, 3), "E EXTRACT": (0, 2)}}
 # A line that a language takes, and none before it.
 NEW_LINES = {1: "W $RE(1)"}
 # The functions of a variable: how many values at most after it; and those that a later language has.
-OF_VARIABLE, OF_VARIABLE_SINCE = {"D DATA": 0, "G GET": 1, "O ORDER": 1}, {1: {"NA NAME": 1}}
+OF_VARIABLE, OF_VARIABLE_SINCE = {"D DATA": 0, "G GET": 1, "O ORDER": 1}, {1: {"NA NAME": 1, "Q QUERY": 1}}
 
 
 def text(pattern: str, wanted: str = "") -> Step:

@@ -37,6 +37,7 @@ FUNCTIONS = {
     "$PIECE": "$P(text,delimiter[,from[,to]])  pieces between delimiters; SET of several needs language 1",
     "$QLENGTH": "$QL(name)              how many subscripts the name of a node has; of language 1",
     "$QSUBSCRIPT": "$QS(name,place)        a subscript of the name of a node; 0 its name, -1 its account; of language 1",
+    "$QUERY": "$Q(variable[,-1])      the name of the next node that has a text, or of the one before; of language 1",
     "$REVERSE": "$RE(text)              the characters, the last one first; of language 1",
     "$SELECT": "$S(condition:value,..) the value of the first true condition",
     "$TRANSLATE": "$TR(text,from[,to])    the text with characters exchanged, or taken out",

@@ -38,6 +38,8 @@ LATER = ["W $RE(A)", 'S A=$RE("ab")_1,B=$reverse(A) Q:B=""  W $L($RE(B_$RE(A)))'
          'W $QL(A),$QS("A(1)",$QL(B)),$qlength("A"_$qsubscript(A,-1)) S A($QL(A))=$QS(A,B)_1',
          'W $NA(A),$NAME(^(1,A),$NA(B)),$na(@A@(1),2) S A($NA(^|"X"|A(B)))=$L($NA(@$NA(A(1)),0))_1',
          "W $NA(A($$B)),$NA(^($$C,A),$$B),$na(^|$$A|B(1),-$$C) I $NA(@$$A@(1))=A",
+         'W $Q(A),$QUERY(^(1,A),-$Q(B)),$q(@A@(""),-1) S A($Q(^|"X"|A(B)))=$L($Q(@$Q(A(1)),1))_1',
+         "W $Q(A($$B)),$Q(^($$C,A),$$B),$q(^|$$A|B(1),-$$C) I $Q(@$$A@(1))=A",
          'S $E(A)=1,$EXTRACT(^A(1),2)="b",($E(A,2,3),$e(@A,$E(A)))=B', 'S $P(A,",",2,3)=1,($P(^A,"x",1,2),B)=$P(A,",",2,3) W A']
 
 

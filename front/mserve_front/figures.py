@@ -39,7 +39,7 @@ class ByAccount:
         self._of = {terminal: account for account, some in terminals.items() for terminal in some}
 
     def handed(self, terminal: int, since: float, size: int) -> None:
-        """Notes a reply that is handed out, of a line that came then; they took so many bytes of the journal."""
+        """Notes a reply that is handed out, of a line that came then; `size` is what they took of the journal, in bytes."""
         now, account = time.monotonic(), self._of.get(terminal, "")
         waited = now - since
         self._below[account][bisect_left(STEPS, waited)] += 1

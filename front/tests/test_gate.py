@@ -50,13 +50,16 @@ class Inner:
             if not before and b"\r\n\r\n" in got:
                 writer.write(self.answer)
                 if b" 101 " not in self.answer:
-                    # What is carried on all the same comes soon.
-                    with contextlib.suppress(TimeoutError):
-                        async with asyncio.timeout(CARRIED_SOON):
-                            while data := await reader.read(1000):
-                                got += data
+                    await self._carried(reader, got)
                     break
         writer.close()
+
+    async def _carried(self, reader: asyncio.StreamReader, got: bytearray) -> None:
+        """Keeps what is carried on although the answer was a refusal: it comes soon."""
+        with contextlib.suppress(TimeoutError):
+            async with asyncio.timeout(CARRIED_SOON):
+                while data := await reader.read(1000):
+                    got += data
 
 
 class Running:

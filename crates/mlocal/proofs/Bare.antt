@@ -29,7 +29,7 @@ some_put k x (e ∷ es) = here (R k e.0)
     here Equal = not_none (length (map (λ e. e.0) es))
     here Greater = not_none (length (map (λ e. e.0) (put R k x es)))
 
-given_text : (t : Tree) (k : List Text) (x : Text) → false ≡ is_bare (insert t k x)
+pub given_text : (t : Tree) (k : List Text) (x : Text) → false ≡ is_bare (insert t k x)
 given_text t k x = some_put k x (entries t) ∙ ap (λ es. nat_eq (length (map (λ e. e.0) es)) 0) (sym (entries-insert (subscripts_cmp_total significant_digits) t k x))
 
 values_bare : (es : List (List Text × Text)) → nat_eq (length es) 0 ≡ is_bare (from_entries {R = R} (map (λ e. (e.0, e.1)) es))

@@ -9,8 +9,8 @@ use Rattle.mlocal.proofs.LocalWords.{◌≡◌, ℕ, suc, ◌+◌, ◌-◌, ◌<
 use Rattle.mlocal.proofs.LocalWords.{None, refl, sym, ap, ◌∙◌, ◌||◌, cond, unwrap_or, subst, arith, length-set, Tree, is_bare, tree_in, with_tree, without}
 use Rattle.mlocal.proofs.LocalWords.{retain_keys, not, drop_all, drop-cons, false_from_ne_true, lookup, is_among, is_other, Text, text_eq, Scope, entered}
 use Rattle.mlocal.proofs.LocalWords.{slice_get, slice_get-get_or, passed, known_below, killed_up, kill_in, option_and_then, add-one}
-use Rattle.mlocal.proofs.LocalWords.{AreFree, IsFree, IsRaised, place_at, slot, Result, Ok, Err, OnOk, OnErr}
-use Rattle.mlocal.proofs.LocalWords.{NamedTrees, is_some, option_map}
+use Rattle.mlocal.proofs.LocalWords.{AreBare, AreFree, IsFree, IsHome, IsRaised, place_at, slot, Result, Ok, Err, OnOk}
+use Rattle.mlocal.proofs.LocalWords.{OnErr, NamedTrees, is_some, option_map}
 use Rattle.mlocal.proofs.Tables.{same_name}
 use Rattle.mlocal.proofs.Views.{scope_of}
 
@@ -54,50 +54,68 @@ free_to n m xs q p r le known free is = here (cases_lt p q)
         subst (λ i. known_below (drop i xs) n ≡ Some m) (sym same)
         (free_down n m xs p free (q - p) (omega (arith, back, le)) (subst (λ i. known_below (drop i xs) n ≡ Some m) (sym back) known))
 
--- ---- lists of scopes that change
+-- from the bottom on: then each name's variable is below all of them
+pub bare_home : (n : Text) (xs : List Scope) (p : ℕ) → p ≡ 0 → AreBare p xs → IsHome n xs None n
+bare_home n xs p none bare = free_from n xs 0 (omega arith) (subst (λ q. IsFree q xs n) none (bare n))
+
+-- ---- lists of scopes that change, whatever the places of names are by
+
+abbrev AreFreeFrom : (Text → ℕ) → List Scope → Type 0
+AreFreeFrom p xs = (n : Text) → IsFree (p n) xs n
 
 -- scopes that pass names on alike
-pub free_alike : (ps : List ℕ) (xs ys : List Scope) → ((n : Text) → map (λ s. passed s n) ys ≡ map (λ s. passed s n) xs) → AreFree ps xs → AreFree ps ys
-free_alike ps xs ys same free = λ n k d le lt.
+free_alike : (p : Text → ℕ) (xs ys : List Scope) → ((n : Text) → map (λ s. passed s n) ys ≡ map (λ s. passed s n) xs) → AreFreeFrom p xs
+    → AreFreeFrom p ys
+free_alike p xs ys same free = λ n k d le lt.
     let f : Scope → Option Text = λ s. passed s n in
     let len : length ys ≡ length xs = sym (length-map ys f) ∙ ap length (same n) ∙ length-map xs f in
     let lt' : k < length xs = subst (λ i. k < i) len lt in
     sym (get_or-map f ys k d (f d) lt) ∙ ap (λ l. get_or l k (f d)) (same n) ∙ get_or-map f xs k d (f d) lt' ∙ free n k d le lt'
 
 -- one of them changed, in another way
-pub free_set : (ps : List ℕ) (xs : List Scope) (i : ℕ) (w x : Scope) → x ≡ get_or xs i x → ((n : Text) → passed w n ≡ passed x n) → AreFree ps xs
-    → AreFree ps (set xs i w)
-free_set ps xs i w x is same = free_alike ps xs (set xs i w) (λ n. map-set_same (λ s. passed s n) xs i w x (same n ∙ ap (λ s. passed s n) is))
+free_set : (p : Text → ℕ) (xs : List Scope) (i : ℕ) (w x : Scope) → x ≡ get_or xs i x → ((n : Text) → passed w n ≡ passed x n) → AreFreeFrom p xs
+    → AreFreeFrom p (set xs i w)
+free_set p xs i w x is same = free_alike p xs (set xs i w) (λ n. map-set_same (λ s. passed s n) xs i w x (same n ∙ ap (λ s. passed s n) is))
 
 killed-alike : (names : List Text) (xs : List Scope) (n : Text) → map (λ s. passed s n) (killed_up names xs) ≡ map (λ s. passed s n) xs
 killed-alike names [] n = refl
 killed-alike names (s ∷ above) n = ap (λ l. passed s n ∷ l) (killed-alike names above n)
 
-pub free_killed : (ps : List ℕ) (names : List Text) (xs ys : List Scope) → ys ≡ killed_up names xs → AreFree ps xs → AreFree ps ys
-free_killed ps names xs ys is free = subst (AreFree ps) (sym is) (free_alike ps xs (killed_up names xs) (killed-alike names xs) free)
+free_killed : (p : Text → ℕ) (names : List Text) (xs ys : List Scope) → ys ≡ killed_up names xs → AreFreeFrom p xs → AreFreeFrom p ys
+free_killed p names xs ys is free = subst (AreFreeFrom p) (sym is) (free_alike p xs (killed_up names xs) (killed-alike names xs) free)
 
 -- the scopes below
-pub free_below : (ps : List ℕ) (xs ys zs : List Scope) → zs ≡ xs ++ ys → AreFree ps zs → AreFree ps xs
-free_below ps xs ys zs is free = λ n k d le lt.
+free_below : (p : Text → ℕ) (xs ys zs : List Scope) → zs ≡ xs ++ ys → AreFreeFrom p zs → AreFreeFrom p xs
+free_below p xs ys zs is free = λ n k d le lt.
     let more : k < length (xs ++ ys) = omega (arith, lt, length-append xs ys) in
-    ap (λ s. passed s n) (sym (get_or_append_left xs ys d k lt)) ∙ subst (AreFree ps) is free n k d le more
+    ap (λ s. passed s n) (sym (get_or_append_left xs ys d k lt)) ∙ subst (AreFreeFrom p) is free n k d le more
 
 -- one more, which has no name
-pub free_entered : (ps : List ℕ) (xs : List Scope) → AreFree ps xs → AreFree ps (xs ++ entered ∷ [])
-free_entered ps xs free = λ n k d le lt. here n k d le lt (cases_lt k (length xs))
+free_entered : (p : Text → ℕ) (xs : List Scope) → AreFreeFrom p xs → AreFreeFrom p (xs ++ entered ∷ [])
+free_entered p xs free = λ n k d le lt. here n k d le lt (cases_lt k (length xs))
   where
-    here : (n : Text) (k : ℕ) (d : Scope) → place_at ps n ≤ k → k < length (xs ++ entered ∷ []) → (k < length xs) ⊎ (length xs ≤ k)
+    here : (n : Text) (k : ℕ) (d : Scope) → p n ≤ k → k < length (xs ++ entered ∷ []) → (k < length xs) ⊎ (length xs ≤ k)
         → passed (get_or (xs ++ entered ∷ []) k d) n ≡ Some n
     here n k d le lt (inl less) = ap (λ s. passed s n) (get_or_append_left xs (entered ∷ []) d k less) ∙ free n k d le less
     here n k d le lt (inr last) = ap (λ s. passed s n) (get_or_push xs entered d k (omega (arith, lt, last, length_push xs entered)))
 
--- from the end on, of any
-pub free_end : (xs : List Scope) (n : Text) → IsFree (length xs) xs n
-free_end xs n = λ k d le lt. absurd (omega (arith, le, lt))
-
 -- none
-pub free_none : (ps : List ℕ) (xs : List Scope) → length xs ≡ 0 → AreFree ps xs
-free_none ps xs none = λ n k d le lt. absurd (omega (arith, none, lt))
+free_none : (p : Text → ℕ) (xs : List Scope) → length xs ≡ 0 → AreFreeFrom p xs
+free_none p xs none = λ n k d le lt. absurd (omega (arith, none, lt))
+
+-- past the end nothing is said
+pub bare_end : (p : ℕ) (xs : List Scope) → length xs ≤ p → AreBare p xs
+bare_end p xs end = λ n k d le lt. absurd (omega (arith, end, le, lt))
+
+-- the scope on top changed
+pub bare_top : (p : ℕ) (xs : List Scope) (i : ℕ) (w : Scope) → length xs ≤ p → AreBare p (set xs i w)
+bare_top p xs i w end = bare_end p (set xs i w) (let len = length-set xs i w in omega (arith, end, len))
+
+-- the scopes below, whose end may be a lower place
+bare_below : (p r : ℕ) (xs ys zs : List Scope) → zs ≡ xs ++ ys → min p (length xs) ≤ r → AreBare p zs → AreBare r xs
+bare_below p r xs ys zs is lower bare = λ n k d le lt.
+    let high : p ≤ k = omega (arith, lower, le, lt) in
+    free_below (λ m. p) xs ys zs is bare n k d high lt
 
 -- ---- places that are raised
 
@@ -205,10 +223,10 @@ push_top xs s k d lt =
 -- ---- a scope that a call may have changed
 
 -- a change of trees
-pub free_put : {T E : Type 0} (r : Result T E) (ps : List ℕ) (xs : List Scope) (i : ℕ) (w x y : Scope) → OnOk r (w ≡ y) → OnErr r (w ≡ x)
-    → ((n : Text) → passed y n ≡ passed x n) → x ≡ get_or xs i x → AreFree ps xs → AreFree ps (set xs i w)
-free_put (Ok u) ps xs i w x y ok err same is free = free_set ps xs i w x is (λ n. ap (λ s. passed s n) ok ∙ same n) free
-free_put (Err u) ps xs i w x y ok err same is free = free_set ps xs i w x is (λ n. ap (λ s. passed s n) err) free
+free_put : {T E : Type 0} (r : Result T E) (p : Text → ℕ) (xs : List Scope) (i : ℕ) (w x y : Scope) → OnOk r (w ≡ y) → OnErr r (w ≡ x)
+    → ((n : Text) → passed y n ≡ passed x n) → x ≡ get_or xs i x → AreFreeFrom p xs → AreFreeFrom p (set xs i w)
+free_put (Ok u) p xs i w x y ok err same is free = free_set p xs i w x is (λ n. ap (λ s. passed s n) ok ∙ same n) free
+free_put (Err u) p xs i w x y ok err same is free = free_set p xs i w x is (λ n. ap (λ s. passed s n) err) free
 
 abbrev put_back : Text → List Text → Tree → Scope → Scope
 put_back m k t s = with_tree m (without t k) s
@@ -222,3 +240,25 @@ killed_passes m k (Some t) s n = here (is_bare (tree_in (put_back m k t s) m))
         ≡ passed s n
     here true = refl
     here false = refl
+
+-- ---- where lookups begin, by both
+
+abbrev pub AreBoth : List ℕ → ℕ → List Scope → Type 0
+AreBoth ps p xs = AreFree ps xs × AreBare p xs
+
+pub both_put : {T E : Type 0} (r : Result T E) (ps : List ℕ) (p : ℕ) (xs : List Scope) (i : ℕ) (w x y : Scope) → OnOk r (w ≡ y) → OnErr r (w ≡ x)
+    → ((n : Text) → passed y n ≡ passed x n) → x ≡ get_or xs i x → AreBoth ps p xs → AreBoth ps p (set xs i w)
+both_put r ps p xs i w x y ok err same is both =
+    (free_put r (place_at ps) xs i w x y ok err same is both.0, free_put r (λ n. p) xs i w x y ok err same is both.1)
+
+pub both_killed : (ps : List ℕ) (p : ℕ) (names : List Text) (xs ys : List Scope) → ys ≡ killed_up names xs → AreBoth ps p xs → AreBoth ps p ys
+both_killed ps p names xs ys is both = (free_killed (place_at ps) names xs ys is both.0, free_killed (λ n. p) names xs ys is both.1)
+
+pub both_below : (ps : List ℕ) (p r : ℕ) (xs ys zs : List Scope) → zs ≡ xs ++ ys → min p (length xs) ≤ r → AreBoth ps p zs → AreBoth ps r xs
+both_below ps p r xs ys zs is lower both = (free_below (place_at ps) xs ys zs is both.0, bare_below p r xs ys zs is lower both.1)
+
+pub both_entered : (ps : List ℕ) (p : ℕ) (xs ys : List Scope) → ys ≡ xs ++ entered ∷ [] → AreBoth ps p xs → AreBoth ps p ys
+both_entered ps p xs ys is both = subst (AreBoth ps p) (sym is) (free_entered (place_at ps) xs both.0, free_entered (λ n. p) xs both.1)
+
+pub both_none : (ps : List ℕ) (p : ℕ) (xs : List Scope) → length xs ≡ 0 → AreBoth ps p xs
+both_none ps p xs none = (free_none (place_at ps) xs none, free_none (λ n. p) xs none)

@@ -13,5 +13,8 @@ pub mod Searches
 pub mod Removals
 pub mod Bare
 pub mod Tables
+pub mod NamedTrees
+pub mod NamedScopes
+pub mod Rests
 pub mod Free
 pub mod LocalLaws

@@ -6,7 +6,7 @@ pub use Rattle.mlocal.proofs.LocalWords.{flat_map, formals, found_is_had, from_e
 pub use Rattle.mlocal.proofs.LocalWords.{hide, hide_others, insert, insert-map_of, is_among, is_bare, is_before, is_behind, is_below, is_between, is_empty}
 pub use Rattle.mlocal.proofs.LocalWords.{is_eq, is_one_of, is_some, keys, keys_of, kill_at, kill_in, killed, killed_except, known_below, last, leads_to, length}
 pub use Rattle.mlocal.proofs.LocalWords.{linked, list_any, list_any_more, map, map_of, nat_eq, nat_list_cmp_total, nat_tests, newed, newed_except, not}
-pub use Rattle.mlocal.proofs.LocalWords.{AreFree, IsFree, IsRaised, add-one, drop, drop-cons, drop_all, lookup, set}
+pub use Rattle.mlocal.proofs.LocalWords.{bottom_of, empty, index_in, spared, trees_of, AreFree, IsFree, IsRaised, add-one, drop, drop-cons, drop_all, lookup, set}
 pub use Rattle.mlocal.proofs.LocalWords.{option_and_then, option_map, order_of, pointwise, refl, retain_keys, reverse, rules, set_in, significant_digits}
 pub use Rattle.mlocal.proofs.LocalWords.{slice_get_within, stays, subscripts_cmp, subscripts_cmp_exact, subscripts_cmp_total, subst, sym, take, tree_in}
 pub use Rattle.mlocal.proofs.LocalWords.{text_eq, tree_of, true, unwrap_or, way, ways, with_own, with_tree, without, ◌&&◌, ◌++◌, ◌+◌, ◌-◌, ◌<◌, ◌||◌, ◌∙◌, ◌∷◌}
@@ -14,7 +14,8 @@ pub use Rattle.mlocal.proofs.LocalWords.{◌≡◌, ◌≤◌}
 pub use Rattle.mlocal.proofs.Bare.{own_bare}
 pub use Rattle.mlocal.proofs.Bound.{last_bound}
 pub use Rattle.mlocal.proofs.Bounds.{below_all, below_before, below_behind, empty_first, more_behind}
-pub use Rattle.mlocal.proofs.Free.{all_raised, free_below, free_end, free_entered, free_from, free_killed, free_none, free_put, free_to, killed_passes}
+pub use Rattle.mlocal.proofs.Free.{all_raised, bare_end, bare_home, bare_top, both_below, both_entered, both_killed, both_none, both_put, free_from}
+pub use Rattle.mlocal.proofs.Free.{free_to, killed_passes}
 pub use Rattle.mlocal.proofs.Free.{named_raised, no_top, of_top}
 pub use Rattle.mlocal.proofs.Free.{one_more_raised, one_raised, push_top, set_top, slot_within, top_raised}
 pub use Rattle.mlocal.proofs.Killed.{kill-all, kill-done, kill-step, ways_any}

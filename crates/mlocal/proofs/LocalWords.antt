@@ -45,9 +45,10 @@ pub use Rattle.mspec.specs.Scopes.{is_name, is_other, kill_in, killed, killed_bu
 pub use Rattle.mspec.specs.Scopes.{outermost, passed, set_in, stays, tree_in, tree_of, ways, with_tree}
 pub use Rattle.mspec.specs.Trees.{Tree, child_of, front, has_descendants, has_value, is_before, is_below, is_empty, is_within, last, order_of, text_eq, without}
 pub use Rattle.mlocal.specs.Bindings.{binding_of, bindings_of}
-pub use Rattle.mlocal.specs.Home.{AreFree, IsFree, IsHome, IsRaised, IsUnlinkedHome, killed_up, place_at, slot}
+pub use Rattle.mlocal.specs.Home.{bottom_of, AreBare, AreFree, IsFree, IsHome, IsRaised, IsUnlinkedHome, killed_up, place_at, slot}
 pub use Rattle.mlocal.specs.declared.level.UnlinkedHome.{UnlinkedHome}
 pub use Rattle.mlocal.specs.declared.level.UnlinkedHome.TheVariants.{Below, At, ByLink}
+pub use Rattle.mlocal.specs.Named.{index_in, spared, trees_of}
 pub use Rattle.mlocal.specs.Own.{AreSomeSubs, with_own}
 pub use Rattle.mlocal.specs.Table.{NamedTrees, StandsAt, kill_at, tidied_at, tree_at}
 pub use Rattle.mlocal.specs.Way.{has_child, is_behind, is_between, is_from, is_one_of, passes}

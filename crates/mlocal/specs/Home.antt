@@ -3,6 +3,8 @@
 use Rattle.std.specs.Prelude.{◌≡◌, ℕ, ◌+◌, ◌-◌, ◌*◌, ◌%◌, ◌<◌, ◌≤◌, true, List, [], ◌∷◌, drop, length, slice_index, slice_index_or, Option, Some, None, ⊤}
 use Rattle.mlocal.specs.declared.level.UnlinkedHome.{UnlinkedHome}
 use Rattle.mlocal.specs.declared.level.UnlinkedHome.TheVariants.{Below, At, ByLink}
+use Rattle.mlocal.specs.Named.{index_in}
+use Rattle.mlocal.specs.Table.{NamedTrees}
 use Rattle.mspec.specs.Node.{Text}
 use Rattle.mspec.specs.Scopes.{Scope, has, emptied, known_below, passed, stays}
 
@@ -22,6 +24,10 @@ IsFree place xs n = (k : ℕ) (d : Scope) → place ≤ k → k < length xs → 
 abbrev pub AreFree : List ℕ → List Scope → Type 0
 AreFree places xs = (n : Text) → IsFree (place_at places n) xs n
 
+-- from this place on all names: these scopes have none by themselves, and no links
+abbrev pub AreBare : ℕ → List Scope → Type 0
+AreBare place xs = (n : Text) → IsFree place xs n
+
 -- places that were raised to this one, but for the names that this holds of
 abbrev pub IsRaised : (Text → Type 0) → ℕ → List ℕ → List ℕ → Type 0
 IsRaised Q place old new = (n : Text) → place_at new n < place → (place_at new n ≡ place_at old n) × Q n
@@ -34,8 +40,12 @@ IsHome n xs (Some i) m = (i < length xs) × ((d : Scope) → has (slice_index_or
 -- the same as far as it shows without links, which are nowhere above the place; nothing is said where a level on the way has some
 abbrev pub IsUnlinkedHome : Text → List Scope → UnlinkedHome → Type 0
 IsUnlinkedHome n xs Below = IsHome n xs None n
-IsUnlinkedHome n xs (At i) = IsHome n xs (Some i) n
+IsUnlinkedHome n xs (At i k) = IsHome n xs (Some i) n × ((d : Scope) → k ≡ index_in (slice_index_or xs i d) n)
 IsUnlinkedHome n xs ByLink = ⊤
+
+-- the scope at the bottom, which has every name, with these trees
+abbrev pub bottom_of : NamedTrees → Scope
+bottom_of ts = record { names = []; others = Some []; trees = ts; links = [] }
 
 -- KILL of all variables that can be seen, except those to which these names lead
 abbrev pub killed_up : List Text → List Scope → List Scope

@@ -1,4 +1,5 @@
 -- SPDX-License-Identifier: Apache-2.0
+pub mod Named
 pub mod Home
 pub mod Bindings
 pub mod ScopeCode

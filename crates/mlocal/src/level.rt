@@ -1,7 +1,7 @@
 // SPDX-License-Identifier: Apache-2.0
 // The scope of a level.
-ghost use Rattle.std.specs.Prelude.{◌≡◌, ◌≢◌, ◌-◌, ◌≤◌, [], IfOk, IfSome, OnOk, OnErr, Some, ◌==◌, length, option_map, unwrap_or};
-ghost use Rattle.std.specs.FinMap.{get, insert};
+ghost use Rattle.std.specs.Prelude.{◌≡◌, ◌≢◌, ◌-◌, ◌<◌, ◌≤◌, [], IfOk, IfSome, OnOk, OnErr, Some, ◌==◌, length, option_map, unwrap_or};
+ghost use Rattle.std.specs.FinMap.{get, insert, empty};
 ghost use Rattle.std.specs.List.{list_any};
 ghost use Rattle.std.specs.Map.{lookup};
 ghost use Rattle.mkey.specs.Front.{AreSubs};
@@ -9,11 +9,13 @@ ghost use Rattle.mkey.specs.SubsKey.{behind_below};
 ghost use Rattle.mspec.specs.Scopes.{entered, has, tree_in, with_tree, hide, hide_others, kill_in, emptied, leads_to, passed, ways, stays, formals};
 ghost use Rattle.mspec.specs.Trees.{text_eq};
 ghost use Rattle.mlocal.specs.Bindings.{bindings_of};
-ghost use Rattle.mlocal.specs.Home.{AreFree, IsFree, IsHome, IsRaised, IsUnlinkedHome};
+ghost use Rattle.mlocal.specs.Named.{IsFound, index_in};
+ghost use Rattle.mlocal.specs.Home.{AreFree, IsFree, IsHome, IsRaised, IsUnlinkedHome, slot as slot_in};
 
 use crate::binding::Binding;
-use crate::places::{Places, slot_of};
+use crate::places::{Places, SLOTS, slot_of};
 use crate::scope::Scope;
+use crate::variable::Variable;
 use mkey::SubsKey;
 use mnum::Name;
 use mvalue::Value;
@@ -57,9 +59,10 @@ impl Level {
     pub(crate) fn bound(alloc: Global, bindings: Vec<(Name, Binding)>) -> Result<Level, AllocError>
         ensures { IfOk result (λ level. level ≡ formals (bindings_of bindings.items) entered) }
     {
-        let mut scope = boxed(alloc)?;
-        scope.bind_all(alloc, bindings)?;
-        Ok(Level { scope: Some(scope) })
+        let scope = Scope::bound(alloc, bindings)?;
+        Ok(Level {
+            scope: Some(Box::new(alloc, scope)?),
+        })
     }
 
     // Whether it has the name by itself.
@@ -69,6 +72,16 @@ impl Level {
         match &self.scope {
             None => false,
             Some(scope) => scope.has(name),
+        }
+    }
+
+    // The index of a name that it has by itself: of its first entry, or how many entries there are if it has none.
+    fn find(&self, name: &Name) -> Option<usize>
+        ensures { IsFound self.now name.now result }
+    {
+        match &self.scope {
+            None => None,
+            Some(scope) => scope.find(name),
         }
     }
 
@@ -112,14 +125,25 @@ impl Level {
         }
     }
 
-    // The scope, to read from.
-    pub(crate) fn scope(&self) -> &Scope
-        requires { self.now ≢ entered }
-        ensures { result.now ≡ self.now }
+    // The variable of a name.
+    pub(crate) fn variable(&self, name: &Name) -> Option<&Variable>
+        ensures { unwrap_or (option_map (λ variable. variable.now) result) empty ≡ tree_in self.now name.now }
     {
         match &self.scope {
-            None => unreachable!(),
-            Some(scope) => scope,
+            None => None,
+            Some(scope) => scope.variable(name),
+        }
+    }
+
+    // The variable of a name whose index this is.
+    #[inline(always)]
+    pub(crate) fn variable_at(&self, name: &Name, index: usize) -> Option<&Variable>
+        requires { index ≡ index_in self.now name.now }
+        ensures { unwrap_or (option_map (λ variable. variable.now) result) empty ≡ tree_in self.now name.now }
+    {
+        match &self.scope {
+            None => None,
+            Some(scope) => scope.variable_at(name, index),
         }
     }
 
@@ -142,6 +166,28 @@ impl Level {
         }
     }
 
+    // The same, of a name whose index this is.
+    #[inline(always)]
+    pub(crate) fn set_at(
+        &mut self,
+        alloc: Global,
+        name: &Name,
+        index: usize,
+        key: SubsKey,
+        value: Value,
+    ) -> Result<(), AllocError>
+        requires entered { self.old ≢ entered }
+        requires subs { AreSubs key }
+        requires index { index ≡ index_in self.old name.now }
+        ensures ok { OnOk result (self.new ≡ with_tree name.now (insert (tree_in self.old name.now) key value) self.old) }
+        ensures err { OnErr result (self.new ≡ self.old) }
+    {
+        match &mut self.scope {
+            None => unreachable!(),
+            Some(scope) => scope.set_at(alloc, name, index, key, value),
+        }
+    }
+
     // Gives a variable without subscripts a value. If memory runs out, the scope is as it was.
     pub(crate) fn set_own(
         &mut self,
@@ -156,6 +202,26 @@ impl Level {
         match &mut self.scope {
             None => unreachable!(),
             Some(scope) => scope.set_own(alloc, name, value),
+        }
+    }
+
+    // The same, of a name whose index this is.
+    #[inline(always)]
+    pub(crate) fn set_own_at(
+        &mut self,
+        alloc: Global,
+        name: &Name,
+        index: usize,
+        value: Value,
+    ) -> Result<(), AllocError>
+        requires entered { self.old ≢ entered }
+        requires index { index ≡ index_in self.old name.now }
+        ensures ok { OnOk result (self.new ≡ with_tree name.now (insert (tree_in self.old name.now) [] value) self.old) }
+        ensures err { OnErr result (self.new ≡ self.old) }
+    {
+        match &mut self.scope {
+            None => unreachable!(),
+            Some(scope) => scope.set_own_at(alloc, name, index, value),
         }
     }
 
@@ -249,31 +315,52 @@ fn start_of(levels: &[Level], places: Option<&Places>, name: &Name) -> usize
 {
     match places {
         None => levels.len(),
-        Some(known) => known[slot_of(name)].min(levels.len()),
+        Some(known) => start_at(levels, known, name, slot_of(name)),
     }
+}
+
+// The same by the name's slot.
+#[inline(always)]
+fn start_at(levels: &[Level], places: &Places, _name: &Name, slot: usize) -> usize
+    requires free { AreFree places.now levels.now }
+    requires slot { slot ≡ slot_in _name.now }
+    requires within { slot < SLOTS }
+    ensures within { result ≤ length levels.now }
+    ensures free { IsFree result levels.now _name.now }
+{
+    places[slot].min(levels.len())
 }
 
 // Where a name's variable is, as far as that shows without links.
 pub(crate) enum UnlinkedHome {
     // below all of the levels
     Below,
-    // at the level of this place
-    At(usize),
+    // at the level of this place, and where it is there: the index of the name's first entry, or how many entries there are if the
+    // name has none
+    At(usize, usize),
     // a level above it that may have the name has links: only `home` knows
     ByLink,
 }
 
 // Where a name's variable is if no level above it that may have the name has links, as nearly all have none: levels that have no name with
 // the same slot cost nothing.
-pub(crate) fn unlinked_home(levels: &[Level], places: &Places, name: &Name) -> UnlinkedHome
-    requires { AreFree places.now levels.now }
+#[inline(always)]
+pub(crate) fn unlinked_home(
+    levels: &[Level],
+    places: &Places,
+    name: &Name,
+    slot: usize,
+) -> UnlinkedHome
+    requires free { AreFree places.now levels.now }
+    requires slot { slot ≡ slot_in name.now }
+    requires within { slot < SLOTS }
     ensures { IsUnlinkedHome name.now levels.now result }
 {
-    let mut place = start_of(levels, Some(places), name);
+    let mut place = start_at(levels, places, name, slot);
     while place > 0 {
         place -= 1;
-        if levels[place].has(name) {
-            return UnlinkedHome::At(place);
+        if let Some(index) = levels[place].find(name) {
+            return UnlinkedHome::At(place, index);
         }
         if !levels[place].is_unlinked() {
             return UnlinkedHome::ByLink;

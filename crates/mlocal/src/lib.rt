@@ -4,7 +4,9 @@
 
 mod binding;
 mod level;
+mod named;
 mod places;
+mod rest;
 mod scope;
 mod scopes;
 mod subtree;

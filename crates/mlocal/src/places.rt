@@ -1,12 +1,13 @@
 // SPDX-License-Identifier: Apache-2.0
 // From which levels on no name of a slot is known.
 ghost use Rattle.std.specs.Prelude.{◌≡◌, ◌<◌, None, Some, false};
-ghost use Rattle.std.specs.Map.{lookup};
+ghost use Rattle.std.specs.Map.{keys_of, lookup};
 ghost use Rattle.mspec.specs.Node.{Text};
 ghost use Rattle.mspec.specs.Scopes.{is_among};
 ghost use Rattle.mspec.specs.Trees.{text_eq};
 ghost use Rattle.mlocal.specs.Home.{slot, place_at, IsRaised};
 
+use crate::variable::Variable;
 use mnum::Name;
 
 // How many slots there are.
@@ -16,6 +17,7 @@ pub(crate) const SLOTS: usize = 64;
 pub(crate) type Places = [usize; SLOTS];
 
 // The slot of a name. Any would do; names of one letter have slots of their own.
+#[inline(always)]
 pub(crate) fn slot_of(name: &Name) -> usize
     ensures slot { result ≡ slot name.now }
     ensures within { result < SLOTS }
@@ -36,12 +38,12 @@ pub(crate) fn raise_all(places: &mut Places, place: usize)
     }
 }
 
-// Raises the places of these names to this one.
-pub(crate) fn raise_names(places: &mut Places, place: usize, names: &[Name])
-    ensures { IsRaised (λ n. is_among names.now n ≡ false) place places.old places.new }
+// Raises the places of the names of these entries to this one.
+pub(crate) fn raise_named(places: &mut Places, place: usize, named: &[(Name, Variable)])
+    ensures { IsRaised (λ n. is_among (keys_of named.now) n ≡ false) place places.old places.new }
 {
-    for name in names {
-        places[slot_of(name)] = place;
+    for entry in named {
+        places[slot_of(&entry.0)] = place;
     }
 }
 

@@ -1,36 +1,38 @@
 // SPDX-License-Identifier: Apache-2.0
 // One scope.
-ghost use Rattle.std.specs.Prelude.{◌≡◌, [], IfOk, OnOk, OnErr, Some, ◌==◌, length, option_map, not};
-ghost use Rattle.std.specs.FinMap.{get, insert};
+ghost use Rattle.std.specs.Prelude.{◌≡◌, [], IfOk, OnOk, OnErr, Some, ◌==◌, length, option_map, not, unwrap_or};
+ghost use Rattle.std.specs.FinMap.{get, insert, empty};
 ghost use Rattle.std.specs.List.{filter, list_any};
 ghost use Rattle.std.specs.Map.{lookup};
 ghost use Rattle.mkey.specs.Front.{AreSubs};
 ghost use Rattle.mkey.specs.SubsKey.{behind_below};
-ghost use Rattle.mspec.specs.Scopes.{entered, bottom, has, tree_in, with_tree, is_among, hide, hide_others, kill_in, emptied, leads_to, passed, stays};
-ghost use Rattle.mspec.specs.Scopes.{bind, formals};
-ghost use Rattle.mspec.specs.KeyBytes.{AreSubscripts};
-ghost use Rattle.std.specs.FinMap.{keys};
-ghost use Rattle.mspec.specs.Trees.{has_value, has_descendants, order_of, following, front, last, text_eq, AreOrderSubscripts, AreQuerySubscripts};
-ghost use Rattle.mlocal.specs.Bindings.{binding_of, bindings_of};
+ghost use Rattle.mspec.specs.Scopes.{entered, has, tree_in, with_tree, is_among, is_other, hide, hide_others, kill_in, emptied, leads_to, passed, stays};
+ghost use Rattle.mspec.specs.Scopes.{common as common_of, formals};
+ghost use Rattle.mspec.specs.Trees.{text_eq};
+ghost use Rattle.mlocal.specs.Bindings.{bindings_of};
 ghost use Rattle.mlocal.specs.Home.{IsRaised};
-ghost use Rattle.mkey.specs.Way.{way};
+ghost use Rattle.mlocal.specs.Named.{IsFound, index_in, without_texts};
 
 use crate::binding::Binding;
 use crate::level::{Level, leads_to};
-use crate::places::{Places, raise_all, raise_links, raise_names};
-use crate::table::Table;
-use mkey::{Data, Direction, Subs, SubsKey};
+use crate::named::{add_names, bind_all, index_of, keep_names, keep_spared};
+use crate::places::{Places, raise_all, raise_links, raise_named};
+use crate::rest::Rest;
+use crate::variable::Variable;
+use mkey::SubsKey;
 use mnum::Name;
 use mvalue::Value;
 use std::alloc::{AllocError, Global};
 use std::marker::Model;
 
-// The names that NEW gave a scope, the names that it lacks if it has all but some, its variables by their names, and its links: a
-// name with the one that the scopes below have in its place. Contracts see it as the scope of the definitions.
+// The names that NEW or a formal list gave a scope, with their variables; the names that it lacks if it has all but some, and the
+// variables of the rest; and its links: a name with the one that the scopes below have in its place. Contracts see it as the scope
+// of the definitions.
 pub(crate) struct Scope {
-    names: Vec<Name>,
+    // the first entry of a name counts, and a variable without a text counts as none
+    named: Vec<(Name, Variable)>,
     others: Option<Vec<Name>>,
-    trees: Table,
+    rest: Rest,
     links: Vec<(Name, Name)>,
 }
 
@@ -38,9 +40,9 @@ pub(crate) struct Scope {
 impl Drop for Scope {
     fn drop(self) {
         let Scope {
-            names: _,
+            named: _,
             others: _,
-            trees: _,
+            rest: _,
             links: _,
         } = self;
     }
@@ -48,6 +50,8 @@ impl Drop for Scope {
 
 impl Model for Scope {
     ghost use Rattle.std.specs.Prelude.{option_map};
+    ghost use Rattle.std.specs.Map.{keys_of};
+    ghost use Rattle.mlocal.specs.Named.{trees_of};
     ghost use Rattle.mlocal.specs.ScopeCode.{scope_code};
     ghost use Rattle.mspec.specs.Scopes.{Scope};
 
@@ -55,7 +59,13 @@ impl Model for Scope {
 
     ghost coded = { scope_code };
 
-    ghost view = { λ s. record { names = s.names.items; others = option_map (λ names. names.items) s.others; trees = s.trees; links = s.links.items } };
+    ghost view = { λ s. record {
+      names = keys_of s.named.items;
+      others = option_map (λ names. names.items) s.others;
+      trees = trees_of
+          s.named.items s.rest;
+      links = s.links.items;
+    } };
 }
 
 // Whether a name is one of these.
@@ -71,34 +81,64 @@ impl Scope {
         ensures { result ≡ entered }
     {
         Scope {
-            names: Vec::new(alloc),
+            named: Vec::new(alloc),
             others: None,
-            trees: Table::new(alloc),
+            rest: Rest::new(),
             links: Vec::new(alloc),
         }
     }
 
-    // The scope of a new session, which has every name. Takes no memory.
-    pub(crate) fn bottom(alloc: Global) -> Scope
-        ensures { result ≡ bottom }
+    // The scope of a level with these formal parameters.
+    pub(crate) fn bound(alloc: Global, bindings: Vec<(Name, Binding)>) -> Result<Scope, AllocError>
+        ensures { IfOk result (λ scope. scope ≡ formals (bindings_of bindings.items) entered) }
     {
-        Scope {
-            names: Vec::new(alloc),
-            others: Some(Vec::new(alloc)),
-            trees: Table::new(alloc),
-            links: Vec::new(alloc),
-        }
+        let mut named = Vec::new(alloc);
+        let mut links = Vec::new(alloc);
+        bind_all(alloc, &mut named, &mut links, bindings)?;
+        Ok(Scope {
+            named,
+            others: None,
+            rest: Rest::new(),
+            links,
+        })
     }
 
-    // Whether it has the name by itself. Not inlined, so that the walk over levels, most of which have no name, stays short.
-    #[inline(never)]
-    #[tactic(auto, using(crate::proofs::Views::yes_or, crate::proofs::Views::no_or))]
+    // Whether it has the name by itself.
     pub(crate) fn has(&self, name: &Name) -> bool
         ensures { result ≡ has self.now name.now }
     {
-        if is_among(name, self.names.as_slice()) {
-            return true;
+        self.find(name).is_some()
+    }
+
+    // The index of a name that it has by itself: of its first entry, or how many entries there are if it has none. Not inlined, so
+    // that the walk over levels, most of which have no name, stays short.
+    #[inline(never)]
+    pub(crate) fn find(&self, name: &Name) -> Option<usize>
+        ensures { IsFound self.now name.now result }
+    {
+        let index = self.index(name);
+        if index < self.named.len() {
+            return Some(index);
         }
+        if self.is_other(name) {
+            Some(index)
+        } else {
+            None
+        }
+    }
+
+    // The index of a name's first entry, or how many entries there are if it has none.
+    #[inline(always)]
+    fn index(&self, name: &Name) -> usize
+        ensures { result ≡ index_in self.now name.now }
+    {
+        index_of(self.named.as_slice(), name)
+    }
+
+    // Whether it has the name as one of all but some.
+    fn is_other(&self, name: &Name) -> bool
+        ensures { result ≡ is_other self.now.others name.now }
+    {
         match &self.others {
             None => false,
             Some(names) => !is_among(name, names.as_slice()),
@@ -134,7 +174,7 @@ impl Scope {
             raise_all(places, place);
             return;
         }
-        raise_names(places, place, self.names.as_slice());
+        raise_named(places, place, self.named.as_slice());
         raise_links(places, place, self.links.as_slice());
     }
 
@@ -145,83 +185,27 @@ impl Scope {
         self.links.iter().any(|link| leads_to(above, name, &link.0))
     }
 
-    // The value of a variable without subscripts.
-    #[tactic(auto, using(crate::proofs::Views::tree_seen))]
-    pub(crate) fn own(&self, name: &Name) -> Option<&Value>
-        ensures { option_map (λ value. value.now) result ≡ get (tree_in self.now name.now) [] }
+    // The variable of a name.
+    pub(crate) fn variable(&self, name: &Name) -> Option<&Variable>
+        ensures { unwrap_or (option_map (λ variable. variable.now) result) empty ≡ tree_in self.now name.now }
     {
-        match self.trees.get(name) {
-            None => None,
-            Some(variable) => variable.own(),
-        }
+        self.variable_at(name, self.index(name))
     }
 
-    // The value at a node.
-    #[tactic(auto, using(crate::proofs::Views::tree_seen))]
-    pub(crate) fn get(&self, name: &Name, key: &SubsKey) -> Option<&Value>
-        ensures { option_map (λ value. value.now) result ≡ get (tree_in self.now name.now) key.now }
+    // The variable of a name whose index this is.
+    #[inline(always)]
+    pub(crate) fn variable_at(&self, name: &Name, index: usize) -> Option<&Variable>
+        requires { index ≡ index_in self.now name.now }
+        ensures { unwrap_or (option_map (λ variable. variable.now) result) empty ≡ tree_in self.now name.now }
     {
-        match self.trees.get(name) {
-            None => None,
-            Some(variable) => variable.get(key),
+        if index < self.named.len() {
+            return Some(&self.named[index].1);
         }
-    }
-
-    // Whether a node has a text, and whether a node below it has one.
-    pub(crate) fn data(
-        &self,
-        alloc: Global,
-        name: &Name,
-        subs: &[Value],
-    ) -> Result<Data, AllocError>
-        requires { AreSubscripts subs.now }
-        ensures value { IfOk result (λ found. found.value ≡ has_value (tree_in self.now name.now) subs.now) }
-        ensures descendants { IfOk result (λ found. found.descendants ≡ has_descendants (tree_in self.now name.now) subs.now) }
-    {
-        match self.trees.get(name) {
-            None => Ok(Data {
-                value: false,
-                descendants: false,
-            }),
-            Some(variable) => variable.data(alloc, subs),
-        }
-    }
-
-    // The subscript next to the last of these, among those below which there is a text.
-    pub(crate) fn order(
-        &self,
-        alloc: Global,
-        name: &Name,
-        subs: &[Value],
-        direction: Direction,
-    ) -> Result<Option<Value>, AllocError>
-        requires { AreOrderSubscripts subs.now }
-        ensures { IfOk result (λ next. next ≡ order_of (tree_in self.now name.now) (way direction) (front subs.now) (last subs.now)) }
-    {
-        match self.trees.get(name) {
-            None => Ok(None),
-            Some(variable) => variable.order(alloc, subs, direction),
-        }
-    }
-
-    // The subscripts of the first node after these that has a text, or of the last before them.
-    pub(crate) fn following(
-        &self,
-        alloc: Global,
-        name: &Name,
-        subs: &[Value],
-        direction: Direction,
-    ) -> Result<Option<Subs>, AllocError>
-        requires { AreQuerySubscripts subs.now }
-        ensures { IfOk result (λ found. found ≡ following (way direction) subs.now (keys (tree_in self.now name.now))) }
-    {
-        match self.trees.get(name) {
-            None => Ok(None),
-            Some(variable) => variable.following(alloc, subs, direction),
-        }
+        self.rest.get(name)
     }
 
     // Gives a node a value. If memory runs out, the scope is as it was.
+    #[inline(always)]
     pub(crate) fn set(
         &mut self,
         alloc: Global,
@@ -234,10 +218,34 @@ impl Scope {
         ensures err { OnErr result (self.new ≡ self.old) }
         ensures others { self.new.others ≡ self.old.others }
     {
-        self.trees.set(alloc, name, key, value)
+        let index = self.index(name);
+        self.set_at(alloc, name, index, key, value)
+    }
+
+    // The same, of a name whose index this is.
+    #[inline(always)]
+    pub(crate) fn set_at(
+        &mut self,
+        alloc: Global,
+        name: &Name,
+        index: usize,
+        key: SubsKey,
+        value: Value,
+    ) -> Result<(), AllocError>
+        requires subs { AreSubs key }
+        requires index { index ≡ index_in self.old name.now }
+        ensures ok { OnOk result (self.new ≡ with_tree name.now (insert (tree_in self.old name.now) key value) self.old) }
+        ensures err { OnErr result (self.new ≡ self.old) }
+        ensures others { self.new.others ≡ self.old.others }
+    {
+        if index < self.named.len() {
+            return self.named[index].1.set(key, value);
+        }
+        self.rest.set(alloc, name, key, value)
     }
 
     // Gives a variable without subscripts a value. If memory runs out, the scope is as it was.
+    #[inline(always)]
     pub(crate) fn set_own(
         &mut self,
         alloc: Global,
@@ -248,11 +256,33 @@ impl Scope {
         ensures err { OnErr result (self.new ≡ self.old) }
         ensures others { self.new.others ≡ self.old.others }
     {
-        self.trees.set_own(alloc, name, value)
+        let index = self.index(name);
+        self.set_own_at(alloc, name, index, value)
     }
 
-    // Takes away the texts of a node and of the nodes below it, where `end` is the bound after them, and drops the name if no text
-    // is left. If memory runs out, the scope is as it was.
+    // The same, of a name whose index this is.
+    #[inline(always)]
+    pub(crate) fn set_own_at(
+        &mut self,
+        alloc: Global,
+        name: &Name,
+        index: usize,
+        value: Value,
+    ) -> Result<(), AllocError>
+        requires { index ≡ index_in self.old name.now }
+        ensures ok { OnOk result (self.new ≡ with_tree name.now (insert (tree_in self.old name.now) [] value) self.old) }
+        ensures err { OnErr result (self.new ≡ self.old) }
+        ensures others { self.new.others ≡ self.old.others }
+    {
+        if index < self.named.len() {
+            self.named[index].1.set_own(value);
+            return Ok(());
+        }
+        self.rest.set_own(alloc, name, value)
+    }
+
+    // Takes away the texts of a node and of the nodes below it, where `end` is the bound after them, and drops the variable if no
+    // text is left. If memory runs out, the scope is as it was.
     pub(crate) fn kill(
         &mut self,
         alloc: Global,
@@ -264,7 +294,11 @@ impl Scope {
         ensures ok { OnOk result (self.new ≡ kill_in name.now key.now (get self.old.trees name.now) self.old) }
         ensures err { OnErr result (self.new ≡ self.old) }
     {
-        self.trees.kill(alloc, name, key, end)
+        let index = self.index(name);
+        if index < self.named.len() {
+            return self.named[index].1.kill(alloc, key, end);
+        }
+        self.rest.kill(alloc, name, key, end)
     }
 
     // Takes away the texts of the variables to which none of these names leads through the levels above, but some name. Takes no
@@ -272,46 +306,18 @@ impl Scope {
     pub(crate) fn keep_spared(&mut self, names: &[Name], above: &[Level])
         ensures { self.new ≡ emptied (stays names.now above.now) self.old }
     {
-        self.trees.keep_spared(names, above);
+        keep_spared(&mut self.named, names, above);
+        self.rest.keep_spared(names, above);
     }
 
-    // Gives the scope these names too, each as its binding says, the last one first. If memory runs out, it may have some of them.
-    pub(crate) fn bind_all(
-        &mut self,
-        alloc: Global,
-        mut bindings: Vec<(Name, Binding)>,
-    ) -> Result<(), AllocError>
-        ensures { OnOk result (self.new ≡ formals (bindings_of bindings.items) self.old) }
-    {
-        while let Some((name, binding)) = bindings.pop() {
-            self.bind(alloc, name, binding)?;
-        }
-        Ok(())
-    }
-
-    // Gives the scope this name too, as a variable with a value, a link, or a variable without a text.
-    fn bind(&mut self, alloc: Global, name: Name, binding: Binding) -> Result<(), AllocError>
-        ensures { OnOk result (self.new ≡ bind name (binding_of binding) self.old) }
-    {
-        match binding {
-            Binding::Valued(value) => {
-                self.trees.set_own(alloc, &name, value)?;
-                self.names.push(name)?;
-            }
-            Binding::Linked(other) => self.links.push((name, other))?,
-            Binding::Unset => self.names.push(name)?,
-        }
-        Ok(())
-    }
-
-    // Those of the names that it does not have yet.
-    fn new_names(&self, alloc: Global, names: &[Name]) -> Result<Vec<Name>, AllocError>
-        ensures { IfOk result (λ fresh. fresh.items ≡ filter (λ n. not (has self.now n)) names.now) }
+    // Those of the names that it does not have yet, without texts.
+    fn new_names(&self, alloc: Global, names: &[Name]) -> Result<Vec<(Name, Variable)>, AllocError>
+        ensures { IfOk result (λ fresh. fresh.items ≡ without_texts (filter (λ n. not (has self.now n)) names.now)) }
     {
         let mut fresh = Vec::new(alloc);
         for name in names {
             if !self.has(name) {
-                fresh.push(name.copy()?)?;
+                fresh.push((name.copy()?, Variable::new(alloc)))?;
             }
         }
         Ok(fresh)
@@ -323,9 +329,9 @@ impl Scope {
         ensures err { OnErr result (self.new ≡ self.old) }
         ensures others { self.new.others ≡ self.old.others }
     {
-        let mut fresh = self.new_names(alloc, names)?;
-        self.names.append(&mut fresh)?;
-        self.trees.drop_names(names);
+        let fresh = self.new_names(alloc, names)?;
+        add_names(&mut self.named, fresh, names)?;
+        self.rest.drop_names(names);
         Ok(())
     }
 
@@ -333,12 +339,20 @@ impl Scope {
     pub(crate) fn hide_others(&mut self, names: Vec<Name>)
         ensures { self.new ≡ hide_others names.items self.old }
     {
-        self.trees.keep_names(names.as_slice());
-        let others = match &self.others {
-            None => names,
-            Some(old) => common(names, old.as_slice()),
-        };
+        keep_names(&mut self.named, names.as_slice());
+        self.rest.keep_names(names.as_slice());
+        let others = left_out(names, &self.others);
         self.others = Some(others);
+    }
+}
+
+// The names that are among the old ones too, if there are old ones.
+fn left_out(names: Vec<Name>, old: &Option<Vec<Name>>) -> Vec<Name>
+    ensures { result.items ≡ common_of names.items (option_map (λ old. old.items) old.now) }
+{
+    match old {
+        None => names,
+        Some(old) => common(names, old.as_slice()),
     }
 }
 

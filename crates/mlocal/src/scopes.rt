@@ -1,20 +1,23 @@
 // SPDX-License-Identifier: Apache-2.0
 //! The local variables of a session as a stack of scopes.
+ghost use Rattle.std.specs.FinMap.{empty};
 ghost use Rattle.std.specs.Prelude.{◌≡◌, IfOk, OnOk, OnErr, [], ◌∷◌, ◌<◌, ◌+◌, length, drop, option_map, unwrap_or};
 ghost use Rattle.mlocal.specs.Home.{AreFree, IsHome, killed_up};
 ghost use Rattle.mkey.specs.Way.{way};
 ghost use Rattle.mkey.specs.Front.{AreSubs};
+ghost use Rattle.mkey.specs.SubsKey.{behind_below};
 ghost use Rattle.mspec.specs.KeyBytes.{AreSubscripts};
 ghost use Rattle.mlocal.specs.Bindings.{bindings_of};
-ghost use Rattle.mspec.specs.Scopes.{bottom, value_at, is_value, is_above, next_subscript, tree_in, tree_of, assigned, killed, killed_except, newed};
+ghost use Rattle.mspec.specs.Scopes.{bottom, value_at, is_value, is_above, next_subscript, tree_of, assigned, killed, killed_except, newed};
 ghost use Rattle.mspec.specs.Scopes.{newed_except, with_level, bound, without_level, outermost};
 ghost use Rattle.mspec.specs.Scopes.{next_node};
 ghost use Rattle.mspec.specs.Trees.{AreOrderSubscripts, AreQuerySubscripts};
 
 use crate::binding::Binding;
 use crate::level::{Level, UnlinkedHome, home, known_as, raise_top, unlinked_home};
-use crate::places::{Places, SLOTS};
-use crate::scope::Scope;
+use crate::places::{Places, SLOTS, slot_of};
+use crate::table::Table;
+use crate::variable::Variable;
 use mkey::{Data, Direction, Subs, SubsKey};
 use mnum::Name;
 use mvalue::Value;
@@ -25,10 +28,13 @@ use std::mem;
 /// The local variables of a session. Contracts see them as the stack of scopes, the innermost on top, and their values as texts.
 pub struct Locals {
     alloc: Global,
-    bottom: Scope,
+    // the variables of the scope at the bottom, which has every name
+    bottom: Table,
     // the scopes of the levels, the outermost first
     levels: Vec<Level>,
-    // where lookups begin: from the place of a name's slot on no level has a name with that slot, or a link of one
+    // from this place on no level has a name or a link: where it is 0, lookups ask the bottom at once
+    scoped: usize,
+    // where other lookups begin: from the place of a name's slot on no level has a name with that slot, or a link of one
     places: Places,
 }
 
@@ -39,6 +45,7 @@ impl Drop for Locals {
             alloc: _,
             bottom: _,
             levels: _,
+            scoped: _,
             places: _,
         } = self;
     }
@@ -46,8 +53,8 @@ impl Drop for Locals {
 
 impl Model for Locals {
     ghost use Rattle.std.specs.Coded.{coded_list};
-    ghost use Rattle.std.specs.Prelude.{reverse, ◌≡◌, ◌++◌, ◌∷◌, [], Some};
-    ghost use Rattle.mlocal.specs.Home.{AreFree};
+    ghost use Rattle.std.specs.Prelude.{reverse, ◌++◌, ◌∷◌, []};
+    ghost use Rattle.mlocal.specs.Home.{AreBare, AreFree, bottom_of};
     ghost use Rattle.mlocal.specs.ScopeCode.{scope_code};
     ghost use Rattle.mspec.specs.Scopes.{Scopes};
 
@@ -55,10 +62,9 @@ impl Model for Locals {
 
     ghost coded = { coded_list scope_code };
 
-    ghost view = { λ l. reverse l.levels.items ++ l.bottom ∷ [] };
+    ghost view = { λ l. reverse l.levels.items ++ bottom_of l.bottom ∷ [] };
 
-    // the scope at the bottom has every name
-    ghost invariant = { λ l. (l.bottom.others ≡ Some []) × AreFree l.places l.levels.items };
+    ghost invariant = { λ l. AreFree l.places l.levels.items × AreBare l.scoped l.levels.items };
 }
 
 impl Locals {
@@ -68,8 +74,9 @@ impl Locals {
     {
         Locals {
             alloc,
-            bottom: Scope::bottom(alloc),
+            bottom: Table::new(alloc),
             levels: Vec::new(alloc),
+            scoped: 0,
             places: [0; SLOTS],
         }
     }
@@ -98,6 +105,7 @@ impl Locals {
     {
         let level = Level::bound(self.alloc, bindings)?;
         self.levels.push(level)?;
+        self.scoped = self.levels.len();
         raise_top(self.levels.as_slice(), &mut self.places);
         Ok(())
     }
@@ -107,6 +115,7 @@ impl Locals {
         ensures { self.new ≡ without_level self.old }
     {
         let _closed = self.levels.pop();
+        self.scoped = self.scoped.min(self.levels.len());
     }
 
     /// Closes all levels, so that the scope at the bottom is left. Takes no memory.
@@ -115,14 +124,17 @@ impl Locals {
         ensures { self.new ≡ outermost self.old }
     {
         self.levels.clear();
+        self.scoped = 0;
     }
 
     /// The value of a variable without subscripts, if it has one. A number that was assigned is still a number. Takes no memory.
     pub fn own(&self, name: &Name) -> Option<&Value>
         ensures { option_map (λ value. value.now) result ≡ value_at self.now name.now [] }
     {
-        let found = self.scope_of(name);
-        found.0.own(found.1)
+        match self.variable_of(name) {
+            None => None,
+            Some(variable) => variable.own(),
+        }
     }
 
     /// The value at a node, if the name's variable has one there. A number that was assigned is still a number.
@@ -138,8 +150,10 @@ impl Locals {
             return Ok(self.own(name));
         }
         let key = SubsKey::build(self.alloc, subs)?;
-        let found = self.scope_of(name);
-        Ok(found.0.get(found.1, &key))
+        match self.variable_of(name) {
+            None => Ok(None),
+            Some(variable) => Ok(variable.get(&key)),
+        }
     }
 
     /// Whether the name's variable has a text at a node, and whether it has one below it.
@@ -152,8 +166,13 @@ impl Locals {
         ensures value { IfOk result (λ found. found.value ≡ is_value self.now name.now subs.now) }
         ensures descendants { IfOk result (λ found. found.descendants ≡ is_above self.now name.now subs.now) }
     {
-        let found = self.scope_of(name);
-        found.0.data(self.alloc, found.1, subs)
+        match self.variable_of(name) {
+            None => Ok(Data {
+                value: false,
+                descendants: false,
+            }),
+            Some(variable) => variable.data(self.alloc, subs),
+        }
     }
 
     /// The subscript next to the last of these, among those in its place below which the name's variable has a text. An empty last
@@ -171,8 +190,10 @@ impl Locals {
         requires { AreOrderSubscripts subs.now }
         ensures { IfOk result (λ next. next ≡ next_subscript self.now (way direction) name.now subs.now) }
     {
-        let found = self.scope_of(name);
-        found.0.order(self.alloc, found.1, subs, direction)
+        match self.variable_of(name) {
+            None => Ok(None),
+            Some(variable) => variable.order(self.alloc, subs, direction),
+        }
     }
 
     /// The subscripts of the first node after these of the name's variable that has a text, or of the last before them. An empty last
@@ -190,8 +211,10 @@ impl Locals {
         requires { AreQuerySubscripts subs.now }
         ensures { IfOk result (λ found. found ≡ next_node self.now (way direction) name.now subs.now) }
     {
-        let found = self.scope_of(name);
-        found.0.following(self.alloc, found.1, subs, direction)
+        match self.variable_of(name) {
+            None => Ok(None),
+            Some(variable) => variable.following(self.alloc, subs, direction),
+        }
     }
 
     /// Gives a node a value, in place of the one that it has.
@@ -208,9 +231,25 @@ impl Locals {
             return self.set_own(name, value);
         }
         let key = SubsKey::build(self.alloc, subs)?;
-        match unlinked_home(self.levels.as_slice(), &self.places, name) {
+        if self.scoped == 0 {
+            return self.bottom.set(self.alloc, name, key, value);
+        }
+        self.set_in_levels(name, key, value)
+    }
+
+    // The same where a level may have the name.
+    #[inline(never)]
+    fn set_in_levels(&mut self, name: &Name, key: SubsKey, value: Value) -> Result<(), AllocError>
+        requires { AreSubs key }
+        ensures ok { OnOk result (self.new ≡ assigned self.old name.now key value) }
+        ensures err { OnErr result (self.new ≡ self.old) }
+    {
+        let slot = slot_of(name);
+        match unlinked_home(self.levels.as_slice(), &self.places, name, slot) {
             UnlinkedHome::Below => self.bottom.set(self.alloc, name, key, value),
-            UnlinkedHome::At(place) => self.levels[place].set(self.alloc, name, key, value),
+            UnlinkedHome::At(place, index) => {
+                self.levels[place].set_at(self.alloc, name, index, key, value)
+            }
             UnlinkedHome::ByLink => self.set_by_link(name, key, value),
         }
     }
@@ -235,15 +274,30 @@ impl Locals {
     /// # Errors
     ///
     /// `AllocError` if it runs out of memory; the locals are then as they were.
-    // Inlined, so that the value goes to the table's own function by one call.
-    #[inline(always)]
+    // Out of line, with the table's own function within it: so the value goes by one call, and is moved once.
+    #[inline(never)]
     pub fn set_own(&mut self, name: &Name, value: Value) -> Result<(), AllocError>
         ensures ok { OnOk result (self.new ≡ assigned self.old name.now [] value) }
         ensures err { OnErr result (self.new ≡ self.old) }
     {
-        match unlinked_home(self.levels.as_slice(), &self.places, name) {
-            UnlinkedHome::Below => self.bottom.set_own(self.alloc, name, value),
-            UnlinkedHome::At(place) => self.levels[place].set_own(self.alloc, name, value),
+        if self.scoped == 0 {
+            return self.bottom.set_own(self.alloc, name, slot_of(name), value);
+        }
+        self.set_own_in_levels(name, value)
+    }
+
+    // The same where a level may have the name.
+    #[inline(never)]
+    fn set_own_in_levels(&mut self, name: &Name, value: Value) -> Result<(), AllocError>
+        ensures ok { OnOk result (self.new ≡ assigned self.old name.now [] value) }
+        ensures err { OnErr result (self.new ≡ self.old) }
+    {
+        let slot = slot_of(name);
+        match unlinked_home(self.levels.as_slice(), &self.places, name, slot) {
+            UnlinkedHome::Below => self.bottom.set_own(self.alloc, name, slot, value),
+            UnlinkedHome::At(place, index) => {
+                self.levels[place].set_own_at(self.alloc, name, index, value)
+            }
             UnlinkedHome::ByLink => self.set_own_by_link(name, value),
         }
     }
@@ -257,7 +311,9 @@ impl Locals {
         let found = home_to_change(self.levels.as_slice(), &self.places, name)?;
         let known = known_name(name, &found.1);
         match found.0 {
-            None => self.bottom.set_own(self.alloc, known, value),
+            None => self
+                .bottom
+                .set_own(self.alloc, known, slot_of(known), value),
             Some(place) => self.levels[place].set_own(self.alloc, known, value),
         }
     }
@@ -274,11 +330,29 @@ impl Locals {
     {
         let key = SubsKey::build(self.alloc, subs)?;
         let end = SubsKey::behind_below(self.alloc, subs)?;
+        if self.scoped == 0 {
+            return self.bottom.kill(self.alloc, name, &key, &end);
+        }
+        self.kill_in_levels(name, &key, &end)
+    }
+
+    // The same where a level may have the name.
+    #[inline(never)]
+    fn kill_in_levels(
+        &mut self,
+        name: &Name,
+        key: &SubsKey,
+        end: &SubsKey,
+    ) -> Result<(), AllocError>
+        requires { end.now ≡ behind_below key.now }
+        ensures ok { OnOk result (self.new ≡ killed self.old name.now key.now) }
+        ensures err { OnErr result (self.new ≡ self.old) }
+    {
         let found = home_to_change(self.levels.as_slice(), &self.places, name)?;
         let known = known_name(name, &found.1);
         match found.0 {
-            None => self.bottom.kill(self.alloc, known, &key, &end),
-            Some(place) => self.levels[place].kill(self.alloc, known, &key, &end),
+            None => self.bottom.kill(self.alloc, known, key, end),
+            Some(place) => self.levels[place].kill(self.alloc, known, key, end),
         }
     }
 
@@ -301,8 +375,10 @@ impl Locals {
     {
         let count = self.levels.len();
         if count == 0 {
-            return self.bottom.hide(self.alloc, names);
+            self.bottom.drop_names(names);
+            return Ok(());
         }
+        self.scoped = count;
         let changed = self.levels[count - 1].hide(self.alloc, names);
         raise_top(self.levels.as_slice(), &mut self.places);
         changed
@@ -320,35 +396,49 @@ impl Locals {
     {
         let count = self.levels.len();
         if count == 0 {
-            self.bottom.hide_others(names);
+            self.bottom.keep_names(names.as_slice());
             return Ok(());
         }
+        self.scoped = count;
         let changed = self.levels[count - 1].hide_others(self.alloc, names);
         raise_top(self.levels.as_slice(), &mut self.places);
         changed
     }
 
-    // The scope that a name's variable belongs to, to read from, and the name that it has there.
-    fn scope_of<'a: 'b, 'b>(&'a self, name: &'b Name) -> (&'a Scope, &'b Name)
-        ensures { tree_in result.0.now result.1.now ≡ tree_of self.now name.now }
+    // The variable of a name. Inlined, so that a lookup where no level has a name costs no call.
+    #[inline(always)]
+    fn variable_of(&self, name: &Name) -> Option<&Variable>
+        ensures { unwrap_or (option_map (λ variable. variable.now) result) empty ≡ tree_of self.now name.now }
     {
-        match unlinked_home(self.levels.as_slice(), &self.places, name) {
-            UnlinkedHome::Below => (&self.bottom, name),
-            UnlinkedHome::At(place) => (self.levels[place].scope(), name),
-            UnlinkedHome::ByLink => self.scope_by_link(name),
+        if self.scoped == 0 {
+            return self.bottom.get(name, slot_of(name));
+        }
+        self.variable_in_levels(name)
+    }
+
+    // The same where a level may have the name.
+    #[inline(never)]
+    fn variable_in_levels(&self, name: &Name) -> Option<&Variable>
+        ensures { unwrap_or (option_map (λ variable. variable.now) result) empty ≡ tree_of self.now name.now }
+    {
+        let slot = slot_of(name);
+        match unlinked_home(self.levels.as_slice(), &self.places, name, slot) {
+            UnlinkedHome::Below => self.bottom.get(name, slot),
+            UnlinkedHome::At(place, index) => self.levels[place].variable_at(name, index),
+            UnlinkedHome::ByLink => self.variable_by_link(name),
         }
     }
 
     // The same where a link may lead to the variable. Kept out of line, since it is rare.
     #[inline(never)]
-    fn scope_by_link<'a: 'b, 'b>(&'a self, name: &'b Name) -> (&'a Scope, &'b Name)
-        ensures { tree_in result.0.now result.1.now ≡ tree_of self.now name.now }
+    fn variable_by_link(&self, name: &Name) -> Option<&Variable>
+        ensures { unwrap_or (option_map (λ variable. variable.now) result) empty ≡ tree_of self.now name.now }
     {
         let found = home(self.levels.as_slice(), Some(&self.places), name);
         let known = known_as(name, found.1);
         match found.0 {
-            None => (&self.bottom, known),
-            Some(place) => (self.levels[place].scope(), known),
+            None => self.bottom.get(known, slot_of(known)),
+            Some(place) => self.levels[place].variable(known),
         }
     }
 }

@@ -1,6 +1,6 @@
 // SPDX-License-Identifier: Apache-2.0
 // The variables of a scope by their names.
-ghost use Rattle.std.specs.Prelude.{◌≡◌, [], not, nat_eq, None, MatchOption, OnOk, OnErr, option_map};
+ghost use Rattle.std.specs.Prelude.{◌≡◌, ◌<◌, [], not, nat_eq, None, MatchOption, OnOk, OnErr, option_map};
 ghost use Rattle.std.specs.Cmp.Lexicographic.{pointwise};
 ghost use Rattle.std.specs.FinMap.{get, insert, retain_keys, empty};
 ghost use Rattle.indexmap.specs.IndexMap.{get as find, IsUnique};
@@ -65,12 +65,14 @@ impl Table {
         }
     }
 
-    // The variable of a name.
+    // The variable of a name. The slot is a name's, by which the hint is found; another one's finds the same variable.
+    #[inline(always)]
     #[tactic(auto, using(crate::proofs::Tables::read))]
-    pub(crate) fn get(&self, name: &Name) -> Option<&Variable>
+    pub(crate) fn get(&self, name: &Name, slot: usize) -> Option<&Variable>
+        requires { slot < SLOTS }
         ensures { option_map (λ variable. variable.now) result ≡ get self.now name.now }
     {
-        match index_of(&self.variables, self.hints[slot_of(name)], name) {
+        match index_of(&self.variables, self.hints[slot], name) {
             None => None,
             Some(index) => Some(&self.variables[index]),
         }
@@ -103,16 +105,18 @@ impl Table {
     }
 
     // Gives a variable without subscripts a value. If memory runs out, the variables are as they were.
+    #[inline(always)]
     pub(crate) fn set_own(
         &mut self,
         alloc: Global,
         name: &Name,
+        slot: usize,
         value: Value,
     ) -> Result<(), AllocError>
+        requires { slot < SLOTS }
         ensures ok { OnOk result (self.new ≡ insert self.old name.now (insert (tree_at self.old name.now) [] value)) }
         ensures err { OnErr result (self.new ≡ self.old) }
     {
-        let slot = slot_of(name);
         match index_of(&self.variables, self.hints[slot], name) {
             Some(index) => {
                 self.hints[slot] = hint_of(index);

@@ -96,6 +96,14 @@ impl Variable {
         self.own = Some(value);
     }
 
+    // Takes away all of its texts. Takes no memory.
+    pub(crate) fn clear(&mut self)
+        ensures { self.new ≡ empty }
+    {
+        self.own = None;
+        self.values.clear();
+    }
+
     // Gives a node a value. If memory runs out, the variable is as it was.
     pub(crate) fn set(&mut self, key: SubsKey, value: Value) -> Result<(), AllocError>
         requires { AreSubs key }

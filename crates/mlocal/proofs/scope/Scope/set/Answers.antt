@@ -1,6 +1,0 @@
--- SPDX-License-Identifier: Apache-2.0
-use Rattle.mlocal.proofs.Views.{OnOk-map, put_seen}
-use Rattle.mlocal.proofs.scope.Scope.set.Goals as goal
-
-pub returns-clause-ok : goal.returns-clause-ok
-returns-clause-ok c = OnOk-map c.set.result (λ e. put_seen _ _ c.self.inside.trees c.set.new.self c.args.name.now c.args.key c.args.value e _ c.self.view_is) c.set.ensures.ok

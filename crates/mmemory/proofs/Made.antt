@@ -2,8 +2,10 @@
 -- What each change makes of a tree.
 use Rattle.mmemory.proofs.MemoryWords.{◌≡◌, ℕ, zero, suc, ◌+◌, ◌<◌, ◌≤◌, min, List, [], ◌∷◌, ◌++◌, length, take, drop, set, get_or, refl, sym, ap, subst, ◌∙◌}
 use Rattle.mmemory.proofs.MemoryWords.{arith, add-one, insert, remove, map-set, length-map, length-append, map-append, take-map, drop-map, take_min, drop_min}
-use Rattle.mmemory.proofs.MemoryWords.{lt-ltb, le-leb, length-remove, Row, Chunk, Tree, DropRow, PutRow, SetRow, DropChunk, PutChunk, Join, joined, put_in}
-use Rattle.mmemory.proofs.MemoryWords.{taken, over, joined_at, front, back, Plain, plain, chunk_rows, nest, tree_nest, with_chunks, plain_rows, Makes, HalvedAt}
+use Rattle.mmemory.proofs.MemoryWords.{lt-ltb, le-leb, length-remove, Row, Bare, Chunk, Tree, DropRow, PutRow, SetRow, DropChunk, PutChunk, Join, joined}
+use Rattle.mmemory.proofs.MemoryWords.{put_in}
+use Rattle.mmemory.proofs.MemoryWords.{taken, over, joined_at, front, back, Plain, plain, bare_rows, chunk_rows, nest, tree_nest, with_chunks, plain_rows}
+use Rattle.mmemory.proofs.MemoryWords.{Makes, HalvedAt}
 use Rattle.mmemory.specs.declared.step.Step.{Step}
 use Rattle.mmemory.proofs.Shown.{shown_at}
 use Rattle.mmemory.proofs.Some.{some_length}
@@ -12,15 +14,20 @@ use Rattle.mmemory.proofs.Backs.{changed_rows, inserted_rows, gone_rows, joined_
 
 -- ---- from chunks to their rows
 
-pub changed : (f : List Row → List Row) (chunks : List Chunk) (k : ℕ) (was new : Chunk) → k < length chunks → was ≡ get_or chunks k was → chunk_rows new ≡ f (chunk_rows was)
+pub changed : (f : List Row → List Row) (chunks : List Chunk) (k : ℕ) (was new : Chunk) → k < length chunks → was ≡ get_or chunks k was
+    → chunk_rows new ≡ f (chunk_rows was)
     → nest (set chunks k new) ≡ over k f (nest chunks)
-changed f chunks k was new within is made = map-set chunk_rows chunks k new ∙ ap (set (nest chunks) k) (made ∙ ap f (sym (shown_at chunk_rows chunks k [] was within is)))
+changed f chunks k was new within is made =
+    map-set chunk_rows chunks k new ∙ ap (set (nest chunks) k) (made ∙ ap f (sym (shown_at chunk_rows chunks k [] was within is)))
 
 pub nest_inserted : (chunks : List Chunk) (k : ℕ) (it : Chunk) → nest (insert chunks k it) ≡ insert (nest chunks) k (chunk_rows it)
-nest_inserted chunks k it = map-append chunk_rows (take k chunks) (it ∷ drop k chunks) ∙ (λ i. sym (take-map chunk_rows k chunks) i ++ chunk_rows it ∷ sym (drop-map chunk_rows k chunks) i)
+nest_inserted chunks k it =
+    map-append chunk_rows (take k chunks) (it ∷ drop k chunks) ∙
+    (λ i. sym (take-map chunk_rows k chunks) i ++ chunk_rows it ∷ sym (drop-map chunk_rows k chunks) i)
 
 pub nest_removed : (chunks : List Chunk) (k : ℕ) → nest (remove chunks k) ≡ remove (nest chunks) k
-nest_removed chunks k = map-append chunk_rows (take k chunks) (drop (suc k) chunks) ∙ (λ i. sym (take-map chunk_rows k chunks) i ++ sym (drop-map chunk_rows (suc k) chunks) i)
+nest_removed chunks k =
+    map-append chunk_rows (take k chunks) (drop (suc k) chunks) ∙ (λ i. sym (take-map chunk_rows k chunks) i ++ sym (drop-map chunk_rows (suc k) chunks) i)
 
 pub insert_min : (n : List (List Row)) (k : ℕ) (rows : List Row) → insert n (min k (length n)) rows ≡ insert n k rows
 insert_min n k rows = λ i. take_min k n i ++ rows ∷ drop_min k n i
@@ -52,7 +59,9 @@ module _ (p : Plain) (k at : ℕ) where
   made_put row within low room some = record {
     back = λ i. with_chunks p (over_back (taken at) (put_in at row) p.chunks k (put_taken at row rows low room some) i);
     heading_is = refl;
-    rows_are = over_rows (put_in at row) p.chunks k within ∙ ap (λ r. before_it ++ (r ++ after_it)) (put_fits at row rows low room) ∙ put_rows at row rows before_it after_it;
+    rows_are =
+        over_rows (put_in at row) p.chunks k within ∙ ap (λ r. before_it ++ (r ++ after_it))
+        (put_fits at row rows low room) ∙ put_rows at row rows before_it after_it;
   }
 
   pub made_set : (row : Row) → k < length p.chunks → at < length rows
@@ -71,7 +80,7 @@ module _ (p : Plain) (k at : ℕ) where
     rows_are = over_rows (λ r. remove r at) p.chunks k within ∙ cut_rows at rows before_it after_it;
   }
 
-  pub made_none : (it : Chunk) → k < length p.chunks → at ≡ 0 → length rows ≡ 1 → chunk_rows it ≡ rows
+  pub made_none : (it : Bare) → k < length p.chunks → at ≡ 0 → length rows ≡ 1 → bare_rows it ≡ rows
       → Makes p (record { shape = p.shape; reals = p.reals; described = p.described; chunks = remove p.chunks k; spare = p.spare + 1 }) (PutChunk k it) (front p.chunks k at ++ back p.chunks k (at + 1))
   made_none it within first one is = record {
     back = rw (add-one p.spare) (λ i. with_chunks p ((ap (insert (remove p.chunks k) k) is ∙ insert_removed k p.chunks [] within) i));
@@ -80,7 +89,8 @@ module _ (p : Plain) (k at : ℕ) where
   }
 
 module _ (p : Plain) (k : ℕ) where
-  pub made_add : (row : Row) → k ≤ length p.chunks → Makes p (with_chunks p (insert p.chunks k (row ∷ []))) (DropChunk k) (joined (take k p.chunks) ++ row ∷ joined (drop k p.chunks))
+  pub made_add : (row : Row) → k ≤ length p.chunks
+      → Makes p (with_chunks p (insert p.chunks k (row ∷ []))) (DropChunk k) (joined (take k p.chunks) ++ row ∷ joined (drop k p.chunks))
   made_add row low = record {
     back = λ i. with_chunks p (remove_inserted k (row ∷ []) p.chunks low i);
     heading_is = refl;
@@ -95,8 +105,10 @@ module _ (p : Plain) (k : ℕ) where
     rows_are = joined_rows head tail p.chunks k within is;
   }
 
-pub made_halves : (p : Plain) (k : ℕ) (new : List (List Row)) (two : HalvedAt p.chunks new k) → k < length p.chunks → length two.head + length two.tail ≤ 128 → Makes p (with_chunks p new) (Join k) (plain_rows p)
-made_halves p k new two low room = subst (λ chunks. Makes p (with_chunks p chunks) (Join k) (plain_rows p)) (sym two.are) (made_two p k two.head two.tail low two.both room)
+pub made_halves : (p : Plain) (k : ℕ) (new : List (List Row)) (two : HalvedAt p.chunks new k) → k < length p.chunks → length two.head + length two.tail ≤ 128
+    → Makes p (with_chunks p new) (Join k) (plain_rows p)
+made_halves p k new two low room =
+    subst (λ chunks. Makes p (with_chunks p chunks) (Join k) (plain_rows p)) (sym two.are) (made_two p k two.head two.tail low two.both room)
 
 -- ---- a tree of which a chunk was changed
 
@@ -118,7 +130,8 @@ get_removed [] k d = refl
 get_removed (x ∷ xs) zero d = refl
 get_removed (x ∷ xs) (suc k) d = get_removed xs k d
 
-pub join_made : (chunks : List Chunk) (k : ℕ) (first second was new tail : Chunk) (rest : List Chunk) → k + 1 < length chunks → first ≡ get_or chunks k first → second ≡ get_or chunks (k + 1) second
+pub join_made : (chunks : List Chunk) (k : ℕ) (first second was new tail : Chunk) (rest : List Chunk) → k + 1 < length chunks → first ≡ get_or chunks k first
+    → second ≡ get_or chunks (k + 1) second
     → length (chunk_rows first) + length (chunk_rows second) ≤ 128 → rest ≡ remove chunks (k + 1) → tail ≡ get_or chunks (k + 1) tail → was ≡ get_or rest k was → chunk_rows new ≡ chunk_rows was ++ chunk_rows tail
     → nest (set rest k new) ≡ joined_at k (nest chunks)
 join_made chunks k first second was new tail rest low f s room rest_is t w rows_are =
@@ -141,7 +154,8 @@ join_made chunks k first second was new tail rest low f s room rest_is t w rows_
 
 -- ---- a chunk that is split in two
 
-pub halves_made : (chunks kept made : List Chunk) (k : ℕ) (was new tail : Chunk) → kept ≡ chunks → k < length chunks → was ≡ get_or kept k was → chunk_rows was ≡ chunk_rows new ++ chunk_rows tail
+pub halves_made : (chunks kept made : List Chunk) (k : ℕ) (was new tail : Chunk) → kept ≡ chunks → k < length chunks → was ≡ get_or kept k was
+    → chunk_rows was ≡ chunk_rows new ++ chunk_rows tail
     → made ≡ insert (set kept k new) (k + 1) tail → HalvedAt (nest chunks) (nest made) k
 halves_made chunks kept made k was new tail same low w both is =
     let low2 : k < length kept = rw same low in
@@ -149,7 +163,9 @@ halves_made chunks kept made k was new tail same low w both is =
       head = chunk_rows new;
       tail = chunk_rows tail;
       both = ap (λ cs. get_or (nest cs) k []) (sym same) ∙ shown_at chunk_rows kept k [] was low2 w ∙ both;
-      are = ap nest is ∙ nest_inserted (set kept k new) (k + 1) tail ∙ ap (λ n. insert n (k + 1) (chunk_rows tail)) (map-set chunk_rows kept k new ∙ ap (λ cs. set (nest cs) k (chunk_rows new)) same);
+      are =
+          ap nest is ∙ nest_inserted (set kept k new) (k + 1) tail ∙ ap (λ n. insert n (k + 1) (chunk_rows tail))
+          (map-set chunk_rows kept k new ∙ ap (λ cs. set (nest cs) k (chunk_rows new)) same);
       parts = (some_length (chunk_rows new) new.some, some_length (chunk_rows tail) tail.some);
     }
 

@@ -43,9 +43,11 @@ pub use Rattle.mmemory.specs.Held.{Keeps, KeepsPast, KeepsShown, Pads, Puts, Rel
 pub use Rattle.mmemory.specs.Lists.{joined, joined_at, over, put_in, taken}
 pub use Rattle.mmemory.specs.Memory.{all_kept, current, left_from, left_of, marks_of, memory_view, view_of}
 pub use Rattle.mmemory.specs.Nest.{after, after_row, back, before, front, rows_at}
-pub use Rattle.mmemory.specs.Plain.{Plain, chunk_rows, heading, nest, no_plain, plain, plain_rows, put_back, tree_nest, tree_rows, undone_step, with_chunks}
+pub use Rattle.mmemory.specs.Plain.{bare_rows, Plain, chunk_rows, heading, nest, no_plain, plain, plain_rows, put_back, tree_nest, tree_rows, undone_step}
+pub use Rattle.mmemory.specs.Plain.{with_chunks}
 pub use Rattle.mmemory.specs.Probe.{Falls, IsEdge, Skips, Splits, passes}
 pub use Rattle.mmemory.specs.States.{AreInOrder, IsInOrder, Labels, State, WithTree, headings, rows_of, shown, state_of, undone, undone_one}
+pub use Rattle.mmemory.specs.declared.chunk.Bare.{Bare}
 pub use Rattle.mmemory.specs.declared.chunk.Chunk.{Chunk}
 pub use Rattle.mmemory.specs.declared.held.Held.{Held}
 pub use Rattle.mmemory.specs.declared.memory.Memory.{Memory}

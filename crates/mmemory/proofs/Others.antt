@@ -9,6 +9,7 @@ use Rattle.mmemory.proofs.MemoryWords.{state_of, undone_one, undone, headings, r
 use Rattle.mmemory.proofs.MemoryWords.{KeepsShown, Pads, Puts, Relabels}
 use mathlib.Core.Path.{fun_ext}
 use Rattle.mmemory.specs.declared.step.Step.{Step}
+use Rattle.std.proofs.Common.{Box, Global}
 use Rattle.mmemory.specs.declared.undo.Undo.TheVariants.{Step as OfTree}
 use Rattle.mmemory.proofs.Shown.{drop_past, shown_at}
 use Rattle.mmemory.proofs.Backs.{set_back}
@@ -26,7 +27,8 @@ module _ (h : Held) (more : List Undo) (u : Undo) (new : State) (logged : more �
   pub past_by : (n : ℕ) → n ≤ length h.log.items → undone (drop n more) new ≡ moment h n
   past_by n low = ap (λ l. undone (drop n l) new) logged ∙ moment_more h.log.items u (now h) new back n low
 
-pub kept_by : (old new : Held) (u : Undo) → new.log.items ≡ old.log.items ++ u ∷ [] → undone_one u (now new) ≡ now old → new.marks.items ≡ old.marks.items → KeepsPast old new
+pub kept_by : (old new : Held) (u : Undo) → new.log.items ≡ old.log.items ++ u ∷ [] → undone_one u (now new) ≡ now old → new.marks.items ≡ old.marks.items
+    → KeepsPast old new
 kept_by old new u logged back marks = record {
   past = past_by old new.log.items u (now new) logged back;
   longer = omega (arith, ap length logged, length-append old.log.items (u ∷ []));
@@ -75,7 +77,8 @@ module _ (trees more : List Tree) (v n : ℕ) (none : map plain more ≡ replica
       let same : get_or (map plain (trees ++ more)) k no_plain ≡ get_or (map plain trees) k no_plain = ap (λ l. get_or l k no_plain) with_none ∙ same_tree (map plain trees) n k in
       subst (λ (p : Plain). IsShaped p.shape (plain_rows p)) (sym same) (all k)
 
-pub pads_more : (old new : Held) (tree len n : ℕ) (more : List Tree) → map plain more ≡ replicate n no_plain → len ≡ length old.trees.items → n ≡ tree + 1 - length old.trees.items
+pub pads_more : (old new : Held) (tree len n : ℕ) (more : List Tree) → map plain more ≡ replicate n no_plain → len ≡ length old.trees.items
+    → n ≡ tree + 1 - length old.trees.items
     → new.trees.items ≡ old.trees.items ++ more → new.version ≡ old.version → new.log.items ≡ old.log.items ++ Shorten len ∷ [] → new.marks.items ≡ old.marks.items → Pads old new tree
 pads_more old new tree len n more none len_is n_is trees version logged marks =
     let same : now new ≡ state_of (old.trees.items ++ more) old.version = λ i. state_of (trees i) (version i) in
@@ -106,10 +109,13 @@ module _ (old new : Held) (tree : ℕ) (p : Pads old new tree) where
   pub padded_shown : KeepsShown old new
   padded_shown = record {
     keeps = p.keeps;
-    shown_is = (λ i. snapshot_of (padded_headings i) (padded_rows i) (p.version_is i)) ∙ padded_snapshot (headings (now old)) (tree + 1 - length old.trees.items) (rows_of (now old)) old.version;
+    shown_is =
+        (λ i. snapshot_of (padded_headings i) (padded_rows i) (p.version_is i)) ∙ padded_snapshot (headings (now old)) (tree + 1 - length old.trees.items)
+        (rows_of (now old)) old.version;
   }
 
-pub shown_kept : (old mid new : Held) → KeepsShown old mid → now new ≡ now mid → new.log.items ≡ mid.log.items → new.marks.items ≡ mid.marks.items → KeepsShown old new
+pub shown_kept : (old mid new : Held) → KeepsShown old mid → now new ≡ now mid → new.log.items ≡ mid.log.items → new.marks.items ≡ mid.marks.items
+    → KeepsShown old new
 shown_kept old mid new h is log marks = record { keeps = kept_both old mid new h.keeps (kept_same mid new is log marks); shown_is = ap shown is ∙ h.shown_is }
 
 -- ---- another tree in place of one
@@ -129,10 +135,10 @@ module _ (trees : List Tree) (v t : ℕ) (y x : Tree) (low : t < length trees) w
   below : t < length (map plain trees)
   below = omega (arith, low, length-map trees plain)
 
-  pub put_undone : y ≡ get_or trees t y → undone_one (Put t y) (state_of (set trees t x) v) ≡ state_of trees v
-  put_undone is =
-      let here : plain y ≡ get_or (map plain trees) t no_plain = sym (shown_at plain trees t no_plain y low is) in
-      ap (undone_one (Put t y)) same_state ∙ (λ i. record { trees = set (set (map plain trees) t (plain x)) t (here i); version = v })
+  pub put_undone : (kept : Box Tree Global) → kept.value ≡ y → y ≡ get_or trees t y → undone_one (Put t kept) (state_of (set trees t x) v) ≡ state_of trees v
+  put_undone kept holds is =
+      let here : plain kept.value ≡ get_or (map plain trees) t no_plain = ap plain holds ∙ sym (shown_at plain trees t no_plain y low is) in
+      ap (undone_one (Put t kept)) same_state ∙ (λ i. record { trees = set (set (map plain trees) t (plain x)) t (here i); version = v })
       ∙ (λ i. record { trees = set_back t (plain x) (map plain trees) no_plain i; version = v })
 
   pub put_order : IsShaped (plain x).shape (plain_rows (plain x)) → IsInOrder (state_of trees v) → IsInOrder (state_of (set trees t x) v)
@@ -145,20 +151,32 @@ module _ (trees : List Tree) (v t : ℕ) (y x : Tree) (low : t < length trees) w
   put_headings = ap headings same_state ∙ map-set heading (map plain trees) t (plain x)
 
 pub empty_fits : (x : Tree) → x.chunks.items ≡ [] → IsShaped (plain x).shape (plain_rows (plain x))
-empty_fits x none = subst (λ cs. IsShaped x.shape (plain_rows (record { shape = x.shape; reals = x.reals; described = x.described; chunks = map (λ c. c.rows.items) cs; spare = x.spare }))) (sym none) (none_shaped x.shape)
+empty_fits x none =
+    subst
+    (λ cs. IsShaped x.shape (plain_rows (record { shape = x.shape; reals = x.reals; described = x.described; chunks = map (λ c. c.rows.items) cs; spare = x.spare })))
+    (sym none) (none_shaped x.shape)
 
-pub puts_in : (old mid new : Held) (t : ℕ) (y x it : Tree) → x ≡ it → Pads old mid t → t < length mid.trees.items → y ≡ get_or mid.trees.items t y
-    → new.trees.items ≡ set mid.trees.items t x → new.version ≡ mid.version → new.log.items ≡ mid.log.items ++ Put t y ∷ [] → new.marks.items ≡ mid.marks.items → Puts old new t (plain it)
-puts_in old mid new t y x it same_it p low is trees version logged marks =
+pub order_put : (h : Held) (more : List Undo) (t : ℕ) (y x : Tree) (kept : Box Tree Global) → more ≡ h.log.items ++ Put t kept ∷ [] → kept.value ≡ y → t < length h.trees.items
+    → y ≡ get_or h.trees.items t y → IsShaped (plain x).shape (plain_rows (plain x)) → ∥ AreInOrder more (state_of (set h.trees.items t x) h.version) ∥₁
+order_put h more t y x kept logged holds low is fits =
+    order_by h more (Put t kept) (state_of (set h.trees.items t x) h.version) logged (put_undone h.trees.items h.version t y x low kept holds is)
+    (put_order h.trees.items h.version t y x low fits)
+
+pub puts_in : (old mid new : Held) (t : ℕ) (y x it : Tree) (kept : Box Tree Global) → kept.value ≡ y → x ≡ it → Pads old mid t → t < length mid.trees.items
+    → y ≡ get_or mid.trees.items t y
+    → new.trees.items ≡ set mid.trees.items t x → new.version ≡ mid.version → new.log.items ≡ mid.log.items ++ Put t kept ∷ [] → new.marks.items ≡ mid.marks.items → Puts old new t (plain it)
+puts_in old mid new t y x it kept holds same_it p low is trees version logged marks =
     let same : now new ≡ state_of (set mid.trees.items t x) mid.version = λ i. state_of (trees i) (version i) in
-    let back : undone_one (Put t y) (now new) ≡ now mid = ap (undone_one (Put t y)) same ∙ put_undone mid.trees.items mid.version t y x low is in
+    let back : undone_one (Put t kept) (now new) ≡ now mid = ap (undone_one (Put t kept)) same ∙ put_undone mid.trees.items mid.version t y x low kept holds is in
     let count : length (headings (now old)) ≡ length old.trees.items = length-map (now old).trees heading ∙ length-map old.trees.items plain in
     let puts : Puts old new t (plain x) = record {
-      keeps = kept_both old mid new p.keeps (kept_by mid new (Put t y) logged back marks);
+      keeps = kept_both old mid new p.keeps (kept_by mid new (Put t kept) logged back marks);
       trees_are = record {
-        headings_are = ap headings same ∙ put_headings mid.trees.items mid.version t y x low ∙ ap (λ hs. set hs t (heading (plain x))) (padded_headings old mid t p)
+        headings_are =
+            ap headings same ∙ put_headings mid.trees.items mid.version t y x low ∙ ap (λ hs. set hs t (heading (plain x))) (padded_headings old mid t p)
             ∙ ap (λ n. set (headings (now old) ++ replicate (t + 1 - n) no_heading) t (heading (plain x))) (sym count);
-        rows_are = ap rows_of same ∙ put_rows mid.trees.items mid.version t y x low ∙ ap (λ rows. with_tree rows t (plain_rows (plain x))) (padded_rows old mid t p);
+        rows_are =
+            ap rows_of same ∙ put_rows mid.trees.items mid.version t y x low ∙ ap (λ rows. with_tree rows t (plain_rows (plain x))) (padded_rows old mid t p);
         version_is = version ∙ p.version_is;
       };
     } in
@@ -206,6 +224,9 @@ pub relabels_in : (old new : Held) (t : ℕ) (y x : Tree) (step : Step) (reals :
 relabels_in old new t y x step reals described low is d o reals_are described_is trees version logged marks =
     let same : now new ≡ state_of (set old.trees.items t x) old.version = λ i. state_of (trees i) (version i) in
     record {
-      keeps = kept_by old new (OfTree t step) logged (ap (undone_one (OfTree t step)) same ∙ label_undone old.trees.items old.version t y x step reals described low is d) marks;
-      labels = subst (λ s. Labels (now old) s t o) (sym same) (labels_as old.trees.items old.version t y x step reals described low is d o reals_are described_is);
+      keeps =
+          kept_by old new (OfTree t step) logged
+          (ap (undone_one (OfTree t step)) same ∙ label_undone old.trees.items old.version t y x step reals described low is d) marks;
+      labels =
+          subst (λ s. Labels (now old) s t o) (sym same) (labels_as old.trees.items old.version t y x step reals described low is d o reals_are described_is);
     }

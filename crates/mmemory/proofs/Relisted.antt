@@ -38,7 +38,7 @@ went_back old new back len is h past at longer marks = record {
 
 pub fails_to_relist : (old new : Memory) (e : StoreError) → KeepsShown old.held new.held → FailsToRelist (memory_view old) (memory_view new) e
 fails_to_relist old new e h =
-    let it = fails old new (Err e) h in
+    let it = fails old new {X = Unit {0}} (Err e) h in
     let kept = it.kept in
     record {
       shape = kept.committed_shape;

@@ -35,12 +35,15 @@ all_at P (x ∷ xs) (suc k) d within h = all_at P xs k d (omega arith) h.1
 
 module _ (test : Row → Bool) where
   -- one row that passes, and one that fails
-  passed_before : (front : List Row) (row : Row) (back : List Row) → Falls test (front ++ row ∷ back) → test row ≡ true → AllByRecursion (λ r. test r ≡ true) front
+  passed_before : (front : List Row) (row : Row) (back : List Row) → Falls test (front ++ row ∷ back) → test row ≡ true
+      → AllByRecursion (λ r. test r ≡ true) front
   passed_before [] row back up h = tt
   passed_before (x ∷ front) row back up h = ((all_right _ front (row ∷ back) up.0).0 h, passed_before front row back up.1 h)
 
-  failed_after : (front : List Row) (row : Row) (back : List Row) → Falls test (front ++ row ∷ back) → test row ≡ false → AllByRecursion (λ r. test r ≡ false) (row ∷ back)
-  failed_after [] row back up h = (h, all_weaker _ (λ r. test r ≡ false) (λ r falls. not_true (test r) (λ passes. true≢false (sym (falls passes) ∙ h))) back up.0)
+  pub failed_after : (front : List Row) (row : Row) (back : List Row) → Falls test (front ++ row ∷ back) → test row ≡ false
+      → AllByRecursion (λ r. test r ≡ false) (row ∷ back)
+  failed_after [] row back up h =
+      (h, all_weaker _ (λ r. test r ≡ false) (λ r falls. not_true (test r) (λ passes. true≢false (sym (falls passes) ∙ h))) back up.0)
   failed_after (x ∷ front) row back up h = failed_after front row back up.1 h
 
   pub rows_passed : (rows : List Row) (at : ℕ) → Falls test rows → at ≤ length rows → IsEdge test rows at → AllByRecursion (λ r. test r ≡ true) (take at rows)
@@ -63,12 +66,27 @@ module _ (test : Row → Bool) where
         rw (drop_at rows at row here) (failed_after (take at rows) row (drop (at + 1) rows) up2 (edge.first row here))
   ]
 
+  module _ {A : Type 0} (f : A → List Row) (d : A) (none : f d ≡ []) (xs : List A) (up : Falls test (flat_map f xs)) (some : AllByRecursion (λ x. f x ≢ []) xs) where
+    -- the rows around the first row of a part
+    led : (k : ℕ) → k < length xs
+        → Falls test (flat_map f (take k xs) ++ get_or (f (get_or xs k d)) 0 [] ∷ (drop 1 (f (get_or xs k d)) ++ flat_map f (drop (k + 1) xs)))
+    led k low =
+        subst (Falls test)
+        (around f d none xs k ∙ ap (λ l. flat_map f (take k xs) ++ (l ++ flat_map f (drop (k + 1) xs))) (begun (f (get_or xs k d)) [] (all_at _ xs k d low some))) up
+
+    pub passed_to : (k : ℕ) → k < length xs → test (get_or (f (get_or xs k d)) 0 []) ≡ true
+        → AllByRecursion (λ r. test r ≡ true) (flat_map f (take k xs))
+    passed_to k low h = passed_before _ _ _ (led k low) h
+
+    pub failed_on : (k : ℕ) → k < length xs → test (get_or (f (get_or xs k d)) 0 []) ≡ false
+        → AllByRecursion (λ r. test r ≡ false) (flat_map f (drop k xs))
+    failed_on k low h =
+        subst (AllByRecursion (λ r. test r ≡ false))
+        (sym (from_place f d none xs k ∙ ap (λ l. l ++ flat_map f (drop (k + 1) xs)) (begun (f (get_or xs k d)) [] (all_at _ xs k d low some))))
+        (failed_after _ _ _ (led k low) h)
+
   module _ {A : Type 0} (f : A → List Row) (d : A) (none : f d ≡ []) (xs : List A) (at : ℕ) (up : Falls test (flat_map f xs)) (within : at ≤ length xs)
       (some : AllByRecursion (λ x. f x ≢ []) xs) (edge : IsEdge (λ x. test (get_or (f x) 0 [])) xs at) where
-    -- the rows around the first row of a part
-    led : (k : ℕ) → k < length xs → Falls test (flat_map f (take k xs) ++ get_or (f (get_or xs k d)) 0 [] ∷ (drop 1 (f (get_or xs k d)) ++ flat_map f (drop (k + 1) xs)))
-    led k low = subst (Falls test) (around f d none xs k ∙ ap (λ l. flat_map f (take k xs) ++ (l ++ flat_map f (drop (k + 1) xs))) (begun (f (get_or xs k d)) [] (all_at _ xs k d low some))) up
-
     pub parts_passed : AllByRecursion (λ r. test r ≡ true) (flat_map f (take (max at 1 - 1) xs))
     parts_passed = go at refl
       where
@@ -77,22 +95,21 @@ module _ (test : Row → Bool) where
         go (suc k) is =
             let low : k < length xs = omega arith in
             let here : max (suc k) 1 - 1 ≡ k = omega arith in
-            rw here (passed_before _ _ _ (led k low) (edge.last k (get_or xs k d) (omega arith) (slice_get-get_or xs k d low)))
+            rw here (passed_to f d none xs up some k low (edge.last k (get_or xs k d) (omega arith) (slice_get-get_or xs k d low)))
 
     failed_from : AllByRecursion (λ r. test r ≡ false) (flat_map f (drop at xs))
     failed_from = elim (eq-or-lt_of_le within) [
       | inl same ↦ rw (drop_past at xs (omega arith)) tt
-      | inr low ↦
-          subst (AllByRecursion (λ r. test r ≡ false))
-          (sym (from_place f d none xs at ∙ ap (λ l. l ++ flat_map f (drop (at + 1) xs)) (begun (f (get_or xs at d)) [] (all_at _ xs at d low some))))
-          (failed_after _ _ _ (led at low) (edge.first (get_or xs at d) (slice_get-get_or xs at d low)))
+      | inr low ↦ failed_on f d none xs up some at low (edge.first (get_or xs at d) (slice_get-get_or xs at d low))
     ]
 
     pub parts_failed : AllByRecursion (λ r. test r ≡ false) (flat_map f (drop (max at 1 - 1 + 1) xs))
     parts_failed = go at refl
       where
         go : (e : ℕ) → at ≡ e → AllByRecursion (λ r. test r ≡ false) (flat_map f (drop (max e 1 - 1 + 1) xs))
-        go zero is = all_right _ (f (get_or xs 0 d)) (flat_map f (drop 1 xs)) (subst (AllByRecursion (λ r. test r ≡ false)) (from_place f d none xs 0) (rw is at failed_from))
+        go zero is =
+            all_right _ (f (get_or xs 0 d)) (flat_map f (drop 1 xs))
+            (subst (AllByRecursion (λ r. test r ≡ false)) (from_place f d none xs 0) (rw is at failed_from))
         go (suc k) is = let here : max (suc k) 1 - 1 + 1 ≡ suc k = omega arith in rw here (rw is at failed_from)
 
 pub edge_map : {A B : Type 0} (h : A → B) (t : B → Bool) (xs : List A) (at : ℕ) → IsEdge (λ x. t (h x)) xs at → IsEdge t (map h xs) at

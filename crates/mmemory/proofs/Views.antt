@@ -156,7 +156,7 @@ module _ (old new : Memory) where
   pub sets_frame : (tree : ℕ) (edit : List Row → List Row) → SetsTree (memory_view old) (memory_view new) tree edit → OnlyWrites (memory_view old) (memory_view new)
   sets_frame tree edit h = λ i. record (h.is i) { trees = (memory_view new).trees; cursors = (memory_view new).cursors }
 
-  pub fails : (r : Result (Unit {0}) StoreError) → OnErr r (KeepsShown old.held new.held) → IfErr r (IsFailure (memory_view old) (memory_view new))
+  pub fails : {X : Type 0} (r : Result X StoreError) → OnErr r (KeepsShown old.held new.held) → IfErr r (IsFailure (memory_view old) (memory_view new))
   fails (Ok x) h = tt
   fails (Err e) h = let same = seen h in record {
     kept = record {

@@ -8,11 +8,11 @@ use Rattle.mmemory.specs.declared.packed.Form.TheVariants.{Entry, Node, Other}
 
 abbrev pub row_of : Form → Row
 row_of (Entry bytes n) = Blob bytes.items ∷ Int n ∷ []
-row_of (Node n bytes cut) = Int n ∷ Blob (take cut bytes.items) ∷ Blob (drop cut bytes.items) ∷ []
+row_of (Node cut n bytes) = Int n ∷ Blob (take cut bytes.items) ∷ Blob (drop cut bytes.items) ∷ []
 row_of (Other row) = row.value
 
 -- the second text begins within the bytes
 abbrev pub IsCut : Form → Type 0
 IsCut (Entry bytes n) = ⊤
-IsCut (Node n bytes cut) = cut ≤ length bytes.items
+IsCut (Node cut n bytes) = cut ≤ length bytes.items
 IsCut (Other row) = ⊤

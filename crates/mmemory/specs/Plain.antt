@@ -6,6 +6,7 @@ use Rattle.sqlite_value.specs.Order.{Row}
 use Rattle.sqlite_trees.specs.declared.store.Shape.{Shape}
 use Rattle.sqlite_trees.specs.declared.store.Shape.TheVariants.{Absent}
 use Rattle.sqlite_trees.specs.Listing.{Heading}
+use Rattle.mmemory.specs.declared.chunk.Bare.{Bare}
 use Rattle.mmemory.specs.declared.chunk.Chunk.{Chunk}
 use Rattle.mmemory.specs.declared.tree.Tree.{Tree}
 use Rattle.mmemory.specs.declared.step.Step.{Step}
@@ -14,6 +15,9 @@ use Rattle.mmemory.specs.Lists.{joined, put_in, taken, over, joined_at}
 
 abbrev pub chunk_rows : Chunk → List Row
 chunk_rows c = c.rows.items
+
+abbrev pub bare_rows : Bare → List Row
+bare_rows c = c.rows.items
 
 abbrev pub nest : List Chunk → List (List Row)
 nest chunks = map chunk_rows chunks
@@ -57,6 +61,6 @@ undone_step (DropRow k at) p = with_chunks p (over k (taken at) p.chunks)
 undone_step (PutRow k at row) p = with_chunks p (over k (put_in at row) p.chunks)
 undone_step (SetRow k at row) p = with_chunks p (over k (λ rows. set rows at row) p.chunks)
 undone_step (DropChunk k) p = with_chunks p (remove p.chunks k)
-undone_step (PutChunk k it) p = put_back k (chunk_rows it) p.spare p
+undone_step (PutChunk k it) p = put_back k (bare_rows it) p.spare p
 undone_step (Join k) p = with_chunks p (joined_at k p.chunks)
 undone_step (Label reals row) p = record { shape = p.shape; reals = reals; described = row; chunks = p.chunks; spare = p.spare }

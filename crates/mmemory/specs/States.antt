@@ -22,7 +22,7 @@ state_of trees version = record { trees = map plain trees; version = version }
 
 abbrev pub undone_one : Undo → State → State
 undone_one (Step t step) s = record { trees = set s.trees t (undone_step step (get_or s.trees t no_plain)); version = s.version }
-undone_one (Put t it) s = record { trees = set s.trees t (plain it); version = s.version }
+undone_one (Put t it) s = record { trees = set s.trees t (plain it.value); version = s.version }
 undone_one (Shorten n) s = record { trees = take n s.trees; version = s.version }
 undone_one (Version v) s = record { trees = s.trees; version = v }
 

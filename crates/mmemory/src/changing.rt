@@ -45,7 +45,7 @@ impl Tree {
         if self.chunks[place.chunk].rows.len() == 1 {
             let old = self.chunks.remove(place.chunk);
             self.spare += 1;
-            return Step::PutChunk(place.chunk, old);
+            return Step::PutChunk(place.chunk, old.into_bare());
         }
         let old = self.chunks[place.chunk].take(place.row);
         Step::PutRow(place.chunk, place.row, old)

@@ -27,6 +27,15 @@ pub(crate) struct Chunk {
     pub ghost fits: { (length rows.items ≤ 128) × (128 ≤ vec_capacity rows) },
 }
 
+/// A chunk as the log keeps it, without what leads a search.
+#[derive(Drop)]
+pub(crate) struct Bare {
+    pub rows: Vec<Packed>,
+    pub marks: Vec<u32>,
+    pub ghost some: { rows.items ≢ [] },
+    pub ghost fits: { (length rows.items ≤ 128) × (128 ≤ vec_capacity rows) },
+}
+
 // How many rows a full chunk keeps if a row goes in at a place: half of them, unless rows come in
 // order. The numbers of a table's rows rise, and none comes between others.
 pub(crate) fn rows_kept(shape: Shape, at: usize) -> usize
@@ -66,6 +75,23 @@ impl Chunk {
         Chunk { rows, lead, marks }
     }
 
+    pub(crate) fn into_bare(self) -> Bare
+        ensures { result.rows.items ≡ self.rows.items }
+    {
+        let Chunk { rows, marks, .. } = self;
+        Bare {
+            rows,
+            marks: marks.into_vec(),
+        }
+    }
+
+    pub(crate) fn of_bare(bare: Bare) -> Chunk
+        ensures { result.rows.items ≡ bare.rows.items }
+    {
+        let Bare { rows, marks } = bare;
+        Chunk::of_rows(rows, Marks::of_vec(marks))
+    }
+
     // Puts a row in, unless the chunk is full.
     pub(crate) fn put(&mut self, at: usize, row: Packed)
         ensures { self.new.rows.items ≡ put_in at row self.old.rows.items }
@@ -73,6 +99,16 @@ impl Chunk {
         if at <= self.rows.len() && self.rows.len() < CHUNK_LIMIT {
             self.rows.insert(at, row).unwrap();
             self.marks.put(at, self.rows.as_slice());
+            self.led_by(at);
+        }
+    }
+
+    // After the row at a place became another.
+    fn led_by(&mut self, at: usize)
+        requires { self.old.rows.items ≢ [] }
+        ensures { self.new.rows.items ≡ self.old.rows.items }
+    {
+        if at == 0 {
             self.lead = Lead::of(self.rows[0].get(0));
         }
     }
@@ -86,7 +122,7 @@ impl Chunk {
     {
         let row = self.rows.remove(at);
         self.marks.take(at);
-        self.lead = Lead::of(self.rows[0].get(0));
+        self.led_by(at);
         row
     }
 
@@ -108,7 +144,7 @@ impl Chunk {
         let old = mem::replace(&mut self.rows[at], row);
         self.marks.take(at);
         self.marks.put(at, self.rows.as_slice());
-        self.lead = Lead::of(self.rows[0].get(0));
+        self.led_by(at);
         old
     }
 

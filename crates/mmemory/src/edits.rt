@@ -8,6 +8,7 @@ ghost use Rattle.mmemory.specs.Held.{now, Keeps, Writes, shape_at};
 
 use crate::change::Change;
 use crate::held::Held;
+use crate::near::Near;
 use crate::packed::Packed;
 use crate::probe::Probe;
 use sqlite_trees::store::Shape;
@@ -17,7 +18,7 @@ use sqlite_value::value::ValueRef;
 use std::alloc::AllocError;
 
 impl Held {
-    pub(crate) fn put(&mut self, tree: usize, row: &Row) -> Result<(), AllocError>
+    pub(crate) fn put(&mut self, tree: usize, row: &Row, near: &mut Near) -> Result<(), AllocError>
         requires tree { tree < length self.old.trees.items }
         requires table { shape_at self.old tree ≡ Shape.Table }
         requires keyed { IsTrue (is_int (rowid row.now)) }
@@ -25,20 +26,25 @@ impl Held {
         ensures err { OnErr result (Keeps self.old self.new) }
     {
         let new = Packed::of(self.alloc, row)?;
-        let (place, hit) = self.trees[tree].seek(Probe::BelowRowid(row.get(0)));
+        let (place, hit) = self.trees[tree].seek(Probe::BelowRowid(row.get(0)), near.of(tree));
+        near.keep(tree, place);
         if hit {
             return self.change(tree, Change::Set(place, new));
         }
         self.add(tree, place, new)
     }
 
-    pub(crate) fn delete(&mut self, tree: usize, id: i64) -> Result<(), AllocError>
+    pub(crate) fn delete(&mut self, tree: usize, id: i64, near: &mut Near) -> Result<(), AllocError>
         requires tree { tree < length self.old.trees.items }
         requires table { shape_at self.old tree ≡ Shape.Table }
         ensures ok { OnOk result (Writes self.old self.new tree (without_rowid id (rows_of (now self.old) tree))) }
         ensures err { OnErr result (Keeps self.old self.new) }
     {
-        let (place, hit) = self.trees[tree].seek(Probe::BelowRowid(ValueRef::Int(id)));
+        let (place, hit) = self.trees[tree].seek(
+            Probe::BelowRowid(ValueRef::Int(id)),
+            near.of(tree),
+        );
+        near.keep(tree, place);
         if !hit {
             return Ok(());
         }
@@ -50,13 +56,15 @@ impl Held {
         tree: usize,
         order: Order,
         entry: &Row,
+        near: &mut Near,
     ) -> Result<(), AllocError>
         requires tree { tree < length self.old.trees.items }
         requires index { shape_at self.old tree ≡ Shape.Index order }
         ensures ok { OnOk result (Writes self.old self.new tree (insert_entry order entry.now (rows_of (now self.old) tree))) }
         ensures err { OnErr result (Keeps self.old self.new) }
     {
-        let (place, hit) = self.trees[tree].seek(Probe::BelowEntry(order, entry));
+        let (place, hit) = self.trees[tree].seek(Probe::BelowEntry(order, entry), near.of(tree));
+        near.keep(tree, place);
         if hit {
             return Ok(());
         }
@@ -69,13 +77,15 @@ impl Held {
         tree: usize,
         order: Order,
         entry: &Row,
+        near: &mut Near,
     ) -> Result<(), AllocError>
         requires tree { tree < length self.old.trees.items }
         requires index { shape_at self.old tree ≡ Shape.Index order }
         ensures ok { OnOk result (Writes self.old self.new tree (remove_entry order entry.now (rows_of (now self.old) tree))) }
         ensures err { OnErr result (Keeps self.old self.new) }
     {
-        let (place, hit) = self.trees[tree].seek(Probe::BelowEntry(order, entry));
+        let (place, hit) = self.trees[tree].seek(Probe::BelowEntry(order, entry), near.of(tree));
+        near.keep(tree, place);
         if !hit {
             return Ok(());
         }

@@ -105,10 +105,11 @@ impl Held {
         ensures err { OnErr result (KeepsShown self.old self.new) }
     {
         let at = tree as usize;
+        let mut kept = Box::new(self.alloc, new).map_err(|_| AllocError)?;
         self.make_room(at)?;
         self.log.reserve(1)?;
-        let old = mem::replace(&mut self.trees[at], new);
-        self.log.push(Undo::Put(at, old)).unwrap();
+        mem::swap(&mut self.trees[at], kept.as_mut());
+        self.log.push(Undo::Put(at, kept)).unwrap();
         Ok(())
     }
 

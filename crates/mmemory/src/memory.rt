@@ -9,11 +9,12 @@ ghost use Rattle.mmemory.specs.Memory.{current, left_of, memory_view, SetsCursor
 
 use crate::cursor::Cursor;
 use crate::held::Held;
+use crate::near::Near;
 use crate::place::Place;
 use crate::probe::Probe;
+use crate::storable::is_storable;
 use sqlite_trees::error::StoreError;
 use sqlite_trees::store::{Direction, Shape, Store};
-use sqlite_trees::typed::is_typed;
 use sqlite_value::row::Row;
 use sqlite_value::value::ValueRef;
 use std::alloc::{AllocError, Global};
@@ -22,6 +23,7 @@ use std::alloc::{AllocError, Global};
 pub struct Memory {
     pub(crate) held: Held,
     pub(crate) cursors: Vec<Option<Cursor>>,
+    pub(crate) near: Near,
 }
 
 // Written out, so that dropping it is one call, which is proved once.
@@ -30,6 +32,7 @@ impl Drop for Memory {
         let Memory {
             held: _,
             cursors: _,
+            near: _,
         } = self;
     }
 }
@@ -52,6 +55,7 @@ impl Memory {
         Memory {
             held,
             cursors: Vec::new(alloc),
+            near: Near::new(),
         }
     }
 
@@ -67,9 +71,10 @@ impl Memory {
             };
         };
         let order = found.shape.order();
+        let near = self.near.of(tree);
         let place = match direction {
-            Direction::Forward => found.find(Probe::BelowKey(order, key)),
-            Direction::Backward => found.find(Probe::UpToKey(order, key)),
+            Direction::Forward => found.find(Probe::BelowKey(order, key), near),
+            Direction::Backward => found.find(Probe::UpToKey(order, key), near),
         };
         Cursor {
             tree,
@@ -191,6 +196,7 @@ impl Store for Memory {
         direction: Direction,
     ) -> Result<(), StoreError> {
         let placed = self.placed(tree as usize, key, direction);
+        self.near.keep(tree as usize, placed.place);
         Ok(set_cursor(&mut self.cursors, usize::from(cursor), placed)?)
     }
 
@@ -206,9 +212,12 @@ impl Store for Memory {
     }
 
     fn get(&mut self, table: u32, id: i64, row: &mut Row) -> Result<bool, StoreError> {
-        let tree = &self.held.trees[table as usize];
+        let held = &self.held;
+        let tree = &held.trees[table as usize];
         let probe = Probe::BelowRowid(ValueRef::Int(id));
-        match tree.next_row(tree.find(probe)) {
+        let place = tree.find(probe, self.near.of(table as usize));
+        self.near.keep(table as usize, place);
+        match tree.next_row(place) {
             Some((_, found)) if probe.meets(found) => {
                 found.copy_to(row)?;
                 Ok(true)
@@ -218,31 +227,37 @@ impl Store for Memory {
     }
 
     fn put(&mut self, table: u32, row: &Row) -> Result<(), StoreError> {
-        if row.len() < 2 || !is_typed(row, self.reals(table)) {
+        if row.len() < 2 || !is_storable(row, self.reals(table)) {
             return Err(StoreError::Unstorable);
         }
         self.cursors.clear();
-        Ok(self.held.put(table as usize, row)?)
+        Ok(self.held.put(table as usize, row, &mut self.near)?)
     }
 
     fn delete(&mut self, table: u32, id: i64) -> Result<(), StoreError> {
         self.cursors.clear();
-        Ok(self.held.delete(table as usize, id)?)
+        Ok(self.held.delete(table as usize, id, &mut self.near)?)
     }
 
     fn insert(&mut self, index: u32, entry: &Row) -> Result<(), StoreError> {
-        if !is_typed(entry, self.reals(index)) {
+        if !is_storable(entry, self.reals(index)) {
             return Err(StoreError::Unstorable);
         }
         let order = self.shape(index).order();
         self.cursors.clear();
-        Ok(self.held.insert(index as usize, order, entry)?)
+        Ok(
+            self.held
+                .insert(index as usize, order, entry, &mut self.near)?,
+        )
     }
 
     fn remove(&mut self, index: u32, entry: &Row) -> Result<(), StoreError> {
         let order = self.shape(index).order();
         self.cursors.clear();
-        Ok(self.held.remove(index as usize, order, entry)?)
+        Ok(
+            self.held
+                .remove(index as usize, order, entry, &mut self.near)?,
+        )
     }
 
     fn commit(&mut self) -> Result<(), StoreError> {

@@ -18,8 +18,8 @@ use std::marker::Model;
 enum Form {
     /// A blob, and a number.
     Entry(Vec<u8>, i64),
-    /// A number, and the bytes of two blobs, with the place where the second begins.
-    Node(i64, Vec<u8>, u32),
+    /// A number, and the bytes of two blobs, after the place where the second begins. In this order a row takes 40 bytes, and not 48.
+    Node(u32, i64, Vec<u8>),
     /// Any other row.
     Other(Box<Row>),
 }
@@ -88,7 +88,7 @@ impl Packed {
         bytes.extend_from_slice(key)?;
         bytes.extend_from_slice(text)?;
         Ok(Packed {
-            form: Form::Node(id, bytes, cut),
+            form: Form::Node(cut, id, bytes),
         })
     }
 
@@ -123,7 +123,7 @@ impl Packed {
                 1 => ValueRef::Int(*id),
                 _ => ValueRef::Null,
             },
-            Form::Node(id, bytes, cut) => match at {
+            Form::Node(cut, id, bytes) => match at {
                 0 => ValueRef::Int(*id),
                 1 => ValueRef::Blob(&bytes[..*cut as usize]),
                 2 => ValueRef::Blob(&bytes[*cut as usize..]),
@@ -137,14 +137,20 @@ impl Packed {
     pub(crate) fn copy_to(&self, row: &mut Row) -> Result<(), AllocError>
         ensures { OnOk result (row.new ≡ self.now) }
     {
-        if let Form::Other(it) = &self.form {
-            return row.copy_from(it);
+        match &self.form {
+            Form::Entry(bytes, id) => {
+                row.clear();
+                row.push(ValueRef::Blob(bytes.as_slice()))?;
+                row.push(ValueRef::Int(*id))
+            }
+            Form::Node(cut, id, bytes) => {
+                row.clear();
+                row.push(ValueRef::Int(*id))?;
+                row.push(ValueRef::Blob(&bytes[..*cut as usize]))?;
+                row.push(ValueRef::Blob(&bytes[*cut as usize..]))
+            }
+            Form::Other(it) => row.copy_from(it),
         }
-        row.clear();
-        for at in 0..self.len() {
-            row.push(self.get(at))?;
-        }
-        Ok(())
     }
 
     // The order of a tree's entries: column by column, and a row before what extends it.

@@ -9,6 +9,7 @@ use crate::guess::Guess;
 use crate::lead::Lead;
 use crate::marks::Marks;
 use crate::packed::Packed;
+use crate::place::Place;
 use sqlite_value::keys::Order;
 use sqlite_value::order::compare;
 use sqlite_value::row::Row;
@@ -34,16 +35,34 @@ impl<'a> Probe<'a> {
         }
     }
 
-    // Where chunks cease to be below it, as their leads say.
-    fn guess(self, chunks: &[Chunk]) -> Guess {
-        let lead = match self {
-            Probe::UpToKey(_, key) if key.is_empty() => Lead::LAST,
-            _ => Lead::of(self.first()),
-        };
-        Guess {
-            below: chunks.partition_point(|it| it.lead.is_below(lead)),
-            up_to: chunks.partition_point(|it| !lead.is_below(it.lead)),
+    // Whether all rows pass.
+    fn takes_all(self) -> bool {
+        match self {
+            Probe::UpToKey(_, key) => key.is_empty(),
+            _ => false,
         }
+    }
+
+    // Where chunks cease to be below it, as their leads say.
+    pub(crate) fn guess_chunk(self, chunks: &[Chunk], near: Place) -> Guess {
+        if self.takes_all() {
+            return Guess::all(chunks.len());
+        }
+        let lead = Lead::of(self.first());
+        Guess::of(
+            chunks,
+            near.chunk,
+            |it| it.lead.is_below(lead),
+            |it| !lead.is_below(it.lead),
+        )
+    }
+
+    // Where the rows of a chunk cease to be below it, as their marks say.
+    fn guess_row(self, rows: &[Packed], marks: &Marks, near: Place) -> Guess {
+        if self.takes_all() {
+            return Guess::all(rows.len());
+        }
+        marks.guess(self.first(), near.row)
     }
 
     fn passes(self, row: &Packed) -> bool
@@ -58,7 +77,7 @@ impl<'a> Probe<'a> {
     }
 
     // Whether the first row of a chunk passes.
-    fn passes_first(self, chunk: &Chunk) -> bool
+    pub(crate) fn passes_first(self, chunk: &Chunk) -> bool
         ensures { result ≡ passes self.entry (get_or (chunk_rows chunk.now) 0 []) }
     {
         self.passes(&chunk.rows[0])
@@ -77,11 +96,10 @@ impl<'a> Probe<'a> {
 }
 
 // How many chunks the test passes by their first rows, up to one that fails.
-pub(crate) fn chunk_edge(chunks: &[Chunk], probe: Probe<'_>) -> usize
+pub(crate) fn chunk_edge(chunks: &[Chunk], probe: Probe<'_>, guess: Guess) -> usize
     ensures within { result ≤ length chunks.now }
     ensures edge { IsEdge (λ c. passes probe.entry (get_or (chunk_rows c) 0 [])) chunks.now result }
 {
-    let guess = probe.guess(chunks);
     let mut low = 0;
     let mut high = chunks.len();
     while low < high {
@@ -96,11 +114,11 @@ pub(crate) fn chunk_edge(chunks: &[Chunk], probe: Probe<'_>) -> usize
 }
 
 // How many rows the test passes, up to one that fails.
-pub(crate) fn row_edge(rows: &[Packed], marks: &Marks, probe: Probe<'_>) -> usize
+pub(crate) fn row_edge(rows: &[Packed], marks: &Marks, probe: Probe<'_>, near: Place) -> usize
     ensures within { result ≤ length rows.now }
     ensures edge { IsEdge (passes probe.entry) rows.now result }
 {
-    let guess = marks.guess(probe.first());
+    let guess = probe.guess_row(rows, marks, near);
     let mut low = 0;
     let mut high = rows.len();
     while low < high {

@@ -1,6 +1,6 @@
 // SPDX-License-Identifier: Apache-2.0
 // What takes back a change of one tree.
-use crate::chunk::Chunk;
+use crate::chunk::Bare;
 use crate::packed::Packed;
 use sqlite_value::row::Row;
 
@@ -11,7 +11,7 @@ pub(crate) enum Step {
     PutRow(usize, usize, Packed),
     SetRow(usize, usize, Packed),
     DropChunk(usize),
-    PutChunk(usize, Chunk),
+    PutChunk(usize, Bare),
     /// The chunk takes over the rows of the one after it.
     Join(usize),
     /// The REAL columns and the description.

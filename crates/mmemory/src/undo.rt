@@ -7,7 +7,7 @@ use crate::tree::Tree;
 pub(crate) enum Undo {
     Step(usize, Step),
     /// Another tree in place of one.
-    Put(usize, Tree),
+    Put(usize, Box<Tree>),
     /// That many trees, and no more.
     Shorten(usize),
     Version(u32),

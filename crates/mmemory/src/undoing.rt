@@ -2,10 +2,10 @@
 // Changes that are taken back. One that does not fit changes nothing, and none needs memory.
 ghost use Rattle.std.specs.Prelude.{◌≡◌, set};
 ghost use Rattle.mmemory.specs.Lists.{put_in, taken, over, joined_at};
-ghost use Rattle.mmemory.specs.Plain.{plain, with_chunks, put_back, chunk_rows, tree_nest, undone_step};
+ghost use Rattle.mmemory.specs.Plain.{plain, with_chunks, put_back, bare_rows, tree_nest, undone_step};
 ghost use Rattle.mmemory.specs.States.{state_of, undone_one};
 
-use crate::chunk::{CHUNK_LIMIT, Chunk};
+use crate::chunk::{Bare, CHUNK_LIMIT, Chunk};
 use crate::packed::Packed;
 use crate::step::Step;
 use crate::tree::Tree;
@@ -44,15 +44,16 @@ impl Tree {
         }
     }
 
-    fn put_chunk(&mut self, chunk: usize, it: Chunk)
-        ensures { plain self.new ≡ put_back chunk (chunk_rows it) self.old.spare (plain self.old) }
+    fn put_chunk(&mut self, chunk: usize, it: Bare)
+        ensures { plain self.new ≡ put_back chunk (bare_rows it) self.old.spare (plain self.old) }
     {
         if self.spare == 0 {
             return;
         }
         let at = chunk.min(self.chunks.len());
         self.spare -= 1;
-        self.chunks.insert(at, it).unwrap();
+        let back = Chunk::of_bare(it);
+        self.chunks.insert(at, back).unwrap();
     }
 
     fn join(&mut self, chunk: usize)
@@ -98,7 +99,7 @@ pub(crate) fn undo(trees: &mut Vec<Tree>, version: &mut u32, change: Undo)
         }
         Undo::Put(tree, it) => {
             if tree < trees.len() {
-                trees[tree] = it;
+                trees[tree] = Box::into_inner(it);
             }
         }
         Undo::Shorten(len) => trees.truncate(len),

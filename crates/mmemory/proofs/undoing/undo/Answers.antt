@@ -14,7 +14,7 @@ returns-then-tree-len c =
 pub returns-then-tree-len-2 : goal.returns-then-tree-len-2
 returns-then-tree-len-2 c =
     let trees = c.args.trees.now.items in
-    rw c.in-Put.is (λ i. record { trees = map-set plain trees c.in-Put.tree c.in-Put.it i; version = c.args.version.now })
+    rw c.in-Put.is (λ i. record { trees = (map-set plain trees c.in-Put.tree c.into_inner.result ∙ ap (λ x. set (map plain trees) c.in-Put.tree (plain x)) c.into_inner.ensures) i; version = c.args.version.now })
 
 pub returns-in-Shorten : goal.returns-in-Shorten
 returns-in-Shorten c =

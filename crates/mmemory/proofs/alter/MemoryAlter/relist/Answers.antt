@@ -13,7 +13,7 @@ relabel-requires c =
 pub returns-then-is_err-clause-err : goal.returns-then-is_err-clause-err
 returns-then-is_err-clause-err c =
     let s = c.args.self.now in
-    let back : Memory = record { held = c.undo_to.new.self; cursors = c.loop-change.self.cursors } in
+    let back : Memory = record { held = c.undo_to.new.self; cursors = c.loop-change.self.cursors; near = c.loop-change.self.near } in
     let kept = of_err c.relabel.result (sym c.is_err.ensures.value ∙ c.if-is_err.true) c.relabel.ensures.err in
     let it = c.undo_to.ensures in
     let past = kept_both s.held c.loop-change.self.held c.relabel.new.self c.loop-change.invariant.past kept.keeps in
@@ -23,10 +23,11 @@ returns-then-is_err-clause-err c =
 pub loop-change-preserved : goal.loop-change-preserved
 loop-change-preserved c =
     let s = c.args.self.now in
-    let next : Memory = record { held = c.relabel.new.self; cursors = c.loop-change.self.cursors } in
+    let next : Memory = record { held = c.relabel.new.self; cursors = c.loop-change.self.cursors; near = c.loop-change.self.near } in
     let made = of_ok c.relabel.result (sym c.is_err.ensures.value ∙ c.if-is_err.false) c.relabel.ensures.ok in
     let may = each_at (MayRelist (memory_view s)) c.args.changes.now c.loop-change.change-index _ (c.requires.each (no_doubt true refl)) c.loop-change-test.true in
     record {
       past = kept_both s.held c.loop-change.self.held c.relabel.new.self c.loop-change.invariant.past made.keeps;
-      done = more_relisted s c.loop-change.self next c.args.changes.now c.loop-change.change-index _ c.loop-change-test.true c.loop-change.invariant.done may made;
+      done =
+          more_relisted s c.loop-change.self next c.args.changes.now c.loop-change.change-index _ c.loop-change-test.true c.loop-change.invariant.done may made;
     }

@@ -6,7 +6,7 @@ use Rattle.mmemory.proofs.alter.MemoryAlter.set_version.Goals as goal
 pub returns-in_err-set_version-clause-err : goal.returns-in_err-set_version-clause-err
 returns-in_err-set_version-clause-err c =
     let s = c.args.self.now in
-    let new : Memory = record { held = c.set_version.new.self; cursors = c.clear.new.self } in
+    let new : Memory = record { held = c.set_version.new.self; cursors = c.clear.new.self; near = c.args.self.now.near } in
     let it = c.in_err-set_version.ensures in
     let same : now new.held ≡ now s.held = λ i. record { trees = it.trees i; version = it.version i } in
     let kept : KeepsShown s.held new.held = record { keeps = it.past; shown_is = ap shown same } in
@@ -16,7 +16,7 @@ pub returns-clause-ok : goal.returns-clause-ok
 returns-clause-ok c _ =
     let s = c.args.self.now in
     let v = c.args.version in
-    let new : Memory = record { held = c.set_version.new.self; cursors = c.clear.new.self } in
+    let new : Memory = record { held = c.set_version.new.self; cursors = c.clear.new.self; near = c.args.self.now.near } in
     let it = c.in_ok-set_version.ensures in
     let made : State = record { trees = (current s).trees; version = v } in
     let same : current new ≡ made = λ i. record { trees = it.trees i; version = it.version i } in

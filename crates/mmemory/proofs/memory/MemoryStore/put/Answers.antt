@@ -12,11 +12,15 @@ pub put-requires-clause-keyed : goal.put-requires-clause-keyed
 put-requires-clause-keyed c = c.requires.keyed (no_doubt true refl)
 
 pub returns-in_err-put-clause-err : goal.returns-in_err-put-clause-err
-returns-in_err-put-clause-err c = fails_kept c.args.self.now (record { held = c.put.new.self; cursors = c.clear.new.self }) c.from_residual.result c.in_err-put.ensures.err
+returns-in_err-put-clause-err c =
+    fails_kept c.args.self.now
+    (record { held = c.put.new.self; cursors = c.clear.new.self; near = c.args.self.now.near }) c.from_residual.result c.in_err-put.ensures.err
 
 pub returns-clause-ok : goal.returns-clause-ok
 returns-clause-ok c _ =
-    written c.args.self.now (record { held = c.put.new.self; cursors = c.clear.new.self }) c.args.table (put_row c.args.row.now) (omega arith) c.in_ok-put.ensures.ok
+    written c.args.self.now (record { held = c.put.new.self; cursors = c.clear.new.self; near = c.args.self.now.near }) c.args.table (put_row c.args.row.now) (omega arith) c.in_ok-put.ensures.ok
 
 pub returns-clause-frame : goal.returns-clause-frame
-returns-clause-frame c clean = sets_frame c.args.self.now (record { held = c.put.new.self; cursors = c.clear.new.self }) c.args.table _ (returns-clause-ok c clean)
+returns-clause-frame c clean =
+    sets_frame c.args.self.now (record { held = c.put.new.self; cursors = c.clear.new.self; near = c.args.self.now.near }) c.args.table _
+    (returns-clause-ok c clean)

@@ -14,7 +14,8 @@ any_default (y ∷ xs) zero d low = refl
 any_default (y ∷ xs) (suc k) d low = any_default xs k d (omega arith)
 
 -- no mark is above the newest
-none_above : (xs : List ℕ) (len : ℕ) → ((i j : ℕ) → i ≤ j → j < length xs → slice_index xs i ≤ slice_index xs j) → (length xs - 1 < length xs) × (get_or xs (length xs - 1) 0 ≡ len) → All (λ m. m ≤ len) xs
+none_above : (xs : List ℕ) (len : ℕ) → ((i j : ℕ) → i ≤ j → j < length xs → slice_index xs i ≤ slice_index xs j)
+    → (length xs - 1 < length xs) × (get_or xs (length xs - 1) 0 ≡ len) → All (λ m. m ≤ len) xs
 none_above xs len up found k d low =
     let below = up k (length xs - 1) (omega arith) found.0 in
     let same = any_default xs k d low in
@@ -24,7 +25,7 @@ pub returns-clause-ok : goal.returns-clause-ok
 returns-clause-ok c _ _ =
     let s = c.args.self.now in
     let old = s.held in
-    let new : Memory = record { held = c.undo_to.new.self; cursors = c.clear.new.self } in
+    let new : Memory = record { held = c.undo_to.new.self; cursors = c.clear.new.self; near = c.args.self.now.near } in
     let marks = old.marks.items in
     let len = c.in-Some.field-0.now in
     let it = c.undo_to.ensures in

@@ -15,5 +15,5 @@ returns-clause-ok c _ =
 pub returns-in_err-set_cursor-clause-err : goal.returns-in_err-set_cursor-clause-err
 returns-in_err-set_cursor-clause-err c =
     let s = c.args.self.now in
-    let new : Memory = record { held = s.held; cursors = c.set_cursor.new.cursors } in
+    let new : Memory = record { held = s.held; cursors = c.set_cursor.new.cursors; near = s.near } in
     fails s new c.from_residual.result (after_error _ (seen_same s.held s.held (keeps_untouched s.held s.held refl refl refl refl)))

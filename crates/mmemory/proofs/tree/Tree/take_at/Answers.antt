@@ -1,6 +1,7 @@
 -- SPDX-License-Identifier: Apache-2.0
 use Rattle.mmemory.proofs.MemoryLaws.{◌≡◌, ◌<◌, ◌+◌, ◌++◌, [], length, set, sym, ap, subst, ◌∙◌, arith, length-map, PutRow, PutChunk, before, after_row}
-use Rattle.mmemory.proofs.MemoryLaws.{rows_at, plain, chunk_rows, nest, tree_nest, with_chunks, Makes, shown_at, rows_were, made_over, made_cut, made_none}
+use Rattle.mmemory.proofs.MemoryLaws.{rows_at, plain, bare_rows, chunk_rows, nest, tree_nest, with_chunks, Makes, shown_at, rows_were, made_over, made_cut}
+use Rattle.mmemory.proofs.MemoryLaws.{made_none}
 use Rattle.mmemory.proofs.MemoryLaws.{nest_removed, short_at}
 use Rattle.std.specs.List.{remove as removed}
 use Rattle.mmemory.proofs.tree.Tree.take_at.Goals as goal
@@ -14,10 +15,10 @@ returns-then-len-eq1 c =
     let here : rows_at n p ≡ chunk_rows c.index.result.now = shown_at chunk_rows t.chunks.items p.chunk [] c.index.result.now low c.index.ensures in
     let one : length (rows_at n p) ≡ 1 = ap length here ∙ sym c.index.result.now.rows.ok.0 ∙ sym c.len.ensures ∙ c.if-len-eq1.true in
     let first : p.row ≡ 0 = omega (arith, c.requires.row) in
-    let it : chunk_rows c.remove-old.result ≡ rows_at n p = sym (shown_at chunk_rows t.chunks.items p.chunk [] c.remove-old.result low c.remove-old.ensures.value) in
+    let it : bare_rows c.into_bare.result ≡ rows_at n p = c.into_bare.ensures ∙ sym (shown_at chunk_rows t.chunks.items p.chunk [] c.remove-old.result low c.remove-old.ensures.value) in
     let is : nest c.remove-old.new.self.items ≡ removed n p.chunk = ap nest c.remove-old.ensures.items ∙ nest_removed t.chunks.items p.chunk in
-    subst (λ chunks. Makes (plain t) (record { shape = t.shape; reals = t.reals; described = t.described; chunks = chunks; spare = t.spare + 1 }) (PutChunk p.chunk c.remove-old.result) (before n p ++ after_row n p (p.row + 1))) (sym is)
-    (made_none (plain t) p.chunk p.row c.remove-old.result c.requires.chunk first one it)
+    subst (λ chunks. Makes (plain t) (record { shape = t.shape; reals = t.reals; described = t.described; chunks = chunks; spare = t.spare + 1 }) (PutChunk p.chunk c.into_bare.result) (before n p ++ after_row n p (p.row + 1))) (sym is)
+    (made_none (plain t) p.chunk p.row c.into_bare.result c.requires.chunk first one it)
 
 pub returns : goal.returns
 returns c =

@@ -1,6 +1,6 @@
 -- SPDX-License-Identifier: Apache-2.0
 use Rattle.mmemory.proofs.MemoryLaws.{◌≡◌, ◌-◌, [], get_or, sym, ap, ◌∙◌, chunk_rows, nest, passes, shown_at, tree_found}
-use Rattle.mmemory.proofs.tree.Tree.find.Goals as goal
+use Rattle.mmemory.proofs.tree.Tree.find_among.Goals as goal
 
 pub returns-clause-splits : goal.returns-clause-splits
 returns-clause-splits c =

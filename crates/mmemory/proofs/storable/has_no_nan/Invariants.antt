@@ -1,0 +1,8 @@
+-- SPDX-License-Identifier: Apache-2.0
+use Rattle.std.proofs.Common.{All, take}
+use Rattle.std.specs.Float.{NotNan}
+use Rattle.sqlite_value.specs.Order.{number}
+use Rattle.mmemory.proofs.storable.has_no_nan.Given as goal
+
+abbrev pub invariant-loop-at : goal.invariant-loop-at
+invariant-loop-at l = All (λ v. NotNan (number v)) (take l.at l.row)

@@ -282,7 +282,27 @@ fn read_nodes<S: Alter>(
     }
 }
 
-// Tests each row of a store of this version.
+// Tests a row of a store of this version, which comes after a rowid. Gives its own.
+fn test_row(alloc: Global, row: &Row, last: Option<i64>) -> Result<i64, OpenFault>
+    ensures number { IfOk result (λ id. (column row.now 0 ≡ Int id) × IsAbove last id) }
+    ensures node { OnOk result (ShowsNodeBy (digits_of Version.Second) row.now) }
+    ensures key { result ≡ Err OpenFault.BadKey → ShowsNodeBy (digits_of Version.Second) row.now → ⊥ }
+    ensures version { result ≢ Err OpenFault.BadVersion }
+{
+    let Ok(ValueRef::Int(id)) = row.get_ref(0) else {
+        return Err(OpenFault::Store);
+    };
+    if !is_above(last, id) {
+        return Err(OpenFault::Store);
+    }
+    match is_node(alloc, row, Version::Second) {
+        Ok(true) => Ok(id),
+        Ok(_) => Err(OpenFault::BadKey),
+        Err(_) => Err(OpenFault::Memory),
+    }
+}
+
+// Tests each row of a store of this version, one at a time, and keeps none.
 fn test_nodes<S: Alter>(alloc: Global, conn: &mut Connection<S>) -> Result<(), OpenFault>
     ensures order { doubt_of S.Store conn.old ≤ doubt_of S.Store conn.new }
     ensures stays { doubt_of S.Store conn.new ≡ 0 → IsCalm (state S.Store conn.old) → Stays (state S.Store conn.old) (state S.Store conn.new) }
@@ -293,10 +313,22 @@ fn test_nodes<S: Alter>(alloc: Global, conn: &mut Connection<S>) -> Result<(), O
         ((state S.Store conn.old).now.trees 0) }
     ensures version { result ≢ Err OpenFault.BadVersion }
 {
-    match read_nodes(alloc, conn, Version::Second) {
-        Ok(_) => Ok(()),
-        Err(fault) => Err(fault),
+    let mut rows = match conn.query(ALL, &[]) {
+        Ok(rows) => rows,
+        Err(error) => return Err(OpenFault::from(fault_of(&error))),
+    };
+    let mut last: Option<i64> = None;
+    'rows: for _ in 0..u64::MAX {
+        match rows.advance() {
+            Ok(()) => (),
+            Err(error) => return Err(OpenFault::from(fault_of(&error))),
+        }
+        let Some(row) = rows.get() else {
+            return Ok(());
+        };
+        last = Some(test_row(alloc, row, last)?);
     }
+    Err(OpenFault::Store)
 }
 
 // Brings a store of version 1 to this version.

@@ -126,11 +126,14 @@ record Languages : Type 0 where
       codes "W A($$B(1))" ∷ codes "W ^A($$B)" ∷ codes "W ^($$B)" ∷ codes "W ^|$$A|B" ∷ codes "W $G(A($$B))" ∷ codes "W $G(A,$$B)" ∷ codes "W $S($$A:$$B)" ∷
       codes "W $S(A:$$B)" ∷ codes "W 1_@$$A@(1)" ∷ codes "W 1?@$$A" ∷ codes "W $$A(B($$C))" ∷ codes "Q:A($$B)  W 1" ∷ codes "Q:'$S($$B:1)" ∷
       codes "S A=^B($$C($$D),1)" ∷ codes "W $D(@$$A)_$O(^A($$B),$$C)" ∷ codes "W A(B(C($$D)))" ∷ [])
-  -- and elsewhere: in the subscripts after an indirection, in a target of SET, in the parameters of FOR, in what KILL and LOCK name, in a
-  -- timeout, and in the indirection of arguments
-  calls_in_arguments : AreOfTwo has_line (
-      codes "W @A@($$B)" ∷ codes "W @$$A" ∷ codes "S X=@A@($$B)" ∷ codes "S A($$B)=1" ∷ codes "S (A,B($$C))=$$C" ∷ codes "S $P(A,$$B)=1" ∷ codes "S @A@($$B)=1" ∷ codes "S @$$A" ∷ codes "F A=$$B" ∷ codes "F A=1:$$B" ∷ codes "F A=$$B:1:2" ∷
-      codes "F A=1:1:$$B" ∷ codes "K A($$B)" ∷ codes "L A($$B)" ∷ codes "L (A,B($$C))" ∷ codes "L A:$$B" ∷ codes "D @$$A" ∷ codes "W 1,@A@($$B),2 Q" ∷ [])
+  -- in a target of SET, in what KILL and LOCK name, in a timeout, in the parameters of FOR, and as the operand of an indirection of arguments
+  calls_in_arguments : AreOfOne has_line (
+      codes "W @$$A" ∷ codes "S A($$B)=1" ∷ codes "S (A,B($$C))=$$C" ∷ codes "S $P(A,$$B)=1" ∷ codes "S @$$A" ∷ codes "K A($$B)" ∷ codes "L A($$B)" ∷
+      codes "L (A,B($$C))" ∷ codes "L A:$$B" ∷ codes "D @$$A" ∷ codes "F A=$$B" ∷ codes "F A=1:$$B" ∷ codes "F A=$$B:1:2" ∷ codes "F A=1:1:$$B" ∷
+      codes "W 1,A($$B),2 Q" ∷ [])
+  -- and elsewhere: in the subscripts after an indirection
+  later_calls : AreOfTwo has_line (
+      codes "W @A@($$B)" ∷ codes "S X=@A@($$B)" ∷ codes "S @A@($$B)=1" ∷ codes "K @A@($$B)" ∷ codes "F A=1:1:@A@($$B)" ∷ codes "W 1,@A@($$B),2 Q" ∷ [])
   -- routines of another account, whose environment is a string
   shared : AreOfOne has_line (
       codes "D L^|\"LIB\"|R(X)" ∷ codes "D ^|\"LIB\"|R" ∷ codes "G L^|\"LIB\"|R" ∷ codes "G ^|\"LIB\"|R:A" ∷
@@ -174,11 +177,11 @@ record Languages : Type 0 where
       codes "X A:$RE(A)" ∷ codes "L A($RE(A))" ∷ codes "L (A,B($RE(A)))" ∷ codes "L A:$RE(A)" ∷ codes "Q:$RE(A)" ∷ codes "S @$RE(A)" ∷
       codes "W 1 W 2,$RE(A) Q" ∷ [])
   routine_lines : AreOfOne has_routine_line (codes "T W $RE(A)" ∷ codes " . . W $RE(A)" ∷ codes "L(A) W 1" ∷ codes "L()" ∷ codes "L Q $$A" ∷ codes "L Q A($$B)" ∷ [])
-  later_routine_lines : AreOfTwo has_routine_line (codes "L Q @A@($$B)" ∷ codes " . K A($$B)" ∷ [])
+  later_routine_lines : AreOfTwo has_routine_line (codes "L Q @A@($$B)" ∷ codes " . K @A@($$B)" ∷ [])
   -- the text of a name has a tree with calls too, which fail once they are reached
   references : AreOfOne has_ref (codes "A($RE(A))" ∷ codes "@$RE(A)" ∷ codes "A($$B)" ∷ codes "@$$A" ∷ [])
-  argument_texts : AreOfOne has_args (codes "A=$RE(A)" ∷ codes "A=1,B=$RE(A)" ∷ codes "A=$$B" ∷ codes "A=1,B=$S($$A:1)" ∷ [])
-  later_argument_texts : AreOfTwo has_args (codes "A($$B)=1" ∷ codes "A=1,B=@C@($$A)" ∷ codes "@$$A" ∷ [])
+  argument_texts : AreOfOne has_args (codes "A=$RE(A)" ∷ codes "A=1,B=$RE(A)" ∷ codes "A=$$B" ∷ codes "A=1,B=$S($$A:1)" ∷ codes "A($$B)=1" ∷ codes "@$$A" ∷ [])
+  later_argument_texts : AreOfTwo has_args (codes "A=1,B=@C@($$A)" ∷ codes "@A@($$B)=1" ∷ [])
   -- in a string and in a comment it is no form
   all_the_same : AreOfBoth has_line (
       codes "W \"$RE(A)\"" ∷ codes "W 1 ;$RE(A)" ∷ codes "S RE=1,REVERSE=2" ∷ codes "W $J(A,1),$J($P(A,B,1,2),3)" ∷ codes "W !!,1#2,1*2,!" ∷

@@ -9,11 +9,15 @@ use Rattle.mgrammar.proofs.GrammarWords.{go_to, executed, locked, hang_for, retu
 use Rattle.std.specs.Prelude.{◌&&◌, not}
 use Rattle.std.specs.List.{list_all}
 use Rattle.mgrammar.specs.Grammar.{ReferenceTree, local, global, naked, indirect, extended, ChoicesTree, no_choices, choice}
+use Rattle.mgrammar.specs.Grammar.{TargetTree, variable, part, DestinationTree, one, several, ParameterTree, once, onward, until, LockedTree}
+use Rattle.mgrammar.specs.Grammar.{lock_one, lock_several}
+use Rattle.mgrammar.specs.CallsIn.{has_call_target, has_call_parameter, has_call_locked}
 use Rattle.mgrammar.specs.CallsIn.{has_call, has_call_tails, has_call_tail, has_call_operand, has_call_primary, has_call_reference, has_call_exprs}
 use Rattle.mgrammar.specs.CallsIn.{has_call_choices, has_call_actual, has_call_actuals, has_call_optional, has_call_destination, has_call_arg}
 use Rattle.mgrammar.specs.CallsIn.{has_call_spaced}
 use Rattle.mgrammar.specs.ProgramsIn.{in_steps, in_steps_tails, in_steps_tail, in_steps_operand, in_steps_primary, in_steps_exprs, in_steps_actual}
-use Rattle.mgrammar.specs.ProgramsIn.{in_steps_reference, in_steps_choices, in_steps_actuals, in_steps_optional, in_steps_arg, in_steps_args, in_steps_spaced}
+use Rattle.mgrammar.specs.ProgramsIn.{in_steps_reference, in_steps_choices, in_steps_actuals, in_steps_optional, in_steps_target, in_steps_destination}
+use Rattle.mgrammar.specs.ProgramsIn.{in_steps_parameter, in_steps_locked, in_steps_arg, in_steps_args, in_steps_spaced}
 use Rattle.mgrammar.specs.GrammarLaws.{UncalledIsInSteps}
 
 -- neither of two
@@ -101,19 +105,50 @@ pub optional_steps : (o : Option ExprTree) → has_call_optional o ≡ false →
 optional_steps None h = refl
 optional_steps (Some e) h = expr_steps e h
 
+-- each of a list
+each_steps : {A : Type 0} (has is : A → Bool) → ((x : A) → has x ≡ false → is x ≡ true) → (xs : List A) → list_any has xs ≡ false → list_all is xs ≡ true
+each_steps has is each [] h = refl
+each_steps has is each (x ∷ xs) h =
+    let n = neither (has x) (list_any has xs) h in
+    both (is x) (list_all is xs) (each x n.0) (each_steps has is each xs n.1)
+
+target_steps : (t : TargetTree) → has_call_target t ≡ false → in_steps_target t ≡ true
+target_steps (variable r) h = reference_steps r h
+target_steps (part word r more) h =
+    let n = neither (has_call_reference r) (has_call_exprs more) h in
+    both (in_steps_reference r) (in_steps_exprs more) (reference_steps r n.0) (exprs_steps more n.1)
+
+destination_steps : (d : DestinationTree) → has_call_destination d ≡ false → in_steps_destination d ≡ true
+destination_steps (one t) h = target_steps t h
+destination_steps (several ts) h = each_steps has_call_target in_steps_target target_steps ts h
+
+parameter_steps : (q : ParameterTree) → has_call_parameter q ≡ false → in_steps_parameter q ≡ true
+parameter_steps (once e) h = expr_steps e h
+parameter_steps (onward e by) h =
+    let n = neither (has_call e) (has_call by) h in
+    both (in_steps e) (in_steps by) (expr_steps e n.0) (expr_steps by n.1)
+parameter_steps (until e by to) h =
+    let n = neither (has_call e) (has_call by || has_call to) h in
+    let m = neither (has_call by) (has_call to) n.1 in
+    both (in_steps e) (in_steps by && in_steps to) (expr_steps e n.0) (both (in_steps by) (in_steps to) (expr_steps by m.0) (expr_steps to m.1))
+
+locked_steps : (t : LockedTree) → has_call_locked t ≡ false → in_steps_locked t ≡ true
+locked_steps (lock_one r) h = reference_steps r h
+locked_steps (lock_several rs) h = each_steps has_call_reference in_steps_reference reference_steps rs h
+
 pub arg_steps : (a : ArgTree) → has_call_arg a ≡ false → in_steps_arg a ≡ true
 arg_steps (assign d e) h =
     let n = neither (has_call_destination d) (has_call e) h in
-    both (not (has_call_destination d)) (in_steps e) (ap not n.0) (expr_steps e n.1)
+    both (in_steps_destination d) (in_steps e) (destination_steps d n.0) (expr_steps e n.1)
 arg_steps (formats run tab) h = optional_steps tab h
 arg_steps (coded e) h = expr_steps e h
 arg_steps (shown e) h = expr_steps e h
-arg_steps (kill_one r) h = ap not h
+arg_steps (kill_one r) h = reference_steps r h
 arg_steps (kill_others names) h = refl
 arg_steps (new_one name) h = refl
 arg_steps (new_others names) h = refl
 arg_steps (tested e) h = expr_steps e h
-arg_steps (loop index parameters) h = ap not h
+arg_steps (loop index parameters) h = each_steps has_call_parameter in_steps_parameter parameter_steps parameters h
 arg_steps (do_one entry xs c) h =
     let n = neither (has_call_actuals xs) (has_call_optional c) h in
     both (in_steps_actuals xs) (in_steps_optional c) (actuals_steps xs n.0) (optional_steps c n.1)
@@ -121,17 +156,12 @@ arg_steps (go_to entry c) h = optional_steps c h
 arg_steps (executed e c) h =
     let n = neither (has_call e) (has_call_optional c) h in
     both (in_steps e) (in_steps_optional c) (expr_steps e n.0) (optional_steps c n.1)
-arg_steps (locked k names t) h = ap not h
+arg_steps (locked k names t) h =
+    let n = neither (has_call_locked names) (has_call_optional t) h in
+    both (in_steps_locked names) (in_steps_optional t) (locked_steps names n.0) (optional_steps t n.1)
 arg_steps (hang_for e) h = expr_steps e h
 arg_steps (returned e) h = expr_steps e h
-arg_steps (indirect_args f p) h = ap not h
-
--- each of a list
-each_steps : {A : Type 0} (has is : A → Bool) → ((x : A) → has x ≡ false → is x ≡ true) → (xs : List A) → list_any has xs ≡ false → list_all is xs ≡ true
-each_steps has is one [] h = refl
-each_steps has is one (x ∷ xs) h =
-    let n = neither (has x) (list_any has xs) h in
-    both (is x) (list_all is xs) (one x n.0) (each_steps has is one xs n.1)
+arg_steps (indirect_args f p) h = primary_steps p h
 
 spaced_steps : (c : SpacedTree) → has_call_spaced c ≡ false → in_steps_spaced c ≡ true
 spaced_steps c h =

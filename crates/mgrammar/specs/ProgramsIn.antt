@@ -1,18 +1,18 @@
 -- SPDX-License-Identifier: Apache-2.0
--- Whether each call of a function in a tree stands where it can be carried out a step at a time: anywhere in an expression, apart from the
--- subscripts after an indirection, which are evaluated as a whole once the text is read. So are the targets of SET, the parameters of FOR,
--- the names and the timeout of LOCK, and the argument of an indirection: no call stands in them.
-use Rattle.std.specs.Prelude.{Bool, true, ◌&&◌, ◌||◌, not, List, Option, Some, None}
-use Rattle.std.specs.List.{list_all, list_any}
+-- Whether each call of a function in a tree stands where it can be carried out a step at a time: anywhere but in the subscripts after an
+-- indirection, which are evaluated as a whole once the text is read.
+use Rattle.std.specs.Prelude.{Bool, true, ◌&&◌, not, List, Option, Some, None}
+use Rattle.std.specs.List.{list_all}
 use Rattle.mgrammar.specs.Grammar.{ExprTree, expr, TailsTree, no_tails, tail, TailTree, apply, matches, matches_not, raise, matches_indirect}
 use Rattle.mgrammar.specs.Grammar.{matches_not_indirect}
 use Rattle.mgrammar.specs.Grammar.{OperandTree, operand, PrimaryTree, number, text, special, reference, bracket, call, select, refer, extrinsic, ReferenceTree}
 use Rattle.mgrammar.specs.Grammar.{local, global, naked, indirect, extended, ExprsTree, no_exprs, exprs, ChoicesTree, no_choices, choice}
 use Rattle.mgrammar.specs.Grammar.{ActualTree, missing_actual, value_actual, name_actual, indirect_actual, ActualsTree, no_actuals, actuals}
+use Rattle.mgrammar.specs.Grammar.{TargetTree, variable, part, DestinationTree, one, several, ParameterTree, once, onward, until, LockedTree}
+use Rattle.mgrammar.specs.Grammar.{lock_one, lock_several}
 use Rattle.mgrammar.specs.Grammar.{ArgTree, assign, formats, coded, shown, kill_one, kill_others, new_one, new_others, tested, loop, do_one, go_to, executed}
 use Rattle.mgrammar.specs.Grammar.{locked, hang_for, returned, indirect_args, SpacedTree, LineTree}
-use Rattle.mgrammar.specs.CallsIn.{has_call_primary, has_call_reference, has_call_exprs, has_call_optional, has_call_destination}
-use Rattle.mgrammar.specs.CallsIn.{has_call_parameter, has_call_locked}
+use Rattle.mgrammar.specs.CallsIn.{has_call_exprs}
 
 abbrev mutual
   pub in_steps : ExprTree → Bool
@@ -76,24 +76,41 @@ in_steps_optional (Some e) = in_steps e
 
 -- ---- arguments, and lines
 
+abbrev pub in_steps_target : TargetTree → Bool
+in_steps_target (variable r) = in_steps_reference r
+in_steps_target (part word r more) = in_steps_reference r && in_steps_exprs more
+
+abbrev pub in_steps_destination : DestinationTree → Bool
+in_steps_destination (one t) = in_steps_target t
+in_steps_destination (several ts) = list_all in_steps_target ts
+
+abbrev pub in_steps_parameter : ParameterTree → Bool
+in_steps_parameter (once e) = in_steps e
+in_steps_parameter (onward e by) = in_steps e && in_steps by
+in_steps_parameter (until e by to) = in_steps e && (in_steps by && in_steps to)
+
+abbrev pub in_steps_locked : LockedTree → Bool
+in_steps_locked (lock_one r) = in_steps_reference r
+in_steps_locked (lock_several rs) = list_all in_steps_reference rs
+
 abbrev pub in_steps_arg : ArgTree → Bool
-in_steps_arg (assign d e) = not (has_call_destination d) && in_steps e
+in_steps_arg (assign d e) = in_steps_destination d && in_steps e
 in_steps_arg (formats run tab) = in_steps_optional tab
 in_steps_arg (coded e) = in_steps e
 in_steps_arg (shown e) = in_steps e
-in_steps_arg (kill_one r) = not (has_call_reference r)
+in_steps_arg (kill_one r) = in_steps_reference r
 in_steps_arg (kill_others names) = true
 in_steps_arg (new_one name) = true
 in_steps_arg (new_others names) = true
 in_steps_arg (tested e) = in_steps e
-in_steps_arg (loop index parameters) = not (list_any has_call_parameter parameters)
+in_steps_arg (loop index parameters) = list_all in_steps_parameter parameters
 in_steps_arg (do_one entry xs c) = in_steps_actuals xs && in_steps_optional c
 in_steps_arg (go_to entry c) = in_steps_optional c
 in_steps_arg (executed e c) = in_steps e && in_steps_optional c
-in_steps_arg (locked k names t) = not (has_call_locked names || has_call_optional t)
+in_steps_arg (locked k names t) = in_steps_locked names && in_steps_optional t
 in_steps_arg (hang_for e) = in_steps e
 in_steps_arg (returned e) = in_steps e
-in_steps_arg (indirect_args f p) = not (has_call_primary p)
+in_steps_arg (indirect_args f p) = in_steps_primary p
 
 abbrev pub in_steps_args : List ArgTree → Bool
 in_steps_args = list_all in_steps_arg
